@@ -2,8 +2,8 @@
 use grep_searcher::SearchError;
 use grep_testing::{Call, RECORDER_MESSAGE, Row};
 use std::alloc::Global;
+use std::io;
 use std::io::ErrorKind;
-use std::{fmt, io};
 
 /// The message of a reader's error.
 const READER_MESSAGE: &str = "the reader fails here";
@@ -46,6 +46,16 @@ impl Fault {
         }
     }
 
+    /// What fails, and which one it is.
+    pub(crate) fn place(self) -> (&'static str, u64) {
+        match self {
+            Fault::None => ("none", 0),
+            Fault::Read(read, _) => ("read", read),
+            Fault::False(call) => ("false of call", call),
+            Fault::Call(call) => ("call", call),
+        }
+    }
+
     /// Whether these are the text of the calls, the end and the number of reads of a row's search.
     pub(crate) fn makes(self, row: &Row, calls: &str, end: End, reads: u64) -> bool {
         match (self, end) {
@@ -62,17 +72,6 @@ impl Fault {
                 has_calls(calls, row.calls, call, last_of(row, call))
             }
             _ => false,
-        }
-    }
-}
-
-impl fmt::Display for Fault {
-    fn fmt<W: fmt::Write>(&self, f: &mut fmt::Formatter<W>) -> fmt::Result {
-        match self {
-            Fault::None => write!(f, "nothing fails"),
-            Fault::Read(read, kind) => write!(f, "read {read} fails with {kind:?}"),
-            Fault::False(call) => write!(f, "call {call} returns false"),
-            Fault::Call(call) => write!(f, "call {call} fails"),
         }
     }
 }
@@ -147,16 +146,6 @@ impl End {
                 error.kind(),
             ),
             _ => End::Other,
-        }
-    }
-
-    /// Its name.
-    pub(crate) fn name(self) -> &'static str {
-        match self {
-            End::Ok => "ok",
-            End::Reader(_) => "the reader's error",
-            End::Sink => "the sink's error",
-            End::Other => "another error",
         }
     }
 }

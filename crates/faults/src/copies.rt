@@ -1,9 +1,9 @@
 //! Copies of a searcher that a sink makes during a search.
 use crate::case::{End, Fault};
-use crate::searches::{search_reader, search_slice};
+use crate::searches::{reader_agrees, search_reader, slice_agrees};
 use grep_matcher::LiteralMatcher;
 use grep_searcher::{SearchError, Searcher, Sink, SinkContext, SinkFinish, SinkMatch};
-use grep_testing::{Comparison, Pieces, Recorder, Row};
+use grep_testing::{Pieces, Recorder, Row};
 use std::alloc::{Allocator, Global};
 use std::io;
 
@@ -85,21 +85,6 @@ fn copy_agrees<A: Allocator + Copy>(searcher: &Searcher<A>, row: &Row) -> bool {
     }
 }
 
-fn reader_agrees<A: Allocator + Copy>(searcher: &mut Searcher<A>, row: &Row) -> bool {
-    let mut comparison = Comparison::new(row);
-    let mut reader = Pieces::new(row.input, 1, None);
-    let matcher = LiteralMatcher::borrowed(row.literal);
-    let ended = search_reader(searcher, matcher, &mut reader, &mut comparison);
-    ended.is_ok() && comparison.is_whole()
-}
-
-fn slice_agrees<A: Allocator + Copy>(searcher: &mut Searcher<A>, row: &Row) -> bool {
-    let mut comparison = Comparison::new(row);
-    let matcher = LiteralMatcher::borrowed(row.literal);
-    let ended = search_slice(searcher, matcher, row.input, &mut comparison);
-    ended.is_ok() && comparison.is_whole()
-}
-
 /// Makes the search of a row with copies of its searcher, and writes how many of them agreed. If
 /// the search with the copies comes to something else than the row says, none did.
 pub(crate) fn try_copies<W: io::Write>(
@@ -107,9 +92,21 @@ pub(crate) fn try_copies<W: io::Write>(
     row: &'static Row,
     output: &mut W,
 ) -> io::Result<()> {
-    let Ok(mut searcher) = row.settings.build(alloc) else {
-        return writeln!(output, "{}: no searcher", row.name);
-    };
+    match row.settings.build(alloc) {
+        Ok(mut searcher) => {
+            let (agreed, copies) = copy_all(alloc, &mut searcher, row);
+            writeln!(
+                output,
+                "{}, a copy at each match: {agreed} of {copies} agree",
+                row.name
+            )
+        }
+        Err(_) => writeln!(output, "{}: no searcher", row.name),
+    }
+}
+
+// How many copies agreed, and how many there were.
+fn copy_all(alloc: Global, searcher: &mut Searcher, row: &'static Row) -> (u64, u64) {
     let mut sink = Copying {
         recorder: Recorder::new(alloc, None, None),
         row,
@@ -118,17 +115,11 @@ pub(crate) fn try_copies<W: io::Write>(
     };
     let mut reader = Pieces::new(row.input, 1, None);
     let matcher = LiteralMatcher::borrowed(row.literal);
-    let end = End::of(
-        alloc,
-        search_reader(&mut searcher, matcher, &mut reader, &mut sink),
-    );
-    if !Fault::None.makes(row, sink.recorder.text(), end, reader.reads()) {
-        sink.agreed = 0;
+    let ended = search_reader(searcher, matcher, &mut reader, &mut sink);
+    let end = End::of(alloc, ended);
+    if Fault::None.makes(row, sink.recorder.text(), end, reader.reads()) {
+        (sink.agreed, sink.copies)
+    } else {
+        (0, sink.copies)
     }
-    let (agreed, copies) = (sink.agreed, sink.copies);
-    writeln!(
-        output,
-        "{}, a copy at each match: {agreed} of {copies} agree",
-        row.name
-    )
 }

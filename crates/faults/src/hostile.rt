@@ -118,9 +118,8 @@ fn try_guest<W: io::Write>(
     let Ok(mut searcher) = row.settings.build(alloc) else {
         return writeln!(output, "{name}: no searcher");
     };
-    let ends = ends(&mut searcher, guest);
-    let agrees = comes_to(alloc, &mut searcher, row, Fault::None, output)?;
-    writeln!(output, "{name}: {}", ends && agrees)
+    let agrees = ends(&mut searcher, guest) && comes_to(alloc, &mut searcher, row, Fault::None);
+    writeln!(output, "{name}: {agrees}")
 }
 
 // Whether a search ends as it has to.

@@ -94,13 +94,20 @@ impl Tally {
 /// write to `output`.
 pub(crate) fn try_all<W: io::Write>(alloc: Global, row: &Row, output: &mut W) -> io::Result<()> {
     match row.settings.build(alloc) {
-        Ok(mut searcher) => {
-            try_reads(alloc, &mut searcher, row, output)?;
-            try_stops(alloc, &mut searcher, row, output)?;
-            try_errors(alloc, &mut searcher, row, output)
-        }
+        Ok(mut searcher) => try_parts(alloc, &mut searcher, row, output),
         Err(_) => writeln!(output, "{}: no searcher", row.name),
     }
+}
+
+fn try_parts<W: io::Write>(
+    alloc: Global,
+    searcher: &mut Searcher,
+    row: &Row,
+    output: &mut W,
+) -> io::Result<()> {
+    try_reads(alloc, searcher, row, output)?;
+    try_stops(alloc, searcher, row, output)?;
+    try_errors(alloc, searcher, row, output)
 }
 
 // Tries each read that fails, with an error of each kind.
@@ -149,7 +156,8 @@ fn try_errors<W: io::Write>(
     tally.write(row.name, "a call fails", output)
 }
 
-// Whether a search with a fault, and then one with none, come to what they have to.
+// Whether a search with a fault, and then one with none, come to what they have to. If they don't,
+// the fault is written.
 fn agrees<W: io::Write>(
     alloc: Global,
     searcher: &mut Searcher,
@@ -157,33 +165,25 @@ fn agrees<W: io::Write>(
     fault: Fault,
     output: &mut W,
 ) -> io::Result<bool> {
-    let first = comes_to(alloc, searcher, row, fault, output)?;
-    let second = comes_to(alloc, searcher, row, Fault::None, output)?;
-    Ok(first && second)
+    let agrees = comes_to(alloc, searcher, row, fault)
+        && comes_to(alloc, searcher, row, Fault::None);
+    if !agrees {
+        let (part, number) = fault.place();
+        writeln!(
+            output,
+            "{}, {part} {number}: it comes to something else",
+            row.name
+        )?;
+    }
+    Ok(agrees)
 }
 
-/// Whether a search of a row comes to what it has to. If it doesn't, what it came to is written.
-pub(crate) fn comes_to<W: io::Write>(
-    alloc: Global,
-    searcher: &mut Searcher,
-    row: &Row,
-    fault: Fault,
-    output: &mut W,
-) -> io::Result<bool> {
+/// Whether a search of a row comes to what it has to.
+pub(crate) fn comes_to(alloc: Global, searcher: &mut Searcher, row: &Row, fault: Fault) -> bool {
     let mut recorder = Recorder::new(alloc, fault.false_at(), fault.error_at());
     let mut reader = Pieces::new(row.input, 1, fault.of_reader());
     let matcher = LiteralMatcher::borrowed(row.literal);
     let ended = search_reader(searcher, matcher, &mut reader, &mut recorder);
     let end = End::of(alloc, ended);
-    let (calls, reads) = (recorder.text(), reader.reads());
-    let agrees = fault.makes(row, calls, end, reads);
-    if !agrees {
-        writeln!(
-            output,
-            "{}, {fault}: {calls}{} after {reads} reads",
-            row.name,
-            end.name()
-        )?;
-    }
-    Ok(agrees)
+    fault.makes(row, recorder.text(), end, reader.reads())
 }

@@ -1,11 +1,11 @@
 //! What takes no memory.
-use crate::searches::{search_reader, search_slice};
+use crate::searches::{reader_agrees, slice_agrees};
 use grep_matcher::{LiteralMatcher, Matcher};
 use grep_searcher::{
     BinaryDetection, ConfigError, Encoding, LineIter, LineStep, LineTerminator, MmapChoice,
     Searcher, SearcherBuilder,
 };
-use grep_testing::{BREAK, Comparison, Pieces, Row};
+use grep_testing::{BREAK, Row};
 use std::alloc::Global;
 
 /// What takes no memory once its searcher is built.
@@ -35,24 +35,11 @@ impl Search {
     /// Whether the searcher does as it has to.
     pub(crate) fn is_done(self, searcher: &mut Searcher) -> bool {
         match self {
-            Search::Slice(row) => is_slice_searched(searcher, row),
-            Search::Reader(_) => is_reader_searched(searcher, &BREAK),
+            Search::Slice(row) => slice_agrees(searcher, row),
+            Search::Reader(_) => reader_agrees(searcher, &BREAK),
             Search::Queries => has_settings(searcher),
         }
     }
-}
-
-fn is_slice_searched(searcher: &mut Searcher, row: &Row) -> bool {
-    let mut comparison = Comparison::new(row);
-    let matcher = LiteralMatcher::borrowed(row.literal);
-    search_slice(searcher, matcher, row.input, &mut comparison).is_ok() && comparison.is_whole()
-}
-
-fn is_reader_searched(searcher: &mut Searcher, row: &Row) -> bool {
-    let mut comparison = Comparison::new(row);
-    let mut reader = Pieces::new(row.input, 1, None);
-    let matcher = LiteralMatcher::borrowed(row.literal);
-    search_reader(searcher, matcher, &mut reader, &mut comparison).is_ok() && comparison.is_whole()
 }
 
 // Asks for each setting, and sets the one that can be set.
