@@ -1,15 +1,14 @@
--- The end of some lines, and of the first of them, as a position.
-use Rattle.std.proofs.Common.{◌≡◌, inl, inr, ℕ, ◌+◌, ◌-◌, ◌≤◌, List, length, Some, arith, refl, ap, ◌∙◌}
+-- The end of some lines as a position.
+use Rattle.std.proofs.Common.{◌≡◌, inl, inr, ℕ, ◌+◌, ◌-◌, List, length, Some, arith, ap, ◌∙◌}
 use Rattle.std.specs.Option.{unwrap_or}
 use Rattle.std.proofs.lemmas.Option.{get_or_from_slice_get}
 use Rattle.std.specs.List.{slice_get}
 use Rattle.grep_matcher.specs.declared.line_terminator.LineTerminator.{LineTerminator}
 use Rattle.grep_matcher.specs.declared.line_terminator.LineTerminator.TheVariants.{Byte}
 use Rattle.grep_matcher.specs.Lawful.{HoldsPosition}
-use Rattle.grep_matcher.specs.Lines.{line_start, byte_of}
+use Rattle.grep_matcher.specs.Lines.{byte_of}
 use Rattle.grep_matcher.specs.Meanings.{Meaning}
-use Rattle.grep_lines.specs.Positions.{IsLine, IsLineStart}
-use Rattle.grep_matcher.proofs.LineStartLemmas.{line_start-within, line_start-le}
+use Rattle.grep_matcher.proofs.LineStartLemmas.{line_start-within}
 
 -- no line holds the end of bytes that end in the terminator
 pub unheld-end : (b : ℕ) (terminator : LineTerminator) → Some (Byte b) ≡ Some terminator
@@ -21,13 +20,3 @@ unheld-end b terminator declared meaning bytes closed i (low, inl below) =
 unheld-end b terminator declared meaning bytes closed i (low, inr (last, end, other)) =
     other (get_or_from_slice_get bytes (length bytes - 1) b 0 closed
     ∙ ap (λ t. byte_of (unwrap_or t (Byte b))) declared)
-
--- the first line starts at 0
-pub first-starts : (t : ℕ) (bytes : List ℕ) → IsLineStart t bytes 0 0
-first-starts t bytes = record { listed = omega arith; begins = refl }
-
--- no line ends before the end of the first line
-pub unended-first : (t : ℕ) (bytes : List ℕ) (end : ℕ) → IsLine t bytes 0 0 end → (i : ℕ)
-    → line_start t bytes (i + 1) ≤ end - 1 → ⊥
-unended-first t bytes end first i ends =
-    omega (arith, first.ends, first.above, ends, line_start-le t bytes 1 (i + 1) (omega arith))
