@@ -5,7 +5,7 @@ use Rattle.std.proofs.Common.{◌≡◌, ℕ, ◌+◌, ◌<◌, ◌≤◌, Bool,
 use Rattle.std.proofs.Common.{Some, None, Ok, Err, inl, inr, refl, sym, ◌∙◌, ap, subst, arith, append_assoc}
 use Rattle.std.proofs.Common.{length-append, is_some, append-nil, ⊎_elim}
 use Rattle.std.proofs.lemmas.Bool.{cases_lt, false≢true}
-use Rattle.std.specs.Prelude.{◌&&◌, All}
+use Rattle.std.specs.Prelude.{◌&&◌}
 use Rattle.std.specs.declared.io.Error.{Error}
 use Rattle.grep_decode.specs.DecoderStates.{DecoderState, Decodes, started}
 use Rattle.grep_decode.specs.Source.{ReadResult}
@@ -18,11 +18,8 @@ use Rattle.grep_definitions.specs.Searches.{IsCutSearch, IsReaderSearch, IsInput
 use Rattle.grep_definitions.specs.Searches.{reports_nothing}
 use Rattle.grep_definitions.specs.Searches
 use Rattle.grep_definitions.specs.LineSearch
-use Rattle.grep_definitions.specs.LineWalks.{IsNear, IsOpen}
 use Rattle.grep_definitions.specs.LineSearch.{turns, turns_before}
 use Rattle.grep_report.specs.ErrorMakers.{ErrorMakers}
-use Rattle.grep_definitions.proofs.FirstTurnLemmas.{turns-seen}
-use Rattle.grep_definitions.proofs.LimitLemmas.{turn_above, turn_all}
 use Rattle.grep_definitions.proofs.SearchLawLemmas.{turn_count-le}
 use Rattle.grep_walk.specs.declared.walk.Walk.{Walk}
 use Rattle.grep_core.specs.BinaryCalls.{FailsAtBinary, PassesBinary, Noted}
@@ -34,14 +31,14 @@ use Rattle.grep_core.proofs.ReadingLemmas.{HasFilled, IsHeld, IsStream}
 use Rattle.grep_core.proofs.StreamSearchLemmas.{goes-false, goes-true, noted-passed, uncut-passed}
 use Rattle.grep_core.proofs.StreamSearchLemmas as quitting
 use Rattle.grep_core.proofs.RollingLemmas as rolls
-use Rattle.grep_core.proofs.StreamSearchLemmas.{binary-nil, front-none}
+use Rattle.grep_core.proofs.StreamSearchLemmas.{binary-nil}
 use Rattle.grep_core.proofs.StreamViewLemmas.{as-found}
 use Rattle.grep_line_buffer.proofs.InputViewLemmas as views
 use Rattle.grep_core.proofs.UnreadLemmas.{IsShort}
 use Rattle.grep_walk.specs.WalkFaults.{IsWalkFault}
-use Rattle.grep_definitions.proofs.FrontLemmas.{closed-append, turns-within}
+use Rattle.grep_definitions.proofs.FrontLemmas.{front-none, turns-within}
 use Rattle.grep_walk.proofs.WalkLemmas as walks
-use Rattle.grep_walk.specs.Windows.{HasSearched}
+use Rattle.grep_walk.proofs.WindowSearchLemmas.{calls-seen}
 use Rattle.grep_walk.specs.Origins.{AreMadeFrom, Origin}
 use Rattle.grep_walk.proofs.OriginLemmas.{fresh-made}
 
@@ -318,8 +315,8 @@ module _ {R : Type 0} {remaining : R → Option (List ℕ)} {read_step : R → R
     ended-cut {sink'} (inl (offset, is, unknown, now_known, (false, called, goes))) =
         subst (λ binary. IsStreamCounted step k meaning remaining read_step reader first
         (record { count = w.offset; binary = binary }) r' sink'.sink) (sym now_known)
-        (cut-counted unknown offset is _ sink'.sink (inr (inl (refl, called))) (λ all. absurd (cc)) (λ e fails. cc))
-    ended-cut (inr (why, goes, kept)) = absurd (false≢true goes)
+        (cut-counted unknown offset is _ sink'.sink (inr (inl (refl, called))) (λ all. cc) (λ e fails. cc))
+    ended-cut (inr (why, goes, kept)) = cc
 
     -- `binary_data` failed
     pub fault-cut : {F : Type 0} {errors : ErrorMakers F E} (facts : MatcherFacts F) {has_buffers : Bool} {e : E}
@@ -327,7 +324,7 @@ module _ {R : Type 0} {remaining : R → Option (List ℕ)} {read_step : R → R
         → IsReaderSearch remaining read_step step errors (record facts { meaning = meaning })
         (record { settings = k; has_buffers = has_buffers }) on_stream reader first (Err e) r' sink'.sink
     fault-cut facts {e} sink' (offset, is, unknown, fails) =
-        cut-failed unknown _ is _ _ (inr (inr (e, refl, fails))) (λ all. absurd (cc)) facts refl
+        cut-failed unknown _ is _ _ (inr (inr (e, refl, fails))) (λ all. cc) facts refl
 
     -- the walk goes on from the state after `binary_data`, before which the calls for these lines were made
     module _ (sink' : S) where
@@ -341,54 +338,6 @@ module _ {R : Type 0} {remaining : R → Option (List ℕ)} {read_step : R → R
         all = all ∙ sym (append-nil (turns k meaning seen-then));
         made = (refl, refl);
       }
-
-      calls-there : (more after : List ℕ)
-          → (there : HasSearched step k meaning on.rolling.gone (old.shown ++ more)
-          (on.rolling.gone ++ ((old.shown ++ more) ++ after)) on.start (length old.shown) w sink.sink)
-          → turns_before k meaning (on.rolling.gone ++ ((old.shown ++ more) ++ after)) there.through
-          ≡ turns k meaning seen-then
-      calls-there more after there =
-          let t : ℕ = byte_of k.line_terminator in
-          let input : List ℕ = on.rolling.gone ++ ((old.shown ++ more) ++ after) in
-          let walk = there.walked.reported.walk in
-          let back : List ℕ = more ++ after in
-          let same_input : input ≡ seen-then ++ back =
-          ap (λ xs. on.rolling.gone ++ xs) (append_assoc old.shown more after)
-          ∙ sym (append_assoc on.rolling.gone old.shown back) in
-          let line = rolls.line-seen on.rolling.between more there in
-          let turned : there.line ≤ LineSearch.turn_count k meaning input = ⊎_elim
-          (λ less. omega (
-            arith,
-            turn_above k _ input walk.opened
-                less,
-          ))
-          (λ all. let end : there.line ≡ length (lines t input) = omega (arith, all, walk.placed.at.listed) in
-          omega (
-            arith,
-            turn_all k _ input
-                (subst (λ i. IsOpen k meaning input i w.after_context_left w.match_count) end walk.opened),
-            end,
-          ))
-          (cases_lt there.line (length (lines t input))) in
-          let at : LineSearch.start k meaning input there.line ≡ w.offset = walk.placed.at.begins in
-          let known = subst (λ i. (IsNear k meaning input there.through i w.after_context_left)
-          × (i ≤ LineSearch.turn_count k meaning input)
-          × All (λ (turn : Planned). turn.if_false.count ≤ LineSearch.start k meaning input i)
-          (turns_before k meaning input there.through)) line (
-            walk.near,
-            turned,
-            subst (λ n. All (λ (turn : Planned). turn.if_false.count ≤ n)
-                (turns_before k meaning input there.through)) (sym at) walk.ended,
-          ) in
-          let moved = subst (λ xs. (IsNear k meaning xs there.through (length (lines t seen-then)) w.after_context_left)
-          × (length (lines t seen-then) ≤ LineSearch.turn_count k meaning xs)
-          × All (λ (turn : Planned). turn.if_false.count ≤ LineSearch.start k meaning xs (length (lines t seen-then)))
-          (turns_before k meaning xs there.through)) same_input known in
-          ap (λ xs. turns_before k meaning xs there.through) same_input
-          ∙ turns-seen k meaning _ back
-          (closed-append t on.rolling.gone old.shown on.rolling.between.opens on.rolling.between.shut) stream.built
-          _
-          _ moved.0 moved.1 moved.2
 
       no-calls : (lines_seen : List ℕ) → lines_seen ≡ []
           → turns k meaning lines_seen ≡ planned begins 0 ∷ []
@@ -430,7 +379,7 @@ module _ {R : Type 0} {remaining : R → Option (List ℕ)} {read_step : R → R
                   inside = there.walked.inside;
                   reported = record {
                     walk = there.walked.reported.walk;
-                    reported = skip-all _ (calls-there more after there);
+                    reported = skip-all _ (calls-seen old.shown on.rolling.between.opens on.rolling.between.shut more stream.built after there);
                   };
                 };
               };

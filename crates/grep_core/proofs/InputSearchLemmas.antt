@@ -3,20 +3,23 @@ use Rattle.grep_core.specs.InputSearches.{IsBytesSearched, IsSearchedUntil, IsAc
 use Rattle.grep_core.specs.SearchBuffers.{IsMadeOf}
 use Rattle.grep_decode.specs.DecoderStates.{DecoderState, Decodes, IsDone, IsWaiting, started}
 use Rattle.grep_decode.specs.Source.{ReadResult}
-use Rattle.grep_matcher.proofs.LineLengthLemmas.{lines-within}
+use Rattle.grep_definitions.proofs.FrontLemmas.{front-whole}
+use Rattle.grep_definitions.proofs.SearchModeLemmas.{look-quit}
+use Rattle.grep_definitions.proofs.SinkRunLemmas.{has-begun}
 use Rattle.grep_definitions.proofs.PlanLemmas.{plans-turns}
 use Rattle.grep_definitions.proofs.PlannedReaderLemmas.{contents-planned, plain-planned}
+use Rattle.grep_definitions.proofs.PlannedStreamLemmas.{undetected-read}
 use Rattle.grep_definitions.proofs.PlannedSliceLemmas.{plain-fault, quit-fault, until-planned}
-use Rattle.grep_definitions.specs.Plans.{search_plan, is_across, selection_in, IsRun, Steps}
-use Rattle.grep_definitions.specs.Plans.{Planned, Plan, Outcome, planned, begins, finishes, AreMade}
-use Rattle.grep_definitions.specs.Plans.{IsFinished, finish_result, counted, line_count, Settings}
+use Rattle.grep_definitions.specs.Plans.{search_plan, is_across, IsRun, Steps}
+use Rattle.grep_definitions.specs.Plans.{Outcome, finishes}
+use Rattle.grep_definitions.specs.Plans.{finish_result, counted, Settings}
 use Rattle.grep_definitions.specs.Plans.{SearcherState}
-use Rattle.grep_definitions.specs.Searches.{in_contents, is_detecting, look_at, nowhere, on_stream}
-use Rattle.grep_definitions.specs.Searches.{binary_position, stream_view, view_of, BinaryPoint}
-use Rattle.grep_definitions.specs.Searches.{look_of, IsFront, IsInput, IsTooLong, CutsContents}
+use Rattle.grep_definitions.specs.Searches.{in_contents, look_at, on_stream}
+use Rattle.grep_definitions.specs.Searches.{view_of}
+use Rattle.grep_definitions.specs.Searches.{look_of, IsFront, IsInput, CutsContents}
 use Rattle.grep_definitions.specs.Searches.{IsBelowLimit, of_full, of_no_memory, IsPoint}
-use Rattle.grep_definitions.specs.Searches.{IsSearchOf, ran, Points, IsReaderSearch, IsCutSearch}
-use Rattle.grep_definitions.specs.Searches.{IsRead, asked}
+use Rattle.grep_definitions.specs.Searches.{IsSearchOf, ran}
+use Rattle.grep_definitions.specs.Searches.{IsRead}
 use Rattle.grep_definitions.specs.ContentsSearches.{IsFaultIn, IsQuitFault, IsRunUntil, of_sink}
 use Rattle.grep_definitions.specs.ReaderRuns.{IsPlainlySearched, IsContentsSearched, IsUnreadIn, IsReaderFaultIn}
 use Rattle.grep_definitions.specs.ReaderRuns.{of_contents, of_failed_read, of_reading, of_search}
@@ -37,31 +40,11 @@ use Rattle.grep_report.specs.declared.binary_detection.BinaryDetection.TheVarian
 use Rattle.grep_walk.proofs.FinishLemmas.{finish-counted, run-finish}
 use Rattle.grep_walk.specs.Walks.{Counted}
 use Rattle.std.proofs.Common.{◌≡◌, ℕ, Bool, true, false, List, Some, None, Result, Ok, Err, refl, ap, sym, subst}
-use Rattle.std.proofs.Common.{length, inl, inr, Option, ◌≤◌, ◌∙◌, not, ◌<◌, [], ◌∷◌, ◌++◌, arith, ⊎_elim, append-nil}
+use Rattle.std.proofs.Common.{length, inl, inr, Option, ◌≤◌, ◌∙◌, not, ◌<◌, [], ◌++◌, arith, append-nil}
 use Rattle.std.proofs.Common.{length-append}
 use Rattle.std.proofs.lemmas.Bool.{false≢true}
-use Rattle.std.proofs.lemmas.List.Elements.{All-weaker}
-use Rattle.std.proofs.lemmas.Option.{none-some, same_Some}
 use Rattle.std.specs.declared.io.Error.{Error}
 use Rattle.grep_core.proofs.ReadingLemmas as reading
-
--- nowhere, if no byte ends it
-pub look-plain : (d : BinaryDetection) → ((b : ℕ) → quit_byte_of d ≡ Some b → ⊥) → look_at d false ≡ nowhere
-look-plain no_detection none = refl
-look-plain (Quit b) none = absurd (none b refl)
-look-plain (Convert b) none = refl
-
--- in whole contents, if a byte does
-pub look-quit : (d : BinaryDetection) (b : ℕ) → quit_byte_of d ≡ Some b → look_at d false ≡ in_contents b
-look-quit no_detection b is = absurd (none-some b is)
-look-quit (Quit c) b is = ap (λ n. in_contents n) (same_Some c b is)
-look-quit (Convert c) b is = absurd (none-some b is)
-
--- then a byte is looked for
-pub look-detects : (d : BinaryDetection) (b : ℕ) → quit_byte_of d ≡ Some b → is_detecting d ≡ true
-look-detects no_detection b is = absurd (none-some b is)
-look-detects (Quit c) b is = refl
-look-detects (Convert c) b is = absurd (none-some b is)
 
 -- a search of whole contents up to a byte is what is defined of one that looks for it, in the mode that it runs in
 module _ {S E F : Type 0} (step : Steps S E) (errors : ErrorMakers F E) (matcher : MatcherFacts F) (k : Settings)
@@ -116,101 +99,6 @@ module _ {S E F : Type 0} (step : Steps S E) (errors : ErrorMakers F E) (matcher
       go (Convert b) is (Err e) fault =
           plain-fault _ _ _ _ (λ calls. refl)
           _ k _ old e new fault
-
-module _ {R : Type 0} (remaining : R → Option (List ℕ)) (read_step : R → ReadResult → R → Type 0)
-    {S E F : Type 0} (step : Steps S E) (errors : ErrorMakers F E) (matcher : MatcherFacts F) (state : SearcherState)
-    (none : state.settings.binary_detection ≡ no_detection) where
-  abbrev k : Settings
-  k = state.settings
-
-  view-is : {bytes : List ℕ} → view_of k bytes ≡ bytes
-  view-is {bytes} = ap (λ d. stream_view d (byte_of k.line_terminator) bytes) none
-
-  -- there is no first binary byte
-  no-point : (bytes : List ℕ) (n : ℕ) (calls : List Planned) (point : Option BinaryPoint)
-      → IsPoint k matcher.meaning bytes on_stream n calls point → point ≡ None
-  no-point bytes n calls None at = refl
-  no-point bytes n calls (Some point) at =
-      absurd (none-some point.offset
-      (sym (ap (λ d. binary_position d (byte_of k.line_terminator) bytes) none) ∙ at.cut.first))
-
-  -- another claim of where `binary_data` comes, and of how far was read
-  search-with : {IsAt IsAt2 : Points} {HasRead HasRead2 : Plan → Outcome E → Type 0} {bytes : List ℕ}
-      {old : S} (result : Result (Unit {0}) E) {new : S}
-      → ((calls : List Planned) (point : Option BinaryPoint) → IsAt calls point → IsAt2 calls point)
-      → ((plan : Plan) (outcome : Outcome E) → HasRead plan outcome → HasRead2 plan outcome)
-      → IsSearchOf step errors matcher k IsAt HasRead bytes old result new
-      → IsSearchOf step errors matcher k IsAt2 HasRead2 bytes old result new
-  search-with {bytes} (Ok u) maps reads (ran point at run read) =
-      ran point (maps (search_plan k matcher.meaning bytes).calls point at) run (reads _ _ read)
-  search-with {bytes} (Err e) maps reads (ran point at run read) =
-      ran point (maps (search_plan k matcher.meaning bytes).calls point at) run tt
-  search-with (Err e) maps reads
-      (asked haystack error calls asks fails message (point, at, goes, made)) =
-      asked haystack error calls asks fails message (point, maps calls point at, goes, made)
-
-  search-undetected : (reader : R) (old : S) (result : Result (Unit {0}) E) (reader' : R) (new : S)
-      → IsReaderSearch remaining read_step step errors matcher state on_stream reader old result reader' new
-      → IsReaderSearch remaining read_step step errors matcher state nowhere reader old result reader' new
-  search-undetected reader old result reader' new search = record {
-    taken = search.taken;
-    seen = search.seen;
-    front = λ bytes input. subst (λ xs. IsFront k xs search.seen) (view-is) (search.front bytes input);
-    over_seen = search-with _
-        (λ calls point at bytes input. no-point bytes _ calls _ (at bytes input))
-        (λ plan outcome read. (
-          (λ all goes_on bytes input. subst (λ xs. (selection_in k matcher.meaning xs (is_across k matcher.meaning)).end
-              ≤ line_count k search.seen)
-              (view-is) (read.0 all goes_on bytes input)),
-          (λ by_line.
-              let far = read.1 by_line in
-              record {
-                begun = far.begun;
-                first = far.first;
-                begin = far.begin;
-                unread = far.unread;
-                once = far.once;
-                ahead = far.ahead;
-              }),
-        )) search.over_seen;
-    each = λ bytes input. subst (λ xs. IsSearchOf step errors matcher k
-        (IsPoint k matcher.meaning bytes nowhere (length search.seen)) (λ plan outcome. Unit {0}) xs old result new)
-        (view-is)
-        (search-with _
-        (λ calls point at. no-point bytes _ calls point at) (λ plan outcome read. tt)
-        (search.each bytes input));
-    whole = search.whole;
-  }
-
-  cut-undetected : {reader : R} {old : S} {e : E} {reader' : R} {new : S}
-      → IsCutSearch remaining read_step step errors matcher state on_stream reader old e reader' new
-      → IsCutSearch remaining read_step step errors matcher state nowhere reader old e reader' new
-  cut-undetected search = record {
-    mid = search.mid;
-    taken = search.taken;
-    seen = search.seen;
-    begun = search.begun;
-    error = search.error;
-    cause = search.cause;
-    made = search.made;
-    calls = λ begun.
-        let there = search.calls begun in (
-          there.0,
-          (λ bytes input. no-point bytes _
-              _ _ (there.1 bytes input)),
-          there.2,
-          there.3,
-        );
-    none = search.none;
-  }
-
-  pub undetected-read : (reader : R) (old : S) (result : Result (Unit {0}) E) (reader' : R) (new : S)
-      → IsRead remaining read_step step errors matcher state on_stream reader old result reader' new
-      → IsRead remaining read_step step errors matcher state nowhere reader old result reader' new
-  undetected-read reader old (Ok u) reader' new search = search-undetected _ old _ _ new search
-  undetected-read reader old (Err e) reader' new (inl search) =
-      inl (search-undetected _ old _ _ new search)
-  undetected-read reader old (Err e) reader' new (inr search) = inr (cut-undetected search)
 
 module _ {R : Type 0} (remaining : R → Option (List ℕ)) (read_step : R → ReadResult → R → Type 0)
     (state : SearcherState) where
@@ -276,35 +164,6 @@ module _ {R : Type 0} (remaining : R → Option (List ℕ)) (read_step : R → R
         go (Quit b) is = searched
         go (Convert b) is = searched
 
--- bytes below the heap limit are a front of themselves: no line of theirs is too long
-pub front-whole : (k : Settings) (bytes : List ℕ) → IsBelow k.heap_limit (length bytes)
-    → IsFront k bytes bytes
-front-whole k bytes below = record {
-  after = [];
-  whole = sym (append-nil bytes);
-  closed = λ more. absurd (omega (arith, more));
-  held = λ limit is.
-      let fits = subst (λ l. IsBelow l (length bytes)) is below in
-      All-weaker (λ line. length line ≤ length bytes) (λ line. IsTooLong t limit line → ⊥)
-      (λ line within. λ long. ⊎_elim (λ more. absurd (omega (arith, more, within, fits)))
-      (λ full. absurd (omega (arith, full.0, within, fits))) long)
-      (lines t bytes) (lines-within t bytes);
-}
-  where
-    t : ℕ
-    t = byte_of k.line_terminator
-
--- a run that ended in `Ok` has begun
-has-begun : {S E : Type 0} (step : Steps S E) (k : Settings) (old : S) (end : ℕ) (later : List Planned) (count : ℕ)
-    (outcome : Outcome E) (mid new : S)
-    → AreMade step k old (planned begins end ∷ later) outcome mid
-    → IsFinished step k outcome mid (counted count) (Ok tt) new
-    → (begun : Bool) × (first : S) × step old k begins (Ok begun) first
-has-begun step k old end later count outcome mid new (inl (first, made, rest)) finished = (true, first, made)
-has-begun step k old end later count outcome mid new (inr (inl (is, made))) finished = (false, mid, made)
-has-begun step k old end later count outcome mid new (inr (inr (e, is, made))) finished =
-    absurd (let never = (subst (λ o. IsFinished step k o mid (counted count) (Ok tt) new) is finished).0 in cc)
-
 -- why not all was read, by the error
 module _ {R : Type 0} (remaining : R → Option (List ℕ)) (read_step : R → ReadResult → R → Type 0) (k : Settings)
     (reader reader' : R) (view : List ℕ → List ℕ) (has_buffers : Bool) (meaning : Meaning)
@@ -362,7 +221,8 @@ module _ {R : Type 0} {remaining : R → Option (List ℕ)} {read_step : R → R
       sym (text.1 ∙ (ap (λ xs. given ++ xs) (text.2 done) ∙ append-nil given))
 
   front-is : (bytes : List ℕ) → IsInput k d'.has_ended from-start.pieces bytes → IsFront k bytes given
-  front-is bytes input = subst (λ xs. IsFront k xs given) (given-is bytes input) (front-whole k given below)
+  front-is bytes input = subst (λ xs. IsFront k xs given) (given-is bytes input) (front-whole k given
+      (λ limit is. subst (λ l. IsBelow l (length given)) is below))
 
   below-limit : (bytes : List ℕ) → IsInput k d'.has_ended from-start.pieces bytes → IsBelowLimit k bytes
   below-limit bytes input limit is =

@@ -55,7 +55,7 @@ clear-filled d old new given found is clear none =
 
 and-left : (a b : Bool) → (a && b) ≡ true → a ≡ true
 and-left true b is = refl
-and-left false b is = absurd (false≢true is)
+and-left false b is = cc
 
 module _ {R : Type 0} (remaining : R → Option (List ℕ)) (read_step : R → ReadResult → R → Type 0) (reader : R) where
   -- a decoder that has just been started read until a call failed
@@ -155,7 +155,7 @@ module _ {S E : Type 0} (step : Steps S E) (k : Settings) where
             }
             go false called = stopped-to count
                 (order.called-binary _ k _ count _ _ _ called (detected _ is))
-        passes-off (inr (why, goes, same)) = absurd (false≢true goes)
+        passes-off (inr (why, goes, same)) = cc
 
         pub fails-at : (e : E) → FailsAtBinary step k binary old e new
             → HasCalled step k 1 start (failed e) new.sink
@@ -239,7 +239,7 @@ module _ {S E : Type 0} (step : Steps S E) (k : Settings) where
         → comes_between (is_detecting k.binary_detection) call ≡ true → is_binary_data call ≡ false → FoundNone old
         → Quits step may_call old k call result new
         → QuitPasses old result end new
-    quits-one begins end old result new inner plain none made = absurd (false≢true inner)
+    quits-one begins end old result new inner plain none made = cc
     quits-one (matches number from bytes) end old result new inner plain none (name, byte, made) =
         looked-at _ from _ end old _ new refl refl none made
     quits-one (context kind number from bytes) end old result new inner plain none (name, byte, made) =
@@ -252,7 +252,7 @@ module _ {S E : Type 0} (step : Steps S E) (k : Settings) where
               (order.called-none _ k _),
         )
     quits-one (binary_data offset) end old result new inner plain none made = absurd (false≢true (sym plain))
-    quits-one (finishes count binary) end old result new inner plain none made = absurd (false≢true inner)
+    quits-one (finishes count binary) end old result new inner plain none made = cc
 
     pub quits-begun : (old : Quitting S) (result : Result Bool E) (new : Quitting S) → FoundNone old
         → Quits step may_call old k begins result new → FoundNone new × step old.sink.now k begins result new.sink.now

@@ -30,7 +30,7 @@ use Rattle.std.proofs.Common.{◌≡◌, ◌⊎◌, ℕ, zero, suc, ◌+◌, ◌
 use Rattle.std.proofs.Common.{if◌then◌else◌, ◌==◌, Result, Ok, Err, Option, None, Some, refl, sym, ap, ◌∙◌, arith}
 use Rattle.std.proofs.Common.{inl, inr, subst}
 use Rattle.std.proofs.Math.Nat.{min_comm}
-use Rattle.std.proofs.lemmas.Bool.{false≢true, le-leb}
+use Rattle.std.proofs.lemmas.Bool.{le-leb}
 use Rattle.std.proofs.lemmas.List.{take_min}
 use Rattle.std.specs.List.{position, position_or_len}
 use Rattle.std.specs.Prelude.{is_some, filter, nat_le, min, length}
@@ -44,7 +44,7 @@ report-no-break : (call : Call) → is_report call ≡ true → is_break call �
 report-no-break begins is = refl
 report-no-break (matches number from bytes) is = refl
 report-no-break (context kind number from bytes) is = refl
-report-no-break breaks is = absurd (false≢true is)
+report-no-break breaks is = cc
 report-no-break (binary_data offset) is = refl
 report-no-break (finishes count binary) is = refl
 
@@ -223,12 +223,12 @@ module _ {S E : Type 0} (step : Steps S E) (may_call : S → Type 0) (k : Settin
   looked : (call : Call) (old : Watch S) (result : Result Bool E) (mid : Watch S) → is_report call ≡ true
       → Q old k call result mid
       → IsLookedAt step may_call (position_of b (reported_bytes call)) (reported_from call) old k call result mid
-  looked begins old result mid is made = absurd (false≢true is)
+  looked begins old result mid is made = cc
   looked (matches number from bytes) old result mid is made = made
   looked (context kind number from bytes) old result mid is made = made
-  looked breaks old result mid is made = absurd (false≢true is)
-  looked (binary_data offset) old result mid is made = absurd (false≢true is)
-  looked (finishes count binary) old result mid is made = absurd (false≢true is)
+  looked breaks old result mid is made = cc
+  looked (binary_data offset) old result mid is made = cc
+  looked (finishes count binary) old result mid is made = cc
 
   -- such turns, from any state between two reports
   abbrev QuitsFrom : List Planned → Outcome E → Watch S → Type 0
@@ -404,8 +404,8 @@ module _ {S E : Type 0} (step : Steps S E) (may_call : S → Type 0) (k : Settin
   quits-all (unheld none clear reported) = (none, reported)
   quits-all (ended_before n is clear some reported) = absurd (some refl)
   quits-all (ended_at n is found last reported (Ok goes_on) called (end, stops)) =
-      absurd (cc)
-  quits-all (ended_at n is found last reported (Err e) called fails) = absurd (cc)
+      cc
+  quits-all (ended_at n is found last reported (Err e) called fails) = cc
 
 -- a call of a search that returned false leaves it without
 made-plain : {S E : Type 0} (step : Steps S E) (k : Settings) (turns : List Planned) → AreTurns turns → (old : S)

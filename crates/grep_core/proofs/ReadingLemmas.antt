@@ -2,19 +2,19 @@
 use Rattle.grep_core.proofs.StreamViewLemmas.{as-unquit, as-viewed}
 use Rattle.grep_core.specs.HeldViews.{HoldsGiven}
 use Rattle.grep_core.specs.SearchBuffers.{IsFitting, detection_of}
-use Rattle.grep_decode.proofs.DecoderLemmas.{done-gives, looks-unsettled, mode-settled, unread-none, waits-few}
-use Rattle.grep_decode.proofs.DecoderLemmas.{Decodes-append}
+use Rattle.grep_decode.proofs.DecoderLemmas.{Decodes-append, done-gives, waits-few}
+use Rattle.grep_decode.proofs.StartedLemmas as starts
 use Rattle.grep_line_buffer.proofs.GivenLemmas.{fills-continue}
-use Rattle.grep_decode.specs.Decoded.{by_label, decoded, found_mark}
+use Rattle.grep_decode.specs.Decoded.{by_label, found_mark}
 use Rattle.grep_decode.specs.DecoderStates.{DecoderState, Decodes, HasReadNothing, IsDone, IsSettled, LooksForMark}
-use Rattle.grep_decode.specs.DecoderStates.{decode_by, mode_of, IsWaiting, started, still_to_give, unread}
+use Rattle.grep_decode.specs.DecoderStates.{decode_by, mode_of, IsWaiting, started, still_to_give}
 use Rattle.grep_decode.specs.Source.{ReadResult}
 use Rattle.grep_decode.specs.declared.label.Label.{Label}
 use Rattle.grep_decode.specs.declared.label.Label.TheVariants.{Utf8, Utf16Le, Utf16Be}
 use Rattle.grep_decode.specs.declared.mode.Mode.TheVariants.{Passing}
 use Rattle.grep_definitions.specs.Plans.{is_across, Settings}
 use Rattle.grep_definitions.specs.Searches.{before_quit, view_of, AreWaiting, IsInput}
-use Rattle.grep_definitions.specs.Searches.{encoding_after, encoding_of, looks_for_mark}
+use Rattle.grep_definitions.specs.Searches.{encoding_after, encoding_of}
 use Rattle.grep_definitions.specs.Searches.{IsReadForLine, searched_bytes, Taken}
 use Rattle.grep_definitions.specs.DecodedInputs.{IsDecodedSoFar, passes_after, passes_unchanged}
 use Rattle.grep_line_buffer.proofs.DetectionLemmas.{length-detected, uncut-none}
@@ -25,7 +25,7 @@ use Rattle.grep_line_buffer.specs.Fills.{HasWaitedForLine, Fills}
 use Rattle.grep_matcher.specs.Lines.{byte_of}
 use Rattle.grep_matcher.specs.Meanings.{Meaning}
 use Rattle.std.proofs.Common.{◌≡◌, ◌≢◌, ◌⊎◌, ℕ, ◌+◌, ◌<◌, ◌≤◌, true, false, List, [], ◌++◌, length, Option}
-use Rattle.std.proofs.Common.{Some, None, inl, inr, ⊎_elim, refl, sym, subst, ◌∙◌, ap, ap₂, arith, append-nil}
+use Rattle.std.proofs.Common.{Some, None, refl, sym, subst, ◌∙◌, ap, ap₂, arith, append-nil}
 use Rattle.std.proofs.Common.{append_assoc, length-append}
 use Rattle.std.proofs.Math.Bool.{and-false}
 use Rattle.std.proofs.lemmas.Bool.{false≢true}
@@ -39,10 +39,10 @@ view-length k bytes = ap length (as-viewed k.binary_detection _ _) ∙ views.vie
 -- without a label and a mark the bytes pass, and after the mark of UTF-8
 mode-passing : (label mark : Option Label) → passes_after mark label ≡ true → mode_of mark label ≡ Passing
 mode-passing label (Some Utf8) unchanged = refl
-mode-passing label (Some Utf16Le) unchanged = absurd (false≢true unchanged)
-mode-passing label (Some Utf16Be) unchanged = absurd (false≢true unchanged)
+mode-passing label (Some Utf16Le) unchanged = cc
+mode-passing label (Some Utf16Be) unchanged = cc
 mode-passing None None unchanged = refl
-mode-passing (Some label) None unchanged = absurd (false≢true unchanged)
+mode-passing (Some label) None unchanged = cc
 
 -- the mode after a mark, by the encoding
 mode-decodes : (label mark : Option Label) (input : List ℕ) → decode_by (mode_of mark label) input
@@ -98,99 +98,41 @@ module _ {R : Type 0} {remaining : R → Option (List ℕ)} {step : R → ReadRe
           λ done. ap (view_of settings) (text.2 done) ∙ (as-viewed settings.binary_detection _ _ ∙ views.view-none _ _),
         )
 
-    -- the bytes that are searched, if the input ended here
-    decoded-is : searched_bytes settings (concat reads.pieces) ≡ given ++ still_to_give d []
-    unfolding searched_bytes
-    decoded-is = ap (decoded settings.encoding settings.bom_sniffing) (sym (append-nil (concat reads.pieces)))
-        ∙ reads.gives [] (λ _. refl)
-
     -- the mark in what was taken
     abbrev mark : Option Label
     mark = found_mark settings.encoding settings.bom_sniffing (concat reads.pieces)
 
-    mode-is : IsSettled d.mode → d.mode ≡ mode_of mark settings.encoding
-    mode-is settled =
-        sym (mode-settled _ _ settled) ∙ (sym (reads.settles [] (λ _. refl))
-        ∙ ap (λ xs. mode_of (found_mark settings.encoding settings.bom_sniffing xs) settings.encoding)
-        (append-nil (concat reads.pieces)))
-
     module _ (unchanged : passes_unchanged settings (concat reads.pieces) ≡ true) (settled : IsSettled d.mode) where
-      pub passes : d.mode ≡ Passing
+      passes : d.mode ≡ Passing
       unfolding passes_unchanged
-      passes = mode-is settled ∙ mode-passing _ mark unchanged
+      passes = starts.mode-is _ _ reads settled ∙ mode-passing _ mark unchanged
 
       -- at most three bytes more were taken than given
       pub taken-few : (d.mode ≡ Passing → (length d.ready ≤ 3) × (d.held ≡ []))
           → length (concat reads.pieces) ≤ length given + 3
       taken-few few = omega (arith, reads.ahead passes, ap length (few passes).1)
 
-      -- all is given if nothing is ready and held
-      decoded-all : d.ready ≡ [] → (d.mode ≡ Passing → d.held ≡ []) → given
-          ≡ searched_bytes settings (concat reads.pieces)
-      decoded-all ready held =
-          let left : still_to_give d [] ≡ [] =
-          ap (λ xs. xs ++ decode_by d.mode (d.held ++ unread d.has_ended [])) ready
-          ∙ (ap (λ m. decode_by m (d.held ++ unread d.has_ended [])) passes
-          ∙ (ap (λ xs. xs ++ unread d.has_ended []) (held passes) ∙ unread-none _)) in
-          sym (decoded-is ∙ (ap (λ xs. given ++ xs) left ∙ append-nil given))
-
-    -- a decoder that looks for a mark has given nothing, and holds all that was taken
-    unsettled : IsSettled d.mode ⊎ LooksForMark d.mode × (length d.held ≤ 2)
-        → IsSettled d.mode ⊎ (looks_for_mark settings ≡ true) × (given ≡ []) × (length (concat reads.pieces) < 3)
-    unsettled (inl settled) = inl settled
-    unsettled (inr (looks, few)) =
-        let waits = reads.unsettled (looks-unsettled _ looks) in
-        inr (subst LooksForMark waits.0 looks, waits.1, omega (arith, few, ap length waits.2))
-
-    settled-enough : IsSettled d.mode ⊎ LooksForMark d.mode × (length d.held ≤ 2)
-        → (looks_for_mark settings ≡ true → 3 ≤ length (concat reads.pieces)) → IsSettled d.mode
-    settled-enough few enough = ⊎_elim (λ settled. settled) (λ waits. absurd (omega (arith, enough waits.0, waits.2)))
-        (unsettled few)
-
-    given-none : IsSettled d.mode ⊎ LooksForMark d.mode × (length d.held ≤ 2) → d.has_ended ≡ false
-        → looks_for_mark settings ≡ true → length (concat reads.pieces) < 3 → given ≡ []
-    given-none few unended looks short = ⊎_elim
-        (λ settled. ⊎_elim (λ long. absurd (omega (arith, long, short)))
-        (λ ended. absurd (false≢true (sym unended ∙ ended)))
-        (reads.enough looks settled))
-        (λ waits. waits.1) (unsettled few)
-
-    -- the last bytes that came wait if the decoder holds them, and the rest of the text is theirs and of what comes
-    module _ (unended : d.has_ended ≡ false) (ready : d.ready ≡ []) (waits : IsWaiting d.mode d.held)
-        (settled : IsSettled d.mode) where
-      waiting-bytes : AreWaiting (encoding_of settings (concat reads.pieces)) d.held
-      unfolding encoding_of
-      waiting-bytes = mode-waits _ mark _ (subst (λ m. IsWaiting m d.held) (mode-is settled) waits)
-
-      waiting-text : (more : List ℕ) → searched_bytes settings (concat reads.pieces ++ more)
-          ≡ given ++ by_label (encoding_of settings (concat reads.pieces)) (d.held ++ more)
-      unfolding searched_bytes encoding_of
-      waiting-text more =
-          reads.gives more (λ ended. absurd (false≢true (sym unended ∙ ended)))
-          ∙ (ap (λ xs. given ++ (xs ++ decode_by d.mode (d.held ++ unread d.has_ended more))) ready
-          ∙ (ap (λ b. given ++ decode_by d.mode (d.held ++ unread b more)) unended
-          ∙ (ap (λ m. given ++ decode_by m (d.held ++ more)) (mode-is settled)
-          ∙ ap (λ xs. given ++ xs) (mode-decodes _ mark _))))
-
     -- what was decoded when the reader failed
-    pub decoded-so_far : d.has_ended ≡ false
-        → d.ready ≡ [] → IsWaiting d.mode d.held → IsDecodedSoFar settings reads.pieces given
+    pub decoded-so_far : d.has_ended ≡ false → d.ready ≡ [] → IsWaiting d.mode d.held
+        → IsDecodedSoFar settings reads.pieces given
+    unfolding searched_bytes encoding_of
     decoded-so_far unended ready waits = record {
       begins = λ bytes input.
           let text = input-is bytes (input.0, (λ ended. absurd (false≢true (sym unended ∙ ended))), input.2) in
           (text.0, text.1);
-      none = given-none few unended;
+      none = starts.given-none _ _ reads few unended;
       all = λ enough.
-          let settled = settled-enough few enough in (
+          let settled = starts.settled-enough _ _ reads few enough in (
             reads.last.0,
             d.held,
             reads.last.1,
-            waiting-bytes unended ready waits settled,
-            waiting-text unended ready waits
-                settled,
+            mode-waits _ mark _ (subst (λ m. IsWaiting m d.held) (starts.mode-is _ _ reads settled) waits),
+            λ more. starts.waiting-text _ _ reads unended ready settled more
+                ∙ ap (λ xs. given ++ xs) (mode-decodes _ mark _),
           );
-      whole = λ enough unchanged. decoded-all unchanged (settled-enough few enough) ready
-          (λ passing. subst (λ m. IsWaiting m d.held) passing waits);
+      whole = λ enough unchanged.
+          let passing = passes unchanged (starts.settled-enough _ _ reads few enough) in
+          starts.decoded-all _ _ reads passing ready (subst (λ m. IsWaiting m d.held) passing waits);
     }
       where
         few : IsSettled d.mode ⊎ LooksForMark d.mode × (length d.held ≤ 2)

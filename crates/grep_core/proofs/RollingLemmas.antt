@@ -9,7 +9,7 @@ use Rattle.grep_decode.specs.DecoderStates.{DecoderState, Decodes, IsDone, start
 use Rattle.grep_decode.specs.Source.{ReadResult}
 use Rattle.grep_definitions.proofs.BoolLemmas.{clash}
 use Rattle.grep_definitions.proofs.FrontLemmas.{closed-append, closed-drop, count-after, lines-fit, longer-front}
-use Rattle.grep_definitions.proofs.FrontLemmas.{start-there, turns-within}
+use Rattle.grep_definitions.proofs.FrontLemmas.{turns-within}
 use Rattle.grep_definitions.proofs.LimitLemmas.{turn_above}
 use Rattle.grep_lines.proofs.LineRangeLemmas.{end-start, start-same}
 use Rattle.grep_definitions.specs.Searches.{is_detecting, binary_of, view_of, GoesOnAfter, IsClosed}
@@ -30,7 +30,7 @@ use Rattle.grep_matcher.specs.Meanings.{Meaning, MatcherFacts}
 use Rattle.grep_report.specs.ErrorMakers.{ErrorMakers}
 use Rattle.grep_walk.proofs.WalkLemmas.{start_walk, reported-begin}
 use Rattle.grep_walk.proofs.WindowLemmas.{roll-input}
-use Rattle.grep_walk.proofs.WindowSearchLemmas.{passed-all, searched-rolled, searched-start}
+use Rattle.grep_walk.proofs.WindowSearchLemmas.{line-seen, passed-all, searched-rolled, searched-start}
 use Rattle.grep_walk.specs.Origins.{Origin, fresh}
 use Rattle.grep_walk.specs.WalkFaults.{IsWalkFault}
 use Rattle.grep_walk.specs.Walks.{AreCounts, recounted, IsCount}
@@ -179,18 +179,6 @@ module _ {S E : Type 0} {step : Steps S E} {k : Settings} {meaning : Meaning}
       abbrev seen : List ℕ
       seen = gone ++ old.shown
 
-      -- a walk that is at the end of what is shown is at the line after those that were seen
-      pub line-seen : (more : List ℕ) {input : List ℕ}
-          → (there : HasSearched step k meaning gone (old.shown ++ more) input first (length old.shown) w now)
-          → there.line ≡ length (lines t seen)
-      line-seen more there = omega (
-        arith,
-        there.walked.inside.line.low,
-        start-same
-            there.walked.inside.line.begins (start-there t _ more between.shut),
-        count-after t gone old.shown between.opens,
-      )
-
       here : reports_nothing k ≡ false → HasPassed step k meaning gone old.shown (gone ++ (old.shown ++ [])) first w now
       here busy = passed-end
           (subst (λ xs. IsReady step k meaning gone xs (length old.shown) first w now) (append-nil old.shown)
@@ -240,7 +228,7 @@ module _ {S E : Type 0} {step : Steps S E} {k : Settings} {meaning : Meaning}
           by-cases false busy more less =
               let searched = between.next busy back [] nothing in
               let count = searched.line in
-              let line = line-seen back searched in
+              let line = line-seen old.shown between.opens between.shut back searched in
               let walk = searched.walked.reported.walk in
               let input : gone ++ ((old.shown ++ back) ++ []) ≡ bytes =
               ap (λ xs. gone ++ xs) (append-nil (old.shown ++ back))
@@ -350,7 +338,7 @@ module _ {S E : Type 0} {step : Steps S E} {k : Settings} {meaning : Meaning}
 -- a search that reads though no line may have a turn looks for a binary byte
 idle-detects : (idle detecting : Bool) → idle ≡ true → (not idle || detecting) ≡ true → detecting ≡ true
 idle-detects true detecting is reads = reads
-idle-detects false detecting is reads = absurd (false≢true is)
+idle-detects false detecting is reads = cc
 
 module _ {R : Type 0} {remaining : R → Option (List ℕ)} {read_step : R → ReadResult → R → Type 0} {S E : Type 0}
     {step : Steps S E} {k : Settings} {meaning : Meaning} where

@@ -11,9 +11,10 @@ use Rattle.grep_definitions.proofs.FirstTurnLemmas.{turns-begin}
 use Rattle.grep_definitions.proofs.FrontLemmas.{turns-within}
 use Rattle.grep_definitions.proofs.PlannedReaderLemmas.{passes-unchanged}
 use Rattle.grep_definitions.proofs.PlannedStreamLemmas.{stream-point, binary-made}
-use Rattle.grep_definitions.proofs.SearchModeLemmas.{plan-by_line}
+use Rattle.grep_definitions.proofs.FrontLemmas.{front-none}
+use Rattle.grep_definitions.proofs.SearchModeLemmas.{asked-with, calls-are, finish-is, with-calls, with-finish}
 use Rattle.grep_definitions.proofs.SinkRunLemmas.{all-by, AreMade-append, outcome_by, made-binary, by-none, by-some}
-use Rattle.grep_definitions.specs.Plans.{IsAskedWith, IsQuestionIn, search_plan, is_across}
+use Rattle.grep_definitions.specs.Plans.{search_plan, is_across}
 use Rattle.grep_definitions.specs.Plans.{selection_in, Steps, Planned, Plan, AreMade, Outcome}
 use Rattle.grep_definitions.specs.Plans.{all_true, stopped, failed, counted, Finish, IsRun, begins}
 use Rattle.grep_definitions.specs.Plans.{finish_after, finishes, finish_result, IsFinished, start}
@@ -21,13 +22,12 @@ use Rattle.grep_definitions.specs.Plans.{line_count, Settings, SearcherState}
 use Rattle.grep_definitions.specs.Searches.{quits, on_stream, binary_of, view_of, BinaryPoint}
 use Rattle.grep_definitions.specs.Searches.{plan_with, calls_with, planned_binary, with_offset}
 use Rattle.grep_definitions.specs.Searches.{binary_position, IsInput, searched_bytes}
-use Rattle.grep_definitions.specs.Searches.{Taken, IsFront, reports_nothing, IsPoint, IsCutAt}
+use Rattle.grep_definitions.specs.Searches.{Taken, reports_nothing, IsPoint, IsCutAt}
 use Rattle.grep_definitions.specs.Searches.{IsReaderSearch, IsSearchOf, Points, ran, asked}
 use Rattle.grep_definitions.specs.Searches.{IsStreamPoint, IsRead}
 use Rattle.grep_definitions.specs.SinkRuns.{after_binary}
 use Rattle.grep_definitions.specs.DecodedInputs.{passes_unchanged}
 use Rattle.grep_definitions.specs.LineSearch.{byte_count, turns, through}
-use Rattle.grep_definitions.specs.Questions.{IsAskedByLine}
 use Rattle.grep_core.proofs.StreamViewLemmas.{as-found}
 use Rattle.grep_line_buffer.proofs.DetectionLemmas.{first-none, found-nil}
 use Rattle.grep_line_buffer.specs.BufferStates.{BufferState, is_cut}
@@ -60,17 +60,17 @@ use Rattle.grep_walk.proofs.WalkLemmas as walks
 pub goes-true : (d : BinaryDetection) (returned : Bool) → true ≡ (returned && is_none (quit_byte_of d))
     → (returned ≡ true) × (quits d ≡ false)
 goes-true no_detection true goes = (refl, refl)
-goes-true no_detection false goes = absurd (cc)
-goes-true (Quit b) true goes = absurd (cc)
-goes-true (Quit b) false goes = absurd (cc)
+goes-true no_detection false goes = cc
+goes-true (Quit b) true goes = cc
+goes-true (Quit b) false goes = cc
 goes-true (Convert b) true goes = (refl, refl)
-goes-true (Convert b) false goes = absurd (cc)
+goes-true (Convert b) false goes = cc
 
 -- what returned true and doesn't go on ends it
 pub goes-false : (d : BinaryDetection) → false ≡ (true && is_none (quit_byte_of d)) → quits d ≡ true
-goes-false no_detection ends = absurd (cc)
+goes-false no_detection ends = cc
 goes-false (Quit b) ends = refl
-goes-false (Convert b) ends = absurd (cc)
+goes-false (Convert b) ends = cc
 
 module _ {S E : Type 0} (step : Steps S E) (k : Settings) where
   -- a search that goes on has a buffer that isn't cut
@@ -84,8 +84,8 @@ module _ {S E : Type 0} (step : Steps S E) (k : Settings) where
       go : (d : BinaryDetection) (returned : Bool) → true ≡ (returned && is_none (quit_byte_of d))
           → is_quit (detection_of d) ≡ false
       go no_detection returned goes = refl
-      go (Quit b) true goes = absurd (cc)
-      go (Quit b) false goes = absurd (cc)
+      go (Quit b) true goes = cc
+      go (Quit b) false goes = cc
       go (Convert b) returned goes = refl
   uncut-passed old new sink sink' uncut same detects noted_there (inr (inl none, goes, kept)) =
       ap (λ b. is_quit new.detection && is_some b) none ∙ go (is_quit new.detection)
@@ -98,7 +98,7 @@ module _ {S E : Type 0} (step : Steps S E) (k : Settings) where
       (ap (λ b. is_quit old.detection && b) (sym some ∙ ap is_some noted_there) ∙ uncut))
     where
       go : (quits : Bool) → (quits && true) ≡ false → quits ≡ false
-      go true never = absurd (cc)
+      go true never = cc
       go false never = refl
 
   -- what is noted is what the buffer found
@@ -111,24 +111,6 @@ module _ {S E : Type 0} (step : Steps S E) (k : Settings) where
       absurd (false≢true (sym (ap is_some there) ∙ some))
   noted-passed (Some o) new other sink sink' found there (inr (inr some, goes, kept)) =
       ap (λ (n : Noted S). n.binary) kept ∙ (there ∙ sym found)
-
--- the calls of a plan with the one in between, if the search goes on
-with-calls : (d : BinaryDetection) → quits d ≡ false → (point : Option BinaryPoint) (plan : Plan)
-    → (plan_with d point plan).calls ≡ calls_with point plan.calls
-with-calls d is None plan = refl
-with-calls d is (Some point) plan = rw is refl
-
-with-finish : (d : BinaryDetection) → quits d ≡ false → (point : BinaryPoint) (plan : Plan)
-    → (plan_with d (Some point) plan).finish ≡ with_offset point.offset plan.finish
-with-finish d is point plan = rw is refl
-
-pub calls-are : (k : Settings) (meaning : Meaning) → is_across k meaning ≡ false → (bytes : List ℕ)
-    → (search_plan k meaning bytes).calls ≡ LineSearch.turns k meaning bytes
-calls-are k meaning by_line bytes = ap (λ (p : Plan). p.calls) (plan-by_line k meaning bytes by_line)
-
-finish-is : (k : Settings) (meaning : Meaning) → is_across k meaning ≡ false → (bytes : List ℕ)
-    → (search_plan k meaning bytes).finish ≡ counted (LineSearch.byte_count k meaning bytes)
-finish-is k meaning by_line bytes = ap (λ (p : Plan). p.finish) (plan-by_line k meaning bytes by_line)
 
 made-in : {S E : Type 0} (step : Steps S E) (k : Settings) (point : BinaryPoint) (calls : List Planned) {front back later : List Planned}
     → take point.position calls ≡ front → drop point.position calls ≡ back → map (after_binary point) back ≡ later
@@ -312,18 +294,6 @@ module _ {S E : Type 0} {step : Steps S E} {k : Settings} {meaning : Meaning} (b
         ahead = ended.ahead;
       }
 
--- what a matcher is asked by line
-asked-with : (k : Settings) (meaning : Meaning) {bytes haystack : List ℕ} {made : List Planned}
-    → is_across k meaning ≡ false → IsAskedByLine k meaning bytes haystack made
-    → IsAskedWith k meaning bytes haystack made
-asked-with k meaning {bytes} {haystack} by_line query = record {
-  index = query.index;
-  question = subst (λ m. IsQuestionIn k meaning bytes m query.index haystack) (sym by_line)
-      (record { has_turn = query.has_turn; room = query.room; question = query.question });
-  before = query.before
-      ∙ ap (λ (p : Plan). through (start k bytes query.index) p.calls) (sym (plan-by_line k meaning bytes by_line));
-}
-
 -- such a walk, by what is known of the matcher
 module _ {S E F : Type 0} {step : Steps S E} {errors : ErrorMakers F E} (matcher : MatcherFacts F) {k : Settings}
     (by_line : is_across k matcher.meaning ≡ false) {given : List ℕ} {at : ℕ} {old : S} {next : Origin S}
@@ -462,9 +432,9 @@ module _ {R : Type 0} {remaining : R → Option (List ℕ)} {read_step : R → R
         → IsEnding o (plan_with d (Some point) p).finish finish
     ending d true is all_true called ends succeeds p = rw is refl
     ending d false is all_true called ends succeeds p = absurd (clash (ends refl) refl)
-    ending d q is (stopped f) (inl (next, goes, (all, same))) ends succeeds p = absurd (cc)
+    ending d q is (stopped f) (inl (next, goes, (all, same))) ends succeeds p = cc
     ending d q is (stopped f) (inr (inl (same, stops))) ends succeeds p = sym (ap if-false same)
-    ending d q is (stopped f) (inr (inr (e, fails, made))) ends succeeds p = absurd (cc)
+    ending d q is (stopped f) (inr (inr (e, fails, made))) ends succeeds p = cc
     ending d q is (failed e) called ends succeeds p = absurd (succeeds e refl)
 
     -- or in `finish`
@@ -502,15 +472,6 @@ idle-unread false detecting unread = absurd (false≢true (sym unread))
 pub none-counted : {E : Type 0} {outcome : Outcome E} (whole : ℕ) → IsCount outcome whole 0 → outcome ≡ all_true → whole
     ≡ 0
 none-counted whole same all = sym (subst (λ o. IsCount o whole 0) all same)
-
--- no lines are at the front of every input
-pub front-none : {k : Settings} {bytes : List ℕ} → IsFront k bytes []
-front-none {bytes} = record {
-  after = bytes;
-  whole = refl;
-  closed = λ more some. absurd (omega (arith, some));
-  held = λ limit is i x below. absurd (omega (arith, below));
-}
 
 -- no binary byte is in no bytes
 pub binary-nil : (d : BinaryDetection) (t : ℕ) → binary_position d t [] ≡ None

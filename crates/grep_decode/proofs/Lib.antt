@@ -9,3 +9,4 @@ pub mod PieceLemmas
 pub mod SourceRunLemmas
 pub mod SpellsLemmas
 pub mod Utf16Lemmas
+pub mod StartedLemmas

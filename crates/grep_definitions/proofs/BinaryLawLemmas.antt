@@ -22,7 +22,7 @@ use Rattle.grep_definitions.proofs.ListLemmas.{All-joined_from}
 use Rattle.grep_definitions.proofs.SearchLawLemmas.{turn_count-le}
 use Rattle.grep_definitions.proofs.TurnEndLemmas.{ends-late}
 use Rattle.grep_definitions.proofs.LineSliceLemmas.{slice-line}
-use Rattle.grep_definitions.proofs.PositionLemmas.{none-passes, position-none, position-take-before}
+use Rattle.grep_lines.proofs.PositionLemmas.{none-passes, position-none, position-take-before}
 
 module _ (b : ℕ) where
   abbrev AreClear : List Planned → Type 0

@@ -6,7 +6,7 @@ use Rattle.std.proofs.lemmas.Bool.{cases_lt}
 use Rattle.std.proofs.lemmas.List.{take-append-le, take-append-drop, take_all, take_at, get_or-append-add, get_or-drop}
 use Rattle.std.proofs.lemmas.List.{get_or-take, length-take-le}
 use Rattle.std.proofs.lemmas.List.{nil_from_length}
-use Rattle.std.proofs.lemmas.List.Elements.{All-get_or}
+use Rattle.std.proofs.lemmas.List.Elements.{All-get_or, All-weaker}
 use Rattle.std.proofs.lemmas.List.Folds.{concat-append}
 use Rattle.std.specs.List.{concat}
 use Rattle.std.specs.Prelude.{All, slice_index, slice_index_or}
@@ -14,7 +14,7 @@ use Rattle.grep_matcher.specs.Lines.{byte_of, lines, line_start}
 use Rattle.grep_matcher.specs.Meanings.{Meaning}
 use Rattle.grep_matcher.proofs.LineLemmas.{AreLines-lines, lines-append}
 use Rattle.grep_lines.specs.Positions.{IsLineStart}
-use Rattle.grep_definitions.specs.Searches.{IsClosed, IsCrowded, IsTooLong}
+use Rattle.grep_definitions.specs.Searches.{IsBelowLimit, IsClosed, IsCrowded, IsFront, IsTooLong}
 use Rattle.grep_definitions.specs.Plans.{Settings}
 use Rattle.grep_matcher.proofs.LineLengthLemmas.{lines-within, lines-end, first-long, first-open}
 use Rattle.grep_definitions.proofs.SearchLawLemmas as laws
@@ -198,3 +198,26 @@ turns-within k meaning seen back closed within = go back closed within
         let none : length (lines t seen) + 0 ≡ length (lines t seen) = omega arith in
         above (seen ++ (b ∷ back)) (length (lines t seen))
         (sym (ap (line_start t (seen ++ (b ∷ back))) none) ∙ (last ∙ omega arith)) within
+
+-- no lines are at the front of every input
+pub front-none : {k : Settings} {bytes : List ℕ} → IsFront k bytes []
+front-none {bytes} = record {
+  after = bytes;
+  whole = refl;
+  closed = λ more some. absurd (omega (arith, some));
+  held = λ limit is i x below. absurd (omega (arith, below));
+}
+
+-- bytes below the heap limit are a front of themselves: no line of theirs is too long
+pub front-whole : (k : Settings) (bytes : List ℕ) → IsBelowLimit k bytes → IsFront k bytes bytes
+front-whole k bytes below = record {
+  after = [];
+  whole = sym (append-nil bytes);
+  closed = λ more. absurd (omega (arith, more));
+  held = λ limit is.
+      All-weaker (λ line. length line ≤ length bytes)
+      (λ line. IsTooLong (byte_of k.line_terminator) limit line → ⊥)
+      (λ line within. λ long. ⊎_elim (λ more. absurd (omega (arith, more, within, below limit is)))
+      (λ full. absurd (omega (arith, full.0, within, below limit is))) long)
+      (lines (byte_of k.line_terminator) bytes) (lines-within (byte_of k.line_terminator) bytes);
+}

@@ -29,7 +29,6 @@ pub mod PlannedReaderLemmas
 pub mod PlannedSliceLemmas
 pub mod PlannedStreamLemmas
 pub mod PlannedUnreadLemmas
-pub mod PositionLemmas
 pub mod ReaderViewLemmas
 pub mod ReportLemmas
 pub mod RunLemmas

@@ -1,13 +1,20 @@
--- Where a binary byte of a stream is reported, in the plan of a search by line.
+-- Where a binary byte of a stream is reported, in the plan of a search by line, and a stream in which none is looked for.
 use Rattle.std.proofs.Common.{◌≡◌, ℕ, Bool, true, false, List, [], ◌∷◌, ◌++◌, Some, refl, ap, ◌∙◌, arith, length, map}
-use Rattle.std.proofs.Common.{take, drop, length-append}
+use Rattle.std.proofs.Common.{take, drop, length-append, Option, None, Result, Ok, Err, inl, inr, sym, subst, ◌≤◌}
+use Rattle.std.proofs.lemmas.Option.{none-some}
 use Rattle.std.proofs.Math.Seq.{take-append_seam}
-use Rattle.grep_matcher.specs.Meanings.{Meaning}
+use Rattle.grep_decode.specs.Source.{ReadResult}
+use Rattle.grep_matcher.specs.Lines.{byte_of}
+use Rattle.grep_matcher.specs.Meanings.{MatcherFacts, Meaning}
+use Rattle.grep_report.specs.ErrorMakers.{ErrorMakers}
 use Rattle.grep_report.specs.declared.binary_detection.BinaryDetection.{BinaryDetection}
+use Rattle.grep_report.specs.declared.binary_detection.BinaryDetection.TheVariants.{None as no_detection}
 use Rattle.grep_definitions.specs.Plans.{search_plan, Steps, Planned, Plan, Outcome, all_true}
-use Rattle.grep_definitions.specs.Plans.{AreMade, Settings}
+use Rattle.grep_definitions.specs.Plans.{is_across, line_count, selection_in, AreMade, SearcherState, Settings}
 use Rattle.grep_definitions.specs.Searches.{BinaryPoint, quits, plan_with, planned_binary}
-use Rattle.grep_definitions.specs.Searches.{IsStreamPoint, IsCutAt}
+use Rattle.grep_definitions.specs.Searches.{asked, binary_position, nowhere, on_stream, ran, stream_view, view_of}
+use Rattle.grep_definitions.specs.Searches.{IsCutAt, IsCutSearch, IsFront, IsPoint, IsRead, IsReaderSearch, IsSearchOf}
+use Rattle.grep_definitions.specs.Searches.{IsStreamPoint, Points}
 use Rattle.grep_definitions.specs.SinkRuns.{after_binary}
 use Rattle.grep_definitions.proofs.BoolLemmas.{clash}
 use Rattle.grep_definitions.proofs.SinkRunLemmas.{AreMade-append, AreMade-ended}
@@ -43,3 +50,99 @@ stream-point k meaning bytes seen offset cut calls later begin =
       within = omega (arith, ap length begin, length-append front later);
       before = ap (λ cs. take (length front) cs) begin ∙ take-append_seam front later;
     }
+
+-- without detection a search on a stream is one that looks nowhere
+module _ {R : Type 0} (remaining : R → Option (List ℕ)) (read_step : R → ReadResult → R → Type 0)
+    {S E F : Type 0} (step : Steps S E) (errors : ErrorMakers F E) (matcher : MatcherFacts F) (state : SearcherState)
+    (none : state.settings.binary_detection ≡ no_detection) where
+  abbrev k : Settings
+  k = state.settings
+
+  view-is : {bytes : List ℕ} → view_of k bytes ≡ bytes
+  view-is {bytes} = ap (λ d. stream_view d (byte_of k.line_terminator) bytes) none
+
+  -- there is no first binary byte
+  no-point : (bytes : List ℕ) (n : ℕ) (calls : List Planned) (point : Option BinaryPoint)
+      → IsPoint k matcher.meaning bytes on_stream n calls point → point ≡ None
+  no-point bytes n calls None at = refl
+  no-point bytes n calls (Some point) at =
+      absurd (none-some point.offset
+      (sym (ap (λ d. binary_position d (byte_of k.line_terminator) bytes) none) ∙ at.cut.first))
+
+  -- another claim of where `binary_data` comes, and of how far was read
+  search-with : {IsAt IsAt2 : Points} {HasRead HasRead2 : Plan → Outcome E → Type 0} {bytes : List ℕ}
+      {old : S} (result : Result (Unit {0}) E) {new : S}
+      → ((calls : List Planned) (point : Option BinaryPoint) → IsAt calls point → IsAt2 calls point)
+      → ((plan : Plan) (outcome : Outcome E) → HasRead plan outcome → HasRead2 plan outcome)
+      → IsSearchOf step errors matcher k IsAt HasRead bytes old result new
+      → IsSearchOf step errors matcher k IsAt2 HasRead2 bytes old result new
+  search-with {bytes} (Ok u) maps reads (ran point at run read) =
+      ran point (maps (search_plan k matcher.meaning bytes).calls point at) run (reads _ _ read)
+  search-with {bytes} (Err e) maps reads (ran point at run read) =
+      ran point (maps (search_plan k matcher.meaning bytes).calls point at) run tt
+  search-with (Err e) maps reads
+      (asked haystack error calls asks fails message (point, at, goes, made)) =
+      asked haystack error calls asks fails message (point, maps calls point at, goes, made)
+
+  search-undetected : (reader : R) (old : S) (result : Result (Unit {0}) E) (reader' : R) (new : S)
+      → IsReaderSearch remaining read_step step errors matcher state on_stream reader old result reader' new
+      → IsReaderSearch remaining read_step step errors matcher state nowhere reader old result reader' new
+  search-undetected reader old result reader' new search = record {
+    taken = search.taken;
+    seen = search.seen;
+    front = λ bytes input. subst (λ xs. IsFront k xs search.seen) (view-is) (search.front bytes input);
+    over_seen = search-with _
+        (λ calls point at bytes input. no-point bytes _ calls _ (at bytes input))
+        (λ plan outcome read. (
+          (λ all goes_on bytes input. subst (λ xs. (selection_in k matcher.meaning xs (is_across k matcher.meaning)).end
+              ≤ line_count k search.seen)
+              (view-is) (read.0 all goes_on bytes input)),
+          (λ by_line.
+              let far = read.1 by_line in
+              record {
+                begun = far.begun;
+                first = far.first;
+                begin = far.begin;
+                unread = far.unread;
+                once = far.once;
+                ahead = far.ahead;
+              }),
+        )) search.over_seen;
+    each = λ bytes input. subst (λ xs. IsSearchOf step errors matcher k
+        (IsPoint k matcher.meaning bytes nowhere (length search.seen)) (λ plan outcome. Unit {0}) xs old result new)
+        (view-is)
+        (search-with _
+        (λ calls point at. no-point bytes _ calls point at) (λ plan outcome read. tt)
+        (search.each bytes input));
+    whole = search.whole;
+  }
+
+  cut-undetected : {reader : R} {old : S} {e : E} {reader' : R} {new : S}
+      → IsCutSearch remaining read_step step errors matcher state on_stream reader old e reader' new
+      → IsCutSearch remaining read_step step errors matcher state nowhere reader old e reader' new
+  cut-undetected search = record {
+    mid = search.mid;
+    taken = search.taken;
+    seen = search.seen;
+    begun = search.begun;
+    error = search.error;
+    cause = search.cause;
+    made = search.made;
+    calls = λ begun.
+        let there = search.calls begun in (
+          there.0,
+          (λ bytes input. no-point bytes _
+              _ _ (there.1 bytes input)),
+          there.2,
+          there.3,
+        );
+    none = search.none;
+  }
+
+  pub undetected-read : (reader : R) (old : S) (result : Result (Unit {0}) E) (reader' : R) (new : S)
+      → IsRead remaining read_step step errors matcher state on_stream reader old result reader' new
+      → IsRead remaining read_step step errors matcher state nowhere reader old result reader' new
+  undetected-read reader old (Ok u) reader' new search = search-undetected _ old _ _ new search
+  undetected-read reader old (Err e) reader' new (inl search) =
+      inl (search-undetected _ old _ _ new search)
+  undetected-read reader old (Err e) reader' new (inr search) = inr (cut-undetected search)

@@ -2,7 +2,7 @@
 use Rattle.std.proofs.Common.{◌≡◌, ℕ, inl, inr, List, [], ◌∷◌, ◌++◌, Bool, true, false, refl, sym, ap, subst, map}
 use Rattle.std.specs.Prelude.{Option, None, Some, Result, Ok, Err}
 use Rattle.grep_definitions.specs.Plans.{Settings, Call, Planned, breaks, Steps, Outcome, all_true}
-use Rattle.grep_definitions.specs.Plans.{stopped, failed, AreMade, planned, Finish}
+use Rattle.grep_definitions.specs.Plans.{begins, counted, stopped, failed, AreMade, IsFinished, planned, Finish}
 use Rattle.grep_definitions.specs.LineTurns.{one_turn, break_turns, broken_turns}
 use Rattle.grep_definitions.specs.SinkRuns.{outcome_of, with_binary}
 
@@ -103,3 +103,14 @@ module _ {S E : Type 0} (step : Steps S E) (k : Settings) where
       (inl (ap (outcome_with binary) is, stops))
   made-binary binary (call ∷ later) old outcome new (inr (inr (e, is, fails))) =
       inr (inr (e, ap (outcome_with binary) is, fails))
+
+-- a run that ended in `Ok` has begun
+pub has-begun : {S E : Type 0} (step : Steps S E) (k : Settings) (old : S) (end : ℕ) (later : List Planned) (count : ℕ)
+    (outcome : Outcome E) (mid new : S)
+    → AreMade step k old (planned begins end ∷ later) outcome mid
+    → IsFinished step k outcome mid (counted count) (Ok tt) new
+    → (begun : Bool) × (first : S) × step old k begins (Ok begun) first
+has-begun step k old end later count outcome mid new (inl (first, made, rest)) finished = (true, first, made)
+has-begun step k old end later count outcome mid new (inr (inl (is, made))) finished = (false, mid, made)
+has-begun step k old end later count outcome mid new (inr (inr (e, is, made))) finished =
+    absurd (let never = (subst (λ o. IsFinished step k o mid (counted count) (Ok tt) new) is finished).0 in cc)

@@ -4,3 +4,4 @@ pub mod LineStepLemmas
 pub mod LinePositionLemmas
 pub mod ReplaceLemmas
 pub mod LineRangeLemmas
+pub mod PositionLemmas

@@ -1,14 +1,22 @@
 -- A walk over the lines of a window, against the calls that are defined for the input.
-use Rattle.std.proofs.Common.{◌∙◌, ◌≡◌, ℕ, ◌+◌, ◌-◌, ◌<◌, ◌≤◌, ◌&&◌, min, Bool, true, false, not, List, [], length}
+use Rattle.std.proofs.Common.{◌∙◌, ◌≡◌, ℕ, ◌+◌, ◌-◌, ◌<◌, ◌≤◌, ◌&&◌, min, Bool, true, false, not, List, [], ◌++◌, length}
 use Rattle.std.proofs.Common.{drop, arith, Ok, refl, sym, ap, ap₂, subst, inl, inr, length-take}
-use Rattle.std.proofs.Common.{length-drop}
+use Rattle.std.proofs.Common.{append_assoc, length-drop, ⊎_elim}
+use Rattle.std.proofs.lemmas.Bool.{cases_lt}
 use Rattle.std.proofs.lemmas.List.{take_rest}
 use Rattle.grep_matcher.specs.Lines.{lines, line_start, strip, byte_of}
 use Rattle.grep_matcher.specs.Meanings.{Meaning, MatcherFacts}
-use Rattle.std.specs.Prelude.{slice_range}
+use Rattle.std.specs.Prelude.{slice_range, All}
 use Rattle.grep_lines.specs.Positions.{IsLine, IsLineStart}
 use Rattle.grep_definitions.specs.Plans.{Settings, begins, Steps, Outcome, all_true, AreMade, is_at, stops_next}
-use Rattle.grep_definitions.specs.LineSearch.{turns, byte_count}
+use Rattle.grep_definitions.specs.Plans.{Planned}
+use Rattle.grep_definitions.specs.LineSearch
+use Rattle.grep_definitions.specs.LineSearch.{turns, turns_before, byte_count}
+use Rattle.grep_definitions.specs.LineWalks.{IsNear, IsOpen}
+use Rattle.grep_definitions.specs.Searches.{IsClosed}
+use Rattle.grep_definitions.proofs.FirstTurnLemmas.{turns-seen}
+use Rattle.grep_definitions.proofs.FrontLemmas.{closed-append, count-after, start-there}
+use Rattle.grep_definitions.proofs.LimitLemmas.{turn_above, turn_all}
 use Rattle.grep_report.specs.ErrorMakers.{ErrorMakers}
 use Rattle.grep_walk.specs.WalkFaults.{IsWalkFault}
 use Rattle.grep_walk.specs.declared.walk.Walk.{Walk}
@@ -17,7 +25,7 @@ use Rattle.grep_walk.specs.Walks.{recounted, CountedFrom}
 use Rattle.grep_definitions.specs.Questions.{IsAsked}
 use Rattle.grep_walk.specs.LookAheads.{MayAskAhead}
 use Rattle.grep_walk.specs.Windows.{IsWindow, IsInWindow, HasPassed, HasSearched, HasWalked}
-use Rattle.grep_lines.proofs.LineRangeLemmas.{line-at, end-start}
+use Rattle.grep_lines.proofs.LineRangeLemmas.{line-at, end-start, start-same}
 use Rattle.grep_walk.proofs.WalkLemmas as walks
 use Rattle.grep_walk.proofs.WalkLemmas.{Bare, Comes, start_walk}
 use Rattle.grep_walk.specs.Origins.{Origin, fresh}
@@ -211,3 +219,56 @@ pub failed-matcher : {S E F : Type 0} {step : Steps S E} {k : Settings} {gone wi
 failed-matcher errors matcher bare so_far within line room haystack error e asked message fails =
     walks.fault-matcher _ errors matcher _ _ _ _ _ so_far.reported so_far.inside.at (at so_far within line) bare room
     haystack error e asked message fails
+
+-- a walk that is at the end of some lines of its window, whatever comes after them
+module _ {S E : Type 0} {step : Steps S E} {k : Settings} {meaning : Meaning} {gone : List ℕ} (shown : List ℕ)
+    (opens : IsClosed (byte_of k.line_terminator) gone) (shut : IsClosed (byte_of k.line_terminator) shown)
+    {first : Origin S} {w : Walk} {now : S} (more : List ℕ) where
+  -- it is at the line after all those that were seen
+  pub line-seen : {input : List ℕ}
+      → (there : HasSearched step k meaning gone (shown ++ more) input first (length shown) w now)
+      → there.line ≡ length (lines (byte_of k.line_terminator) (gone ++ shown))
+  line-seen there = omega (
+    arith,
+    there.walked.inside.line.low,
+    start-same there.walked.inside.line.begins (start-there (byte_of k.line_terminator) _ more shut),
+    count-after (byte_of k.line_terminator) gone shown opens,
+  )
+
+  -- and the calls that it passed are those for these lines
+  pub calls-seen : (k.passthru ≡ true → k.before_context ≡ 0) → (after : List ℕ)
+      → (there : HasSearched step k meaning gone (shown ++ more) (gone ++ ((shown ++ more) ++ after)) first
+      (length shown) w now)
+      → turns_before k meaning (gone ++ ((shown ++ more) ++ after)) there.through ≡ turns k meaning (gone ++ shown)
+  calls-seen built after there =
+      let input : List ℕ = gone ++ ((shown ++ more) ++ after) in
+      let walk = there.walked.reported.walk in
+      let back : List ℕ = more ++ after in
+      let same_input : input ≡ (gone ++ shown) ++ back =
+      ap (λ xs. gone ++ xs) (append_assoc shown more after) ∙ sym (append_assoc gone shown back) in
+      let turned : there.line ≤ LineSearch.turn_count k meaning input = ⊎_elim
+      (λ less. omega (arith, turn_above k _ input walk.opened less))
+      (λ all. let end : there.line ≡ length (lines (byte_of k.line_terminator) input) = omega (arith, all, walk.placed.at.listed) in
+      omega (
+        arith,
+        turn_all k _ input
+            (subst (λ i. IsOpen k meaning input i w.after_context_left w.match_count) end walk.opened),
+        end,
+      ))
+      (cases_lt there.line (length (lines (byte_of k.line_terminator) input))) in
+      let known = subst (λ i. (IsNear k meaning input there.through i w.after_context_left)
+      × (i ≤ LineSearch.turn_count k meaning input)
+      × All (λ (turn : Planned). turn.if_false.count ≤ LineSearch.start k meaning input i)
+      (turns_before k meaning input there.through)) (line-seen there) (
+        walk.near,
+        turned,
+        subst (λ n. All (λ (turn : Planned). turn.if_false.count ≤ n) (turns_before k meaning input there.through))
+            (sym walk.placed.at.begins) walk.ended,
+      ) in
+      let count : ℕ = length (lines (byte_of k.line_terminator) (gone ++ shown)) in
+      let moved = subst (λ xs. (IsNear k meaning xs there.through count w.after_context_left)
+      × (count ≤ LineSearch.turn_count k meaning xs)
+      × All (λ (turn : Planned). turn.if_false.count ≤ LineSearch.start k meaning xs count)
+      (turns_before k meaning xs there.through)) same_input known in
+      ap (λ xs. turns_before k meaning xs there.through) same_input
+      ∙ turns-seen k meaning _ back (closed-append (byte_of k.line_terminator) gone shown opens shut) built _ _ moved.0 moved.1 moved.2

@@ -23,7 +23,7 @@ returns-then-not-branch-clause-begun g c = record {
   first = c.begin.new.sink;
   begin = rw c.if-not-branch.true at c.in_ok-begin.ensures.step;
   unread = λ e. refl;
-  once = λ reads. absurd (false≢true reads);
+  once = λ reads. cc;
 }
 
 pub returns-then-not-reads_lines-clause-begun : goal.returns-then-not-reads_lines-clause-begun

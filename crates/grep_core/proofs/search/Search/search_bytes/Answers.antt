@@ -2,7 +2,8 @@ use Rattle.std.proofs.Common.{arith, ◌∙◌, sym, subst, refl, Err, None}
 use Rattle.std.proofs.lemmas.Result.{err_from_is_err_and}
 use Rattle.grep_core.specs.InputSearches.{IsBytesSearched}
 use Rattle.grep_walk.proofs.FinishLemmas.{searched-finish}
-use Rattle.grep_core.proofs.InputSearchLemmas.{look-detects, look-plain, searched-at, slice-search}
+use Rattle.grep_core.proofs.InputSearchLemmas.{searched-at, slice-search}
+use Rattle.grep_definitions.proofs.SearchModeLemmas.{look-detects, look-plain}
 use Rattle.grep_core.proofs.search.Search.search_bytes.Given.{Over}
 use Rattle.grep_definitions.proofs.CallOrderLemmas as order
 use Rattle.grep_report.specs.ErrorMakers.{makers_of, ErrorMakers}

@@ -6,7 +6,7 @@ use Rattle.grep_line_buffer.specs.Contents.{FailsAfter, IsBelow, ContentsFail}
 use Rattle.grep_line_buffer.specs.Fills.{IfRead}
 use Rattle.grep_definitions.specs.ReaderRuns.{IsUnreadIn}
 use Rattle.grep_core.proofs.InputSearchLemmas as whole
-use Rattle.grep_core.proofs.InputSearchLemmas.{look-detects, look-plain, look-quit}
+use Rattle.grep_definitions.proofs.SearchModeLemmas.{look-detects, look-plain, look-quit}
 use Rattle.grep_core.proofs.search.Search.search_contents.Given.{Over}
 use Rattle.grep_definitions.specs.Searches.{read_in_order}
 use Rattle.grep_definitions.proofs.CallOrderLemmas as order

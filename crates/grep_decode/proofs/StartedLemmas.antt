@@ -1,0 +1,69 @@
+-- What a decoder that was started for a label gave, against the decoded bytes of what it took.
+use Rattle.std.proofs.Common.{◌≡◌, ◌⊎◌, ℕ, ◌<◌, ◌≤◌, Bool, true, false, List, [], ◌++◌, length, Option, ◌||◌, is_some}
+use Rattle.std.proofs.Common.{inl, inr, ⊎_elim, refl, sym, subst, ◌∙◌, ap, arith, append-nil}
+use Rattle.std.proofs.lemmas.Bool.{false≢true}
+use Rattle.std.specs.List.{concat}
+use Rattle.grep_decode.proofs.DecoderLemmas.{looks-unsettled, mode-settled, unread-none}
+use Rattle.grep_decode.specs.Decoded.{decoded, found_mark}
+use Rattle.grep_decode.specs.DecoderStates.{DecoderState, Decodes, IsSettled, LooksForMark}
+use Rattle.grep_decode.specs.DecoderStates.{decode_by, mode_of, started, still_to_give, unread}
+use Rattle.grep_decode.specs.Source.{ReadResult}
+use Rattle.grep_decode.specs.declared.label.Label.{Label}
+use Rattle.grep_decode.specs.declared.mode.Mode.TheVariants.{Passing}
+
+module _ {R : Type 0} {remaining : R → Option (List ℕ)} {step : R → ReadResult → R → Type 0} (label : Option Label)
+    (sniff : Bool) {capacity : ℕ} {reader reader' : R} {given : List ℕ} {d : DecoderState}
+    (reads : Decodes remaining step (started capacity label sniff) reader given d reader') where
+  -- the decoded bytes, if the input ended here
+  decoded-is : decoded label sniff (concat reads.pieces) ≡ given ++ still_to_give d []
+  decoded-is = ap (decoded label sniff) (sym (append-nil (concat reads.pieces)))
+      ∙ reads.gives [] (λ _. refl)
+
+  -- the mark in what was taken
+  abbrev mark : Option Label
+  mark = found_mark label sniff (concat reads.pieces)
+
+  pub mode-is : IsSettled d.mode → d.mode ≡ mode_of mark label
+  mode-is settled =
+      sym (mode-settled _ _ settled) ∙ (sym (reads.settles [] (λ _. refl))
+      ∙ ap (λ xs. mode_of (found_mark label sniff xs) label)
+      (append-nil (concat reads.pieces)))
+
+  -- all is given if nothing is ready and held
+  pub decoded-all : d.mode ≡ Passing → d.ready ≡ [] → d.held ≡ [] → given ≡ decoded label sniff (concat reads.pieces)
+  decoded-all passes ready held =
+      let left : still_to_give d [] ≡ [] =
+      ap (λ xs. xs ++ decode_by d.mode (d.held ++ unread d.has_ended [])) ready
+      ∙ (ap (λ m. decode_by m (d.held ++ unread d.has_ended [])) passes
+      ∙ (ap (λ xs. xs ++ unread d.has_ended []) held ∙ unread-none _)) in
+      sym (decoded-is ∙ (ap (λ xs. given ++ xs) left ∙ append-nil given))
+
+  -- a decoder that looks for a mark has given nothing, and holds all that was taken
+  unsettled : IsSettled d.mode ⊎ LooksForMark d.mode × (length d.held ≤ 2)
+      → IsSettled d.mode ⊎ ((sniff || is_some label) ≡ true) × (given ≡ []) × (length (concat reads.pieces) < 3)
+  unsettled (inl settled) = inl settled
+  unsettled (inr (looks, few)) =
+      let waits = reads.unsettled (looks-unsettled _ looks) in
+      inr (subst LooksForMark waits.0 looks, waits.1, omega (arith, few, ap length waits.2))
+
+  pub settled-enough : IsSettled d.mode ⊎ LooksForMark d.mode × (length d.held ≤ 2)
+      → ((sniff || is_some label) ≡ true → 3 ≤ length (concat reads.pieces)) → IsSettled d.mode
+  settled-enough few enough = ⊎_elim (λ settled. settled) (λ waits. absurd (omega (arith, enough waits.0, waits.2)))
+      (unsettled few)
+
+  pub given-none : IsSettled d.mode ⊎ LooksForMark d.mode × (length d.held ≤ 2) → d.has_ended ≡ false
+      → (sniff || is_some label) ≡ true → length (concat reads.pieces) < 3 → given ≡ []
+  given-none few unended looks short = ⊎_elim
+      (λ settled. ⊎_elim (λ long. absurd (omega (arith, long, short)))
+      (λ ended. absurd (false≢true (sym unended ∙ ended)))
+      (reads.enough looks settled))
+      (λ waits. waits.1) (unsettled few)
+
+  -- the last bytes that came are held, and the rest of the text is theirs and of what comes
+  pub waiting-text : d.has_ended ≡ false → d.ready ≡ [] → IsSettled d.mode → (more : List ℕ)
+      → decoded label sniff (concat reads.pieces ++ more) ≡ given ++ decode_by (mode_of mark label) (d.held ++ more)
+  waiting-text unended ready settled more =
+      reads.gives more (λ ended. absurd (false≢true (sym unended ∙ ended)))
+      ∙ (ap (λ xs. given ++ (xs ++ decode_by d.mode (d.held ++ unread d.has_ended more))) ready
+      ∙ (ap (λ b. given ++ decode_by d.mode (d.held ++ unread b more)) unended
+      ∙ ap (λ m. given ++ decode_by m (d.held ++ more)) (mode-is settled)))
