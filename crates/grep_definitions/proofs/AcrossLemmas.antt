@@ -1,9 +1,52 @@
 -- What the calls across lines report.
-use Rattle.grep_definitions.specs.Plans.{planned, Planned, matches, context, breaks, Settings}
-use Rattle.grep_definitions.specs.Plans.{count_below, is_below, Kind, matched, in_context}
-use Rattle.grep_definitions.specs.Plans.{all_matches, matches_up_to, touches, is_touched, is_free}
-use Rattle.std.proofs.Common.{◌≡◌, ℕ, ◌+◌, ◌-◌, ◌<◌, ◌≤◌, Bool, true, false, not, ◌&&◌, List, [], ◌∷◌, length, refl}
-use Rattle.std.proofs.Common.{sym, ap, ◌∙◌, arith, ◌⊎◌, ⊎_elim, inl, inr, Option, Some, None, if◌then◌else◌}
+use Rattle.grep_definitions.specs.Plans.{
+  planned,
+  Planned,
+  matches,
+  context,
+  breaks,
+  Settings,
+  count_below,
+  is_below,
+  Kind,
+  matched,
+  in_context,
+  all_matches,
+  matches_up_to,
+  touches,
+  is_touched,
+  is_free,
+}
+use Rattle.std.proofs.Common.{
+  ◌≡◌,
+  ℕ,
+  ◌+◌,
+  ◌-◌,
+  ◌<◌,
+  ◌≤◌,
+  Bool,
+  true,
+  false,
+  not,
+  ◌&&◌,
+  List,
+  [],
+  ◌∷◌,
+  length,
+  refl,
+  sym,
+  ap,
+  ◌∙◌,
+  arith,
+  ◌⊎◌,
+  ⊎_elim,
+  inl,
+  inr,
+  Option,
+  Some,
+  None,
+  if◌then◌else◌,
+}
 use Rattle.std.proofs.Math.Bool.{and-false}
 use Rattle.std.proofs.lemmas.Bool.{cases_Bool, le-leb}
 use Rattle.std.proofs.lemmas.List.{length-take}
@@ -23,8 +66,13 @@ use Rattle.grep_definitions.proofs.RunLemmas.{begins_run, begins_run-either, is_
 use Rattle.grep_matcher.proofs.LineStartLemmas.{line_start-ascends, line_start-more, line_start-le}
 use Rattle.grep_definitions.proofs.ReportLemmas.{IsReported, in_order-joined, report_calls-broken}
 use Rattle.grep_definitions.proofs.UnitLemmas.{unit-lines}
-use Rattle.grep_definitions.proofs.SearchLawLemmas.{matches_in, matches-joined, kind-selected, count_below-weaker}
-use Rattle.grep_definitions.proofs.SearchLawLemmas.{count_below-limited}
+use Rattle.grep_definitions.proofs.SearchLawLemmas.{
+  matches_in,
+  matches-joined,
+  kind-selected,
+  count_below-weaker,
+  count_below-limited,
+}
 
 module _ (k : Settings) (meaning : Meaning) (bytes : List ℕ) where
   -- how many lines there are, where each starts, and its calls

@@ -1,8 +1,43 @@
 -- Where the turns of the calls across lines end, against where lines start.
-use Rattle.grep_definitions.specs.Plans.{planned, Planned, breaks, first_below, Kind}
-use Rattle.grep_definitions.specs.Plans.{matched, in_context, Settings}
-use Rattle.std.proofs.Common.{◌≡◌, ◌⊎◌, ℕ, ◌+◌, ◌-◌, ◌<◌, ◌≤◌, Bool, true, false, ◌&&◌, List, [], ◌∷◌, Option}
-use Rattle.std.proofs.Common.{Some, None, refl, sym, ◌∙◌, ap, subst, arith, ⊎_elim, inl, inr, if◌then◌else◌}
+use Rattle.grep_definitions.specs.Plans.{
+  planned,
+  Planned,
+  breaks,
+  first_below,
+  Kind,
+  matched,
+  in_context,
+  Settings,
+}
+use Rattle.std.proofs.Common.{
+  ◌≡◌,
+  ◌⊎◌,
+  ℕ,
+  ◌+◌,
+  ◌-◌,
+  ◌<◌,
+  ◌≤◌,
+  Bool,
+  true,
+  false,
+  ◌&&◌,
+  List,
+  [],
+  ◌∷◌,
+  Option,
+  Some,
+  None,
+  refl,
+  sym,
+  ◌∙◌,
+  ap,
+  subst,
+  arith,
+  ⊎_elim,
+  inl,
+  inr,
+  if◌then◌else◌,
+}
 use Rattle.std.proofs.Math.Bool.{and-false}
 use Rattle.std.proofs.lemmas.Bool.{ltb-true, cases_lt, cases_Bool}
 use Rattle.std.proofs.lemmas.List.Elements.{All-nil, All-cons, All-weaker}

@@ -1,9 +1,44 @@
 -- The calls of a search across lines, as a walk over units of selected lines and over the lines between them makes
 -- them.
-use Rattle.grep_definitions.specs.Plans.{planned, Planned, begins, Settings, some_below}
-use Rattle.grep_definitions.specs.Plans.{joined_from, matched, in_context}
-use Rattle.std.proofs.Common.{◌≡◌, ℕ, suc, ◌+◌, ◌-◌, ◌<◌, ◌≤◌, Bool, true, false, not, ◌&&◌, ◌||◌, List, [], ◌∷◌, ◌++◌}
-use Rattle.std.proofs.Common.{refl, sym, ap, subst, ◌∙◌, arith, ⊎_elim, Some, None, if◌then◌else◌}
+use Rattle.grep_definitions.specs.Plans.{
+  planned,
+  Planned,
+  begins,
+  Settings,
+  some_below,
+  joined_from,
+  matched,
+  in_context,
+}
+use Rattle.std.proofs.Common.{
+  ◌≡◌,
+  ℕ,
+  suc,
+  ◌+◌,
+  ◌-◌,
+  ◌<◌,
+  ◌≤◌,
+  Bool,
+  true,
+  false,
+  not,
+  ◌&&◌,
+  ◌||◌,
+  List,
+  [],
+  ◌∷◌,
+  ◌++◌,
+  refl,
+  sym,
+  ap,
+  subst,
+  ◌∙◌,
+  arith,
+  ⊎_elim,
+  Some,
+  None,
+  if◌then◌else◌,
+}
 use Rattle.std.proofs.Math.Bool.{and-false}
 use Rattle.std.proofs.lemmas.Bool.{lt-ltb, lt-leb, le-leb, cases_Bool, cases_lt}
 use Rattle.std.proofs.lemmas.List.{append-nil}

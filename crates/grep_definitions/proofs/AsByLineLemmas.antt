@@ -1,10 +1,44 @@
 -- What a search across lines under inversion reports, against a search by line that selects the same lines.
 use Rattle.grep_definitions.specs.Plans
-use Rattle.grep_definitions.specs.Plans.{planned, begins, matches, context, breaks, Settings}
-use Rattle.grep_definitions.specs.Plans.{some_below, first_below, joined_from, Kind, matched}
-use Rattle.grep_definitions.specs.Plans.{in_context}
-use Rattle.std.proofs.Common.{◌≡◌, ℕ, ◌+◌, ◌-◌, ◌<◌, Bool, true, false, not, ◌&&◌, List, [], ◌∷◌, refl, sym, ap, ap₂}
-use Rattle.std.proofs.Common.{◌∙◌, arith, Option, Some, None, if◌then◌else◌}
+use Rattle.grep_definitions.specs.Plans.{
+  planned,
+  begins,
+  matches,
+  context,
+  breaks,
+  Settings,
+  some_below,
+  first_below,
+  joined_from,
+  Kind,
+  matched,
+  in_context,
+}
+use Rattle.std.proofs.Common.{
+  ◌≡◌,
+  ℕ,
+  ◌+◌,
+  ◌-◌,
+  ◌<◌,
+  Bool,
+  true,
+  false,
+  not,
+  ◌&&◌,
+  List,
+  [],
+  ◌∷◌,
+  refl,
+  sym,
+  ap,
+  ap₂,
+  ◌∙◌,
+  arith,
+  Option,
+  Some,
+  None,
+  if◌then◌else◌,
+}
 use Rattle.std.specs.Prelude.{nat_lt, nat_le, is_some, slice_range}
 use Rattle.std.specs.Option.{option_map, unwrap_or}
 use Rattle.grep_matcher.specs.Meanings.{Meaning}

@@ -1,12 +1,44 @@
 -- Numbers below a bound that pass a test, bounds that may be missing, and lists joined over numbers.
-use Rattle.std.proofs.Common.{min, ◌≡◌, ◌⊎◌, ℕ, zero, suc, ◌+◌, ◌-◌, ◌<◌, ◌≤◌, Bool, true, false, not, Option, Some}
-use Rattle.std.proofs.Common.{None, if◌then◌else◌, refl, sym, ◌∙◌, ap, arith, ⊎_elim, append_assoc}
+use Rattle.std.proofs.Common.{
+  min,
+  ◌≡◌,
+  ◌⊎◌,
+  ℕ,
+  zero,
+  suc,
+  ◌+◌,
+  ◌-◌,
+  ◌<◌,
+  ◌≤◌,
+  Bool,
+  true,
+  false,
+  not,
+  Option,
+  Some,
+  None,
+  if◌then◌else◌,
+  refl,
+  sym,
+  ◌∙◌,
+  ap,
+  arith,
+  ⊎_elim,
+  append_assoc,
+}
 use Rattle.std.proofs.lemmas.Bool.{lt-ltb, le-ltb, ltb-true, eq-eqb, ne_eqb, cases_lt, cases_Bool}
 use Rattle.std.proofs.Math.Bool.{or-false, or-true}
 use Rattle.std.specs.Prelude.{IfSome, List, [], ◌∷◌, ◌++◌}
 use Rattle.std.proofs.lemmas.List.{append-nil}
-use Rattle.grep_definitions.specs.Plans.{some_below, count_below, first_below, is_below, is_at}
-use Rattle.grep_definitions.specs.Plans.{at_most, joined_from}
+use Rattle.grep_definitions.specs.Plans.{
+  some_below,
+  count_below,
+  first_below,
+  is_below,
+  is_at,
+  at_most,
+  joined_from,
+}
 use Rattle.grep_definitions.proofs.BoolLemmas.{clash}
 
 pub some_below-none : (p : ℕ → Bool) (n : ℕ) → ((j : ℕ) → j < n → p j ≡ false) → some_below p n ≡ false
@@ -33,14 +65,14 @@ first_below-here p (suc m) q below passes none = ⊎_elim
     (cases_lt q m)
 
 pub first_below-of : (p : ℕ → Bool) (n q : ℕ) → first_below p n ≡ Some q → (q < n) × (p q ≡ true)
-first_below-of p zero q is = absurd (cc)
+first_below-of p zero q is = cc
 first_below-of p (suc n) q is = go (some_below p n) (p n) refl is (λ found. first_below-of p n q found)
   where
     go : (s h : Bool) → p n ≡ h → (if s then first_below p n else (if h then Some n else None)) ≡ Some q
         → (first_below p n ≡ Some q → (q < n) × (p q ≡ true)) → (q < suc n) × (p q ≡ true)
     go true h is_h found before = let below = before found in (omega arith, below.1)
     go false true is_h found before = let same : n ≡ q = cc in (omega arith, ap p (sym same) ∙ is_h)
-    go false false is_h found before = absurd (cc)
+    go false false is_h found before = cc
 
 pub first_below-more : (p : ℕ → Bool) (i n m : ℕ) → i ≤ n → first_below p i ≡ Some m → first_below p n ≡ Some m
 first_below-more p i zero m le is = let same : i ≡ zero = omega arith in ap (first_below p) (sym same) ∙ is
@@ -102,7 +134,7 @@ at_most-next None i above = refl
 at_most-next (Some b) i above = omega arith
 
 pub at_most-some : (o : Option ℕ) (i n : ℕ) → o ≡ Some (suc i) → i < n → at_most o n ≡ i + 1
-at_most-some None i n is less = absurd (cc)
+at_most-some None i n is less = cc
 at_most-some (Some b) i n is less = let same : b ≡ suc i = cc in omega arith
 
 -- what is joined up to a number, and from it on
@@ -177,7 +209,7 @@ joined_from-none f i (suc n) none = rw (
 
 -- if some number passes, there is one
 pub some_below-find : (p : ℕ → Bool) (n : ℕ) → some_below p n ≡ true → (j : ℕ) × (j < n) × (p j ≡ true)
-some_below-find p zero is = absurd (cc)
+some_below-find p zero is = cc
 some_below-find p (suc n) is = go (p n) refl (λ h. some_below-find p n h)
   where
     go : (b : Bool) → p n ≡ b → (some_below p n ≡ true → (j : ℕ) × (j < n) × (p j ≡ true)) → (j : ℕ) × (j < suc n)
@@ -268,7 +300,7 @@ count_below-either p q r (suc n) either = go (p n) (q n) (r n) (either n) (count
     go true true true some before = omega arith
     go true false true some before = omega arith
     go false true true some before = omega arith
-    go false false true some before = ⊎_elim (λ no. absurd (cc)) (λ no. absurd (cc)) (some refl)
+    go false false true some before = ⊎_elim (λ no. cc) (λ no. cc) (some refl)
     go true true false some before = omega arith
     go true false false some before = omega arith
     go false true false some before = omega arith

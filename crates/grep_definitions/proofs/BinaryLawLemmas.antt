@@ -1,6 +1,34 @@
 -- Which reports hold a byte at which a search ends.
-use Rattle.std.proofs.Common.{◌≡◌, ℕ, ◌+◌, ◌-◌, ◌<◌, ◌≤◌, Bool, true, false, List, [], ◌∷◌, ◌++◌, length, take, drop}
-use Rattle.std.proofs.Common.{Option, None, Some, refl, sym, ap, subst, ◌∙◌, arith, if◌then◌else◌, ◌==◌, ⊎_elim}
+use Rattle.std.proofs.Common.{
+  ◌≡◌,
+  ℕ,
+  ◌+◌,
+  ◌-◌,
+  ◌<◌,
+  ◌≤◌,
+  Bool,
+  true,
+  false,
+  List,
+  [],
+  ◌∷◌,
+  ◌++◌,
+  length,
+  take,
+  drop,
+  Option,
+  None,
+  Some,
+  refl,
+  sym,
+  ap,
+  subst,
+  ◌∙◌,
+  arith,
+  if◌then◌else◌,
+  ◌==◌,
+  ⊎_elim,
+}
 use Rattle.std.proofs.lemmas.List.{drop-take, take_all, take_at, take-take}
 use Rattle.std.proofs.lemmas.List.Elements.{All-nil, All-cons, All-take, All-drop}
 use Rattle.std.proofs.lemmas.Option.{none-some}
@@ -9,12 +37,34 @@ use Rattle.std.specs.List.{position}
 use Rattle.std.specs.Option.{option_map}
 use Rattle.grep_matcher.specs.Meanings.{Meaning}
 use Rattle.grep_matcher.specs.Lines.{byte_of}
-use Rattle.grep_definitions.specs.Searches.{binary_position, position_of, stream_view, BinaryPoint}
-use Rattle.grep_definitions.specs.Searches.{call_at, contents_point, point_at, point_unless}
-use Rattle.grep_definitions.specs.BinaryLaws.{first_look, holds_byte, QuitReportsAreClear}
-use Rattle.grep_definitions.specs.BinaryLaws.{CountedReportsAreClear, SeenLinesAreClear}
-use Rattle.grep_definitions.specs.Plans.{calls_at, joined_from, Settings, is_across, selection_in}
-use Rattle.grep_definitions.specs.Plans.{Planned, begins, is_break, planned}
+use Rattle.grep_definitions.specs.Searches.{
+  binary_position,
+  position_of,
+  stream_view,
+  BinaryPoint,
+  call_at,
+  contents_point,
+  point_at,
+  point_unless,
+}
+use Rattle.grep_definitions.specs.BinaryLaws.{
+  first_look,
+  holds_byte,
+  QuitReportsAreClear,
+  CountedReportsAreClear,
+  SeenLinesAreClear,
+}
+use Rattle.grep_definitions.specs.Plans.{
+  calls_at,
+  joined_from,
+  Settings,
+  is_across,
+  selection_in,
+  Planned,
+  begins,
+  is_break,
+  planned,
+}
 use Rattle.grep_definitions.specs.LineSearch
 use Rattle.grep_definitions.proofs.LineReportLemmas.{reports-line}
 use Rattle.grep_matcher.proofs.LineStartLemmas.{line_start-within, line_start-le}

@@ -1,9 +1,45 @@
 -- The calls of a search are reports, and breaks, each directly before a report that ends alike.
 use Rattle.grep_definitions.specs.SearchLaws.{is_report}
-use Rattle.grep_definitions.specs.Plans.{planned, Finish, Planned, breaks, joined_from}
-use Rattle.grep_definitions.specs.Plans.{some_below, Kind, matched, in_context, Settings}
-use Rattle.std.proofs.Common.{◌≡◌, ℕ, zero, suc, ◌+◌, ◌-◌, Bool, true, false, not, ◌&&◌, List, [], ◌∷◌, ◌++◌, Option}
-use Rattle.std.proofs.Common.{Some, None, refl, ◌∙◌, ◌<◌, ◌≤◌, ap, arith, ⊎_elim, if◌then◌else◌}
+use Rattle.grep_definitions.specs.Plans.{
+  planned,
+  Finish,
+  Planned,
+  breaks,
+  joined_from,
+  some_below,
+  Kind,
+  matched,
+  in_context,
+  Settings,
+}
+use Rattle.std.proofs.Common.{
+  ◌≡◌,
+  ℕ,
+  zero,
+  suc,
+  ◌+◌,
+  ◌-◌,
+  Bool,
+  true,
+  false,
+  not,
+  ◌&&◌,
+  List,
+  [],
+  ◌∷◌,
+  ◌++◌,
+  Option,
+  Some,
+  None,
+  refl,
+  ◌∙◌,
+  ◌<◌,
+  ◌≤◌,
+  ap,
+  arith,
+  ⊎_elim,
+  if◌then◌else◌,
+}
 use Rattle.std.proofs.lemmas.Bool.{cases_Bool, lt-ltb, ltb-true}
 use Rattle.std.specs.Prelude.{nat_le, nat_lt, filter, is_some}
 use Rattle.grep_matcher.specs.Meanings.{Meaning}

@@ -1,23 +1,84 @@
 -- Calls in order, put together.
-use Rattle.std.proofs.Common.{◌≡◌, ℕ, inl, inr, List, [], ◌∷◌, ◌++◌, Bool, true, false, refl, sym, subst, ap, ◌∙◌}
-use Rattle.std.proofs.Common.{Option, None, map, arith, cond}
+use Rattle.std.proofs.Common.{
+  ◌≡◌,
+  ℕ,
+  inl,
+  inr,
+  List,
+  [],
+  ◌∷◌,
+  ◌++◌,
+  Bool,
+  true,
+  false,
+  refl,
+  sym,
+  subst,
+  ap,
+  ◌∙◌,
+  Option,
+  None,
+  map,
+  arith,
+  cond,
+}
 use Rattle.std.specs.Prelude.{Result, Ok, Err, ◌+◌, ◌-◌, ◌≤◌, ◌&&◌, if◌then◌else◌, nat_le, nat_lt}
 use Rattle.std.proofs.lemmas.List.Sums.{sum_by-append, sum_by-cons}
 use Rattle.grep_report.specs.declared.sink_context.SinkContextKind.TheVariants.{Before}
 use Rattle.std.specs.declared.io.Error.{Error}
 use Rattle.std.proofs.lemmas.List.Elements.{All-nil, All-cons, All-append, All-head, All-tail, All-map}
-use Rattle.grep_definitions.specs.Searches.{is_detecting, AreInOrder, HasBegun, IsInOrder}
-use Rattle.grep_definitions.specs.Searches.{ran_in_order, asked_in_order, read_in_order}
-use Rattle.grep_definitions.specs.Searches.{comes_between}
-use Rattle.grep_definitions.specs.CallOrder.{AreInner, after_begin, EndsAt, HasCalled, HasBegunWith, HasCalledTo}
-use Rattle.grep_definitions.specs.CallOrder.{HasBegunTo, HasFailedIn, of_call, of_question, BeginsInOrder, EndsInOrder}
-use Rattle.grep_definitions.specs.CallOrder.{GoesOnInOrder, ReadsInOrder, binary_count}
+use Rattle.grep_definitions.specs.Searches.{
+  is_detecting,
+  AreInOrder,
+  HasBegun,
+  IsInOrder,
+  ran_in_order,
+  asked_in_order,
+  read_in_order,
+  comes_between,
+}
+use Rattle.grep_definitions.specs.CallOrder.{
+  AreInner,
+  after_begin,
+  EndsAt,
+  HasCalled,
+  HasBegunWith,
+  HasCalledTo,
+  HasBegunTo,
+  HasFailedIn,
+  of_call,
+  of_question,
+  BeginsInOrder,
+  EndsInOrder,
+  GoesOnInOrder,
+  ReadsInOrder,
+  binary_count,
+}
 use Rattle.grep_report.specs.ErrorMakers.{ErrorMakers}
 use Rattle.grep_matcher.specs.Meanings.{MatcherFacts}
-use Rattle.grep_definitions.specs.Plans.{Settings, Call, Planned, begins, breaks, context, finishes}
-use Rattle.grep_definitions.specs.Plans.{matches, Steps, Outcome, all_true, stopped, failed}
-use Rattle.grep_definitions.specs.Plans.{finish_result, AreMade, IsFinished, Finish, binary_data}
-use Rattle.grep_definitions.specs.Plans.{counted, is_binary_data, planned}
+use Rattle.grep_definitions.specs.Plans.{
+  Settings,
+  Call,
+  Planned,
+  begins,
+  breaks,
+  context,
+  finishes,
+  matches,
+  Steps,
+  Outcome,
+  all_true,
+  stopped,
+  failed,
+  finish_result,
+  AreMade,
+  IsFinished,
+  Finish,
+  binary_data,
+  counted,
+  is_binary_data,
+  planned,
+}
 use Rattle.grep_definitions.specs.LineTurns.{before_turns, broken_turns, is_gap, match_turns, number_of, one_turn}
 use Rattle.grep_definitions.specs.SinkRuns.{outcome_of, with_binary}
 use Rattle.grep_definitions.proofs.SinkRunLemmas.{AreMade-append, AreMade-one, made-binary, outcome_with}
@@ -476,7 +537,7 @@ module _ {S T E : Type 0} (step : Steps S E) (around : Steps T E) (k : Settings)
                 let first = begun old (Ok true) mid holds made in
                 begun-then step k (view old) (view mid) (failed e) (view new) first.1
                 (passed-all turns mid (failed e) new inner few first.0 reported)
-            go turns inner few (inr (inl (is, made))) = absurd (cc)
+            go turns inner few (inr (inl (is, made))) = cc
             go turns inner few (inr (inr (error, is, made))) =
                 let same : error ≡ e = cc in
                 subst (λ x. HasBegunWith step k 1 (view old) (failed x) (view new)) same
@@ -495,8 +556,8 @@ module _ {S T E : Type 0} (step : Steps S E) (around : Steps T E) (k : Settings)
                 begun-then step k (view old) (view mid) all_true (view new) first.1
                 (called-most step k (omega arith) (view mid) all_true (view new)
                 (passed-all turns mid all_true new inner few first.0 reported).1)
-            go turns inner few (inr (inl (is, made))) = absurd (cc)
-            go turns inner few (inr (inr (error, is, made))) = absurd (cc)
+            go turns inner few (inr (inl (is, made))) = cc
+            go turns inner few (inr (inr (error, is, made))) = cc
 
         pub passed-begun-to : (old : T) (count : ℕ) (new : T) → Holds old → HasBegunTo around k 0 old count new
             → HasBegunTo step k 1 (view old) (count_of new count) (view new)

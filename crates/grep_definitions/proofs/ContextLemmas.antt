@@ -1,6 +1,28 @@
 -- The calls of lines near matches, against the definitions.
-use Rattle.std.proofs.Common.{◌≡◌, ℕ, ◌+◌, ◌-◌, ◌<◌, ◌≤◌, Bool, true, false, not, ◌&&◌, ◌||◌, List, [], length, refl}
-use Rattle.std.proofs.Common.{◌∙◌, ap, ⊎_elim, Some, None, if◌then◌else◌}
+use Rattle.std.proofs.Common.{
+  ◌≡◌,
+  ℕ,
+  ◌+◌,
+  ◌-◌,
+  ◌<◌,
+  ◌≤◌,
+  Bool,
+  true,
+  false,
+  not,
+  ◌&&◌,
+  ◌||◌,
+  List,
+  [],
+  length,
+  refl,
+  ◌∙◌,
+  ap,
+  ⊎_elim,
+  Some,
+  None,
+  if◌then◌else◌,
+}
 use Rattle.std.proofs.Math.Bool.{and-false}
 use Rattle.std.proofs.lemmas.Bool.{lt-leb, le-leb, cases_lt}
 use Rattle.std.specs.Prelude.{nat_lt, nat_le}

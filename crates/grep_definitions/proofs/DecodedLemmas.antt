@@ -6,8 +6,13 @@ use Rattle.grep_decode.specs.declared.label.Label.{Label}
 use Rattle.grep_decode.specs.declared.label.Label.TheVariants.{Utf8}
 use Rattle.grep_definitions.specs.Searches.{searched_bytes, encoding_after, encoding_of}
 use Rattle.grep_definitions.specs.SliceSearches.{is_searched_unchanged}
-use Rattle.grep_definitions.specs.SearchLaws.{MarkedPasses, UnchangedIsInput, UnchangedPasses, UnsniffedIsUnchanged}
-use Rattle.grep_definitions.specs.SearchLaws.{UnmarkedIsUnchanged}
+use Rattle.grep_definitions.specs.SearchLaws.{
+  MarkedPasses,
+  UnchangedIsInput,
+  UnchangedPasses,
+  UnsniffedIsUnchanged,
+  UnmarkedIsUnchanged,
+}
 
 pub unchanged-input : ((label : Option Label) (sniff : Bool) (bytes : List ℕ) → is_unchanged label sniff bytes ≡ true
     → decoded label sniff bytes ≡ bytes) → UnchangedIsInput
@@ -31,8 +36,8 @@ unmarked-unchanged settings input unlabelled unmarked =
 passes-without : (label mark : Option Label) → (not (is_some label) && not (is_some mark)) ≡ true
     → encoding_after mark label ≡ None
 passes-without None None unchanged = refl
-passes-without None (Some mark) unchanged = absurd (cc)
-passes-without (Some label) mark unchanged = absurd (cc)
+passes-without None (Some mark) unchanged = cc
+passes-without (Some label) mark unchanged = cc
 
 pub unchanged-passes : UnchangedPasses
 unfolding is_searched_unchanged encoding_of

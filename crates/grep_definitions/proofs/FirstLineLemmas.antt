@@ -1,6 +1,32 @@
 -- What the definitions say of the first lines does not depend on the lines after them.
-use Rattle.std.proofs.Common.{◌≡◌, ℕ, zero, suc, ◌+◌, ◌-◌, ◌<◌, ◌≤◌, Bool, true, ◌&&◌, List, [], ◌++◌, length, take}
-use Rattle.std.proofs.Common.{get_or, slice_index, refl, ap, ◌∙◌, arith, Some, None, length-append, if◌then◌else◌}
+use Rattle.std.proofs.Common.{
+  ◌≡◌,
+  ℕ,
+  zero,
+  suc,
+  ◌+◌,
+  ◌-◌,
+  ◌<◌,
+  ◌≤◌,
+  Bool,
+  true,
+  ◌&&◌,
+  List,
+  [],
+  ◌++◌,
+  length,
+  take,
+  get_or,
+  slice_index,
+  refl,
+  ap,
+  ◌∙◌,
+  arith,
+  Some,
+  None,
+  length-append,
+  if◌then◌else◌,
+}
 use Rattle.std.proofs.lemmas.Bool.{lt-ltb}
 use Rattle.std.proofs.lemmas.List.{get_or_append_left, take-append-le}
 use Rattle.std.specs.Prelude.{nat_eq, nat_lt, nat_le, count_by}

@@ -1,11 +1,60 @@
 -- The calls of the first lines begin the calls of all.
 use Rattle.grep_definitions.specs.Plans
-use Rattle.grep_definitions.specs.Plans.{planned, Call, Planned, begins, breaks, matches, context}
-use Rattle.grep_definitions.specs.Plans.{Settings, some_below, first_below, at_most, joined_from}
-use Rattle.grep_definitions.specs.Plans.{Kind, matched, in_context}
-use Rattle.std.proofs.Common.{◌≡◌, ℕ, zero, suc, ◌+◌, ◌-◌, ◌<◌, ◌≤◌, min, Bool, true, false, ◌&&◌, not, List, [], ◌∷◌}
-use Rattle.std.proofs.Common.{◌++◌, length, refl, sym, ap, subst, ◌∙◌, arith, inl, inr, ◌⊎◌, ⊎_elim, Option, Some, None}
-use Rattle.std.proofs.Common.{is_some, length-append, append-nil, if◌then◌else◌}
+use Rattle.grep_definitions.specs.Plans.{
+  planned,
+  Call,
+  Planned,
+  begins,
+  breaks,
+  matches,
+  context,
+  Settings,
+  some_below,
+  first_below,
+  at_most,
+  joined_from,
+  Kind,
+  matched,
+  in_context,
+}
+use Rattle.std.proofs.Common.{
+  ◌≡◌,
+  ℕ,
+  zero,
+  suc,
+  ◌+◌,
+  ◌-◌,
+  ◌<◌,
+  ◌≤◌,
+  min,
+  Bool,
+  true,
+  false,
+  ◌&&◌,
+  not,
+  List,
+  [],
+  ◌∷◌,
+  ◌++◌,
+  length,
+  refl,
+  sym,
+  ap,
+  subst,
+  ◌∙◌,
+  arith,
+  inl,
+  inr,
+  ◌⊎◌,
+  ⊎_elim,
+  Option,
+  Some,
+  None,
+  is_some,
+  length-append,
+  append-nil,
+  if◌then◌else◌,
+}
 use Rattle.std.proofs.Math.Bool.{and-false}
 use Rattle.std.proofs.lemmas.Bool.{lt-ltb, ltb-true, leb-true, le-leb, cases_lt, cases_Bool}
 use Rattle.std.specs.Prelude.{nat_lt, nat_le, All}
@@ -16,9 +65,18 @@ use Rattle.grep_report.specs.declared.sink_context.SinkContextKind.TheVariants.{
 use Rattle.grep_definitions.proofs.LineSliceLemmas.{line-report}
 use Rattle.grep_definitions.specs.LineSearch
 use Rattle.grep_definitions.specs.LineSearch.{can_break}
-use Rattle.grep_definitions.proofs.BelowLemmas.{some_below-find, first_below-nowhere, some_below-some, first_below-of}
-use Rattle.grep_definitions.proofs.BelowLemmas.{first_below-late, first_below-none, joined_from-add, joined_from-equal}
-use Rattle.grep_definitions.proofs.BelowLemmas.{headed-through, joined_from-none}
+use Rattle.grep_definitions.proofs.BelowLemmas.{
+  some_below-find,
+  first_below-nowhere,
+  some_below-some,
+  first_below-of,
+  first_below-late,
+  first_below-none,
+  joined_from-add,
+  joined_from-equal,
+  headed-through,
+  joined_from-none,
+}
 use Rattle.grep_definitions.proofs.FirstLineLemmas as prefix
 use Rattle.grep_definitions.proofs.FirstLineLemmas.{IsClosed, some_below-same, first_below-same}
 use Rattle.grep_definitions.proofs.BoolLemmas.{and-both, both_true, clash}

@@ -1,6 +1,31 @@
 -- Limits and stops along a walk, against the last turn as it is defined.
-use Rattle.std.proofs.Common.{◌≡◌, ℕ, zero, suc, ◌+◌, ◌-◌, ◌<◌, ◌≤◌, Bool, true, false, not, ◌&&◌, length, List, refl}
-use Rattle.std.proofs.Common.{sym, ◌∙◌, ap, arith, ⊎_elim, Option, Some, None, if◌then◌else◌}
+use Rattle.std.proofs.Common.{
+  ◌≡◌,
+  ℕ,
+  zero,
+  suc,
+  ◌+◌,
+  ◌-◌,
+  ◌<◌,
+  ◌≤◌,
+  Bool,
+  true,
+  false,
+  not,
+  ◌&&◌,
+  length,
+  List,
+  refl,
+  sym,
+  ◌∙◌,
+  ap,
+  arith,
+  ⊎_elim,
+  Option,
+  Some,
+  None,
+  if◌then◌else◌,
+}
 use Rattle.std.proofs.Math.Bool.{or-true, or-false, and-false, and-true}
 use Rattle.std.proofs.lemmas.Bool.{lt-ltb, le-ltb, eqb-true, cases_Bool}
 use Rattle.std.specs.Prelude.{nat_lt, IfSome}
@@ -8,13 +33,34 @@ use Rattle.std.specs.Option.{option_map}
 use Rattle.grep_matcher.specs.Lines.{byte_of, lines}
 use Rattle.grep_matcher.specs.Meanings.{Meaning}
 use Rattle.grep_definitions.specs.Plans
-use Rattle.grep_definitions.specs.Plans.{Settings, some_below, count_below, first_below, is_below}
-use Rattle.grep_definitions.specs.Plans.{is_at, at_most}
+use Rattle.grep_definitions.specs.Plans.{
+  Settings,
+  some_below,
+  count_below,
+  first_below,
+  is_below,
+  is_at,
+  at_most,
+}
 use Rattle.grep_definitions.specs.LineSearch
 use Rattle.grep_definitions.specs.LineWalks.{IsOpen}
-use Rattle.grep_definitions.proofs.BelowLemmas.{some_below-none, some_below-some, first_below-here, first_below-of, first_below-more}
-use Rattle.grep_definitions.proofs.BelowLemmas.{first_below-nowhere, first_below-late, count_below-le, is_below-le, below_next, below_none}
-use Rattle.grep_definitions.proofs.BelowLemmas.{at_most-over, at_most-above, at_most-next, at_most-some}
+use Rattle.grep_definitions.proofs.BelowLemmas.{
+  some_below-none,
+  some_below-some,
+  first_below-here,
+  first_below-of,
+  first_below-more,
+  first_below-nowhere,
+  first_below-late,
+  count_below-le,
+  is_below-le,
+  below_next,
+  below_none,
+  at_most-over,
+  at_most-above,
+  at_most-next,
+  at_most-some,
+}
 use Rattle.grep_definitions.proofs.BoolLemmas.{both_true, clash}
 
 module _ (k : Settings) (meaning : Meaning) (bytes : List ℕ) where
@@ -78,7 +124,7 @@ module _ (k : Settings) (meaning : Meaning) (bytes : List ℕ) where
     where
       go : (o : Option ℕ) → k.max_matches ≡ o → is_at (count_below hits m + 1) o ≡ true → (x : ℕ)
           × (k.max_matches ≡ Some (suc x))
-      go None is_o at = absurd (cc)
+      go None is_o at = cc
       go (Some zero) is_o at = let same = eqb-true _ _ at in absurd (omega arith)
       go (Some (suc x)) is_o at = (x, is_o)
 
@@ -282,7 +328,7 @@ module _ (k : Settings) (meaning : Meaning) (bytes : List ℕ) where
   turn_none plain full = go k.max_matches refl full
     where
       go : (o : Option ℕ) → k.max_matches ≡ o → is_at 0 o ≡ true → turned ≡ 0
-      go None is at = absurd (cc)
+      go None is at = cc
       go (Some zero) is at = let x : ℕ = at_most by_stop n in rw (plain, is) (omega arith)
       go (Some (suc m)) is at = let same = eqb-true _ _ at in absurd (omega arith)
 

@@ -1,8 +1,33 @@
 -- What the calls by line report, and where.
-use Rattle.grep_definitions.specs.Plans.{planned, Planned, breaks, reported_bytes, Kind, matched}
-use Rattle.grep_definitions.specs.Plans.{in_context, Settings}
-use Rattle.std.proofs.Common.{◌≡◌, ℕ, Bool, true, false, List, [], ◌∷◌, All, Option, Some, None, refl, ◌⊎◌, inl, inr}
-use Rattle.std.proofs.Common.{if◌then◌else◌}
+use Rattle.grep_definitions.specs.Plans.{
+  planned,
+  Planned,
+  breaks,
+  reported_bytes,
+  Kind,
+  matched,
+  in_context,
+  Settings,
+}
+use Rattle.std.proofs.Common.{
+  ◌≡◌,
+  ℕ,
+  Bool,
+  true,
+  false,
+  List,
+  [],
+  ◌∷◌,
+  All,
+  Option,
+  Some,
+  None,
+  refl,
+  ◌⊎◌,
+  inl,
+  inr,
+  if◌then◌else◌,
+}
 use Rattle.std.proofs.lemmas.List.Elements.{All-nil, All-cons}
 use Rattle.grep_matcher.specs.Meanings.{Meaning}
 use Rattle.grep_definitions.specs.LineSearch

@@ -1,6 +1,24 @@
 -- The bytes of a line as a part of all bytes, and the report of a line that is a match.
-use Rattle.std.proofs.Common.{◌≡◌, ℕ, ◌+◌, ◌-◌, ◌<◌, List, [], ◌∷◌, Some, None, refl, sym, ap, ◌∙◌, arith, length, ⊎_elim}
-use Rattle.std.proofs.Common.{if◌then◌else◌}
+use Rattle.std.proofs.Common.{
+  ◌≡◌,
+  ℕ,
+  ◌+◌,
+  ◌-◌,
+  ◌<◌,
+  List,
+  [],
+  ◌∷◌,
+  Some,
+  None,
+  refl,
+  sym,
+  ap,
+  ◌∙◌,
+  arith,
+  length,
+  ⊎_elim,
+  if◌then◌else◌,
+}
 use Rattle.std.proofs.lemmas.Bool.{cases_lt}
 use Rattle.std.proofs.lemmas.List.{get_or_past, take_all}
 use Rattle.std.specs.Prelude.{drop, take, slice_range}
@@ -8,8 +26,16 @@ use Rattle.std.specs.List.{concat}
 use Rattle.grep_matcher.specs.Lines.{lines, byte_of}
 use Rattle.grep_matcher.specs.Meanings.{Meaning}
 use Rattle.grep_definitions.specs.LineSearch
-use Rattle.grep_definitions.specs.Plans.{matches, planned, line, line_count, matched, number, start}
-use Rattle.grep_definitions.specs.Plans.{Settings}
+use Rattle.grep_definitions.specs.Plans.{
+  matches,
+  planned,
+  line,
+  line_count,
+  matched,
+  number,
+  start,
+  Settings,
+}
 use Rattle.grep_lines.proofs.LineStepLemmas.{IsStep-line, lines-numbered}
 use Rattle.grep_definitions.specs.LineTurns.{number_of}
 

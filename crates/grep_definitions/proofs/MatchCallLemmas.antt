@@ -1,11 +1,51 @@
 -- The matches that are reported, and the matched lines: those that are selected, or trailing after a selected one.
 use Rattle.grep_definitions.specs.Plans
-use Rattle.grep_definitions.specs.Plans.{planned, Call, Planned, breaks, matches, Settings}
-use Rattle.grep_definitions.specs.Plans.{some_below, count_below, first_below, is_below, is_at}
-use Rattle.grep_definitions.specs.Plans.{joined_from, in_context}
+use Rattle.grep_definitions.specs.Plans.{
+  planned,
+  Call,
+  Planned,
+  breaks,
+  matches,
+  Settings,
+  some_below,
+  count_below,
+  first_below,
+  is_below,
+  is_at,
+  joined_from,
+  in_context,
+}
 use Rattle.std.proofs.Math.Bool.{and-false}
-use Rattle.std.proofs.Common.{◌≡◌, ℕ, zero, suc, ◌+◌, ◌-◌, ◌<◌, ◌≤◌, Bool, true, false, ◌&&◌, ◌||◌, List, [], ◌∷◌}
-use Rattle.std.proofs.Common.{◌++◌, length, refl, sym, ◌∙◌, ap, arith, ⊎_elim, Option, Some, None, if◌then◌else◌}
+use Rattle.std.proofs.Common.{
+  ◌≡◌,
+  ℕ,
+  zero,
+  suc,
+  ◌+◌,
+  ◌-◌,
+  ◌<◌,
+  ◌≤◌,
+  Bool,
+  true,
+  false,
+  ◌&&◌,
+  ◌||◌,
+  List,
+  [],
+  ◌∷◌,
+  ◌++◌,
+  length,
+  refl,
+  sym,
+  ◌∙◌,
+  ap,
+  arith,
+  ⊎_elim,
+  Option,
+  Some,
+  None,
+  if◌then◌else◌,
+}
 use Rattle.std.proofs.lemmas.Bool.{ltb-true, eqb-true, cases_lt}
 use Rattle.std.proofs.lemmas.List.{map-append, length-append, length-map}
 use Rattle.std.proofs.lemmas.List.Elements.{filter-append}
@@ -20,10 +60,21 @@ use Rattle.grep_definitions.proofs.LineSliceLemmas.{line-report}
 use Rattle.grep_definitions.specs.SearchLaws.{is_match, is_matched, match_calls, match_of, matched_lines}
 use Rattle.grep_definitions.specs.LineSearch
 use Rattle.grep_definitions.proofs.BoolLemmas.{both_true, not_false}
-use Rattle.grep_definitions.proofs.BelowLemmas.{first_below-before, first_below-here, first_below-of, first_below-late}
-use Rattle.grep_definitions.proofs.BelowLemmas.{first_below-more, first_below-none, first_below-nowhere}
-use Rattle.grep_definitions.proofs.BelowLemmas.{some_below-false, some_below-none, count_below-le, at_most-above}
-use Rattle.grep_definitions.proofs.BelowLemmas.{joined_from-more, joined_from-equal}
+use Rattle.grep_definitions.proofs.BelowLemmas.{
+  first_below-before,
+  first_below-here,
+  first_below-of,
+  first_below-late,
+  first_below-more,
+  first_below-none,
+  first_below-nowhere,
+  some_below-false,
+  some_below-none,
+  count_below-le,
+  at_most-above,
+  joined_from-more,
+  joined_from-equal,
+}
 use Rattle.grep_definitions.proofs.SearchLawLemmas.{turn_count-le}
 
 -- the numbers below n that pass, each as a list of one
@@ -47,12 +98,12 @@ length-passing p (suc n) =
 
 -- the first that is listed is the first that passes
 slice_get-front : (xs ys : List ℕ) (x : ℕ) → slice_get xs 0 ≡ Some x → slice_get (xs ++ ys) 0 ≡ Some x
-slice_get-front [] ys x is = absurd (cc)
+slice_get-front [] ys x is = cc
 slice_get-front (y ∷ xs) ys x is = is
 
 slice_get-back : (xs ys : List ℕ) → slice_get xs 0 ≡ None → slice_get (xs ++ ys) 0 ≡ slice_get ys 0
 slice_get-back [] ys is = refl
-slice_get-back (y ∷ xs) ys is = absurd (cc)
+slice_get-back (y ∷ xs) ys is = cc
 
 pub first-passing : (p : ℕ → Bool) (n : ℕ) → slice_get (joined_from (passing p) 0 n) 0 ≡ first_below p n
 first-passing p zero = refl

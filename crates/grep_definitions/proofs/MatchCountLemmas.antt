@@ -1,14 +1,52 @@
 -- How many matches are reported, whether lines are numbered or not.
-use Rattle.std.proofs.Common.{◌≡◌, ℕ, zero, suc, ◌+◌, Bool, true, false, List, [], ◌∷◌, ◌++◌, length, refl, ◌∙◌, ap}
-use Rattle.std.proofs.Common.{Option, Some, None, if◌then◌else◌}
+use Rattle.std.proofs.Common.{
+  ◌≡◌,
+  ℕ,
+  zero,
+  suc,
+  ◌+◌,
+  Bool,
+  true,
+  false,
+  List,
+  [],
+  ◌∷◌,
+  ◌++◌,
+  length,
+  refl,
+  ◌∙◌,
+  ap,
+  Option,
+  Some,
+  None,
+  if◌then◌else◌,
+}
 use Rattle.std.proofs.lemmas.List.{map-append, length-append}
 use Rattle.std.proofs.lemmas.List.Elements.{filter-append}
 use Rattle.std.specs.Prelude.{map}
 use Rattle.grep_matcher.specs.Meanings.{Meaning}
-use Rattle.grep_definitions.specs.Plans.{is_across, selection_in, Planned, breaks, planned, Kind}
-use Rattle.grep_definitions.specs.Plans.{matched, in_context, Selection, breaks_before, calls_at}
-use Rattle.grep_definitions.specs.Plans.{joined_from, kind, line_count, report, reports_plan}
-use Rattle.grep_definitions.specs.Plans.{reports_end, selected_lines, touched_lines, Settings}
+use Rattle.grep_definitions.specs.Plans.{
+  is_across,
+  selection_in,
+  Planned,
+  breaks,
+  planned,
+  Kind,
+  matched,
+  in_context,
+  Selection,
+  breaks_before,
+  calls_at,
+  joined_from,
+  kind,
+  line_count,
+  report,
+  reports_plan,
+  reports_end,
+  selected_lines,
+  touched_lines,
+  Settings,
+}
 use Rattle.grep_definitions.specs.CountLaws.{NumbersChangeNoBytes, NumbersChangeNoCount}
 use Rattle.grep_definitions.specs.Searches.{searched_bytes}
 use Rattle.grep_definitions.specs.Selections.{continues}

@@ -1,8 +1,13 @@
 -- The plan of a search by line and of one across lines.
 use Rattle.std.proofs.Common.{◌≡◌, ℕ, Bool, true, false, List, refl}
 use Rattle.grep_matcher.specs.Meanings.{Meaning}
-use Rattle.grep_definitions.specs.Plans.{is_across, search_plan, selection_in, reports_plan}
-use Rattle.grep_definitions.specs.Plans.{Settings}
+use Rattle.grep_definitions.specs.Plans.{
+  is_across,
+  search_plan,
+  selection_in,
+  reports_plan,
+  Settings,
+}
 use Rattle.grep_definitions.specs.SearchTurns.{calls_if, search_turns, search_byte_count}
 use Rattle.grep_definitions.specs.SinkRuns.{plan_of}
 

@@ -1,6 +1,30 @@
 -- A search of a reader, as today's definitions have it, is one along a plan.
-use Rattle.std.proofs.Common.{◌≡◌, ◌≤◌, ℕ, Bool, true, false, inl, inr, List, [], ◌++◌, Option, Some, None, refl}
-use Rattle.std.proofs.Common.{sym, ap, subst, ◌∙◌, arith, length, Result, Ok, Err}
+use Rattle.std.proofs.Common.{
+  ◌≡◌,
+  ◌≤◌,
+  ℕ,
+  Bool,
+  true,
+  false,
+  inl,
+  inr,
+  List,
+  [],
+  ◌++◌,
+  Option,
+  Some,
+  None,
+  refl,
+  sym,
+  ap,
+  subst,
+  ◌∙◌,
+  arith,
+  length,
+  Result,
+  Ok,
+  Err,
+}
 use Rattle.std.specs.List.{concat}
 use Rattle.std.specs.Io.KnownBytes.{Consumes}
 use Rattle.std.specs.declared.io.Error.{Error}
@@ -8,15 +32,51 @@ use Rattle.grep_decode.specs.Source.{ReadResult}
 use Rattle.grep_matcher.specs.Meanings.{Meaning, MatcherFacts}
 use Rattle.grep_report.specs.declared.binary_detection.BinaryDetection.TheVariants.{Quit}
 use Rattle.grep_definitions.proofs.BoolLemmas.{clash}
-use Rattle.grep_definitions.specs.Plans.{search_plan, selection_in, is_across, Steps, Planned, Plan}
-use Rattle.grep_definitions.specs.Plans.{Outcome, all_true, AreMade, IsFinished, IsRun, counted}
-use Rattle.grep_definitions.specs.Plans.{line_count, Settings, SearcherState}
-use Rattle.grep_definitions.specs.Searches.{Look, nowhere, in_contents, view_of, before_quit}
-use Rattle.grep_definitions.specs.Searches.{BinaryPoint, IsPoint, Points, IsSearchOf}
-use Rattle.grep_definitions.specs.Searches.{IsReaderSearch, IsCutSearch, IsRead, ran, asked}
-use Rattle.grep_definitions.specs.Searches.{IsInput, searched_bytes, IsFront, GoesOnAfter}
-use Rattle.grep_definitions.specs.Searches.{HasOpenLine, IsBelowLimit, CutsShort, IsComeSoFar}
-use Rattle.grep_definitions.specs.Searches.{encoding_of, encoding_after, Taken, IsCut}
+use Rattle.grep_definitions.specs.Plans.{
+  search_plan,
+  selection_in,
+  is_across,
+  Steps,
+  Planned,
+  Plan,
+  Outcome,
+  all_true,
+  AreMade,
+  IsFinished,
+  IsRun,
+  counted,
+  line_count,
+  Settings,
+  SearcherState,
+}
+use Rattle.grep_definitions.specs.Searches.{
+  Look,
+  nowhere,
+  in_contents,
+  view_of,
+  before_quit,
+  BinaryPoint,
+  IsPoint,
+  Points,
+  IsSearchOf,
+  IsReaderSearch,
+  IsCutSearch,
+  IsRead,
+  ran,
+  asked,
+  IsInput,
+  searched_bytes,
+  IsFront,
+  GoesOnAfter,
+  HasOpenLine,
+  IsBelowLimit,
+  CutsShort,
+  IsComeSoFar,
+  encoding_of,
+  encoding_after,
+  Taken,
+  IsCut,
+}
 use Rattle.grep_definitions.specs.DecodedInputs.{IsDecodedSoFar, passes_after, passes_unchanged}
 use Rattle.grep_decode.specs.Decoded.{found_mark}
 use Rattle.grep_decode.specs.declared.label.Label.{Label}
@@ -24,8 +84,14 @@ use Rattle.grep_decode.specs.declared.label.Label.TheVariants.{Utf8, Utf16Le, Ut
 use Rattle.grep_report.specs.ErrorMakers.{ErrorMakers}
 use Rattle.grep_definitions.specs.ReaderRuns
 use Rattle.grep_definitions.specs.Searches
-use Rattle.grep_definitions.specs.SearchTurns.{calls_across, calls_if, search_calls, search_turns, search_byte_count}
-use Rattle.grep_definitions.specs.SearchTurns.{search_turn_count}
+use Rattle.grep_definitions.specs.SearchTurns.{
+  calls_across,
+  calls_if,
+  search_calls,
+  search_turns,
+  search_byte_count,
+  search_turn_count,
+}
 use Rattle.grep_definitions.specs.ContentsSearches
 use Rattle.grep_definitions.proofs.PlanLemmas.{plans-turns}
 use Rattle.grep_definitions.proofs.PlannedSliceLemmas.{plain-fault, quit-fault, until-planned}
@@ -53,10 +119,10 @@ so-far decoded = record { none = decoded.none; all = decoded.all }
 
 passes-after : (mark label : Option Label) → encoding_after mark label ≡ None → passes_after mark label ≡ true
 passes-after None None is = refl
-passes-after None (Some label) is = absurd (cc)
+passes-after None (Some label) is = cc
 passes-after (Some Utf8) label is = refl
-passes-after (Some Utf16Le) label is = absurd (cc)
-passes-after (Some Utf16Be) label is = absurd (cc)
+passes-after (Some Utf16Le) label is = cc
+passes-after (Some Utf16Be) label is = cc
 
 pub passes-unchanged : (k : Settings) (input : List ℕ) → encoding_of k input ≡ None → passes_unchanged k input ≡ true
 unfolding encoding_of passes_unchanged
@@ -157,7 +223,7 @@ module _ {R : Type 0} (remaining : R → Option (List ℕ)) (read_step : R → R
         error = error;
         cause = Searches.of_contents (mode is) refl each;
         made = made;
-        calls = λ is. absurd (cc);
+        calls = λ is. cc;
         none = λ is. same;
       }
   cut-none look across view state mode reader old e reader' new error
@@ -170,7 +236,7 @@ module _ {R : Type 0} (remaining : R → Option (List ℕ)) (read_step : R → R
         error = error;
         cause = Searches.of_failed_read (mode is) (unended, fails) came (so-far decoded) below;
         made = made;
-        calls = λ is. absurd (cc);
+        calls = λ is. cc;
         none = λ is. same;
       }
   cut-none look across view state mode reader old e reader' new error (ReaderRuns.of_buffers none kind) made same =
@@ -182,7 +248,7 @@ module _ {R : Type 0} (remaining : R → Option (List ℕ)) (read_step : R → R
         error = error;
         cause = Searches.of_buffers none kind refl;
         made = made;
-        calls = λ is. absurd (cc);
+        calls = λ is. cc;
         none = λ is. same;
       }
 
@@ -216,7 +282,7 @@ module _ {R : Type 0} (remaining : R → Option (List ℕ)) (read_step : R → R
             view (each bytes input).1);
         made = made;
         calls = λ is. (None, (λ bytes input. refl), (λ ends. refl), made-seen state.settings seen old new reported);
-        none = λ is. absurd (cc);
+        none = λ is. cc;
       }
   plain-cut state plain reader old e reader' new (Some seen) error
       (ReaderRuns.of_reader by_line before mid taken unended fails each came decoded open_line) made reported =
@@ -237,7 +303,7 @@ module _ {R : Type 0} (remaining : R → Option (List ℕ)) (read_step : R → R
             (subst (λ (v : List ℕ → List ℕ). HasOpenLine k (v came) seen) view open_line);
         made = made;
         calls = λ is. (None, (λ bytes input. refl), (λ ends. refl), made-seen state.settings seen old new reported);
-        none = λ is. absurd (cc);
+        none = λ is. cc;
       }
   plain-cut state plain reader old e reader' new None error unread made reported =
       cut-none nowhere (search_calls state.settings matcher.meaning).across (λ bytes. bytes) state

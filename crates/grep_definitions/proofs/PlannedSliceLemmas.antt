@@ -3,10 +3,29 @@ use Rattle.std.proofs.Common.{◌≡◌, ℕ, Bool, true, false, List, None, ref
 use Rattle.std.specs.Prelude.{OnOk}
 use Rattle.grep_matcher.specs.Meanings.{Meaning, MatcherFacts}
 use Rattle.grep_report.specs.declared.binary_detection.BinaryDetection.TheVariants.{Quit}
-use Rattle.grep_definitions.specs.Plans.{IsAskedWith, IsQuestionIn, is_across, search_plan, Steps}
-use Rattle.grep_definitions.specs.Plans.{Planned, Plan, Outcome, IsRun, start, Settings}
-use Rattle.grep_definitions.specs.Searches.{in_contents, contents_point, plan_with, IsPoint, Points}
-use Rattle.grep_definitions.specs.Searches.{IsSearchOf, ran, asked}
+use Rattle.grep_definitions.specs.Plans.{
+  IsAskedWith,
+  IsQuestionIn,
+  is_across,
+  search_plan,
+  Steps,
+  Planned,
+  Plan,
+  Outcome,
+  IsRun,
+  start,
+  Settings,
+}
+use Rattle.grep_definitions.specs.Searches.{
+  in_contents,
+  contents_point,
+  plan_with,
+  IsPoint,
+  Points,
+  IsSearchOf,
+  ran,
+  asked,
+}
 use Rattle.grep_report.specs.ErrorMakers.{ErrorMakers}
 use Rattle.grep_definitions.specs.LineSearch.{through}
 use Rattle.grep_definitions.specs.SearchTurns.{calls_if, search_calls, search_turns, search_byte_count}

@@ -1,6 +1,35 @@
 -- Where a binary byte of a stream is reported, in the plan of a search by line, and a stream in which none is looked for.
-use Rattle.std.proofs.Common.{◌≡◌, ℕ, Bool, true, false, List, [], ◌∷◌, ◌++◌, Some, refl, ap, ◌∙◌, arith, length, map}
-use Rattle.std.proofs.Common.{take, drop, length-append, Option, None, Result, Ok, Err, inl, inr, sym, subst, ◌≤◌}
+use Rattle.std.proofs.Common.{
+  ◌≡◌,
+  ℕ,
+  Bool,
+  true,
+  false,
+  List,
+  [],
+  ◌∷◌,
+  ◌++◌,
+  Some,
+  refl,
+  ap,
+  ◌∙◌,
+  arith,
+  length,
+  map,
+  take,
+  drop,
+  length-append,
+  Option,
+  None,
+  Result,
+  Ok,
+  Err,
+  inl,
+  inr,
+  sym,
+  subst,
+  ◌≤◌,
+}
 use Rattle.std.proofs.lemmas.Option.{none-some}
 use Rattle.std.proofs.Math.Seq.{take-append_seam}
 use Rattle.grep_decode.specs.Source.{ReadResult}
@@ -9,12 +38,42 @@ use Rattle.grep_matcher.specs.Meanings.{MatcherFacts, Meaning}
 use Rattle.grep_report.specs.ErrorMakers.{ErrorMakers}
 use Rattle.grep_report.specs.declared.binary_detection.BinaryDetection.{BinaryDetection}
 use Rattle.grep_report.specs.declared.binary_detection.BinaryDetection.TheVariants.{None as no_detection}
-use Rattle.grep_definitions.specs.Plans.{search_plan, Steps, Planned, Plan, Outcome, all_true}
-use Rattle.grep_definitions.specs.Plans.{is_across, line_count, selection_in, AreMade, SearcherState, Settings}
-use Rattle.grep_definitions.specs.Searches.{BinaryPoint, quits, plan_with, planned_binary}
-use Rattle.grep_definitions.specs.Searches.{asked, binary_position, nowhere, on_stream, ran, stream_view, view_of}
-use Rattle.grep_definitions.specs.Searches.{IsCutAt, IsCutSearch, IsFront, IsPoint, IsRead, IsReaderSearch, IsSearchOf}
-use Rattle.grep_definitions.specs.Searches.{IsStreamPoint, Points}
+use Rattle.grep_definitions.specs.Plans.{
+  search_plan,
+  Steps,
+  Planned,
+  Plan,
+  Outcome,
+  all_true,
+  is_across,
+  line_count,
+  selection_in,
+  AreMade,
+  SearcherState,
+  Settings,
+}
+use Rattle.grep_definitions.specs.Searches.{
+  BinaryPoint,
+  quits,
+  plan_with,
+  planned_binary,
+  asked,
+  binary_position,
+  nowhere,
+  on_stream,
+  ran,
+  stream_view,
+  view_of,
+  IsCutAt,
+  IsCutSearch,
+  IsFront,
+  IsPoint,
+  IsRead,
+  IsReaderSearch,
+  IsSearchOf,
+  IsStreamPoint,
+  Points,
+}
 use Rattle.grep_definitions.specs.SinkRuns.{after_binary}
 use Rattle.grep_definitions.proofs.BoolLemmas.{clash}
 use Rattle.grep_definitions.proofs.SinkRunLemmas.{AreMade-append, AreMade-ended}

@@ -1,12 +1,55 @@
 -- What the calls of a line, and of the lines together, tell.
 use Rattle.grep_definitions.specs.Plans
-use Rattle.grep_definitions.specs.Plans.{planned, Call, Planned, matches, context, breaks}
-use Rattle.grep_definitions.specs.Plans.{reported_bytes, reported_from, Settings, count_below}
-use Rattle.grep_definitions.specs.Plans.{first_below, at_most, joined_from, Kind, matched}
-use Rattle.grep_definitions.specs.Plans.{in_context}
-use Rattle.std.proofs.Common.{◌≡◌, ℕ, zero, suc, ◌+◌, ◌-◌, ◌<◌, ◌≤◌, Bool, true, false, List, [], ◌∷◌, length}
-use Rattle.std.proofs.Common.{slice_index, refl, sym, ap, subst, ◌∙◌, arith, ◌⊎◌, inl, inr, ⊎_elim, Option, Some, None}
-use Rattle.std.proofs.Common.{if◌then◌else◌}
+use Rattle.grep_definitions.specs.Plans.{
+  planned,
+  Call,
+  Planned,
+  matches,
+  context,
+  breaks,
+  reported_bytes,
+  reported_from,
+  Settings,
+  count_below,
+  first_below,
+  at_most,
+  joined_from,
+  Kind,
+  matched,
+  in_context,
+}
+use Rattle.std.proofs.Common.{
+  ◌≡◌,
+  ℕ,
+  zero,
+  suc,
+  ◌+◌,
+  ◌-◌,
+  ◌<◌,
+  ◌≤◌,
+  Bool,
+  true,
+  false,
+  List,
+  [],
+  ◌∷◌,
+  length,
+  slice_index,
+  refl,
+  sym,
+  ap,
+  subst,
+  ◌∙◌,
+  arith,
+  ◌⊎◌,
+  inl,
+  inr,
+  ⊎_elim,
+  Option,
+  Some,
+  None,
+  if◌then◌else◌,
+}
 use Rattle.std.proofs.Math.Bool.{and-false}
 use Rattle.std.proofs.lemmas.Bool.{le-leb, leb-true, lt-ltb, ltb-true, cases_Bool, cases_lt}
 use Rattle.std.proofs.lemmas.List.Sums.{sum_by-append}
@@ -19,9 +62,20 @@ use Rattle.grep_definitions.proofs.LineSliceLemmas.{line-report, slice-line}
 use Rattle.grep_definitions.specs.SearchLaws.{AreInOrder, is_match, is_matched, report_calls}
 use Rattle.grep_definitions.specs.LineSearch
 use Rattle.grep_definitions.specs.LineSearch.{turns_at}
-use Rattle.grep_definitions.proofs.BelowLemmas.{some_below-some, some_below-false, some_below-find, first_below-before}
-use Rattle.grep_definitions.proofs.BelowLemmas.{first_below-none, first_below-of, count_below-either, count_below-le}
-use Rattle.grep_definitions.proofs.BelowLemmas.{count_below-none, count_below-within, is_below-le, joined_from-more}
+use Rattle.grep_definitions.proofs.BelowLemmas.{
+  some_below-some,
+  some_below-false,
+  some_below-find,
+  first_below-before,
+  first_below-none,
+  first_below-of,
+  count_below-either,
+  count_below-le,
+  count_below-none,
+  count_below-within,
+  is_below-le,
+  joined_from-more,
+}
 use Rattle.grep_matcher.proofs.LineStartLemmas.{line_start-ascends, line_start-more}
 use Rattle.grep_definitions.proofs.BoolLemmas.{both_true, clash, not_false, or-cases}
 use Rattle.grep_definitions.proofs.ReportLemmas.{IsReported, in_order-joined, report_calls-broken}
@@ -107,10 +161,10 @@ pub kind-matched : (a b t c d : Bool)
     → (a || (b && t)) ≡ true
 kind-matched true b t c d is = refl
 kind-matched false true true c d is = refl
-kind-matched false true false c d is = absurd (cc)
-kind-matched false false t true d is = absurd (cc)
-kind-matched false false t false true is = absurd (cc)
-kind-matched false false t false false is = absurd (cc)
+kind-matched false true false c d is = cc
+kind-matched false false t true d is = cc
+kind-matched false false t false true is = cc
+kind-matched false false t false false is = cc
 
 -- across lines none is trailing
 pub kind-selected : (a b c d : Bool)

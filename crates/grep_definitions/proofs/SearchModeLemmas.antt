@@ -7,12 +7,32 @@ use Rattle.grep_report.specs.declared.binary_detection.BinaryDetection.{BinaryDe
 use Rattle.grep_report.specs.declared.binary_detection.BinaryDetection.TheVariants.{None as no_detection, Quit, Convert}
 use Rattle.grep_definitions.specs.LineSearch
 use Rattle.grep_definitions.specs.LineSearch.{through}
-use Rattle.grep_definitions.specs.Plans.{counted, is_across, reports_plan, search_plan, selection_in, start}
-use Rattle.grep_definitions.specs.Plans.{IsAskedWith, IsQuestionIn, Plan, Planned, Settings}
+use Rattle.grep_definitions.specs.Plans.{
+  counted,
+  is_across,
+  reports_plan,
+  search_plan,
+  selection_in,
+  start,
+  IsAskedWith,
+  IsQuestionIn,
+  Plan,
+  Planned,
+  Settings,
+}
 use Rattle.grep_definitions.specs.Questions.{IsAskedByLine}
 use Rattle.grep_definitions.specs.SearchLaws.{line_plan}
-use Rattle.grep_definitions.specs.Searches.{calls_with, in_contents, is_detecting, look_at, nowhere, plan_with, quits}
-use Rattle.grep_definitions.specs.Searches.{with_offset, BinaryPoint}
+use Rattle.grep_definitions.specs.Searches.{
+  calls_with,
+  in_contents,
+  is_detecting,
+  look_at,
+  nowhere,
+  plan_with,
+  quits,
+  with_offset,
+  BinaryPoint,
+}
 
 module _ (k : Settings) (meaning : Meaning) (bytes : List ℕ) where
   pub plan-by_line : is_across k meaning ≡ false → search_plan k meaning bytes ≡ line_plan k meaning bytes

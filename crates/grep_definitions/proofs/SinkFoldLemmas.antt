@@ -1,42 +1,108 @@
 -- Runs of sinks whose steps are functions, and what a search without binary detection comes to.
-use Rattle.grep_definitions.specs.Plans.{planned, Call, begins, matches, context, breaks}
-use Rattle.grep_definitions.specs.Plans.{binary_data, finishes, Steps, Finish, Planned, Plan}
-use Rattle.grep_definitions.specs.Plans.{Outcome, AreMade, IsFinished, IsRun, search_plan, IsLawful}
-use Rattle.grep_definitions.specs.Plans.{refusal_of, Settings, SearcherState}
-use Rattle.std.proofs.Common.{◌≡◌, ℕ, Bool, true, false, List, [], ◌∷◌, Option, Some, None, refl, sym, ◌∙◌, ap, subst}
-use Rattle.std.proofs.Common.{inl, inr, length, Result, Ok, Err}
+use Rattle.grep_definitions.specs.Plans.{
+  planned,
+  Call,
+  begins,
+  matches,
+  context,
+  breaks,
+  binary_data,
+  finishes,
+  Steps,
+  Finish,
+  Planned,
+  Plan,
+  Outcome,
+  AreMade,
+  IsFinished,
+  IsRun,
+  search_plan,
+  IsLawful,
+  refusal_of,
+  Settings,
+  SearcherState,
+}
+use Rattle.std.proofs.Common.{
+  ◌≡◌,
+  ℕ,
+  Bool,
+  true,
+  false,
+  List,
+  [],
+  ◌∷◌,
+  Option,
+  Some,
+  None,
+  refl,
+  sym,
+  ◌∙◌,
+  ap,
+  subst,
+  inl,
+  inr,
+  length,
+  Result,
+  Ok,
+  Err,
+}
 use Rattle.std.specs.Prelude.{◌⊎◌}
 use Rattle.std.specs.List.{fold}
 use Rattle.grep_decode.specs.Source.{ReadResult}
 use Rattle.grep_matcher.specs.Meanings.{IsInfallible, MatcherFacts}
 use Rattle.grep_report.specs.declared.binary_detection.BinaryDetection.TheVariants.{None as no_detection}
 use Rattle.grep_report.specs.declared.config_error.ConfigError.{ConfigError}
-use Rattle.grep_definitions.specs.Searches.{nowhere, look_of, BinaryPoint, plan_with, IsPoint}
-use Rattle.grep_definitions.specs.Searches.{IsSearchOf, IsRead, IsCutSearch, IsUnlessRefusedBy, ran}
-use Rattle.grep_definitions.specs.Searches.{asked, searched_bytes}
+use Rattle.grep_definitions.specs.Searches.{
+  nowhere,
+  look_of,
+  BinaryPoint,
+  plan_with,
+  IsPoint,
+  IsSearchOf,
+  IsRead,
+  IsCutSearch,
+  IsUnlessRefusedBy,
+  ran,
+  asked,
+  searched_bytes,
+}
 use Rattle.grep_report.specs.ErrorMakers.{ErrorMakers}
 use Rattle.grep_definitions.specs.SliceSearches.{IsSliceSearch, IsSliceRead, IsSliceSearchedIf, is_searched_unchanged}
 use Rattle.grep_definitions.specs.SearchLaws.{UnchangedIsInput, calls_of, is_match, match_calls}
-use Rattle.grep_definitions.specs.SinkFolds.{fold_while, run_fold, AreTaken, IsTakenOk, IsTakenBy, StepsBy, RunsFold}
-use Rattle.grep_definitions.specs.SinkFolds.{RunsFoldAll, RunsFoldMatches, FailsAtStep, SearchesRun, ReaderSearchesRun}
-use Rattle.grep_definitions.specs.SinkFolds.{SearchesFail, ReaderSearchesFail, KnownReadersRun}
+use Rattle.grep_definitions.specs.SinkFolds.{
+  fold_while,
+  run_fold,
+  AreTaken,
+  IsTakenOk,
+  IsTakenBy,
+  StepsBy,
+  RunsFold,
+  RunsFoldAll,
+  RunsFoldMatches,
+  FailsAtStep,
+  SearchesRun,
+  ReaderSearchesRun,
+  SearchesFail,
+  ReaderSearchesFail,
+  KnownReadersRun,
+}
 use Rattle.grep_definitions.proofs.KnownReaderLemmas.{taken-input}
 
 module _ {V : Type 0} (taken : V → Call → Bool → V → Type 0) where
   -- a call that is a match, and one that isn't
   matched-step : (old : V) (call : Call) (b : Bool) (new : V) → is_match call ≡ true → IsTakenOk taken old call b new
       → taken old call b new
-  matched-step old begins b new is h = absurd (cc)
+  matched-step old begins b new is h = cc
   matched-step old (matches number offset line) b new is h = h
-  matched-step old (context kind number offset line) b new is h = absurd (cc)
-  matched-step old breaks b new is h = absurd (cc)
-  matched-step old (binary_data offset) b new is h = absurd (cc)
-  matched-step old (finishes count binary) b new is h = absurd (cc)
+  matched-step old (context kind number offset line) b new is h = cc
+  matched-step old breaks b new is h = cc
+  matched-step old (binary_data offset) b new is h = cc
+  matched-step old (finishes count binary) b new is h = cc
 
   other-step : (old : V) (call : Call) (b : Bool) (new : V) → is_match call ≡ false → IsTakenOk taken old call b new
       → (b ≡ true) × (new ≡ old)
   other-step old begins b new is h = h
-  other-step old (matches number offset line) b new is h = absurd (cc)
+  other-step old (matches number offset line) b new is h = cc
   other-step old (context kind number offset line) b new is h = h
   other-step old breaks b new is h = h
   other-step old (binary_data offset) b new is h = h
@@ -196,7 +262,7 @@ module _ {S E F : Type 0} (step : Steps S E) (errors : ErrorMakers F E) (matcher
       → IsLawful matcher k
       → IsUnlessRefusedBy errors matcher k old (Ok tt) new IsSame IsSearched refusal → IsSearched
   not-refused k old new IsSame IsSearched None lawful searched = searched lawful
-  not-refused k old new IsSame IsSearched (Some refusal) lawful (e, is, made, same, left) = absurd (cc)
+  not-refused k old new IsSame IsSearched (Some refusal) lawful (e, is, made, same, left) = cc
 
   looks-nowhere : (k : Settings) → k.binary_detection ≡ no_detection → (unchanged : Bool)
       → look_of k matcher.meaning unchanged ≡ nowhere

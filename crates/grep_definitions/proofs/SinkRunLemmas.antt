@@ -1,8 +1,23 @@
 -- Runs, put together.
 use Rattle.std.proofs.Common.{◌≡◌, ℕ, inl, inr, List, [], ◌∷◌, ◌++◌, Bool, true, false, refl, sym, ap, subst, map}
 use Rattle.std.specs.Prelude.{Option, None, Some, Result, Ok, Err}
-use Rattle.grep_definitions.specs.Plans.{Settings, Call, Planned, breaks, Steps, Outcome, all_true}
-use Rattle.grep_definitions.specs.Plans.{begins, counted, stopped, failed, AreMade, IsFinished, planned, Finish}
+use Rattle.grep_definitions.specs.Plans.{
+  Settings,
+  Call,
+  Planned,
+  breaks,
+  Steps,
+  Outcome,
+  all_true,
+  begins,
+  counted,
+  stopped,
+  failed,
+  AreMade,
+  IsFinished,
+  planned,
+  Finish,
+}
 use Rattle.grep_definitions.specs.LineTurns.{one_turn, break_turns, broken_turns}
 use Rattle.grep_definitions.specs.SinkRuns.{outcome_of, with_binary}
 
@@ -15,8 +30,8 @@ module _ {S E : Type 0} (step : Steps S E) (k : Settings) where
       (λ s. AreMade step k s back outcome new) same later
   AreMade-append (turn ∷ front) back old mid outcome new (inl (next, goes, reported)) later =
       inl (next, goes, AreMade-append front back next mid outcome new reported later)
-  AreMade-append (turn ∷ front) back old mid outcome new (inr (inl (is, stops))) later = absurd (cc)
-  AreMade-append (turn ∷ front) back old mid outcome new (inr (inr (e, is, fails))) later = absurd (cc)
+  AreMade-append (turn ∷ front) back old mid outcome new (inr (inl (is, stops))) later = cc
+  AreMade-append (turn ∷ front) back old mid outcome new (inr (inr (e, is, fails))) later = cc
 
   -- what ended early says nothing of the calls after it
   pub AreMade-ended : (front back : List Planned) (old : S) (outcome : Outcome E) (new : S)
@@ -46,8 +61,8 @@ module _ {S E : Type 0} (step : Steps S E) (k : Settings) where
         AreMade-one call end mid result
             new made,
       )
-  AreMade-broken true call end old mid result new (inr (inl (is, stops))) made = absurd (cc)
-  AreMade-broken true call end old mid result new (inr (inr (e, is, fails))) made = absurd (cc)
+  AreMade-broken true call end old mid result new (inr (inl (is, stops))) made = cc
+  AreMade-broken true call end old mid result new (inr (inr (e, is, fails))) made = cc
   AreMade-broken false call end old mid result new (is, same) made =
       subst (λ s. AreMade step k s (one_turn call end) (outcome_of end result) new) same
       (AreMade-one call end mid result new made)
@@ -78,8 +93,8 @@ outcome_by found (failed e) = failed e
 
 pub all-by : {E : Type 0} (found : Option ℕ) (o : Outcome E) → outcome_by found o ≡ all_true → o ≡ all_true
 all-by found all_true is = refl
-all-by found (stopped finish) is = absurd (cc)
-all-by found (failed e) is = absurd (cc)
+all-by found (stopped finish) is = cc
+all-by found (failed e) is = cc
 
 pub by-none : {E : Type 0} (o : Outcome E) → o ≡ outcome_by None o
 by-none all_true = refl

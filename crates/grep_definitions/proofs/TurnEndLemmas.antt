@@ -1,9 +1,46 @@
 -- Where the turns of calls end, against where lines start.
 use Rattle.grep_definitions.specs.Plans
-use Rattle.grep_definitions.specs.Plans.{planned, Call, Planned, matches, context, breaks, Settings}
-use Rattle.grep_definitions.specs.Plans.{first_below, joined_from, Kind, matched, in_context}
-use Rattle.std.proofs.Common.{◌≡◌, ℕ, ◌+◌, ◌-◌, ◌<◌, ◌≤◌, Bool, true, false, ◌&&◌, List, [], ◌∷◌, ◌++◌, refl, sym}
-use Rattle.std.proofs.Common.{ap, append-nil, ◌∙◌, arith, ⊎_elim, Option, Some, None, if◌then◌else◌}
+use Rattle.grep_definitions.specs.Plans.{
+  planned,
+  Call,
+  Planned,
+  matches,
+  context,
+  breaks,
+  Settings,
+  first_below,
+  joined_from,
+  Kind,
+  matched,
+  in_context,
+}
+use Rattle.std.proofs.Common.{
+  ◌≡◌,
+  ℕ,
+  ◌+◌,
+  ◌-◌,
+  ◌<◌,
+  ◌≤◌,
+  Bool,
+  true,
+  false,
+  ◌&&◌,
+  List,
+  [],
+  ◌∷◌,
+  ◌++◌,
+  refl,
+  sym,
+  ap,
+  append-nil,
+  ◌∙◌,
+  arith,
+  ⊎_elim,
+  Option,
+  Some,
+  None,
+  if◌then◌else◌,
+}
 use Rattle.std.proofs.Math.Bool.{and-false}
 use Rattle.std.proofs.lemmas.Bool.{ltb-true, le-ltb, le-leb, lt-leb, cases_lt, cases_Bool}
 use Rattle.std.proofs.lemmas.List.Elements.{All-nil, All-cons, All-weaker, filter-append}
@@ -13,8 +50,16 @@ use Rattle.grep_matcher.specs.Meanings.{Meaning}
 use Rattle.grep_report.specs.declared.sink_context.SinkContextKind.TheVariants.{Before, After, Other}
 use Rattle.grep_definitions.specs.LineSearch
 use Rattle.grep_definitions.specs.LineSearch.{turns_at, through}
-use Rattle.grep_definitions.specs.LineTurns.{one_turn, broken_turns, pending_turns, match_turns, listed_turns}
-use Rattle.grep_definitions.specs.LineTurns.{listed_number, number_of, is_gap}
+use Rattle.grep_definitions.specs.LineTurns.{
+  one_turn,
+  broken_turns,
+  pending_turns,
+  match_turns,
+  listed_turns,
+  listed_number,
+  number_of,
+  is_gap,
+}
 use Rattle.grep_definitions.proofs.BelowLemmas.{some_below-some, some_below-find, first_below-of, first_below-none}
 use Rattle.grep_matcher.proofs.LineStartLemmas.{line_start-le}
 use Rattle.grep_definitions.specs.LineWalks.{IsNear}

@@ -1,9 +1,50 @@
 -- The bytes that the match reports across lines have.
-use Rattle.grep_definitions.specs.Plans.{planned, Call, Planned, matches, context, breaks, Settings}
-use Rattle.grep_definitions.specs.Plans.{joined_from, Kind, matched, in_context}
-use Rattle.std.proofs.Common.{◌≡◌, ℕ, zero, suc, ◌+◌, ◌-◌, ◌<◌, ◌≤◌, Bool, true, false, not, ◌&&◌, List, [], ◌∷◌, ◌++◌}
-use Rattle.std.proofs.Common.{length, take, drop, refl, sym, ap, subst, ◌∙◌, arith, ⊎_elim, Option, Some, None}
-use Rattle.std.proofs.Common.{if◌then◌else◌}
+use Rattle.grep_definitions.specs.Plans.{
+  planned,
+  Call,
+  Planned,
+  matches,
+  context,
+  breaks,
+  Settings,
+  joined_from,
+  Kind,
+  matched,
+  in_context,
+}
+use Rattle.std.proofs.Common.{
+  ◌≡◌,
+  ℕ,
+  zero,
+  suc,
+  ◌+◌,
+  ◌-◌,
+  ◌<◌,
+  ◌≤◌,
+  Bool,
+  true,
+  false,
+  not,
+  ◌&&◌,
+  List,
+  [],
+  ◌∷◌,
+  ◌++◌,
+  length,
+  take,
+  drop,
+  refl,
+  sym,
+  ap,
+  subst,
+  ◌∙◌,
+  arith,
+  ⊎_elim,
+  Option,
+  Some,
+  None,
+  if◌then◌else◌,
+}
 use Rattle.std.proofs.Math.Seq.{take-add}
 use Rattle.std.proofs.lemmas.Bool.{cases_Bool, cases_lt, lt-ltb}
 use Rattle.std.proofs.lemmas.Grind.{flat_map-append}
@@ -23,9 +64,13 @@ use Rattle.grep_definitions.specs.AcrossLaws.{report_bytes, report_edges}
 use Rattle.grep_definitions.proofs.BelowLemmas.{joined_from-equal}
 use Rattle.grep_definitions.proofs.BoolLemmas.{clash}
 use Rattle.grep_definitions.proofs.RunLemmas.{run_end, IsRunEnd-run_end, continues, joined-runs, edges, edges-rise}
-use Rattle.grep_matcher.proofs.LineStartLemmas.{line_start-ascends, line_start-more, line_start-within}
+use Rattle.grep_matcher.proofs.LineStartLemmas.{
+  line_start-ascends,
+  line_start-more,
+  line_start-within,
+  line_start-le,
+}
 use Rattle.grep_definitions.proofs.SearchLawLemmas.{kind-selected}
-use Rattle.grep_matcher.proofs.LineStartLemmas.{line_start-le}
 
 -- a line that isn't reported as a match isn't selected
 kind-other : (a b c d : Bool) (kind : Option Kind)
