@@ -1,9 +1,52 @@
 -- A search of a stream between two fills, after `binary_data` or without it.
-use Rattle.grep_definitions.specs.Plans.{planned, AreMade, Planned, begins, binary_data, Steps}
-use Rattle.grep_definitions.specs.Plans.{all_true, Outcome, failed, joined_from, Settings}
-use Rattle.std.proofs.Common.{◌≡◌, ℕ, ◌+◌, ◌<◌, ◌≤◌, Bool, true, false, List, [], ◌++◌, ◌∷◌, length, take, drop, Option}
-use Rattle.std.proofs.Common.{Some, None, Ok, Err, inl, inr, refl, sym, ◌∙◌, ap, subst, arith, append_assoc}
-use Rattle.std.proofs.Common.{length-append, is_some, append-nil, ⊎_elim}
+use Rattle.grep_definitions.specs.Plans.{
+  planned,
+  AreMade,
+  Planned,
+  begins,
+  binary_data,
+  Steps,
+  all_true,
+  Outcome,
+  failed,
+  joined_from,
+  Settings,
+}
+use Rattle.std.proofs.Common.{
+  ◌≡◌,
+  ℕ,
+  ◌+◌,
+  ◌<◌,
+  ◌≤◌,
+  Bool,
+  true,
+  false,
+  List,
+  [],
+  ◌++◌,
+  ◌∷◌,
+  length,
+  take,
+  drop,
+  Option,
+  Some,
+  None,
+  Ok,
+  Err,
+  inl,
+  inr,
+  refl,
+  sym,
+  ◌∙◌,
+  ap,
+  subst,
+  arith,
+  append_assoc,
+  length-append,
+  is_some,
+  append-nil,
+  ⊎_elim,
+}
 use Rattle.std.proofs.lemmas.Bool.{cases_lt, false≢true}
 use Rattle.std.specs.Prelude.{◌&&◌}
 use Rattle.std.specs.declared.io.Error.{Error}
@@ -13,9 +56,19 @@ use Rattle.grep_line_buffer.specs.BufferStates.{BufferState, held, is_cut}
 use Rattle.grep_line_buffer.specs.Detections.{detected, found_in, is_quit}
 use Rattle.grep_matcher.specs.Lines.{lines, byte_of}
 use Rattle.grep_matcher.specs.Meanings.{Meaning, MatcherFacts}
-use Rattle.grep_definitions.specs.Searches.{binary_of, on_stream, view_of, quits, IsCutAt}
-use Rattle.grep_definitions.specs.Searches.{IsCutSearch, IsReaderSearch, IsInput, IsClosed, IsFront}
-use Rattle.grep_definitions.specs.Searches.{reports_nothing}
+use Rattle.grep_definitions.specs.Searches.{
+  binary_of,
+  on_stream,
+  view_of,
+  quits,
+  IsCutAt,
+  IsCutSearch,
+  IsReaderSearch,
+  IsInput,
+  IsClosed,
+  IsFront,
+  reports_nothing,
+}
 use Rattle.grep_definitions.specs.Searches
 use Rattle.grep_definitions.specs.LineSearch
 use Rattle.grep_definitions.specs.LineSearch.{turns, turns_before}
@@ -23,15 +76,34 @@ use Rattle.grep_report.specs.ErrorMakers.{ErrorMakers}
 use Rattle.grep_definitions.proofs.SearchLawLemmas.{turn_count-le}
 use Rattle.grep_walk.specs.declared.walk.Walk.{Walk}
 use Rattle.grep_core.specs.BinaryCalls.{FailsAtBinary, PassesBinary, Noted}
-use Rattle.grep_core.specs.Rolls.{HasEnded, HasMovedOn, HasSeen, HasPassedByte, IsCountedFor, IsBetween, IsReadingOn}
-use Rattle.grep_core.specs.Rolls.{IsReady, IsRolling, IsStreamCounted, IsStartAt, start_in, not_passed, was_passed}
+use Rattle.grep_core.specs.Rolls.{
+  HasEnded,
+  HasMovedOn,
+  HasSeen,
+  HasPassedByte,
+  IsCountedFor,
+  IsBetween,
+  IsReadingOn,
+  IsReady,
+  IsRolling,
+  IsStreamCounted,
+  IsStartAt,
+  start_in,
+  not_passed,
+  was_passed,
+}
 use Rattle.grep_core.specs.SearchBuffers.{detection_of}
 use Rattle.grep_core.proofs.ReadingLemmas as reading
 use Rattle.grep_core.proofs.ReadingLemmas.{HasFilled, IsHeld, IsStream}
-use Rattle.grep_core.proofs.StreamSearchLemmas.{goes-false, goes-true, noted-passed, uncut-passed}
+use Rattle.grep_core.proofs.StreamSearchLemmas.{
+  goes-false,
+  goes-true,
+  noted-passed,
+  uncut-passed,
+  binary-nil,
+}
 use Rattle.grep_core.proofs.StreamSearchLemmas as quitting
 use Rattle.grep_core.proofs.RollingLemmas as rolls
-use Rattle.grep_core.proofs.StreamSearchLemmas.{binary-nil}
 use Rattle.grep_core.proofs.StreamViewLemmas.{as-found}
 use Rattle.grep_line_buffer.proofs.InputViewLemmas as views
 use Rattle.grep_core.proofs.UnreadLemmas.{IsShort}

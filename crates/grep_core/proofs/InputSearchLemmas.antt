@@ -10,19 +10,46 @@ use Rattle.grep_definitions.proofs.PlanLemmas.{plans-turns}
 use Rattle.grep_definitions.proofs.PlannedReaderLemmas.{contents-planned, plain-planned}
 use Rattle.grep_definitions.proofs.PlannedStreamLemmas.{undetected-read}
 use Rattle.grep_definitions.proofs.PlannedSliceLemmas.{plain-fault, quit-fault, until-planned}
-use Rattle.grep_definitions.specs.Plans.{search_plan, is_across, IsRun, Steps}
-use Rattle.grep_definitions.specs.Plans.{Outcome, finishes}
-use Rattle.grep_definitions.specs.Plans.{finish_result, counted, Settings}
-use Rattle.grep_definitions.specs.Plans.{SearcherState}
-use Rattle.grep_definitions.specs.Searches.{in_contents, look_at, on_stream}
-use Rattle.grep_definitions.specs.Searches.{view_of}
-use Rattle.grep_definitions.specs.Searches.{look_of, IsFront, IsInput, CutsContents}
-use Rattle.grep_definitions.specs.Searches.{IsBelowLimit, of_full, of_no_memory, IsPoint}
-use Rattle.grep_definitions.specs.Searches.{IsSearchOf, ran}
-use Rattle.grep_definitions.specs.Searches.{IsRead}
+use Rattle.grep_definitions.specs.Plans.{
+  search_plan,
+  is_across,
+  IsRun,
+  Steps,
+  Outcome,
+  finishes,
+  finish_result,
+  counted,
+  Settings,
+  SearcherState,
+}
+use Rattle.grep_definitions.specs.Searches.{
+  in_contents,
+  look_at,
+  on_stream,
+  view_of,
+  look_of,
+  IsFront,
+  IsInput,
+  CutsContents,
+  IsBelowLimit,
+  of_full,
+  of_no_memory,
+  IsPoint,
+  IsSearchOf,
+  ran,
+  IsRead,
+}
 use Rattle.grep_definitions.specs.ContentsSearches.{IsFaultIn, IsQuitFault, IsRunUntil, of_sink}
-use Rattle.grep_definitions.specs.ReaderRuns.{IsPlainlySearched, IsContentsSearched, IsUnreadIn, IsReaderFaultIn}
-use Rattle.grep_definitions.specs.ReaderRuns.{of_contents, of_failed_read, of_reading, of_search}
+use Rattle.grep_definitions.specs.ReaderRuns.{
+  IsPlainlySearched,
+  IsContentsSearched,
+  IsUnreadIn,
+  IsReaderFaultIn,
+  of_contents,
+  of_failed_read,
+  of_reading,
+  of_search,
+}
 use Rattle.grep_definitions.specs.SearchTurns.{calls_if, search_turns, search_byte_count, SearchCalls, calls_across}
 use Rattle.grep_definitions.specs.SinkRuns.{plan_of}
 use Rattle.grep_definitions.specs.SliceSearches.{IsSliceSearch}
@@ -35,13 +62,43 @@ use Rattle.grep_matcher.specs.Meanings.{MatcherFacts, Meaning}
 use Rattle.grep_report.specs.BinaryDetections.{quit_byte_of}
 use Rattle.grep_report.specs.ErrorMakers.{ErrorMakers}
 use Rattle.grep_report.specs.declared.binary_detection.BinaryDetection.{BinaryDetection}
-use Rattle.grep_report.specs.declared.binary_detection.BinaryDetection.TheVariants.{None as no_detection, Quit}
-use Rattle.grep_report.specs.declared.binary_detection.BinaryDetection.TheVariants.{Convert}
+use Rattle.grep_report.specs.declared.binary_detection.BinaryDetection.TheVariants.{
+  None as no_detection,
+  Quit,
+  Convert,
+}
 use Rattle.grep_walk.proofs.FinishLemmas.{finish-counted, run-finish}
 use Rattle.grep_walk.specs.Walks.{Counted}
-use Rattle.std.proofs.Common.{◌≡◌, ℕ, Bool, true, false, List, Some, None, Result, Ok, Err, refl, ap, sym, subst}
-use Rattle.std.proofs.Common.{length, inl, inr, Option, ◌≤◌, ◌∙◌, not, ◌<◌, [], ◌++◌, arith, append-nil}
-use Rattle.std.proofs.Common.{length-append}
+use Rattle.std.proofs.Common.{
+  ◌≡◌,
+  ℕ,
+  Bool,
+  true,
+  false,
+  List,
+  Some,
+  None,
+  Result,
+  Ok,
+  Err,
+  refl,
+  ap,
+  sym,
+  subst,
+  length,
+  inl,
+  inr,
+  Option,
+  ◌≤◌,
+  ◌∙◌,
+  not,
+  ◌<◌,
+  [],
+  ◌++◌,
+  arith,
+  append-nil,
+  length-append,
+}
 use Rattle.std.proofs.lemmas.Bool.{false≢true}
 use Rattle.std.specs.declared.io.Error.{Error}
 use Rattle.grep_core.proofs.ReadingLemmas as reading

@@ -1,8 +1,31 @@
 -- Calls in order of a sink that passes them on: one to which the first binary byte is noted, and one that looks for a
 -- byte in each report.
-use Rattle.std.proofs.Common.{◌≡◌, ℕ, Bool, true, false, Option, Some, None, length, List, [], refl, sym, ap, subst}
-use Rattle.std.proofs.Common.{◌∙◌, inl, inr, ◌+◌, ◌∷◌, ◌≤◌, arith}
+use Rattle.std.proofs.Common.{
+  ◌≡◌,
+  ℕ,
+  Bool,
+  true,
+  false,
+  Option,
+  Some,
+  None,
+  length,
+  List,
+  [],
+  refl,
+  sym,
+  ap,
+  subst,
+  ◌∙◌,
+  inl,
+  inr,
+  ◌+◌,
+  ◌∷◌,
+  ◌≤◌,
+  arith,
+}
 use Rattle.std.specs.Prelude.{Result, Ok, Err, ◌&&◌}
+use Rattle.grep_core.proofs.StreamViewLemmas.{undetected}
 use Rattle.std.specs.Option.{option_map}
 use Rattle.std.proofs.lemmas.Option.{none-some}
 use Rattle.std.proofs.lemmas.Bool.{false≢true}
@@ -10,15 +33,37 @@ use Rattle.std.proofs.lemmas.List.Elements.{All-nil, All-cons}
 use Rattle.std.specs.declared.io.Error.{Error}
 use Rattle.grep_decode.specs.DecoderStates.{Calls, DecoderState, Decodes}
 use Rattle.grep_decode.specs.Source.{ReadResult}
-use Rattle.grep_definitions.specs.Searches.{is_detecting, planned_binary, IsReadingError, IsInOrder}
-use Rattle.grep_definitions.specs.Searches.{ran_in_order, comes_between}
+use Rattle.grep_definitions.specs.Searches.{
+  is_detecting,
+  planned_binary,
+  IsReadingError,
+  IsInOrder,
+  ran_in_order,
+  comes_between,
+}
 use Rattle.grep_definitions.specs.CallOrder.{HasCalled, HasCalledTo}
 use Rattle.grep_definitions.specs.ReaderRuns.{HasFailedRead}
 use Rattle.grep_report.specs.ErrorMakers.{ErrorMakers}
 use Rattle.grep_matcher.specs.Meanings.{MatcherFacts}
-use Rattle.grep_definitions.specs.Plans.{Settings, Call, begins, matches, context, breaks}
-use Rattle.grep_definitions.specs.Plans.{binary_data, finishes, Steps, all_true, stopped, failed}
-use Rattle.grep_definitions.specs.Plans.{IsRun, Planned, counted, planned, is_binary_data}
+use Rattle.grep_definitions.specs.Plans.{
+  Settings,
+  Call,
+  begins,
+  matches,
+  context,
+  breaks,
+  binary_data,
+  finishes,
+  Steps,
+  all_true,
+  stopped,
+  failed,
+  IsRun,
+  Planned,
+  counted,
+  planned,
+  is_binary_data,
+}
 use Rattle.grep_definitions.specs.SinkRuns.{outcome_of}
 use Rattle.grep_definitions.proofs.CallOrderLemmas as order
 use Rattle.grep_core.specs.declared.quitting.Quitting.{Quitting}
@@ -26,32 +71,18 @@ use Rattle.grep_core.specs.BinaryCalls.{FailsAtBinary, Noted, PassesBinary}
 use Rattle.grep_core.specs.SearchBuffers.{IsMadeOf, detection_of}
 use Rattle.grep_line_buffer.specs.BufferStates.{BufferState, held}
 use Rattle.grep_line_buffer.specs.Detections.{first_of, found_in}
-use Rattle.grep_line_buffer.specs.declared.detection.Detection.{Detection}
 use Rattle.grep_report.specs.declared.binary_detection.BinaryDetection.{BinaryDetection}
-use Rattle.grep_report.specs.declared.binary_detection.BinaryDetection.TheVariants.{None as no_detection, Quit, Convert}
 use Rattle.grep_line_buffer.specs.declared.fill_error.FillError.{FillError}
 use Rattle.grep_line_buffer.specs.declared.fill_error.FillError.TheVariants.{Read, HeapLimit, Offset, Memory}
 use Rattle.grep_core.specs.QuittingSinks.{IsLookedAt, IsMadeAfter, Quits, count_to, ended, watch_of, first_quit}
 
--- a buffer that looks for no byte finds none
-pub undetected : (d : BinaryDetection) {detection : Detection} {binary : Option ℕ} (f : ℕ → ℕ) (t : ℕ) (given : List ℕ)
-    → is_detecting d ≡ false → detection ≡ detection_of d → binary ≡ None
-    → first_of binary (option_map f (found_in detection t given)) ≡ None
-undetected no_detection {detection} f t given none is clear =
-    ap (λ b. first_of b (option_map f (found_in detection t given))) clear
-    ∙ ap (λ x. option_map f (found_in x t given)) is
-undetected (Quit b) f t given none is clear = absurd (false≢true (sym none))
-undetected (Convert b) f t given none is clear = absurd (false≢true (sym none))
-
--- a fill finds none then
+-- a fill finds no byte if none is looked for
 pub clear-filled : (d : BinaryDetection) (old new : BufferState) (given : List ℕ)
     → new.binary ≡ first_of old.binary (option_map (λ i. old.offset + length (held old) + i)
     (found_in old.detection old.terminator given))
     → old.detection ≡ detection_of d → (is_detecting d ≡ false → old.binary ≡ None) → is_detecting d ≡ false
     → new.binary ≡ None
-clear-filled d old new given found is clear none =
-    found ∙ undetected d (λ i. old.offset + length (held old) + i) _ given none is
-    (clear none)
+clear-filled d old new given found is clear none = found ∙ rw (clear none, is, undetected d none) refl
 
 and-left : (a b : Bool) → (a && b) ≡ true → a ≡ true
 and-left true b is = refl

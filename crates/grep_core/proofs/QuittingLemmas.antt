@@ -1,21 +1,67 @@
 -- A search of whole contents that ends at a byte, by a sink that looks for it in each report: the calls that it makes of
 -- the sink that it has.
 use Rattle.grep_core.specs.InputSearches.{IsSearchedUntil}
-use Rattle.grep_core.specs.QuittingSinks.{Watch, quitting, ended, IsLookedAt, IsMadeAfter, count_to, Quits, watch_of}
-use Rattle.grep_core.specs.QuittingSinks.{first_quit}
+use Rattle.grep_core.specs.QuittingSinks.{
+  Watch,
+  quitting,
+  ended,
+  IsLookedAt,
+  IsMadeAfter,
+  count_to,
+  Quits,
+  watch_of,
+  first_quit,
+}
 use Rattle.grep_core.specs.declared.quitting.Quitting.{Quitting}
 use Rattle.grep_definitions.proofs.BreakLemmas.{AreTurns, no_turns, report_turn, break_turn}
 use Rattle.grep_definitions.proofs.SinkRunLemmas.{AreMade-append, AreMade-ended}
-use Rattle.grep_definitions.specs.Searches.{position_of, call_at, offset_at, plan_with, point_at}
-use Rattle.grep_definitions.specs.Searches.{point_unless, planned_binary, with_offset}
+use Rattle.grep_definitions.specs.Searches.{
+  position_of,
+  call_at,
+  offset_at,
+  plan_with,
+  point_at,
+  point_unless,
+  planned_binary,
+  with_offset,
+}
 use Rattle.grep_definitions.specs.BinaryLaws.{holds_byte, first_look}
-use Rattle.grep_definitions.specs.ContentsSearches.{IsFaultIn, IsQuitFault, IsRunUntil, of_sink, of_matcher}
-use Rattle.grep_definitions.specs.ContentsSearches.{of_quit_sink, of_quit_matcher}
-use Rattle.grep_definitions.specs.Plans.{Call, Planned, begins, matches, context, breaks}
-use Rattle.grep_definitions.specs.Plans.{binary_data, finishes, is_break, reported_bytes}
-use Rattle.grep_definitions.specs.Plans.{reported_from, Steps, Outcome, all_true, stopped, failed}
-use Rattle.grep_definitions.specs.Plans.{AreMade, IsFinished, IsRun, finish_result, Finish, counted}
-use Rattle.grep_definitions.specs.Plans.{planned, joined_from, Settings}
+use Rattle.grep_definitions.specs.ContentsSearches.{
+  IsFaultIn,
+  IsQuitFault,
+  IsRunUntil,
+  of_sink,
+  of_matcher,
+  of_quit_sink,
+  of_quit_matcher,
+}
+use Rattle.grep_definitions.specs.Plans.{
+  Call,
+  Planned,
+  begins,
+  matches,
+  context,
+  breaks,
+  binary_data,
+  finishes,
+  is_break,
+  reported_bytes,
+  reported_from,
+  Steps,
+  Outcome,
+  all_true,
+  stopped,
+  failed,
+  AreMade,
+  IsFinished,
+  IsRun,
+  finish_result,
+  Finish,
+  counted,
+  planned,
+  joined_from,
+  Settings,
+}
 use Rattle.grep_definitions.specs.SearchLaws.{is_report}
 use Rattle.grep_definitions.specs.SearchTurns.{calls_if}
 use Rattle.grep_definitions.specs.SinkRuns.{plan_of}
@@ -26,9 +72,40 @@ use Rattle.grep_report.specs.declared.binary_detection.BinaryDetection.TheVarian
 use Rattle.grep_walk.proofs.FinishLemmas.{run-finish}
 use Rattle.grep_walk.specs.Walks.{Counted}
 use Rattle.memchr.specs.Find.{IsFirstByte, is_byte}
-use Rattle.std.proofs.Common.{◌≡◌, ◌⊎◌, ℕ, zero, suc, ◌+◌, ◌-◌, ◌<◌, Bool, true, false, List, [], ◌∷◌, ◌++◌, take}
-use Rattle.std.proofs.Common.{if◌then◌else◌, ◌==◌, Result, Ok, Err, Option, None, Some, refl, sym, ap, ◌∙◌, arith}
-use Rattle.std.proofs.Common.{inl, inr, subst}
+use Rattle.std.proofs.Common.{
+  ◌≡◌,
+  ◌⊎◌,
+  ℕ,
+  zero,
+  suc,
+  ◌+◌,
+  ◌-◌,
+  ◌<◌,
+  Bool,
+  true,
+  false,
+  List,
+  [],
+  ◌∷◌,
+  ◌++◌,
+  take,
+  if◌then◌else◌,
+  ◌==◌,
+  Result,
+  Ok,
+  Err,
+  Option,
+  None,
+  Some,
+  refl,
+  sym,
+  ap,
+  ◌∙◌,
+  arith,
+  inl,
+  inr,
+  subst,
+}
 use Rattle.std.proofs.Math.Nat.{min_comm}
 use Rattle.std.proofs.lemmas.Bool.{le-leb}
 use Rattle.std.proofs.lemmas.List.{take_min}

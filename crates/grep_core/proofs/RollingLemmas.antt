@@ -2,26 +2,68 @@
 -- read.
 use Rattle.grep_core.proofs.ReadingLemmas.{HasFilled, IsHeld, IsStream}
 use Rattle.grep_core.specs.HeldViews.{HoldsGiven}
-use Rattle.grep_core.specs.Rolls.{IsBetween, IsCountedFor, IsLast, IsNext, IsReady, HasEnded, HasMovedOn, start_in}
-use Rattle.grep_core.specs.Rolls.{HasCounted, HasFailed, HasSeen, IsRolling}
+use Rattle.grep_core.specs.Rolls.{
+  IsBetween,
+  IsCountedFor,
+  IsLast,
+  IsNext,
+  IsReady,
+  HasEnded,
+  HasMovedOn,
+  start_in,
+  HasCounted,
+  HasFailed,
+  HasSeen,
+  IsRolling,
+}
 use Rattle.grep_core.specs.SearchBuffers.{IsFitting, detection_of}
 use Rattle.grep_decode.specs.DecoderStates.{DecoderState, Decodes, IsDone, started}
 use Rattle.grep_decode.specs.Source.{ReadResult}
 use Rattle.grep_definitions.proofs.BoolLemmas.{clash}
-use Rattle.grep_definitions.proofs.FrontLemmas.{closed-append, closed-drop, count-after, lines-fit, longer-front}
-use Rattle.grep_definitions.proofs.FrontLemmas.{turns-within}
+use Rattle.grep_definitions.proofs.FrontLemmas.{
+  closed-append,
+  closed-drop,
+  count-after,
+  lines-fit,
+  longer-front,
+  turns-within,
+}
 use Rattle.grep_definitions.proofs.LimitLemmas.{turn_above}
 use Rattle.grep_lines.proofs.LineRangeLemmas.{end-start, start-same}
-use Rattle.grep_definitions.specs.Searches.{is_detecting, binary_of, view_of, GoesOnAfter, IsClosed}
-use Rattle.grep_definitions.specs.Searches.{IsTooLong, reports_nothing, IsInput, IsFront}
-use Rattle.grep_definitions.specs.Searches.{reads_lines}
+use Rattle.grep_definitions.specs.Searches.{
+  is_detecting,
+  binary_of,
+  view_of,
+  GoesOnAfter,
+  IsClosed,
+  IsTooLong,
+  reports_nothing,
+  IsInput,
+  IsFront,
+  reads_lines,
+}
 use Rattle.grep_definitions.specs.LineWalks.{IsOpen}
 use Rattle.grep_definitions.specs.Plans.{Steps, Outcome, all_true, begins, Settings}
-use Rattle.grep_line_buffer.proofs.BufferStateLemmas.{IsUncut, long-shown, uncut-filled, grown, same-buffer}
-use Rattle.grep_line_buffer.proofs.BufferStateLemmas.{closed-filled, last-filled, unended-filled}
+use Rattle.grep_line_buffer.proofs.BufferStateLemmas.{
+  IsUncut,
+  long-shown,
+  uncut-filled,
+  grown,
+  same-buffer,
+  closed-filled,
+  last-filled,
+  unended-filled,
+}
 use Rattle.grep_line_buffer.proofs.DetectionLemmas.{detected-nil, found-nil}
-use Rattle.grep_line_buffer.specs.BufferStates.{BufferState, held, is_cut, IsWithin}
-use Rattle.grep_line_buffer.specs.BufferStates.{empty_buffer, GrowsIfFull, IsSameBuffer}
+use Rattle.grep_line_buffer.specs.BufferStates.{
+  BufferState,
+  held,
+  is_cut,
+  IsWithin,
+  empty_buffer,
+  GrowsIfFull,
+  IsSameBuffer,
+}
 use Rattle.grep_line_buffer.specs.Detections.{detected, found_in, is_quit}
 use Rattle.grep_matcher.proofs.LineLemmas.{lines-append}
 use Rattle.grep_lines.specs.Positions.{IsLineStart}
@@ -36,9 +78,40 @@ use Rattle.grep_walk.specs.WalkFaults.{IsWalkFault}
 use Rattle.grep_walk.specs.Walks.{AreCounts, recounted, IsCount}
 use Rattle.grep_walk.specs.Windows.{HasPassed, HasSearched, IsInWindow}
 use Rattle.grep_walk.specs.declared.walk.Walk.{Walk}
-use Rattle.std.proofs.Common.{◌≡◌, ℕ, ◌+◌, ◌-◌, ◌<◌, ◌≤◌, ◌&&◌, ◌==◌, Bool, true, false, List, [], ◌++◌}
-use Rattle.std.proofs.Common.{length, take, drop, Option, Some, inl, inr, refl, sym, ◌∙◌, ap, subst, arith}
-use Rattle.std.proofs.Common.{append-nil, append_assoc, length-append, length-drop, Ok}
+use Rattle.std.proofs.Common.{
+  ◌≡◌,
+  ℕ,
+  ◌+◌,
+  ◌-◌,
+  ◌<◌,
+  ◌≤◌,
+  ◌&&◌,
+  ◌==◌,
+  Bool,
+  true,
+  false,
+  List,
+  [],
+  ◌++◌,
+  length,
+  take,
+  drop,
+  Option,
+  Some,
+  inl,
+  inr,
+  refl,
+  sym,
+  ◌∙◌,
+  ap,
+  subst,
+  arith,
+  append-nil,
+  append_assoc,
+  length-append,
+  length-drop,
+  Ok,
+}
 use Rattle.std.proofs.Math.Bool.{and-false}
 use Rattle.std.proofs.lemmas.Bool.{false≢true}
 use Rattle.std.proofs.lemmas.List.{get_or_append_left, length-take-le, take-append-drop}

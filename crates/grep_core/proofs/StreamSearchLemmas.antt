@@ -1,30 +1,79 @@
 -- What a search of a stream comes to: before its first line, at `binary_data` and after it, and at `finish`.
 use Rattle.grep_core.proofs.ReadingLemmas.{IsStream}
 use Rattle.grep_core.specs.BinaryCalls.{Noted, PassesBinary}
-use Rattle.grep_core.specs.Rolls.{HasCounted, HasFailed, HasSeen, IsCountedFor, IsStartAt, IsEnding, IsMadeTo}
-use Rattle.grep_core.specs.Rolls.{IsStreamCounted, not_passed, was_passed, HasBegun}
+use Rattle.grep_core.specs.Rolls.{
+  HasCounted,
+  HasFailed,
+  HasSeen,
+  IsCountedFor,
+  IsStartAt,
+  IsEnding,
+  IsMadeTo,
+  IsStreamCounted,
+  not_passed,
+  was_passed,
+  HasBegun,
+}
 use Rattle.grep_core.specs.SearchBuffers.{detection_of}
 use Rattle.grep_decode.specs.DecoderStates.{DecoderState}
 use Rattle.grep_decode.specs.Source.{ReadResult}
 use Rattle.grep_definitions.proofs.BoolLemmas.{clash}
 use Rattle.grep_definitions.proofs.FirstTurnLemmas.{turns-begin}
-use Rattle.grep_definitions.proofs.FrontLemmas.{turns-within}
+use Rattle.grep_definitions.proofs.FrontLemmas.{turns-within, front-none}
 use Rattle.grep_definitions.proofs.PlannedReaderLemmas.{passes-unchanged}
 use Rattle.grep_definitions.proofs.PlannedStreamLemmas.{stream-point, binary-made}
-use Rattle.grep_definitions.proofs.FrontLemmas.{front-none}
 use Rattle.grep_definitions.proofs.SearchModeLemmas.{asked-with, calls-are, finish-is, with-calls, with-finish}
 use Rattle.grep_definitions.proofs.SinkRunLemmas.{all-by, AreMade-append, outcome_by, made-binary, by-none, by-some}
-use Rattle.grep_definitions.specs.Plans.{search_plan, is_across}
-use Rattle.grep_definitions.specs.Plans.{selection_in, Steps, Planned, Plan, AreMade, Outcome}
-use Rattle.grep_definitions.specs.Plans.{all_true, stopped, failed, counted, Finish, IsRun, begins}
-use Rattle.grep_definitions.specs.Plans.{finish_after, finishes, finish_result, IsFinished, start}
-use Rattle.grep_definitions.specs.Plans.{line_count, Settings, SearcherState}
-use Rattle.grep_definitions.specs.Searches.{quits, on_stream, binary_of, view_of, BinaryPoint}
-use Rattle.grep_definitions.specs.Searches.{plan_with, calls_with, planned_binary, with_offset}
-use Rattle.grep_definitions.specs.Searches.{binary_position, IsInput, searched_bytes}
-use Rattle.grep_definitions.specs.Searches.{Taken, reports_nothing, IsPoint, IsCutAt}
-use Rattle.grep_definitions.specs.Searches.{IsReaderSearch, IsSearchOf, Points, ran, asked}
-use Rattle.grep_definitions.specs.Searches.{IsStreamPoint, IsRead}
+use Rattle.grep_definitions.specs.Plans.{
+  search_plan,
+  is_across,
+  selection_in,
+  Steps,
+  Planned,
+  Plan,
+  AreMade,
+  Outcome,
+  all_true,
+  stopped,
+  failed,
+  counted,
+  Finish,
+  IsRun,
+  begins,
+  finish_after,
+  finishes,
+  finish_result,
+  IsFinished,
+  start,
+  line_count,
+  Settings,
+  SearcherState,
+}
+use Rattle.grep_definitions.specs.Searches.{
+  quits,
+  on_stream,
+  binary_of,
+  view_of,
+  BinaryPoint,
+  plan_with,
+  calls_with,
+  planned_binary,
+  with_offset,
+  binary_position,
+  IsInput,
+  searched_bytes,
+  Taken,
+  reports_nothing,
+  IsPoint,
+  IsCutAt,
+  IsReaderSearch,
+  IsSearchOf,
+  Points,
+  ran,
+  asked,
+  IsStreamPoint,
+  IsRead,
+}
 use Rattle.grep_definitions.specs.SinkRuns.{after_binary}
 use Rattle.grep_definitions.specs.DecodedInputs.{passes_unchanged}
 use Rattle.grep_definitions.specs.LineSearch.{byte_count, turns, through}
@@ -37,15 +86,47 @@ use Rattle.grep_matcher.specs.Meanings.{Meaning, MatcherFacts}
 use Rattle.grep_report.specs.BinaryDetections.{quit_byte_of}
 use Rattle.grep_report.specs.ErrorMakers.{ErrorMakers}
 use Rattle.grep_report.specs.declared.binary_detection.BinaryDetection.{BinaryDetection}
-use Rattle.grep_report.specs.declared.binary_detection.BinaryDetection.TheVariants.{None as no_detection, Quit}
-use Rattle.grep_report.specs.declared.binary_detection.BinaryDetection.TheVariants.{Convert}
+use Rattle.grep_report.specs.declared.binary_detection.BinaryDetection.TheVariants.{
+  None as no_detection,
+  Quit,
+  Convert,
+}
 use Rattle.grep_walk.proofs.OriginLemmas.{fresh-made}
 use Rattle.grep_walk.specs.Origins.{AreMadeFrom, Origin, fresh}
 use Rattle.grep_walk.specs.WalkFaults.{IsWalkFault, at_call, at_question}
 use Rattle.grep_walk.specs.Walks.{IsCount}
-use Rattle.std.proofs.Common.{◌≡◌, ℕ, Bool, true, false, inl, inr, Option, Some, None, refl, sym, ◌∙◌, ap, List, ◌∷◌}
-use Rattle.std.proofs.Common.{◌++◌, subst, arith, length, map, take, drop, length-append, Err, ◌≤◌, ◌+◌, [], Ok}
-use Rattle.std.proofs.Common.{Result}
+use Rattle.std.proofs.Common.{
+  ◌≡◌,
+  ℕ,
+  Bool,
+  true,
+  false,
+  inl,
+  inr,
+  Option,
+  Some,
+  None,
+  refl,
+  sym,
+  ◌∙◌,
+  ap,
+  List,
+  ◌∷◌,
+  ◌++◌,
+  subst,
+  arith,
+  length,
+  map,
+  take,
+  drop,
+  length-append,
+  Err,
+  ◌≤◌,
+  ◌+◌,
+  [],
+  Ok,
+  Result,
+}
 use Rattle.std.proofs.KnownBytes.{Consumes-nil}
 use Rattle.std.proofs.Math.Seq.{take-append_seam, drop-append_seam}
 use Rattle.std.proofs.lemmas.Bool.{false≢true}

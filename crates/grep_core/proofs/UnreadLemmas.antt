@@ -1,31 +1,74 @@
 -- Why a reader's input wasn't searched to its end: a fill of the line buffer failed.
-use Rattle.std.proofs.Common.{◌≡◌, ◌≢◌, ℕ, ◌+◌, ◌<◌, ◌≤◌, Bool, false, true, List, [], ◌++◌, length, Option, Some, None}
-use Rattle.std.proofs.Common.{Err, refl, sym, ◌∙◌, ap, subst, arith, ⊎_elim, append_assoc, length-append}
+use Rattle.std.proofs.Common.{
+  ◌≡◌,
+  ◌≢◌,
+  ℕ,
+  ◌+◌,
+  ◌<◌,
+  ◌≤◌,
+  Bool,
+  false,
+  true,
+  List,
+  [],
+  ◌++◌,
+  length,
+  Option,
+  Some,
+  None,
+  Err,
+  refl,
+  sym,
+  ◌∙◌,
+  ap,
+  subst,
+  arith,
+  ⊎_elim,
+  append_assoc,
+  length-append,
+}
 use Rattle.std.proofs.lemmas.Bool.{cases_lt, false≢true}
-use Rattle.std.proofs.lemmas.List.{append_cancel_left}
-use Rattle.std.proofs.lemmas.List.Elements.{All-append}
 use Rattle.std.specs.Prelude.{All, IfSome}
 use Rattle.std.specs.declared.io.Error.{Error}
 use Rattle.grep_decode.specs.DecoderStates.{DecoderState, Decodes, IsWaiting, started}
 use Rattle.grep_decode.specs.Source.{ReadResult}
 use Rattle.grep_line_buffer.specs.declared.fill_error.FillError.{FillError}
 use Rattle.grep_line_buffer.specs.declared.fill_error.FillError.TheVariants.{Read, HeapLimit, Offset, Memory}
-use Rattle.grep_line_buffer.specs.BufferStates.{BufferState, held, is_cut, GrowsIfFull, HasNoLine, IsSameBuffer}
-use Rattle.grep_line_buffer.specs.BufferStates.{IsWithin}
+use Rattle.grep_line_buffer.specs.BufferStates.{
+  BufferState,
+  held,
+  is_cut,
+  GrowsIfFull,
+  HasNoLine,
+  IsSameBuffer,
+  IsWithin,
+}
 use Rattle.grep_line_buffer.specs.Detections.{detected}
 use Rattle.grep_line_buffer.specs.Fills.{FailsToFill, FillFails, Fills, IfRead, UnlessRead}
 use Rattle.grep_matcher.specs.Meanings.{Meaning}
 use Rattle.grep_matcher.specs.Lines.{byte_of}
 use Rattle.grep_definitions.specs.Plans.{is_at, Settings, SearcherState, Steps}
-use Rattle.grep_definitions.specs.Searches.{before_quit, view_of, CutsShort, IsCrowded, IsCut}
-use Rattle.grep_definitions.specs.Searches.{IsInput, StopsInLines, Taken, of_limit, of_lines}
-use Rattle.grep_definitions.specs.Searches.{of_memory, of_offset, of_reader}
+use Rattle.grep_definitions.specs.Searches.{
+  before_quit,
+  view_of,
+  CutsShort,
+  IsCrowded,
+  IsCut,
+  IsInput,
+  StopsInLines,
+  Taken,
+  of_limit,
+  of_lines,
+  of_memory,
+  of_offset,
+  of_reader,
+}
 use Rattle.grep_walk.specs.declared.walk.Walk.{Walk}
 use Rattle.grep_core.specs.Rolls.{IsRolling}
 use Rattle.grep_core.specs.SearchBuffers.{IsFitting, IsMadeOf, least_size}
 use Rattle.grep_definitions.proofs.FrontLemmas.{crowded}
 use Rattle.grep_walk.specs.Origins.{Origin}
-use Rattle.grep_line_buffer.proofs.BufferStateLemmas.{grown}
+use Rattle.grep_line_buffer.proofs.BufferStateLemmas.{grown, unended-rest}
 use Rattle.grep_core.proofs.ReadingLemmas as reading
 use Rattle.grep_core.proofs.ReadingLemmas.{IsHeld, IsStream}
 use Rattle.grep_core.proofs.RollingLemmas as rolls
@@ -129,12 +172,7 @@ module _ {R : Type 0} {remaining : R → Option (List ℕ)} {read_step : R → R
 
     -- the bytes after it end no line
     unended-is : HasNoLine old new → All (λ b. b ≢ t) (old.rest ++ given)
-    unended-is no_line =
-        let tail : given ≡ new.rest = append_cancel_left (held old) given new.rest
-        (sym fills.appended ∙ ap (λ xs. xs ++ new.rest) no_line.shown) in
-        All-append (λ b. b ≢ t) old.rest given so_far.between.unfinished
-        (subst (All (λ b. b ≢ t)) (sym tail)
-        (subst (λ c. All (λ b. b ≢ c) new.rest) fill.fitting.terminator no_line.none))
+    unended-is = unended-rest given fill.fitting.terminator fills.appended so_far.between.unfinished
 
     limit-is : new.limit ≡ k.heap_limit
     limit-is = fill.same.limit ∙ fill.fitting.limit

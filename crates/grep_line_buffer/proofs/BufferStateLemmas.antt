@@ -3,12 +3,12 @@ use Rattle.std.proofs.Common.{◌≡◌, ℕ, ◌+◌, ◌-◌, ◌<◌, ◌≤�
 use Rattle.std.proofs.Common.{subst, ◌∙◌, arith, ◌⊎◌, inl, inr, refl, false, length-append, ◌≢◌, true, [], get_or}
 use Rattle.std.proofs.Common.{append-nil, append_assoc}
 use Rattle.std.proofs.lemmas.Bool.{false≢true}
-use Rattle.std.proofs.lemmas.List.{drop_at, get_or-append-add}
+use Rattle.std.proofs.lemmas.List.{append_cancel_left, drop_at, get_or-append-add}
 use Rattle.std.proofs.lemmas.List.Elements.{All-append, All-get_or}
 use Rattle.grep_line_buffer.specs.declared.detection.Detection.{Detection}
 use Rattle.std.specs.Prelude.{slice_range}
 use Rattle.grep_line_buffer.specs.BufferStates.{BufferState, EndsAtEnd, EndsAtLine, EndsWith, GrowsIfFull, IsFilled}
-use Rattle.grep_line_buffer.specs.BufferStates.{IsSameBuffer, Lacks, held, is_cut}
+use Rattle.grep_line_buffer.specs.BufferStates.{HasNoLine, IsSameBuffer, Lacks, held, is_cut}
 use Rattle.grep_line_buffer.proofs.SliceLemmas.{drop-slice, slice-join, length-slice, slice_index-slice}
 
 -- two windows that differ in what is shown, in what follows it, and in sizes
@@ -170,3 +170,12 @@ module _ {t : ℕ} {old new : BufferState} (ends_at : old.terminator ≡ t) wher
       (sym (get_or-append-add old.shown tail (length tail - 1) 0)
       ∙ (ap (λ i. get_or (old.shown ++ tail) i 0) last ∙ (ap (λ xs. slice_index xs (length new.shown - 1)) (sym shown)
       ∙ closed (omega (arith, more))))))
+
+-- after a fill that failed, what is held and isn't shown lacks the byte that ends a line
+pub unended-rest : {t : ℕ} {old new : BufferState} (given : List ℕ) → old.terminator ≡ t
+    → held new ≡ held old ++ given → Lacks t old.rest → HasNoLine old new → Lacks t (old.rest ++ given)
+unended-rest {t} {old} {new} given ends_at whole lacks no_line =
+    let tail : given ≡ new.rest = append_cancel_left (held old) given new.rest
+    (sym whole ∙ ap (λ xs. xs ++ new.rest) no_line.shown) in
+    All-append (λ b. b ≢ t) old.rest given lacks
+    (subst (Lacks t) (sym tail) (subst (λ c. Lacks c new.rest) ends_at no_line.none))

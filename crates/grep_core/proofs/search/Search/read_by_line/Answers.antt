@@ -1,5 +1,26 @@
-use Rattle.std.proofs.Common.{rules, false, inl, inr, None, Err, Bool, [], ap, arith, length, refl, sym, ◌∙◌}
-use Rattle.std.proofs.Common.{subst, ◌≡◌, ◌++◌, Ok, true, ℕ, Option}
+use Rattle.std.proofs.Common.{
+  rules,
+  false,
+  inl,
+  inr,
+  None,
+  Err,
+  Bool,
+  [],
+  ap,
+  arith,
+  length,
+  refl,
+  sym,
+  ◌∙◌,
+  subst,
+  ◌≡◌,
+  ◌++◌,
+  Ok,
+  true,
+  ℕ,
+  Option,
+}
 use Rattle.std.proofs.lemmas.Bool.{false≢true}
 use Rattle.std.proofs.lemmas.Result.{err_from_is_err_and}
 use Rattle.grep_decode.proofs.DecoderLemmas.{Decodes-append, Decodes-none}

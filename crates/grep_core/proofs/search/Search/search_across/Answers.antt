@@ -1,5 +1,18 @@
-use Rattle.std.proofs.Common.{rules, ◌≡◌, arith, sym, subst, refl, true, false, [], ◌-◌, drop, length-take}
-use Rattle.std.proofs.Common.{length-drop}
+use Rattle.std.proofs.Common.{
+  rules,
+  ◌≡◌,
+  arith,
+  sym,
+  subst,
+  refl,
+  true,
+  false,
+  [],
+  ◌-◌,
+  drop,
+  length-take,
+  length-drop,
+}
 use Rattle.std.proofs.lemmas.Result.{err_from_is_err_and}
 use Rattle.grep_matcher.specs.Lines.{byte_of}
 use Rattle.std.specs.Prelude.{slice_range}

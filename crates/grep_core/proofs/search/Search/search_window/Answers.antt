@@ -1,5 +1,23 @@
-use Rattle.std.proofs.Common.{rules, ◌≡◌, ◌∙◌, ℕ, length, refl, ap, sym, subst, arith, true, false, length-take}
-use Rattle.std.proofs.Common.{length-drop, ◌-◌, drop, ◌+◌, List}
+use Rattle.std.proofs.Common.{
+  rules,
+  ◌≡◌,
+  ◌∙◌,
+  ℕ,
+  length,
+  refl,
+  ap,
+  sym,
+  subst,
+  arith,
+  true,
+  false,
+  length-take,
+  length-drop,
+  ◌-◌,
+  drop,
+  ◌+◌,
+  List,
+}
 use Rattle.std.proofs.lemmas.Bool.{false≢true}
 use Rattle.std.proofs.lemmas.Result.{err_from_is_err_and}
 use Rattle.std.specs.Prelude.{slice_range}
