@@ -14,8 +14,8 @@ use uses::{
 // Line 2 and line 4 have an `a`.
 const INPUT: &[u8] = b"x\nab\ny\nba";
 
-// Whether each caller that is lent a searcher returns what it has to, by one searcher for all: those
-// that count, and those that keep lines.
+// Whether each caller that is lent a searcher returns what it has to, by one searcher: those that
+// count, and those that keep lines.
 fn agree(alloc: Global) -> bool {
     match Searcher::new(alloc) {
         Ok(mut searcher) => count(alloc, &mut searcher) && keep(alloc, &mut searcher),

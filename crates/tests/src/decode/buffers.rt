@@ -281,7 +281,7 @@ const CONVERT: &[Fill] = &[
     (Some(false), b"", Some(8)),
 ];
 
-// Whether fills of a buffer of one byte, from a reader that gives one byte at a time, come to these.
+// Whether fills of a buffer of one byte, from a reader that gives single bytes, come to these.
 fn detects_in_single_bytes(
     alloc: Global,
     detection: Detection,
