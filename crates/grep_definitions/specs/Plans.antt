@@ -315,7 +315,6 @@ module _ (settings : Settings) (meaning : Meaning) (bytes : List ℕ) where
   abbrev pub ends_search : ℕ → Bool
   ends_search i = stops_next settings (some_below is_chosen i) && not (is_chosen i)
 
-  -- a chosen line is selected if no line before it ends the search
   abbrev pub is_selected : ℕ → Bool
   is_selected i = is_chosen i && not (some_below ends_search i)
 
@@ -328,14 +327,11 @@ module _ (settings : Settings) (meaning : Meaning) (bytes : List ℕ) where
       (first_below (λ i. is_chosen i && is_at (count_below hits i + 1) settings.max_matches)
       (line_count settings bytes))
 
-  -- by the line that ends the search, which may be reported still
-  abbrev pub end_by_stop : Option ℕ
-  end_by_stop = option_map suc (first_below ends_search (line_count settings bytes))
-
-  -- and by all of its bounds
+  -- and by all of its bounds: the line that ends the search may be reported still
   abbrev pub reports_end : ℕ
   reports_end = at_most (if settings.passthru then None else end_by_limit settings.max_matches)
-      (at_most end_by_stop (line_count settings bytes))
+      (at_most (option_map suc (first_below ends_search (line_count settings bytes)))
+      (line_count settings bytes))
 
   abbrev pub selected_lines : Selection
   selected_lines = record {
