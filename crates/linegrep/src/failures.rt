@@ -138,12 +138,6 @@ fn report_mark<T: Eprint>(rt: &T, text: &str, start: usize) -> io::Result<()> {
     eprintln!(rt; "^")
 }
 
-impl From<clap::Error> for Failure {
-    fn from(error: clap::Error) -> Failure {
-        Failure::Usage(error)
-    }
-}
-
 impl From<AllocError> for Failure {
     fn from(error: AllocError) -> Failure {
         Failure::System(io::Error::from(error))
