@@ -76,8 +76,7 @@ look_at (Quit b) false = in_contents b
 look_at (Convert b) false = nowhere
 look_at _ true = on_stream
 
--- by whether it is a slice that is searched as it is: by line any other input is searched as it is
--- read, and across lines none is
+-- only by line, and not of a slice that is searched as it is, is an input searched as it is read
 abbrev pub look_of : Settings → Meaning → Bool → Look
 look_of settings meaning unchanged =
     look_at settings.binary_detection (not unchanged && not (is_across settings meaning))
@@ -262,8 +261,7 @@ module _ (settings : Settings) (meaning : Meaning) (input seen : List ℕ) where
         × IsTooLong (byte_of settings.line_terminator) size (line settings input seen_count)
 
   -- why no more is read after the lines that were seen: a buffer of the heap limit can't hold the
-  -- next line and those that are kept before it; the offset of the end is above 2^64 - 1; or the
-  -- buffer, of 65,536 bytes at first, can't hold these, may grow, and there was no memory
+  -- next line and those kept before it; an offset is above 2^64 - 1; or memory to grow is lacking
   pub data CutsShort (error : Error) : Type 0 where
     of_limit : (limit : ℕ) → settings.heap_limit ≡ Some limit
         → error_kind error ≡ Other → IsCrowded limit → CutsShort error
@@ -372,8 +370,7 @@ module _ {S E F : Type 0} (step : Steps S E) (errors : ErrorMakers F E) (matcher
     read_in_order : {e : E} {new : S} (error : Error) → IsOfReading error → errors.is_io error e
         → (new ≡ old) ⊎ HasBegun old new → IsInOrder IsOfReading old (Err e) new
 
--- any search ends in the error of its refusal, and nothing was called or read, or it isn't refused,
--- and this is what it comes to if the matcher is lawful
+-- a search is refused, with no call and nothing read, or is this if the matcher is lawful
 module _ {S E F : Type 0} (errors : ErrorMakers F E) (matcher : MatcherFacts F)
     (settings : Settings) (old : S) (result : Result (Unit {0}) E) (new : S)
     (IsSame IsSearched : Type 0) where
@@ -477,8 +474,7 @@ module _ {R : Type 0} (remaining : R → Option (List ℕ))
       -- and a search that reads lines and may report none reads once
       pub once : (begun && reads_lines settings) ≡ true → reports_nothing settings ≡ true
           → IsReadForLine settings reader reader'
-      -- under a heap limit, if what came passes unchanged: the three bytes are those that are read
-      -- to look for a mark, or a mark that is dropped
+      -- under a heap limit, of bytes that pass unchanged: three more may be read to look for a mark
       pub ahead : (limit : ℕ) → settings.heap_limit ≡ Some limit
           → encoding_of settings (concat taken.pieces) ≡ None
           → length (concat taken.pieces) ≤ (finish_after outcome plan.finish).count + limit + 3
