@@ -9,7 +9,6 @@ use Rattle.base64.specs.GeneralPurpose.{encode_of}
 use Rattle.json.specs.Json.{Json, null, number, string, array, object, Items, no_items, item}
 use Rattle.json.specs.Json.{Members, no_members, member}
 use Rattle.json.specs.Print.{print}
-use Rattle.json.specs.Token.{Token}
 use Rattle.json.specs.Tree.{json_tokens}
 use Rattle.grep_printer.specs.declared.stats.Stats.{Stats}
 
@@ -22,13 +21,17 @@ abbrev pub optional_json : Option ℕ → Json
 optional_json None = null
 optional_json (Some n) = number_json n
 
+-- a text as the only member of an object
+abbrev pub wrapped_json : List ℕ → List ℕ → Json
+wrapped_json name text = object (member name (string text) no_members)
+
 -- a text
 abbrev pub text_json : List ℕ → Json
-text_json text = object (member (codes "text") (string text) no_members)
+text_json = wrapped_json (codes "text")
 
 -- bytes in base64
 abbrev pub base64_json : List ℕ → Json
-base64_json text = object (member (codes "bytes") (string text) no_members)
+base64_json = wrapped_json (codes "bytes")
 
 -- bytes: a text if they are UTF-8, or else in base64
 unfoldable pub bytes_json : List ℕ → Json
@@ -85,11 +88,6 @@ abbrev pub message_json : List ℕ → Members → Json
 message_json type members =
     object (member (codes "type") (string type)
     (member (codes "data") (object members) no_members))
-
--- its first tokens
-unfoldable pub begin_tokens : List ℕ → List Token
-begin_tokens type = Token.begin_object ∷ Token.key (codes "type") ∷ Token.string type
-    ∷ Token.key (codes "data") ∷ Token.begin_object ∷ []
 
 -- a search begins
 unfoldable pub begin_json : Option (Bor (List ℕ)) → Json

@@ -2,6 +2,7 @@ pub mod ColorRuns
 pub mod ColoredTexts
 pub mod JsonLaws
 pub mod JsonMessages
+pub mod JsonPieces
 pub mod JsonSteps
 pub mod JsonTexts
 pub mod LineTexts

@@ -1,149 +1,183 @@
 //! The messages of a printer of JSON, each in a line of its own.
-ghost use Rattle.std.specs.Prelude.{◌≡◌, ◌≤◌, ◌∷◌, ◌++◌, [], OnOk, IfOk, All, codes, decimal};
-ghost use Rattle.std.specs.Prelude.{length};
-ghost use Rattle.json.specs.Print.{print};
-ghost use Rattle.json.specs.Token.{end_object, key, number};
+ghost use Rattle.std.specs.Prelude.{◌≡◌, ◌≤◌, ◌++◌, All, OnOk, length};
 ghost use Rattle.json.specs.Tree.{json_tokens};
-ghost use Rattle.grep_printer.specs.JsonMessages.{begin_json, begin_tokens, bytes_json, end_json};
-ghost use Rattle.grep_printer.specs.JsonMessages.{json_line, optional_json, path_json};
-ghost use Rattle.grep_printer.specs.JsonMessages.{report_json, summary_json};
+ghost use Rattle.grep_printer.specs.JsonMessages.{begin_json, end_json, json_line, report_json};
+ghost use Rattle.grep_printer.specs.JsonMessages.{summary_json};
+ghost use Rattle.grep_printer.specs.JsonPieces.{AreWithin, message_of, report_of};
 
-use crate::messages::{
-    push_bytes, push_count, push_optional, push_path, push_stats, push_submatches, push_time,
-};
+use crate::messages::{Piece, push_bytes, push_pieces, push_stats, push_submatches, push_time};
 use crate::stats::Stats;
 use grep_searcher::Match;
 use json::Writer;
 use std::alloc::{AllocError, Global};
+use std::mem;
 
-// What is reported: its bytes, the number of its first line, its offset, and the matches in it.
+// A message.
 #[derive(Clone, Copy)]
-pub(crate) struct Report<'b> {
-    pub(crate) bytes: &'b [u8],
+pub(crate) enum Message<'m> {
+    // A search of a path begins.
+    Begin(Option<&'m str>),
+    // A report.
+    Report(Report<'m>),
+    // A search of a path ends, in which a binary byte was found at an offset, if one was.
+    End(Option<&'m str>, Option<u64>, Stats),
+    // All searches, which took so many nanoseconds in all.
+    Summary(Stats, u64),
+}
+
+// What is reported: the type of its message, the path, its bytes, the number of its first line, its
+// offset, and the matches in it.
+#[derive(Clone, Copy)]
+pub(crate) struct Report<'m> {
+    pub(crate) kind: &'m str,
+    pub(crate) path: Option<&'m str>,
+    pub(crate) bytes: &'m [u8],
     pub(crate) number: Option<u64>,
     pub(crate) offset: u64,
-    pub(crate) ranges: &'b [Match],
+    pub(crate) ranges: &'m [Match],
 }
 
-// Adds the message that a search begins.
-#[tactic(auto, unfolding(crate::specs::JsonMessages::begin_json))]
-pub(crate) fn add_begin(text: Vec<u8>, path: Option<&str>) -> Result<Vec<u8>, AllocError>
-    ensures { IfOk result (λ t. t.items ≡ text.items ++ json_line (begin_json path.entry)) }
+// Adds a message in a line of its own.
+pub(crate) fn add_message(text: &mut Vec<u8>, message: Message<'_>) -> Result<(), AllocError>
+    requires { AreWithin message }
+    ensures { OnOk result (text.new.items ≡ text.old.items ++ json_line (message_of message.entry)) }
 {
-    let mut out = Writer::new(text);
-    open(&mut out, "begin", path)?;
-    close(out)
+    let alloc = *text.allocator();
+    let mut out = Writer::new(mem::replace(text, Vec::new(alloc)));
+    push_message(&mut out, alloc, message)?;
+    *text = out.into_inner();
+    text.push(b'\n')?;
+    Ok(())
 }
 
-// Adds a report, as a message of a type.
-#[tactic(auto, unfolding(crate::specs::JsonMessages::report_json))]
-pub(crate) fn add_report(
-    alloc: Global,
-    text: Vec<u8>,
-    kind: &str,
-    path: Option<&str>,
-    report: &Report<'_>,
-) -> Result<Vec<u8>, AllocError>
-    requires { All (λ range. range.1 ≤ length report.now.bytes.now) report.now.ranges.now }
-    ensures { IfOk result (λ t. t.items ≡ text.items ++ json_line (report_json kind.now path.entry
-        report.now.bytes.now report.now.number report.now.offset report.now.ranges.now)) }
-{
-    let mut out = Writer::new(text);
-    open(&mut out, kind, path)?;
-    push_lines(&mut out, alloc, report)?;
-    out.key("submatches")?;
-    push_submatches(&mut out, alloc, report.bytes, report.ranges)?;
-    close(out)
-}
-
-// Pushes as members the lines of a report, and where they are.
-fn push_lines(out: &mut Writer, alloc: Global, report: &Report<'_>) -> Result<(), AllocError>
+// Pushes a message.
+fn push_message(out: &mut Writer, alloc: Global, message: Message<'_>) -> Result<(), AllocError>
+    requires { AreWithin message }
     ensures before { out.new.before ≡ out.old.before }
-    ensures tokens { OnOk result (out.new.tokens ≡ out.old.tokens
-        ++ key (codes "lines") ∷ (json_tokens (bytes_json report.now.bytes.now)
-        ++ key (codes "line_number") ∷ (json_tokens (optional_json report.now.number)
-        ++ key (codes "absolute_offset") ∷ number (decimal report.now.offset) ∷ []))) }
+    ensures tokens { OnOk result
+        (out.new.tokens ≡ out.old.tokens ++ json_tokens (message_of message.entry)) }
 {
-    out.key("lines")?;
+    match message {
+        Message::Begin(path) => push_begin(out, path),
+        Message::Report(report) => push_report(out, alloc, &report),
+        Message::End(path, binary, stats) => push_end(out, alloc, path, binary, &stats),
+        Message::Summary(stats, total) => push_summary(out, alloc, &stats, total),
+    }
+}
+
+// Pushes the message that a search begins.
+#[tactic(auto, unfolding(crate::specs::JsonMessages::begin_json))]
+fn push_begin(out: &mut Writer, path: Option<&str>) -> Result<(), AllocError>
+    ensures before { out.new.before ≡ out.old.before }
+    ensures tokens { OnOk result
+        (out.new.tokens ≡ out.old.tokens ++ json_tokens (begin_json path.entry)) }
+{
+    push_pieces(
+        out,
+        &[
+            Piece::Open,
+            Piece::Key("type"),
+            Piece::Text("begin"),
+            Piece::Key("data"),
+            Piece::Open,
+            Piece::Key("path"),
+            Piece::Path(path),
+            Piece::Close,
+            Piece::Close,
+        ],
+    )
+}
+
+// Pushes a report.
+#[tactic(auto, unfolding(crate::specs::JsonMessages::report_json))]
+fn push_report(out: &mut Writer, alloc: Global, report: &Report<'_>) -> Result<(), AllocError>
+    requires { All (λ range. range.1 ≤ length report.now.bytes.now) report.now.ranges.now }
+    ensures before { out.new.before ≡ out.old.before }
+    ensures tokens { OnOk result
+        (out.new.tokens ≡ out.old.tokens ++ json_tokens (report_of report.now)) }
+{
+    push_pieces(
+        out,
+        &[
+            Piece::Open,
+            Piece::Key("type"),
+            Piece::Text(report.kind),
+            Piece::Key("data"),
+            Piece::Open,
+            Piece::Key("path"),
+            Piece::Path(report.path),
+            Piece::Key("lines"),
+        ],
+    )?;
     push_bytes(out, alloc, report.bytes)?;
-    out.key("line_number")?;
-    push_optional(out, report.number)?;
-    push_count(out, "absolute_offset", report.offset)
+    push_pieces(
+        out,
+        &[
+            Piece::Key("line_number"),
+            Piece::Optional(report.number),
+            Piece::Count("absolute_offset", report.offset),
+            Piece::Key("submatches"),
+        ],
+    )?;
+    push_submatches(out, alloc, report.bytes, report.ranges)?;
+    push_pieces(out, &[Piece::Close, Piece::Close])
 }
 
-// Adds the message that a search ends.
+// Pushes the message that a search ends.
 #[tactic(auto, unfolding(crate::specs::JsonMessages::end_json))]
-pub(crate) fn add_end(
+fn push_end(
+    out: &mut Writer,
     alloc: Global,
-    text: Vec<u8>,
     path: Option<&str>,
-    binary_offset: Option<u64>,
+    binary: Option<u64>,
     stats: &Stats,
-) -> Result<Vec<u8>, AllocError>
-    ensures { IfOk result (λ t. t.items
-        ≡ text.items ++ json_line (end_json path.entry binary_offset stats.now)) }
+) -> Result<(), AllocError>
+    ensures before { out.new.before ≡ out.old.before }
+    ensures tokens { OnOk result
+        (out.new.tokens ≡ out.old.tokens ++ json_tokens (end_json path.entry binary stats.now)) }
 {
-    let mut out = Writer::new(text);
-    open(&mut out, "end", path)?;
-    out.key("binary_offset")?;
-    push_optional(&mut out, binary_offset)?;
-    out.key("stats")?;
-    push_stats(&mut out, alloc, stats)?;
-    close(out)
+    push_pieces(
+        out,
+        &[
+            Piece::Open,
+            Piece::Key("type"),
+            Piece::Text("end"),
+            Piece::Key("data"),
+            Piece::Open,
+            Piece::Key("path"),
+            Piece::Path(path),
+            Piece::Key("binary_offset"),
+            Piece::Optional(binary),
+        ],
+    )?;
+    push_stats(out, alloc, stats)?;
+    push_pieces(out, &[Piece::Close, Piece::Close])
 }
 
-// Adds the message about all searches, which took so many nanoseconds in all.
+// Pushes the message about all searches.
 #[tactic(auto, unfolding(crate::specs::JsonMessages::summary_json))]
-pub(crate) fn add_summary(
+fn push_summary(
+    out: &mut Writer,
     alloc: Global,
-    text: Vec<u8>,
     stats: &Stats,
     total: u64,
-) -> Result<Vec<u8>, AllocError>
-    ensures { IfOk result (λ t. t.items ≡ text.items ++ json_line (summary_json stats.now total)) }
-{
-    let mut out = Writer::new(text);
-    begin(&mut out, "summary")?;
-    out.key("elapsed_total")?;
-    push_time(&mut out, alloc, total)?;
-    out.key("stats")?;
-    push_stats(&mut out, alloc, stats)?;
-    close(out)
-}
-
-// Begins a message of a type, about a search of a path.
-fn open(out: &mut Writer, kind: &str, path: Option<&str>) -> Result<(), AllocError>
+) -> Result<(), AllocError>
     ensures before { out.new.before ≡ out.old.before }
-    ensures tokens { OnOk result (out.new.tokens ≡ out.old.tokens
-        ++ (begin_tokens kind.now ++ key (codes "path") ∷ json_tokens (path_json path.entry))) }
+    ensures tokens { OnOk result
+        (out.new.tokens ≡ out.old.tokens ++ json_tokens (summary_json stats.now total)) }
 {
-    begin(out, kind)?;
-    out.key("path")?;
-    push_path(out, path)
-}
-
-// Begins a message of a type.
-#[tactic(auto, unfolding(crate::specs::JsonMessages::begin_tokens))]
-fn begin(out: &mut Writer, kind: &str) -> Result<(), AllocError>
-    ensures before { out.new.before ≡ out.old.before }
-    ensures tokens { OnOk result (out.new.tokens ≡ out.old.tokens ++ begin_tokens kind.now) }
-{
-    out.begin_object()?;
-    out.key("type")?;
-    out.string(kind)?;
-    out.key("data")?;
-    out.begin_object()
-}
-
-// Ends a message and its line.
-fn close(out: Writer) -> Result<Vec<u8>, AllocError>
-    ensures { IfOk result (λ t. t.items
-        ≡ out.before ++ (print (out.tokens ++ end_object ∷ end_object ∷ []) ++ 10 ∷ [])) }
-{
-    let mut out = out;
-    out.end_object()?;
-    out.end_object()?;
-    let mut text = out.into_inner();
-    text.push(b'\n')?;
-    Ok(text)
+    push_pieces(
+        out,
+        &[
+            Piece::Open,
+            Piece::Key("type"),
+            Piece::Text("summary"),
+            Piece::Key("data"),
+            Piece::Open,
+            Piece::Key("elapsed_total"),
+        ],
+    )?;
+    push_time(out, alloc, total)?;
+    push_stats(out, alloc, stats)?;
+    push_pieces(out, &[Piece::Close, Piece::Close])
 }

@@ -1,11 +1,12 @@
 //! The printer of JSON.
-ghost use Rattle.std.specs.Prelude.{◌≡◌, ◌⊎◌, ◌≤◌, ◌++◌, [], All, IfErr, MatchResult, OnErr, OnOk};
+ghost use Rattle.std.specs.Prelude.{◌≡◌, ◌⊎◌, ◌≤◌, ◌++◌, All, IfErr, MatchResult, OnErr, OnOk};
 ghost use Rattle.std.specs.Prelude.{◌||◌, if◌then◌else◌, is_ok, length, not, true, false};
 ghost use Rattle.grep_searcher.specs.SearchErrors.{IsOutOfMemory};
 ghost use Rattle.grep_searcher.specs.SinkArguments.{context_call, match_call};
 ghost use Rattle.grep_output.specs.Outputs.{Writes, flushes};
-ghost use Rattle.grep_printer.specs.JsonMessages.{begin_json, end_json, json_line, report_json};
+ghost use Rattle.grep_printer.specs.JsonMessages.{begin_json, json_line, report_json};
 ghost use Rattle.grep_printer.specs.JsonMessages.{summary_json};
+ghost use Rattle.grep_printer.specs.JsonPieces.{AreWithin, message_of};
 ghost use Rattle.grep_printer.specs.JsonSteps.{FailsToWriteJson, FailsToWriteText, IsSameJson};
 ghost use Rattle.grep_printer.specs.JsonSteps.{IsComposingCall, IsComposingJson, IsJsonError};
 ghost use Rattle.grep_printer.specs.JsonSteps.{IsJsonWritten, IsSamePrinter, WritesText};
@@ -16,7 +17,7 @@ ghost use Rattle.grep_printer.specs.JsonTexts.{stats_of, submatches_of, with_mat
 ghost use Rattle.grep_printer.specs.JsonTexts.{with_size, with_text};
 ghost use Rattle.grep_printer.specs.StatsSums.{nanos_of};
 
-use crate::json_lines::{Report, add_begin, add_end, add_report, add_summary};
+use crate::json_lines::{Message, Report, add_message};
 use crate::parts::find_reported_parts;
 use crate::stats::{Stats, nanoseconds};
 use grep_lines::line_count;
@@ -25,8 +26,8 @@ use grep_searcher::{
     FindAt, Match, SearchError, Searcher, Sink, SinkContext, SinkFinish, SinkMatch,
 };
 use std::alloc::{AllocError, Allocator, Global};
+use std::io;
 use std::time::Duration;
-use std::{io, mem};
 
 /// How a printer of JSON writes messages. The setter returns the builder.
 #[derive(Debug, Drop)]
@@ -126,26 +127,13 @@ impl<W> Json<W> {
         writer
     }
 
-    // Takes the text at hand, and leaves an empty one.
-    fn take_text(&mut self) -> Vec<u8>
-        ensures text { result.items ≡ [] }
-        ensures same { IsSamePrinter self.old self.new }
-        ensures submatches { self.new.submatches ≡ self.old.submatches }
-    {
-        let alloc = *self.text.allocator();
-        let mut text = mem::replace(&mut self.text, Vec::new(alloc));
-        text.clear();
-        text
-    }
-
     // Makes a text of the message that a search begins.
     fn compose_begin(&mut self, path: Option<&str>) -> Result<(), AllocError>
         ensures same { IsSamePrinter self.old self.new }
         ensures text { OnOk result (self.new.text.items ≡ json_line (begin_json path.entry)) }
     {
-        let text = self.take_text();
-        self.text = add_begin(text, path)?;
-        Ok(())
+        self.text.clear();
+        add_message(&mut self.text, Message::Begin(path))
     }
 
     // Makes a text of a report with the matches at hand, after the message that the search begins
@@ -165,19 +153,19 @@ impl<W> Json<W> {
             ≡ opening_line path.entry is_begun ++ json_line (report_json kind.now path.entry
             bytes.now place.now.number place.now.offset self.old.submatches.items)) }
     {
-        let alloc = *self.text.allocator();
-        let mut text = self.take_text();
+        self.text.clear();
         if !is_begun {
-            text = add_begin(text, path)?;
+            add_message(&mut self.text, Message::Begin(path))?;
         }
         let report = Report {
+            kind,
+            path,
             bytes,
             number: place.number,
             offset: place.offset,
             ranges: &self.submatches,
         };
-        self.text = add_report(alloc, text, kind, path, &report)?;
-        Ok(())
+        add_message(&mut self.text, Message::Report(report))
     }
 }
 
@@ -191,11 +179,7 @@ impl<W: Output> Json<W> {
             (λ e. FailsToWriteText W.step self.old
             (json_line (summary_json stats.now (nanos_of elapsed))) e self.new) }
     {
-        let alloc = *self.text.allocator();
-        let text = self.take_text();
-        self.text = add_summary(alloc, text, stats, nanoseconds(elapsed))?;
-        self.write_text()?;
-        Ok(())
+        self.write_message(Message::Summary(*stats, nanoseconds(elapsed)))
     }
 
     /// Flushes the writer. An error is the writer's own.
@@ -209,22 +193,16 @@ impl<W: Output> Json<W> {
         flushed
     }
 
-    // Writes the message that a search ends.
-    fn write_end(
-        &mut self,
-        path: Option<&str>,
-        binary_offset: Option<u64>,
-        stats: &Stats,
-    ) -> Result<(), SearchError>
+    // Writes a message that is no report.
+    fn write_message(&mut self, message: Message<'_>) -> Result<(), SearchError>
+        requires { AreWithin message }
         ensures { MatchResult result
-            (λ _. WritesText W.step self.old
-            (json_line (end_json path.entry binary_offset stats.now)) self.new)
-            (λ e. FailsToWriteText W.step self.old
-            (json_line (end_json path.entry binary_offset stats.now)) e self.new) }
+            (λ _. WritesText W.step self.old (json_line (message_of message.entry)) self.new)
+            (λ e. FailsToWriteText W.step self.old (json_line (message_of message.entry)) e
+            self.new) }
     {
-        let alloc = *self.text.allocator();
-        let text = self.take_text();
-        self.text = add_end(alloc, text, path, binary_offset, stats)?;
+        self.text.clear();
+        add_message(&mut self.text, message)?;
         self.write_text()?;
         Ok(())
     }
@@ -363,8 +341,8 @@ impl<'s, M: FindAt, W: Output> JsonSink<'s, M, W> {
         if !self.progress.is_reported() {
             return Ok(stats);
         }
-        self.printer
-            .write_end(self.path, self.progress.binary_offset, &stats)?;
+        let end = Message::End(self.path, self.progress.binary_offset, stats);
+        self.printer.write_message(end)?;
         Ok(stats)
     }
 }

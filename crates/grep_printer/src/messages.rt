@@ -1,13 +1,14 @@
 //! The parts of messages, as JSON.
-ghost use Rattle.std.specs.Prelude.{◌≡◌, ◌≤◌, ◌+◌, ◌/◌, ◌∷◌, ◌++◌, [], OnOk, IfOk, All, codes, decimal};
-ghost use Rattle.std.specs.Prelude.{length};
+ghost use Rattle.std.specs.Prelude.{◌≡◌, ◌≤◌, ◌+◌, ◌/◌, ◌∷◌, ◌++◌, [], OnOk, IfOk, All, codes};
+ghost use Rattle.std.specs.Prelude.{decimal, length};
 ghost use Rattle.std.specs.String.{string_bytes};
 ghost use Rattle.json.specs.Json.{array};
-ghost use Rattle.json.specs.Token.{key, number, string};
+ghost use Rattle.json.specs.Token.{key, number};
 ghost use Rattle.json.specs.Tree.{json_tokens};
-ghost use Rattle.grep_printer.specs.JsonMessages.{base64_json, bytes_json, optional_json, path_json, seconds_text};
-ghost use Rattle.grep_printer.specs.JsonMessages.{stats_json, submatch_items, submatch_json};
-ghost use Rattle.grep_printer.specs.JsonMessages.{text_json, time_json};
+ghost use Rattle.grep_printer.specs.JsonMessages.{bytes_json, optional_json, path_json};
+ghost use Rattle.grep_printer.specs.JsonMessages.{seconds_text, stats_json, submatch_items};
+ghost use Rattle.grep_printer.specs.JsonMessages.{submatch_json, time_json, wrapped_json};
+ghost use Rattle.grep_printer.specs.JsonPieces.{piece_tokens, pieces_tokens};
 
 use crate::stats::Stats;
 use base64::engine::general_purpose::STANDARD;
@@ -16,8 +17,54 @@ use json::Writer;
 use simdutf8::basic::from_utf8;
 use std::alloc::{AllocError, Global};
 
+// A piece of a message.
+#[derive(Clone, Copy)]
+pub(crate) enum Piece<'p> {
+    // An object begins.
+    Open,
+    // It ends.
+    Close,
+    // The name of a member.
+    Key(&'p str),
+    // A string.
+    Text(&'p str),
+    // A number, if there is one.
+    Optional(Option<u64>),
+    // A path, if there is one.
+    Path(Option<&'p str>),
+    // A number as a member.
+    Count(&'p str, u64),
+}
+
+// Pushes pieces.
+pub(crate) fn push_pieces(out: &mut Writer, pieces: &[Piece<'_>]) -> Result<(), AllocError>
+    ensures before { out.new.before ≡ out.old.before }
+    ensures tokens { OnOk result (out.new.tokens ≡ out.old.tokens ++ pieces_tokens pieces.now) }
+{
+    for piece in pieces {
+        push_piece(out, *piece)?;
+    }
+    Ok(())
+}
+
+// Pushes a piece.
+fn push_piece(out: &mut Writer, piece: Piece<'_>) -> Result<(), AllocError>
+    ensures before { out.new.before ≡ out.old.before }
+    ensures tokens { OnOk result (out.new.tokens ≡ out.old.tokens ++ piece_tokens piece.entry) }
+{
+    match piece {
+        Piece::Open => out.begin_object(),
+        Piece::Close => out.end_object(),
+        Piece::Key(name) => out.key(name),
+        Piece::Text(text) => out.string(text),
+        Piece::Optional(number) => push_optional(out, number),
+        Piece::Path(path) => push_path(out, path),
+        Piece::Count(name, count) => push_count(out, name, count),
+    }
+}
+
 // Pushes a number, if there is one.
-pub(crate) fn push_optional(out: &mut Writer, number: Option<u64>) -> Result<(), AllocError>
+fn push_optional(out: &mut Writer, number: Option<u64>) -> Result<(), AllocError>
     ensures before { out.new.before ≡ out.old.before }
     ensures tokens { OnOk result
         (out.new.tokens ≡ out.old.tokens ++ json_tokens (optional_json number)) }
@@ -28,14 +75,36 @@ pub(crate) fn push_optional(out: &mut Writer, number: Option<u64>) -> Result<(),
     }
 }
 
-// Pushes a text.
-pub(crate) fn push_text(out: &mut Writer, text: &str) -> Result<(), AllocError>
+// Pushes a path, if there is one.
+fn push_path(out: &mut Writer, path: Option<&str>) -> Result<(), AllocError>
     ensures before { out.new.before ≡ out.old.before }
     ensures tokens { OnOk result
-        (out.new.tokens ≡ out.old.tokens ++ json_tokens (text_json text.now)) }
+        (out.new.tokens ≡ out.old.tokens ++ json_tokens (path_json path.entry)) }
+{
+    match path {
+        Some(path) => push_wrapped(out, "text", path),
+        None => out.null(),
+    }
+}
+
+// Pushes a number as a member.
+fn push_count(out: &mut Writer, name: &str, count: u64) -> Result<(), AllocError>
+    ensures before { out.new.before ≡ out.old.before }
+    ensures tokens { OnOk result (out.new.tokens
+        ≡ out.old.tokens ++ key name.now ∷ number (decimal count) ∷ []) }
+{
+    out.key(name)?;
+    out.u64(count)
+}
+
+// Pushes an object whose only member is a text.
+fn push_wrapped(out: &mut Writer, name: &str, text: &str) -> Result<(), AllocError>
+    ensures before { out.new.before ≡ out.old.before }
+    ensures tokens { OnOk result
+        (out.new.tokens ≡ out.old.tokens ++ json_tokens (wrapped_json name.now text.now)) }
 {
     out.begin_object()?;
-    out.key("text")?;
+    out.key(name)?;
     out.string(text)?;
     out.end_object()
 }
@@ -47,44 +116,10 @@ pub(crate) fn push_bytes(out: &mut Writer, alloc: Global, bytes: &[u8]) -> Resul
         (out.new.tokens ≡ out.old.tokens ++ json_tokens (bytes_json bytes.now)) }
 {
     if let Ok(text) = from_utf8(bytes) {
-        return push_text(out, text);
+        return push_wrapped(out, "text", text);
     }
     let text = STANDARD.encode(alloc, bytes)?;
-    push_base64(out, text.as_str())
-}
-
-// Pushes bytes, of which this is the text in base64.
-fn push_base64(out: &mut Writer, text: &str) -> Result<(), AllocError>
-    ensures before { out.new.before ≡ out.old.before }
-    ensures tokens { OnOk result
-        (out.new.tokens ≡ out.old.tokens ++ json_tokens (base64_json text.now)) }
-{
-    out.begin_object()?;
-    out.key("bytes")?;
-    out.string(text)?;
-    out.end_object()
-}
-
-// Pushes a path, if there is one.
-pub(crate) fn push_path(out: &mut Writer, path: Option<&str>) -> Result<(), AllocError>
-    ensures before { out.new.before ≡ out.old.before }
-    ensures tokens { OnOk result
-        (out.new.tokens ≡ out.old.tokens ++ json_tokens (path_json path.entry)) }
-{
-    match path {
-        Some(path) => push_text(out, path),
-        None => out.null(),
-    }
-}
-
-// Pushes a number as a member.
-pub(crate) fn push_count(out: &mut Writer, name: &str, count: u64) -> Result<(), AllocError>
-    ensures before { out.new.before ≡ out.old.before }
-    ensures tokens { OnOk result (out.new.tokens
-        ≡ out.old.tokens ++ key name.now ∷ number (decimal count) ∷ []) }
-{
-    out.key(name)?;
-    out.u64(count)
+    push_wrapped(out, "bytes", text.as_str())
 }
 
 // Pushes the matches in a report.
@@ -119,12 +154,16 @@ fn push_submatch(
     ensures tokens { OnOk result (out.new.tokens
         ≡ out.old.tokens ++ json_tokens (submatch_json bytes.now range.now)) }
 {
-    out.begin_object()?;
-    out.key("match")?;
+    push_pieces(out, &[Piece::Open, Piece::Key("match")])?;
     push_bytes(out, alloc, &bytes[range.start()..range.end()])?;
-    push_count(out, "start", range.start() as u64)?;
-    push_count(out, "end", range.end() as u64)?;
-    out.end_object()
+    push_pieces(
+        out,
+        &[
+            Piece::Count("start", range.start() as u64),
+            Piece::Count("end", range.end() as u64),
+            Piece::Close,
+        ],
+    )
 }
 
 // Pushes a time in nanoseconds.
@@ -134,22 +173,18 @@ pub(crate) fn push_time(out: &mut Writer, alloc: Global, nanos: u64) -> Result<(
     ensures tokens { OnOk result
         (out.new.tokens ≡ out.old.tokens ++ json_tokens (time_json nanos)) }
 {
-    out.begin_object()?;
-    push_count(out, "secs", nanos / 1_000_000_000)?;
-    push_count(out, "nanos", nanos % 1_000_000_000)?;
-    push_human(out, alloc, nanos)?;
-    out.end_object()
-}
-
-// Pushes a time in nanoseconds as a member for people.
-fn push_human(out: &mut Writer, alloc: Global, nanos: u64) -> Result<(), AllocError>
-    ensures before { out.new.before ≡ out.old.before }
-    ensures tokens { OnOk result (out.new.tokens ≡ out.old.tokens
-        ++ key (codes "human") ∷ string (seconds_text ((nanos + 500) / 1000)) ∷ []) }
-{
     let human = seconds_text(alloc, microseconds(nanos))?;
-    out.key("human")?;
-    out.string(human.as_str())
+    push_pieces(
+        out,
+        &[
+            Piece::Open,
+            Piece::Count("secs", nanos / 1_000_000_000),
+            Piece::Count("nanos", nanos % 1_000_000_000),
+            Piece::Key("human"),
+            Piece::Text(human.as_str()),
+            Piece::Close,
+        ],
+    )
 }
 
 // The microseconds next to a number of nanoseconds.
@@ -168,43 +203,28 @@ fn seconds_text(alloc: Global, micros: u64) -> Result<String, AllocError>
     format!(in alloc; "{secs}.{rest:06}s")
 }
 
-// Pushes counts.
+// Pushes counts as a member.
 #[tactic(auto, unfolding(crate::specs::JsonMessages::stats_json))]
 pub(crate) fn push_stats(out: &mut Writer, alloc: Global, stats: &Stats) -> Result<(), AllocError>
     ensures before { out.new.before ≡ out.old.before }
     ensures tokens { OnOk result
-        (out.new.tokens ≡ out.old.tokens ++ json_tokens (stats_json stats.now)) }
+        (out.new.tokens ≡ out.old.tokens ++ key (codes "stats") ∷ json_tokens (stats_json stats.now)) }
 {
-    out.begin_object()?;
-    out.key("elapsed")?;
+    push_pieces(
+        out,
+        &[Piece::Key("stats"), Piece::Open, Piece::Key("elapsed")],
+    )?;
     push_time(out, alloc, stats.elapsed)?;
-    push_searched(out, stats)?;
-    push_found(out, stats)?;
-    out.end_object()
-}
-
-// Pushes as members what was searched.
-fn push_searched(out: &mut Writer, stats: &Stats) -> Result<(), AllocError>
-    ensures before { out.new.before ≡ out.old.before }
-    ensures tokens { OnOk result (out.new.tokens ≡ out.old.tokens
-        ++ key (codes "searches") ∷ number (decimal stats.now.searches)
-        ∷ key (codes "searches_with_match") ∷ number (decimal stats.now.searches_with_match)
-        ∷ key (codes "bytes_searched") ∷ number (decimal stats.now.bytes_searched) ∷ []) }
-{
-    push_count(out, "searches", stats.searches)?;
-    push_count(out, "searches_with_match", stats.searches_with_match)?;
-    push_count(out, "bytes_searched", stats.bytes_searched)
-}
-
-// Pushes as members what was written and found.
-fn push_found(out: &mut Writer, stats: &Stats) -> Result<(), AllocError>
-    ensures before { out.new.before ≡ out.old.before }
-    ensures tokens { OnOk result (out.new.tokens ≡ out.old.tokens
-        ++ key (codes "bytes_printed") ∷ number (decimal stats.now.bytes_printed)
-        ∷ key (codes "matched_lines") ∷ number (decimal stats.now.matched_lines)
-        ∷ key (codes "matches") ∷ number (decimal stats.now.matches) ∷ []) }
-{
-    push_count(out, "bytes_printed", stats.bytes_printed)?;
-    push_count(out, "matched_lines", stats.matched_lines)?;
-    push_count(out, "matches", stats.matches)
+    push_pieces(
+        out,
+        &[
+            Piece::Count("searches", stats.searches),
+            Piece::Count("searches_with_match", stats.searches_with_match),
+            Piece::Count("bytes_searched", stats.bytes_searched),
+            Piece::Count("bytes_printed", stats.bytes_printed),
+            Piece::Count("matched_lines", stats.matched_lines),
+            Piece::Count("matches", stats.matches),
+            Piece::Close,
+        ],
+    )
 }

@@ -6,10 +6,7 @@ pub returns-clause-tokens : goal.returns-clause-tokens
 unfolding stats_json
 returns-clause-tokens c =
     simp (
-      c.in_ok-push_found.ensures.tokens,
-      c.in_ok-push_searched.ensures.tokens,
       c.in_ok-push_time.ensures.tokens,
-      c.in_ok-key.ensures.ok,
-      c.in_ok-begin_object.ensures.ok,
+      c.in_ok-push_pieces.ensures.tokens,
       append_assoc,
-    ) at c.end_object.ensures.ok
+    ) at c.push_pieces-2.ensures.tokens

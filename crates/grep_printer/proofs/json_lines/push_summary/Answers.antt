@@ -1,0 +1,13 @@
+use Rattle.std.proofs.Common.{append_assoc}
+use Rattle.grep_printer.specs.JsonMessages.{summary_json}
+use Rattle.grep_printer.proofs.json_lines.push_summary.Goals as goal
+
+pub returns-clause-tokens : goal.returns-clause-tokens
+unfolding summary_json
+returns-clause-tokens c =
+    simp append_assoc (simp (
+      c.in_ok-push_stats.ensures.tokens,
+      c.in_ok-push_time.ensures.tokens,
+      c.in_ok-push_pieces.ensures.tokens,
+      append_assoc,
+    ) at c.push_pieces-2.ensures.tokens)

@@ -1,0 +1,49 @@
+-- The messages of a printer of JSON and their pieces, as the code has them.
+use Rattle.std.specs.Prelude.{ℕ, ◌≤◌, All, List, [], ◌∷◌, ◌++◌, decimal, length}
+use Rattle.json.specs.Json.{Json}
+use Rattle.json.specs.Token.{Token}
+use Rattle.json.specs.Tree.{json_tokens}
+use Rattle.grep_printer.specs.JsonMessages.{begin_json, end_json, optional_json, path_json}
+use Rattle.grep_printer.specs.JsonMessages.{report_json, summary_json}
+use Rattle.grep_printer.specs.declared.json_lines.Message.{Message}
+use Rattle.grep_printer.specs.declared.json_lines.Message.TheVariants.{Begin, Report as reports, End}
+use Rattle.grep_printer.specs.declared.json_lines.Message.TheVariants.{Summary}
+use Rattle.grep_printer.specs.declared.json_lines.Report.{Report}
+use Rattle.grep_printer.specs.declared.messages.Piece.{Piece}
+use Rattle.grep_printer.specs.declared.messages.Piece.TheVariants.{Open, Close, Key, Text}
+use Rattle.grep_printer.specs.declared.messages.Piece.TheVariants.{Optional, Path, Count}
+
+-- the tokens of a piece
+abbrev pub piece_tokens : Piece → List Token
+piece_tokens Open = Token.begin_object ∷ []
+piece_tokens Close = Token.end_object ∷ []
+piece_tokens (Key name) = Token.key name.now ∷ []
+piece_tokens (Text text) = Token.string text.now ∷ []
+piece_tokens (Optional number) = json_tokens (optional_json number)
+piece_tokens (Path path) = json_tokens (path_json path)
+piece_tokens (Count name count) = Token.key name.now ∷ Token.number (decimal count) ∷ []
+
+-- the tokens of some pieces
+abbrev pub pieces_tokens : List Piece → List Token
+pieces_tokens [] = []
+pieces_tokens (piece ∷ later) = piece_tokens piece ++ pieces_tokens later
+
+-- the message of a report
+abbrev pub report_of : Report → Json
+report_of report =
+    report_json report.kind.now report.path report.bytes.now report.number report.offset
+    report.ranges.now
+
+-- a message
+abbrev pub message_of : Message → Json
+message_of (Begin path) = begin_json path
+message_of (reports report) = report_of report
+message_of (End path binary stats) = end_json path binary stats
+message_of (Summary stats total) = summary_json stats total
+
+-- the matches of a report are in its bytes
+abbrev pub AreWithin : Message → Type 0
+AreWithin (Begin path) = Unit {0}
+AreWithin (reports report) = All (λ range. range.1 ≤ length report.bytes.now) report.ranges.now
+AreWithin (End path binary stats) = Unit {0}
+AreWithin (Summary stats total) = Unit {0}
