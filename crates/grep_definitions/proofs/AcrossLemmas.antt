@@ -16,6 +16,8 @@ use Rattle.grep_definitions.specs.Plans.{
   touches,
   is_touched,
   is_free,
+  has_room,
+  selects_free,
 }
 use Rattle.std.proofs.Common.{
   ◌≡◌,
@@ -46,6 +48,7 @@ use Rattle.std.proofs.Common.{
   Some,
   None,
   if◌then◌else◌,
+  ltb-false,
 }
 use Rattle.std.proofs.Math.Bool.{and-false}
 use Rattle.std.proofs.lemmas.Bool.{cases_Bool, le-leb}
@@ -142,40 +145,27 @@ module _ (k : Settings) (meaning : Meaning) (bytes : List ℕ) where
   begins_unit i = selected i && not (continues_unit k meaning bytes i)
 
   -- there are at most as many units as the limit has
-  units-few : (limit m : ℕ) → k.max_matches ≡ Some limit → count_below begins_unit m ≤ limit
-  units-few limit m is = go k.invert_match
+  units-few : (limit m : ℕ) → has_room k limit ≡ false → count_below begins_unit m ≤ limit
+  units-few limit m shut = go (selects_free k)
     where
-      free : Option ℕ → ℕ → Bool
-      free o i = is_free k meaning bytes i && is_below (count_below (is_free k meaning bytes) i) o
+      free : ℕ → Bool
+      free i = is_free k meaning bytes i && has_room k (count_below (is_free k meaning bytes) i)
 
-      held : Option ℕ → ℕ → Bool
-      held o = is_touched k meaning bytes (matches_up_to meaning bytes o)
+      held : ℕ → Bool
+      held = is_touched k meaning bytes (matches_up_to meaning bytes k.max_matches)
 
-      alone : count_below (free (Some limit)) m ≤ limit
-      alone = count_below-limited (is_free k meaning bytes) limit m
+      few : (o : Option ℕ) → is_below limit o ≡ false → length (matches_up_to meaning bytes o) ≤ limit
+      few None shut = cc
+      few (Some x) shut = omega (arith, ltb-false limit x shut, length-take x (all_matches meaning bytes))
 
-      together : count_below (begins_run (held (Some limit))) m ≤ limit
-      together =
-          omega (
-            arith,
-            touched-runs (matches_up_to meaning bytes (Some limit)) m,
-            length-take limit (all_matches meaning bytes),
-          )
-
-      go : (b : Bool) → count_below
-          (λ i. (if b then free k.max_matches i else held k.max_matches i)
-          && not (not b && nat_lt 0 i && (if b then free k.max_matches (i - 1) else held k.max_matches (i - 1)))) m ≤
-          limit
-      go true =
-          let few = count_below-weaker (λ i. free k.max_matches i && not false) (free k.max_matches) m
-          (λ j yes. (both_true (free k.max_matches j) _ yes).0) in
-          let same : count_below (free k.max_matches) m
-          ≡ count_below (free (Some limit)) m = ap (λ o. count_below (free o) m) is in
-          omega (arith, alone)
-      go false =
-          let same : count_below (begins_run (held k.max_matches)) m ≡ count_below (begins_run (held (Some limit))) m =
-          ap (λ o. count_below (begins_run (held o)) m) is in
-          omega (arith, together)
+      go : (b : Bool) → count_below (λ i. (if b then free i else held i)
+          && not (not b && nat_lt 0 i && (if b then free (i - 1) else held (i - 1)))) m ≤ limit
+      go true = omega (
+        arith,
+        count_below-weaker (λ i. free i && not false) free m (λ j yes. (both_true (free j) _ yes).0),
+        count_below-limited k (is_free k meaning bytes) limit m shut,
+      )
+      go false = omega (arith, touched-runs (matches_up_to meaning bytes k.max_matches) m, few _ shut)
 
   -- the calls of a line, with its break or without
   abbrev broken : ℕ → Bool → List Planned
@@ -275,5 +265,5 @@ module _ (k : Settings) (meaning : Meaning) (bytes : List ℕ) where
       go false = matches-report i (AcrossLines.kind k meaning bytes i) refl
 
   -- the calls report no more matches than the limit has
-  pub matches-across : (limit : ℕ) → k.max_matches ≡ Some limit → matches_in (AcrossLines.turns k meaning bytes) ≤ limit
+  pub matches-across : (limit : ℕ) → has_room k limit ≡ false → matches_in (AcrossLines.turns k meaning bytes) ≤ limit
   matches-across limit is = omega (arith, matches-joined T begins_unit matches-line n, units-few limit n is)

@@ -9,6 +9,7 @@ use Rattle.grep_definitions.specs.Plans.{
   joined_from,
   matched,
   in_context,
+  selects_free,
 }
 use Rattle.std.proofs.Common.{
   ◌≡◌,
@@ -151,7 +152,7 @@ module _ (k : Settings) (meaning : Meaning) (bytes : List ℕ) where
 
   module _ {v i left : ℕ} (e : ℕ) (near : Near v i left) (some : i < e) (high : e ≤ n)
       (hits : (j : ℕ) → i ≤ j → j < e → S j ≡ true)
-      (closed : k.invert_match ≡ false → e < n → S e ≡ false) (alone : k.invert_match ≡ true → e ≡ i + 1) where
+      (closed : selects_free k ≡ false → e < n → S e ≡ false) (alone : selects_free k ≡ true → e ≡ i + 1) where
     inside : i < n
     inside = omega arith
 
@@ -165,7 +166,7 @@ module _ (k : Settings) (meaning : Meaning) (bytes : List ℕ) where
         (λ plain. ap (λ b. if not b then run_end S n i else i + 1) plain
         ∙ IsRunEnd-one S n i (run_end S n i) e (IsRunEnd-run_end S n i inside hit)
         (record { low = omega arith; high = high; inner = hits; closed = closed plain }))
-        (cases_Bool k.invert_match)
+        (cases_Bool (selects_free k))
 
     -- the calls of a line before it that was passed
     passed-is : (j : ℕ) → v ≤ j → j < i
@@ -208,8 +209,8 @@ module _ (k : Settings) (meaning : Meaning) (bytes : List ℕ) where
     -- a later line of it has none
     later-is : (j : ℕ) → i < j → j < e → T j ≡ []
     later-is j less below =
-        let plain : k.invert_match ≡ false = ⊎_elim (λ yes. absurd (omega (arith, alone yes))) (λ no. no)
-        (cases_Bool k.invert_match) in
+        let plain : selects_free k ≡ false = ⊎_elim (λ yes. absurd (omega (arith, alone yes))) (λ no. no)
+        (cases_Bool (selects_free k)) in
         let kind : AcrossLines.kind k meaning bytes j
         ≡ Some matched = let here = hits j (omega arith) below in rw here refl in
         let before = hits (j - 1) (omega arith) (omega arith) in
@@ -222,7 +223,7 @@ module _ (k : Settings) (meaning : Meaning) (bytes : List ℕ) where
 
   -- the calls of a unit: those of the lines before it, and the match at its first line
   pub front-unit : {v i left : ℕ} (e : ℕ) → Near v i left → i < e → e ≤ n → ((j : ℕ) → i ≤ j → j < e → S j ≡ true)
-      → (k.invert_match ≡ false → e < n → S e ≡ false) → (k.invert_match ≡ true → e ≡ i + 1)
+      → (selects_free k ≡ false → e < n → S e ≡ false) → (selects_free k ≡ true → e ≡ i + 1)
       → continues_unit k meaning bytes i ≡ false
       → front e ≡ front v ++ (pending_turns k bytes v i (starts e) v (i - v)
       ++ match_turns k v i (starts i) (starts e) (span i e))

@@ -13,6 +13,7 @@ use Rattle.grep_definitions.specs.Plans.{
   Kind,
   matched,
   in_context,
+  selects_free,
 }
 use Rattle.std.proofs.Common.{
   ◌≡◌,
@@ -49,7 +50,7 @@ use Rattle.grep_definitions.proofs.BelowLemmas.{joined_from-equal}
 use Rattle.grep_definitions.proofs.FirstLineLemmas.{some_below-same, first_below-same}
 use Rattle.grep_definitions.proofs.LineSliceLemmas.{line-report, slice-line}
 
-module _ (k : Settings) (meaning other : Meaning) (bytes : List ℕ) (inverted : k.invert_match ≡ true)
+module _ (k : Settings) (meaning other : Meaning) (bytes : List ℕ) (inverted : selects_free k ≡ true)
     (same : (i : ℕ) → AcrossLines.is_selected k meaning bytes i ≡ Plans.is_selected k other bytes i)
     (whole : LineSearch.turn_count k other bytes ≡ LineSearch.line_count k other bytes)
     (early : (i : ℕ) → Plans.is_trailing k other bytes i ≡ false) where

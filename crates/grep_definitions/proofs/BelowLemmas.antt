@@ -1,32 +1,6 @@
 -- Numbers below a bound that pass a test, bounds that may be missing, and lists joined over numbers.
-use Rattle.std.proofs.Common.{
-  min,
-  ◌≡◌,
-  ◌⊎◌,
-  ℕ,
-  zero,
-  suc,
-  ◌+◌,
-  ◌-◌,
-  ◌<◌,
-  ◌≤◌,
-  Bool,
-  true,
-  false,
-  not,
-  Option,
-  Some,
-  None,
-  if◌then◌else◌,
-  refl,
-  sym,
-  ◌∙◌,
-  ap,
-  arith,
-  ⊎_elim,
-  append_assoc,
-}
-use Rattle.std.proofs.lemmas.Bool.{lt-ltb, le-ltb, ltb-true, eq-eqb, ne_eqb, cases_lt, cases_Bool}
+use Rattle.std.proofs.Common.{min, ◌≡◌, ◌⊎◌, ℕ, zero, suc, ◌+◌, ◌-◌, ◌<◌, ◌≤◌, Bool, true, false, Option, Some, None, if◌then◌else◌, refl, sym, ◌∙◌, ap, arith, ⊎_elim, append_assoc, ltb-false}
+use Rattle.std.proofs.lemmas.Bool.{le-ltb, cases_lt, cases_Bool}
 use Rattle.std.proofs.Math.Bool.{or-false, or-true}
 use Rattle.std.specs.Prelude.{IfSome, List, [], ◌∷◌, ◌++◌}
 use Rattle.std.proofs.lemmas.List.{append-nil}
@@ -34,8 +8,9 @@ use Rattle.grep_definitions.specs.Plans.{
   some_below,
   count_below,
   first_below,
+  Settings,
+  has_room,
   is_below,
-  is_at,
   at_most,
   joined_from,
 }
@@ -103,23 +78,20 @@ count_below-le p i (suc q) le = ⊎_elim
     go true before = omega arith
     go false before = before
 
-pub is_below-le : (o : Option ℕ) (n m : ℕ) → n ≤ m → is_below n o ≡ false → is_below m o ≡ false
-is_below-le None n m le is = is
-is_below-le (Some x) n m le is = ⊎_elim (λ less. let yes = lt-ltb n x (omega arith) in absurd (clash yes is))
-    (λ over. le-ltb m x over)
-    (cases_lt m x)
+-- a limit that has no room has none for more lines, and none for as many as it has
+pub room-le : (k : Settings) (n m : ℕ) → n ≤ m → has_room k n ≡ false → has_room k m ≡ false
+room-le k n m le = go k.max_matches
+  where
+    go : (o : Option ℕ) → is_below n o ≡ false → is_below m o ≡ false
+    go None is = is
+    go (Some x) is = let over = ltb-false n x is in le-ltb m x (omega arith)
 
-pub below_next : (o : Option ℕ) (c : ℕ) → is_below c o ≡ true → is_below (c + 1) o ≡ not (is_at (c + 1) o)
-below_next None c is = refl
-below_next (Some x) c is =
-    let less = ltb-true c x is in
-    ⊎_elim (λ yes. let a = lt-ltb (c + 1) x yes in let b = ne_eqb (c + 1) x (λ e. omega arith) in rw (a, b) refl)
-    (λ no. let a = le-ltb (c + 1) x no in let b = eq-eqb (c + 1) x (omega arith) in rw (a, b) refl) (cases_lt (c + 1) x)
+pub room-first : (k : Settings) (m : ℕ) → has_room k m ≡ true → has_room k 0 ≡ true
+room-first k m room = ⊎_elim (λ yes. yes) (λ no. absurd (clash room (room-le k 0 m (omega arith) no)))
+    (cases_Bool (has_room k 0))
 
-pub below_none : (o : Option ℕ) → is_below 0 o ≡ not (is_at 0 o)
-below_none None = refl
-below_none (Some x) = ⊎_elim (λ yes. let a = lt-ltb 0 x yes in let b = ne_eqb 0 x (λ e. omega arith) in rw (a, b) refl)
-    (λ no. let a = le-ltb 0 x no in let b = eq-eqb 0 x (omega arith) in rw (a, b) refl) (cases_lt 0 x)
+pub room-none : (k : Settings) (n : ℕ) → k.max_matches ≡ Some n → has_room k n ≡ false
+room-none k n is = rw is (le-ltb n n (omega arith))
 
 pub at_most-over : (o : Option ℕ) (n : ℕ) → IfSome o (λ b. n < b) → at_most o n ≡ n
 at_most-over None n above = refl

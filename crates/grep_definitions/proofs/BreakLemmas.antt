@@ -11,6 +11,7 @@ use Rattle.grep_definitions.specs.Plans.{
   matched,
   in_context,
   Settings,
+  selects_free,
 }
 use Rattle.std.proofs.Common.{
   ◌≡◌,
@@ -133,7 +134,7 @@ module _ (k : Settings) (meaning : Meaning) (bytes : List ℕ) where
       → AcrossLines.continues_unit k meaning bytes i ≡ false
   unit-unbroken i inside is = ⊎_elim
       (λ goes.
-      let parts = within (not k.invert_match) (nat_lt 0 i) (AcrossLines.is_selected k meaning bytes (i - 1)) goes in
+      let parts = within (not (selects_free k)) (nat_lt 0 i) (AcrossLines.is_selected k meaning bytes (i - 1)) goes in
       let before = reported-selected (i - 1) (omega (arith, ltb-true 0 i parts.0)) parts.1 in
       let silent = (breaks-need (nat_lt 0 (k.after_context + k.before_context))
       (LineSearch.can_break k meaning bytes (AcrossLines.kind k meaning bytes i))

@@ -154,8 +154,8 @@ module _ (k : Settings) (meaning : Meaning) (front back : List ℕ)
       ap (λ bs. if k.line_number then Some (count_by (λ b. nat_eq b (byte_of k.line_terminator)) bs + 1) else None) cut
 
   -- it fills the limit in both or in neither
-  pub fills_limit-same : (i : ℕ) → i < n → LineSearch.fills_limit k meaning whole i
-      ≡ LineSearch.fills_limit k meaning front i
+  pub fills_limit-same : (i : ℕ) → i < n → Plans.fills_limit k meaning whole i
+      ≡ Plans.fills_limit k meaning front i
   fills_limit-same i below =
       let before = count_below-same (Plans.hits k meaning whole) (Plans.hits k meaning front) i
       (λ j less. hits-same j (omega arith)) in

@@ -16,6 +16,7 @@ use Rattle.grep_definitions.specs.Plans.{
   Kind,
   matched,
   in_context,
+  has_room,
 }
 use Rattle.std.proofs.Common.{
   ◌≡◌,
@@ -426,32 +427,27 @@ module _ (k : Settings) (meaning : Meaning) (front back : List ℕ)
       (Plans.ends_search k meaning front) (λ j below. prefix.ends_search-same k meaning front back closed j below)
 
   -- so is the bound by the limit
-  limit-bounds : (limit : Option ℕ)
-      → Bounds (LineSearch.turns_by_limit k meaning whole limit) (LineSearch.turns_by_limit k meaning front limit)
-  limit-bounds None = inl refl
-  limit-bounds (Some zero) = inl refl
-  limit-bounds (Some (suc l)) = first-bounds (λ m. suc (m + k.after_context)) (λ u. omega arith)
-      (LineSearch.fills_limit k meaning whole)
-      (LineSearch.fills_limit k meaning front) (λ j below. prefix.fills_limit-same k meaning front back
-      closed j below)
-
-  -- so is that bound if passthru lifts it
-  passthru-bounds : Bounds (if k.passthru then None else LineSearch.turns_by_limit k meaning whole k.max_matches)
-      (if k.passthru then None else LineSearch.turns_by_limit k meaning front k.max_matches)
-  passthru-bounds = go k.passthru refl
+  limit-bounds : Bounds (LineSearch.turns_by_limit k meaning whole) (LineSearch.turns_by_limit k meaning front)
+  limit-bounds = go k.passthru (has_room k 0)
     where
-      go : (b : Bool) → k.passthru ≡ b → Bounds (if k.passthru then None else LineSearch.turns_by_limit k meaning whole
-          k.max_matches)
-          (if k.passthru then None else LineSearch.turns_by_limit k meaning front k.max_matches)
-      go true is = inl (rw is refl)
-      go false is = rw is (limit-bounds k.max_matches)
+      by : (bytes : List ℕ) → Option ℕ
+      by bytes = option_map (λ m. suc (m + k.after_context))
+          (first_below (Plans.fills_limit k meaning bytes) (LineSearch.line_count k meaning bytes))
+
+      go : (b room : Bool) → Bounds (if b then None else (if room then by whole else Some 0))
+          (if b then None else (if room then by front else Some 0))
+      go true room = inl refl
+      go false false = inl refl
+      go false true = first-bounds (λ m. suc (m + k.after_context)) (λ u. omega arith)
+          (Plans.fills_limit k meaning whole) (Plans.fills_limit k meaning front)
+          (λ j below. prefix.fills_limit-same k meaning front back closed j below)
 
   -- the lines of the front that have a turn are the same
   pub count-same : min count_whole n ≡ count_front
   count-same =
       let all_in : min all n ≡ n = omega (arith, more_lines) in
-      bounded _ _ passthru-bounds (at_most (LineSearch.turns_by_stop k meaning whole) all)
-      ∙ ap (at_most (if k.passthru then None else LineSearch.turns_by_limit k meaning front k.max_matches))
+      bounded _ _ limit-bounds (at_most (LineSearch.turns_by_stop k meaning whole) all)
+      ∙ ap (at_most (LineSearch.turns_by_limit k meaning front))
       (bounded _ _ stop-bounds all ∙ ap (at_most (LineSearch.turns_by_stop k meaning front)) all_in)
 
   -- up to line i the kinds are the same

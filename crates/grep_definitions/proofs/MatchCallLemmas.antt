@@ -14,6 +14,7 @@ use Rattle.grep_definitions.specs.Plans.{
   is_at,
   joined_from,
   in_context,
+  has_room,
 }
 use Rattle.std.proofs.Math.Bool.{and-false}
 use Rattle.std.proofs.Common.{
@@ -46,7 +47,7 @@ use Rattle.std.proofs.Common.{
   None,
   if◌then◌else◌,
 }
-use Rattle.std.proofs.lemmas.Bool.{ltb-true, eqb-true, cases_lt}
+use Rattle.std.proofs.lemmas.Bool.{ltb-true, cases_lt}
 use Rattle.std.proofs.lemmas.List.{map-append, length-append, length-map}
 use Rattle.std.proofs.lemmas.List.Elements.{filter-append}
 use Rattle.std.proofs.lemmas.Option.{slice_get-map}
@@ -59,7 +60,7 @@ use Rattle.grep_report.specs.declared.sink_context.SinkContextKind.TheVariants.{
 use Rattle.grep_definitions.proofs.LineSliceLemmas.{line-report}
 use Rattle.grep_definitions.specs.SearchLaws.{is_match, is_matched, match_calls, match_of, matched_lines}
 use Rattle.grep_definitions.specs.LineSearch
-use Rattle.grep_definitions.proofs.BoolLemmas.{both_true, not_false}
+use Rattle.grep_definitions.proofs.BoolLemmas.{both_true, not_false, clash}
 use Rattle.grep_definitions.proofs.BelowLemmas.{
   first_below-before,
   first_below-here,
@@ -74,6 +75,8 @@ use Rattle.grep_definitions.proofs.BelowLemmas.{
   at_most-above,
   joined_from-more,
   joined_from-equal,
+  room-le,
+  room-first,
 }
 use Rattle.grep_definitions.proofs.SearchLawLemmas.{turn_count-le}
 
@@ -163,7 +166,7 @@ module _ (k : Settings) (meaning : Meaning) (bytes : List ℕ) where
   selected = Plans.is_selected k meaning bytes
 
   abbrev fills : ℕ → Bool
-  fills = LineSearch.fills_limit k meaning bytes
+  fills = Plans.fills_limit k meaning bytes
 
   abbrev ends : ℕ → Bool
   ends = Plans.ends_search k meaning bytes
@@ -179,40 +182,30 @@ module _ (k : Settings) (meaning : Meaning) (bytes : List ℕ) where
       go (Some u) is none = let late = first_below-late ends i n u none is in omega arith
 
   limit-bound : (i : ℕ) → Plans.is_chosen k meaning bytes i ≡ true
-      → IfSome (if k.passthru then None else LineSearch.turns_by_limit k meaning bytes k.max_matches) (λ b. i < b)
-  limit-bound i taken = go k.passthru
+      → IfSome (LineSearch.turns_by_limit k meaning bytes) (λ b. i < b)
+  limit-bound i taken = go k.passthru (has_room k 0) refl (first_below fills n) refl
     where
-      room : is_below (count_below hits i) k.max_matches ≡ true
+      room : has_room k (count_below hits i) ≡ true
       room = (both_true (hits i) _ taken).1
 
-      late : (limit m : ℕ) → k.max_matches ≡ Some limit → fills m ≡ true → i ≤ m
-      late limit m is full =
+      late : (m : ℕ) → fills m ≡ true → i ≤ m
+      late m full =
           let parts = both_true (Plans.is_chosen k meaning bytes m) _ full in
-          let at : is_at (count_below hits m + 1) (Some limit) ≡ true = rw is at parts.1 in
-          let below : is_below (count_below hits i) (Some limit) ≡ true = rw is at room in
-          let same = eqb-true _ _ at in
-          let less = ltb-true _ _ below in
           let hit : hits m ≡ true = (both_true (hits m) _ parts.0).0 in
-          let next : count_below hits (suc m) ≡ count_below hits m + 1 = rw hit refl in
-          ⊎_elim (λ before. let more = count_below-le hits (suc m) i (omega arith) in absurd (omega arith))
+          let next : count_below hits m + 1 ≡ count_below hits (suc m) = rw hit refl in
+          ⊎_elim
+          (λ before. absurd (clash room (room-le k _ _
+          (omega (arith, next, count_below-le hits (suc m) i (omega arith)))
+          (not_false _ parts.1))))
           (λ over. over) (cases_lt m i)
 
-      inner : (limit : ℕ) (found : Option ℕ) → k.max_matches ≡ Some limit → first_below fills n ≡ found
-          → IfSome (option_map (λ m. suc (m + k.after_context)) found) (λ b. i < b)
-      inner limit None is none = tt
-      inner limit (Some m) is found = let bound = late limit m is (first_below-of fills n m found).1 in omega arith
-
-      by : (o : Option ℕ) → k.max_matches ≡ o → IfSome (LineSearch.turns_by_limit k meaning bytes o) (λ b. i < b)
-      by None is = tt
-      by (Some zero) is =
-          let below : is_below (count_below hits i) (Some zero) ≡ true = rw is at room in
-          let less = ltb-true _ _ below in absurd (omega arith)
-      by (Some (suc x)) is = inner (suc x) (first_below fills n) is refl
-
-      go : (s : Bool) → IfSome (if s then None else LineSearch.turns_by_limit k meaning bytes k.max_matches)
-          (λ b. i < b)
-      go true = tt
-      go false = by k.max_matches refl
+      go : (s some : Bool) → has_room k 0 ≡ some → (found : Option ℕ) → first_below fills n ≡ found
+          → IfSome (if s then None else (if some
+          then option_map (λ m. suc (m + k.after_context)) found else Some 0)) (λ b. i < b)
+      go true some is found first = tt
+      go false true is None first = tt
+      go false true is (Some m) first = let bound = late m (first_below-of fills n m first).1 in omega arith
+      go false false is found first = absurd (clash (room-first k _ room) is)
 
   -- it is one of the lines
   selected-inside : (i : ℕ) → selected i ≡ true → i < n
@@ -224,7 +217,7 @@ module _ (k : Settings) (meaning : Meaning) (bytes : List ℕ) where
   pub selected-turned : (i : ℕ) → selected i ≡ true → i < LineSearch.turn_count k meaning bytes
   selected-turned i taken =
       let chosen = both_true (Plans.is_chosen k meaning bytes i) _ taken in
-      at_most-above (if k.passthru then None else LineSearch.turns_by_limit k meaning bytes k.max_matches) i _
+      at_most-above (LineSearch.turns_by_limit k meaning bytes) i _
       (limit-bound i chosen.0)
       (at_most-above (LineSearch.turns_by_stop k meaning bytes) i n (stop-bound i taken) (selected-inside i taken))
 

@@ -10,6 +10,7 @@ use Rattle.grep_definitions.specs.SearchLaws.{line_plan, is_match}
 use Rattle.grep_definitions.specs.Plans.{reports_end, Planned}
 use Rattle.grep_definitions.proofs.AcrossLemmas as across
 use Rattle.grep_definitions.proofs.AsByLineLemmas.{turns-same}
+use Rattle.grep_definitions.proofs.BelowLemmas.{room-none}
 use Rattle.grep_definitions.proofs.FirstTurnLemmas.{turns-begin}
 use Rattle.grep_definitions.proofs.SearchLawLemmas as by_line
 use Rattle.grep_definitions.proofs.UnitLemmas.{bytes-turns, edges-turns}
@@ -45,7 +46,7 @@ at_most-limit k meaning bytes limit is =
     omega (
       arith,
       count_by-map is_match (λ (call : Planned). call.call) (line_plan k meaning bytes).calls,
-      by_line.matches-few k meaning bytes limit (reports_end k meaning bytes) is,
+      by_line.matches-few k meaning bytes limit (reports_end k meaning bytes) (room-none k limit is),
     )
 
 -- ---- across lines
@@ -61,7 +62,7 @@ at_most-limit_across k meaning bytes limit is =
     omega (
       arith,
       count_by-map is_match (λ (call : Planned). call.call) (AcrossLaws.across_plan k meaning bytes).calls,
-      across.matches-across k meaning bytes limit is,
+      across.matches-across k meaning bytes limit (room-none k limit is),
     )
 
 pub selected-reported : AcrossLaws.SelectedAreReported

@@ -12,6 +12,7 @@ use Rattle.grep_definitions.specs.Plans.{
   Settings,
   count_below,
   first_below,
+  has_room,
   at_most,
   joined_from,
   Kind,
@@ -51,7 +52,7 @@ use Rattle.std.proofs.Common.{
   if◌then◌else◌,
 }
 use Rattle.std.proofs.Math.Bool.{and-false}
-use Rattle.std.proofs.lemmas.Bool.{le-leb, leb-true, lt-ltb, ltb-true, cases_Bool, cases_lt}
+use Rattle.std.proofs.lemmas.Bool.{le-leb, leb-true, lt-ltb, cases_Bool, cases_lt}
 use Rattle.std.proofs.lemmas.List.Sums.{sum_by-append}
 use Rattle.std.specs.Prelude.{nat_lt, nat_le, ◌&&◌, ◌||◌, not, is_some, count_by, cond}
 use Rattle.std.specs.List.Sorted.{IsStrictlyIncreasing}
@@ -73,7 +74,7 @@ use Rattle.grep_definitions.proofs.BelowLemmas.{
   count_below-le,
   count_below-none,
   count_below-within,
-  is_below-le,
+  room-le,
   joined_from-more,
 }
 use Rattle.grep_matcher.proofs.LineStartLemmas.{line_start-ascends, line_start-more}
@@ -135,21 +136,24 @@ matches-joined f p one (suc m) =
     go false here before = omega arith
 
 -- no more numbers pass than a limit has, if each passes only while fewer before it do
-pub count_below-limited : (p : ℕ → Bool) (limit m : ℕ)
-    → count_below (λ i. p i && nat_lt (count_below p i) limit) m ≤ limit
-count_below-limited p limit zero = omega arith
-count_below-limited p limit (suc m) =
-    go (p m) (nat_lt (count_below p m) limit) refl (count_below-limited p limit m)
+pub count_below-limited : (k : Settings) (p : ℕ → Bool) (limit m : ℕ) → has_room k limit ≡ false
+    → count_below (λ i. p i && has_room k (count_below p i)) m ≤ limit
+count_below-limited k p limit zero shut = omega arith
+count_below-limited k p limit (suc m) shut =
+    go (p m) (has_room k (count_below p m)) refl (count_below-limited k p limit m shut)
   where
-    few : count_below (λ i. p i && nat_lt (count_below p i) limit) m ≤ count_below p m
-    few = count_below-weaker (λ i. p i && nat_lt (count_below p i) limit) p m
-        (λ j yes. (both_true (p j) (nat_lt (count_below p j) limit) yes).0)
+    few : count_below (λ i. p i && has_room k (count_below p i)) m ≤ count_below p m
+    few = count_below-weaker (λ i. p i && has_room k (count_below p i)) p m
+        (λ j yes. (both_true (p j) (has_room k (count_below p j)) yes).0)
 
-    go : (a b : Bool) → nat_lt (count_below p m) limit ≡ b
-        → count_below (λ i. p i && nat_lt (count_below p i) limit) m ≤ limit
-        → (if a && b then count_below (λ i. p i && nat_lt (count_below p i) limit) m + 1
-        else count_below (λ i. p i && nat_lt (count_below p i) limit) m) ≤ limit
-    go true true room before = omega (arith, ltb-true _ _ room, few)
+    go : (a b : Bool) → has_room k (count_below p m) ≡ b
+        → count_below (λ i. p i && has_room k (count_below p i)) m ≤ limit
+        → (if a && b then count_below (λ i. p i && has_room k (count_below p i)) m + 1
+        else count_below (λ i. p i && has_room k (count_below p i)) m) ≤ limit
+    go true true room before = ⊎_elim
+        (λ less. omega (arith, few, less))
+        (λ over. absurd (clash room (room-le k limit _ over shut)))
+        (cases_lt (count_below p m) limit)
     go true false room before = before
     go false b room before = before
 
@@ -190,8 +194,8 @@ module _ (k : Settings) (meaning : Meaning) (bytes : List ℕ) where
   abbrev selected : ℕ → Bool
   selected = Plans.is_selected k meaning bytes
 
-  abbrev has_room : ℕ → Bool
-  has_room = Plans.is_open_at k meaning bytes
+  abbrev is_open : ℕ → Bool
+  is_open = Plans.is_open_at k meaning bytes
 
   abbrev T : ℕ → List Planned
   T = turns_at k meaning bytes
@@ -201,7 +205,7 @@ module _ (k : Settings) (meaning : Meaning) (bytes : List ℕ) where
   turn_count-le =
       omega (
         arith,
-        at_most-le (if k.passthru then None else LineSearch.turns_by_limit k meaning bytes k.max_matches)
+        at_most-le (LineSearch.turns_by_limit k meaning bytes)
             (at_most (LineSearch.turns_by_stop k meaning bytes) n),
         at_most-le (LineSearch.turns_by_stop k meaning bytes) n,
       )
@@ -316,8 +320,8 @@ module _ (k : Settings) (meaning : Meaning) (bytes : List ℕ) where
       go true = matches-report i (LineSearch.kind k meaning bytes i) refl
       go false = matches-report i (LineSearch.kind k meaning bytes i) refl
 
-  chosen-few : (limit m : ℕ) → k.max_matches ≡ Some limit → count_below chosen m ≤ limit
-  chosen-few limit m is = let few = count_below-limited (Plans.hits k meaning bytes) limit m in rw is few
+  chosen-few : (limit m : ℕ) → has_room k limit ≡ false → count_below chosen m ≤ limit
+  chosen-few limit m = count_below-limited k (Plans.hits k meaning bytes) limit m
 
   -- what a late line has: a selected line before it in reach, before which the limit had room, as it hasn't there
   record IsLate (i : ℕ) : Type 0 where
@@ -325,8 +329,8 @@ module _ (k : Settings) (meaning : Meaning) (bytes : List ℕ) where
     before : line < i
     near : i - line ≤ k.after_context
     chosen : chosen line ≡ true
-    room : has_room line ≡ true
-    shut : has_room i ≡ false
+    room : is_open line ≡ true
+    shut : is_open i ≡ false
 
   late-is : (i : ℕ) → late i ≡ true → IsLate i
   late-is i is =
@@ -335,42 +339,42 @@ module _ (k : Settings) (meaning : Meaning) (bytes : List ℕ) where
       let found = some_below-find (λ j. nat_le (i - j) k.after_context && selected j) i parts.0 in
       let near = both_true (nat_le (i - found.0) k.after_context) (selected found.0) found.2 in
       let chosen = (both_true (chosen found.0) _ near.1).0 in
-      let past = both_true (Plans.hits k meaning bytes i) (not (has_room i)) parts.1 in
+      let past = both_true (Plans.hits k meaning bytes i) (not (is_open i)) parts.1 in
       record {
         line = found.0;
         before = found.1;
         near = leb-true (i - found.0) k.after_context near.0;
         chosen = chosen;
-        room = (both_true (Plans.hits k meaning bytes found.0) (has_room found.0) chosen).1;
-        shut = not_false (has_room i) past.1;
+        room = (both_true (Plans.hits k meaning bytes found.0) (is_open found.0) chosen).1;
+        shut = not_false (is_open i) past.1;
       }
 
   -- the limit has no room after a line before which it has none
-  shut-later : (i j : ℕ) → i ≤ j → has_room i ≡ false → has_room j ≡ false
+  shut-later : (i j : ℕ) → i ≤ j → is_open i ≡ false → is_open j ≡ false
   shut-later i j low shut =
-      is_below-le k.max_matches _ _ (count_below-le (Plans.hits k meaning bytes) i j low) shut
+      room-le k _ _ (count_below-le (Plans.hits k meaning bytes) i j low) shut
 
   -- there are at most as many late lines as lines in the context
   late-few : (m : ℕ) → count_below late m ≤ k.after_context
-  late-few m = go (first_below (λ i. not (has_room i)) m) refl
+  late-few m = go (first_below (λ i. not (is_open i)) m) refl
     where
-      go : (found : Option ℕ) → first_below (λ i. not (has_room i)) m ≡ found → count_below late m ≤ k.after_context
+      go : (found : Option ℕ) → first_below (λ i. not (is_open i)) m ≡ found → count_below late m ≤ k.after_context
       go None is =
-          let none = first_below-none (λ i. not (has_room i)) m is in
+          let none = first_below-none (λ i. not (is_open i)) m is in
           omega (
             arith,
             count_below-within late m 0 m (λ i less yes. absurd (clash (ap not (late-is i yes).shut)
-                (some_below-false (λ i. not (has_room i)) m i none less))),
+                (some_below-false (λ i. not (is_open i)) m i none less))),
           )
       go (Some first) is =
-          let shut = not_false (has_room first) (first_below-of (λ i. not (has_room i)) m first is).1 in
+          let shut = not_false (is_open first) (first_below-of (λ i. not (is_open i)) m first is).1 in
           omega (
             arith,
             count_below-within late first k.after_context m (λ i less yes.
                 let late = late-is i yes in
                 let low : first ≤ i = ⊎_elim
                 (λ early. absurd (clash (ap not late.shut)
-                (first_below-before (λ i. not (has_room i)) m first i is early)))
+                (first_below-before (λ i. not (is_open i)) m first i is early)))
                 (λ over. over)
                 (cases_lt i first) in
                 let high : late.line < first = ⊎_elim
@@ -382,7 +386,7 @@ module _ (k : Settings) (meaning : Meaning) (bytes : List ℕ) where
 
   -- the calls tell no more matches than the limit has and those in the context after the last of them, and none at
   -- limit 0
-  pub matches-few : (limit m : ℕ) → k.max_matches ≡ Some limit
+  pub matches-few : (limit m : ℕ) → has_room k limit ≡ false
       → matches_in (joined_from T 0 m) ≤ (if nat_lt 0 limit then limit + k.after_context else 0)
   matches-few limit m is = go limit is (omega (
     arith,
@@ -399,7 +403,7 @@ module _ (k : Settings) (meaning : Meaning) (bytes : List ℕ) where
           let some : count_below chosen (suc i) ≡ count_below chosen i + 1 = rw taken refl in
           absurd (omega (arith, sym some ∙ none))
 
-      go : (limit : ℕ) → k.max_matches ≡ Some limit → matches_in (joined_from T 0 m) ≤ count_below chosen m +
+      go : (limit : ℕ) → has_room k limit ≡ false → matches_in (joined_from T 0 m) ≤ count_below chosen m +
           count_below late m
           → matches_in (joined_from T 0 m) ≤ (if nat_lt 0 limit then limit + k.after_context else 0)
       go zero is few =

@@ -11,6 +11,7 @@ use Rattle.grep_definitions.specs.Plans.{
   Kind,
   matched,
   in_context,
+  selects_free,
 }
 use Rattle.std.proofs.Common.{
   ◌≡◌,
@@ -187,14 +188,14 @@ module _ (k : Settings) (meaning : Meaning) (bytes : List ℕ) where
         (λ j low high. gathered-line j)
 
   -- under inversion a report has one line
-  alone : k.invert_match ≡ true → (i : ℕ) → i < n → whole i ≡ each i
+  alone : selects_free k ≡ true → (i : ℕ) → i < n → whole i ≡ each i
   alone inverted i inside = ⊎_elim
       (λ (here : selected i ≡ true). rw (here, inverted) (slice-line k bytes i))
       (λ (none : selected i ≡ false). rw none refl)
       (cases_Bool (selected i))
 
   -- and otherwise those of a longest run of selected lines
-  together : k.invert_match ≡ false → joined_from whole 0 n ≡ joined_from each 0 n
+  together : selects_free k ≡ false → joined_from whole 0 n ≡ joined_from each 0 n
   together plain = joined-runs selected n whole each
       (λ i none. rw none refl)
       (λ i none. rw none refl)
@@ -211,7 +212,7 @@ module _ (k : Settings) (meaning : Meaning) (bytes : List ℕ) where
       (λ j low below. run.inner j low (omega arith)) in
       rw (here, fresh) unit)
     where
-      same : (i : ℕ) → k.invert_match ≡ false → goes_on i ≡ continues selected n i
+      same : (i : ℕ) → selects_free k ≡ false → goes_on i ≡ continues selected n i
       same i plain = ap (λ b. not b && nat_lt 0 i && selected (i - 1)) plain
 
   -- the match reports are the selected lines
@@ -221,10 +222,10 @@ module _ (k : Settings) (meaning : Meaning) (bytes : List ℕ) where
       ∙ ⊎_elim
       (λ inverted. joined_from-equal whole each 0 n (λ j low high. alone inverted j (omega arith)))
       (λ plain. together plain)
-      (cases_Bool k.invert_match)
+      (cases_Bool (selects_free k))
 
   -- a unit's bytes end where its last line ends
-  unit-end : (i : ℕ) → i < n → selected i ≡ true → k.invert_match ≡ false
+  unit-end : (i : ℕ) → i < n → selected i ≡ true → selects_free k ≡ false
       → at i + length (AcrossLines.unit k meaning bytes i) ≡ at (run_end selected n i)
   unit-end i inside here plain =
       let end : AcrossLines.unit_end k meaning bytes i ≡ run_end selected n i =
@@ -247,7 +248,7 @@ module _ (k : Settings) (meaning : Meaning) (bytes : List ℕ) where
 
   pub unit-lines : (i : ℕ) → i < n → selected i ≡ true → IsUnitOf i
   unit-lines i inside here = ⊎_elim
-      (λ (inverted : k.invert_match ≡ true).
+      (λ (inverted : selects_free k ≡ true).
       let end : AcrossLines.unit_end k meaning bytes i
       ≡ i + 1 = ap (λ b. if not b then run_end selected n i else i + 1) inverted in
       record {
@@ -261,7 +262,7 @@ module _ (k : Settings) (meaning : Meaning) (bytes : List ℕ) where
         );
         hits = λ j low high. absurd (omega arith);
       })
-      (λ (plain : k.invert_match ≡ false).
+      (λ (plain : selects_free k ≡ false).
       let end : AcrossLines.unit_end k meaning bytes i ≡ run_end selected n i =
       ap (λ b. if not b then run_end selected n i else i + 1) plain in
       let run = IsRunEnd-run_end selected n i inside here in
@@ -280,10 +281,10 @@ module _ (k : Settings) (meaning : Meaning) (bytes : List ℕ) where
               ap (λ b. not b && nat_lt 0 j && selected (j - 1)) plain ∙ (rw (above, before) refl),
             );
       })
-      (cases_Bool k.invert_match)
+      (cases_Bool (selects_free k))
 
   -- each report ends before the next one begins
-  pub edges-turns : k.invert_match ≡ false
+  pub edges-turns : selects_free k ≡ false
       → IsStrictlyIncreasing (flat_map (λ turn. report_edges turn.call) (AcrossLines.turns k meaning bytes))
   edges-turns plain =
       subst IsStrictlyIncreasing

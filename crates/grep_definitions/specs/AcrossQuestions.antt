@@ -2,8 +2,8 @@
 -- found.
 use Rattle.std.specs.Prelude.{◌≡◌, ℕ, true, List}
 use Rattle.grep_matcher.specs.Meanings.{Meaning}
-use Rattle.grep_definitions.specs.Plans.{is_free, count_below, is_below, Settings, Planned}
-use Rattle.grep_definitions.specs.Plans.{IsAskedAt}
+use Rattle.grep_definitions.specs.Plans.{is_free, count_below, has_room, selects_free}
+use Rattle.grep_definitions.specs.Plans.{Settings, Planned, IsAskedAt}
 use Rattle.grep_definitions.specs.AcrossLines.{turns_through}
 use Rattle.grep_definitions.specs.LineSearch.{start}
 
@@ -14,6 +14,6 @@ module _ (settings : Settings) (meaning : Meaning) (bytes : List ℕ) where
   pub record IsAskedAcross (haystack : List ℕ) (made : List Planned) : Type 0 where
     pub index : ℕ
     pub question : IsAskedAt settings meaning bytes index haystack
-    pub room : settings.invert_match ≡ true
-        → is_below (count_below (is_free settings meaning bytes) index) settings.max_matches ≡ true
+    pub room : selects_free settings ≡ true
+        → has_room settings (count_below (is_free settings meaning bytes) index) ≡ true
     pub before : made ≡ turns_through settings meaning bytes (start settings meaning bytes index)

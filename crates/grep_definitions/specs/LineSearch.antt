@@ -1,11 +1,10 @@
 -- The reports of a search by line, as lemmas about its walk name them.
 use Rattle.std.specs.Option.{option_map}
-use Rattle.std.specs.Prelude.{ℕ, suc, Bool, List, ◌∷◌, Option, ◌+◌, ◌&&◌, nat_le, filter}
+use Rattle.std.specs.Prelude.{ℕ, suc, Bool, List, ◌∷◌, Option, nat_le, filter}
 use Rattle.grep_matcher.specs.Meanings.{Meaning}
 use Rattle.grep_definitions.specs.Plans.{Planned, begins, planned, Selection, joined_from}
 use Rattle.grep_definitions.specs.Plans.{end_by_limit, reports_end, selected_lines}
-use Rattle.grep_definitions.specs.Plans.{Settings, Kind, hits, is_chosen, ends_search, is_at}
-use Rattle.grep_definitions.specs.Plans.{count_below, first_below}
+use Rattle.grep_definitions.specs.Plans.{Settings, Kind, ends_search, first_below}
 use Rattle.grep_definitions.specs.Plans
 use Rattle.grep_definitions.specs.Selections
 
@@ -29,16 +28,10 @@ module _ (settings : Settings) (meaning : Meaning) (bytes : List ℕ) where
   abbrev pub selection : Selection
   selection = selected_lines settings meaning bytes
 
-  -- the line that fills the limit
-  abbrev pub fills_limit : ℕ → Bool
-  fills_limit i =
-      is_chosen settings meaning bytes i
-      && is_at (count_below (hits settings meaning bytes) i + 1) settings.max_matches
-
   abbrev pub turns_by_stop : Option ℕ
   turns_by_stop = option_map suc (first_below (ends_search settings meaning bytes) line_count)
 
-  abbrev pub turns_by_limit : Option ℕ → Option ℕ
+  abbrev pub turns_by_limit : Option ℕ
   turns_by_limit = end_by_limit settings meaning bytes
 
   abbrev pub turn_count : ℕ

@@ -173,6 +173,10 @@ abbrev pub is_at : ℕ → Option ℕ → Bool
 is_at n None = false
 is_at n (Some m) = n == m
 
+-- whether so many lines are fewer than the limit of a search has
+abbrev pub has_room : Settings → ℕ → Bool
+has_room settings n = is_below n settings.max_matches
+
 -- what f gives for each of n numbers from i on, joined
 abbrev pub joined_from : {X : Type 0} → (ℕ → List X) → ℕ → ℕ → List X
 joined_from f i zero = []
@@ -284,10 +288,10 @@ module _ (settings : Settings) (bytes : List ℕ) where
 
 -- ---- which lines are selected by line: those that match by themselves
 
--- whether the two differ
-abbrev pub differ : Bool → Bool → Bool
-differ true b = not b
-differ false b = b
+-- whether a line hits, by whether it matches
+abbrev pub hits_if : Settings → Bool → Bool
+hits_if settings true = not settings.invert_match
+hits_if settings false = settings.invert_match
 
 -- whether a search ends at the next line that isn't chosen, by whether a line was chosen
 abbrev pub stops_next : Settings → Bool → Bool
@@ -296,13 +300,12 @@ stops_next settings some = settings.stop_on_nonmatch && some
 module _ (settings : Settings) (meaning : Meaning) (bytes : List ℕ) where
   -- a line hits if whether its stripped bytes match differs from inversion
   abbrev pub hits : ℕ → Bool
-  hits i = nat_lt i (line_count settings bytes)
-      && differ (is_some (meaning.first (strip settings.line_terminator (line settings bytes i))))
-      settings.invert_match
+  hits i = nat_lt i (line_count settings bytes) && hits_if settings
+      (is_some (meaning.first (strip settings.line_terminator (line settings bytes i))))
 
   -- fewer lines before it hit than the limit has
   abbrev pub is_open_at : ℕ → Bool
-  is_open_at i = is_below (count_below hits i) settings.max_matches
+  is_open_at i = has_room settings (count_below hits i)
 
   -- a line that hits is chosen if the limit isn't reached before it, else it is trailing
   abbrev pub is_chosen : ℕ → Bool
@@ -318,19 +321,20 @@ module _ (settings : Settings) (meaning : Meaning) (bytes : List ℕ) where
   abbrev pub is_selected : ℕ → Bool
   is_selected i = is_chosen i && not (some_below ends_search i)
 
+  -- the line that fills the limit
+  abbrev pub fills_limit : ℕ → Bool
+  fills_limit i = is_chosen i && not (has_room settings (count_below hits i + 1))
+
   -- one more than the last line that may be reported, by the limit: with the context after a match
-  abbrev pub end_by_limit : Option ℕ → Option ℕ
-  end_by_limit None = None
-  end_by_limit (Some zero) = Some zero
-  end_by_limit (Some (suc n)) =
-      option_map (λ m. suc (m + settings.after_context))
-      (first_below (λ i. is_chosen i && is_at (count_below hits i + 1) settings.max_matches)
-      (line_count settings bytes))
+  abbrev pub end_by_limit : Option ℕ
+  end_by_limit = if settings.passthru then None else (if has_room settings 0
+      then option_map (λ m. suc (m + settings.after_context))
+      (first_below fills_limit (line_count settings bytes)) else Some 0)
 
   -- and by all of its bounds: the line that ends the search may be reported still
   abbrev pub reports_end : ℕ
-  reports_end = at_most (if settings.passthru then None else end_by_limit settings.max_matches)
-      (at_most (option_map suc (first_below ends_search (line_count settings bytes)))
+  reports_end = at_most end_by_limit (at_most
+      (option_map suc (first_below ends_search (line_count settings bytes)))
       (line_count settings bytes))
 
   abbrev pub selected_lines : Selection
@@ -381,6 +385,10 @@ module _ (meaning : Meaning) (bytes : List ℕ) where
   matches_up_to None = all_matches
   matches_up_to (Some limit) = take limit all_matches
 
+-- across lines, whether the lines that no match touches are selected, each a report of its own
+abbrev pub selects_free : Settings → Bool
+selects_free settings = settings.invert_match
+
 module _ (settings : Settings) (meaning : Meaning) (bytes : List ℕ) where
   -- whether a line is in a match's block; none is for an empty match after the last terminator
   abbrev pub touches : ℕ → ℕ × ℕ → Bool
@@ -400,8 +408,7 @@ module _ (settings : Settings) (meaning : Meaning) (bytes : List ℕ) where
   -- the lines that as many matches touch as the limit has; under inversion as many free lines
   abbrev pub is_touched_selected : ℕ → Bool
   is_touched_selected i =
-      if settings.invert_match
-      then is_free i && is_below (count_below is_free i) settings.max_matches
+      if selects_free settings then is_free i && has_room settings (count_below is_free i)
       else is_touched (matches_up_to meaning bytes settings.max_matches) i
 
   -- lines in a row that matches touch are one report. Each line may be reported
@@ -409,7 +416,7 @@ module _ (settings : Settings) (meaning : Meaning) (bytes : List ℕ) where
   touched_lines = record {
     selected = is_touched_selected;
     trailing = λ i. false;
-    joined = not settings.invert_match;
+    joined = not (selects_free settings);
     end = line_count settings bytes;
   }
 
@@ -456,7 +463,7 @@ IsLawful matcher settings =
 -- how many matches count: under inversion the limit is one of lines, and all count unless it is 0
 abbrev pub match_limit : Settings → Option ℕ
 match_limit settings =
-    if settings.invert_match && is_below 0 settings.max_matches then None else settings.max_matches
+    if selects_free settings && has_room settings 0 then None else settings.max_matches
 
 module _ (settings : Settings) (meaning : Meaning) (bytes : List ℕ) where
   -- a question about the lines from line i up to another, while the limit has room. Once a line was
@@ -504,8 +511,8 @@ module _ (settings : Settings) (meaning : Meaning) (bytes : List ℕ) where
   -- under inversion only while fewer lines are free than the limit has
   pub record IsMatchQuestion (i : ℕ) (haystack : List ℕ) : Type 0 where
     pub question : IsAskedAt i haystack
-    pub room : settings.invert_match ≡ true
-        → is_below (count_below (is_free settings meaning bytes) i) settings.max_matches ≡ true
+    pub room : selects_free settings ≡ true
+        → has_room settings (count_below (is_free settings meaning bytes) i) ≡ true
 
   abbrev pub IsQuestionIn : Bool → ℕ → List ℕ → Type 0
   IsQuestionIn false = IsLineQuestion

@@ -24,9 +24,9 @@ use Rattle.grep_definitions.specs.Plans.{Settings, SearcherState, Call, begins, 
 use Rattle.grep_definitions.specs.Plans.{finishes, reported_bytes, reported_from, is_break}
 use Rattle.grep_definitions.specs.Plans.{is_binary_data, Finish, counted, Planned, planned, Plan}
 use Rattle.grep_definitions.specs.Plans.{Steps, Outcome, all_true, finish_after, AreMade, IsRun}
-use Rattle.grep_definitions.specs.Plans.{is_at, line_count, line, start, reports_end, is_across}
+use Rattle.grep_definitions.specs.Plans.{line_count, line, start, reports_end, is_across}
 use Rattle.grep_definitions.specs.Plans.{refusal_of, IsLawful, selection_in, search_plan}
-use Rattle.grep_definitions.specs.Plans.{IsAskedWith}
+use Rattle.grep_definitions.specs.Plans.{IsAskedWith, has_room}
 
 abbrev pub position_of : ℕ → List ℕ → Option ℕ
 position_of b bytes = position (λ x. x == b) bytes
@@ -230,7 +230,7 @@ pub record HasOpenLine (settings : Settings) (came seen : List ℕ) : Type 0 whe
 
 -- whether no line may be reported
 abbrev pub reports_nothing : Settings → Bool
-reports_nothing settings = not settings.passthru && is_at 0 settings.max_matches
+reports_nothing settings = not settings.passthru && not (has_room settings 0)
 
 -- whether a search by line may read after `begin`: a line may be reported, or it looks for a byte
 abbrev pub reads_lines : Settings → Bool

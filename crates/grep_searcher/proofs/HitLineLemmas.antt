@@ -4,12 +4,12 @@ use Rattle.std.proofs.Common.{sym, ◌∙◌, arith, add-one}
 use Rattle.std.proofs.Math.Seq.{take-length}
 use Rattle.std.proofs.lemmas.Bool.{lt-ltb}
 use Rattle.std.proofs.lemmas.List.Sums.{count_by_more_yes, count_by_more_no, sum_by-cons}
-use Rattle.std.specs.Prelude.{◌||◌, ◌&&◌, cond, nat_lt, count_by, slice_index_or, is_some}
+use Rattle.std.specs.Prelude.{◌||◌, ◌&&◌, not, cond, nat_lt, count_by, slice_index_or, is_some}
 use Rattle.grep_matcher.specs.Lines.{byte_of, lines, strip}
 use Rattle.grep_matcher.specs.Meanings.{Meaning}
-use Rattle.grep_definitions.specs.Plans.{count_below, line, line_count, differ, reports_end}
-use Rattle.grep_definitions.specs.Plans.{Settings, stops_next}
-use Rattle.grep_definitions.proofs.LimitLemmas.{ends-none, by_stop-none}
+use Rattle.grep_definitions.specs.Plans.{count_below, line, line_count, hits_if, has_room, is_below}
+use Rattle.grep_definitions.specs.Plans.{reports_end, Settings, stops_next}
+use Rattle.grep_definitions.proofs.LimitLemmas.{ends-none, by_limit-none, by_stop-none}
 use Rattle.grep_definitions.specs.SearchLaws.{is_matched}
 use Rattle.grep_searcher.specs.HitLines.{is_hit, HitsAreSelected, HitsAreMatched, HitsAreCounted, IsUnlimited}
 use Rattle.grep_searcher.specs.HitLines.{PredicatesAreCounted}
@@ -61,12 +61,9 @@ hits-are_matched settings meaning bytes i free below =
 -- each line may be reported
 reports_end-whole : (settings : Settings) (meaning : Meaning) (bytes : List ℕ) → IsUnlimited settings
     → reports_end settings meaning bytes ≡ line_count settings bytes
-reports_end-whole settings meaning bytes free = go settings.passthru
-  where
-    go : (passthru : Bool)
-        → reports_end (record settings { passthru = passthru }) meaning bytes ≡ line_count settings bytes
-    go true = rw (by_stop-none settings meaning bytes (never free)) refl
-    go false = rw (by_stop-none settings meaning bytes (never free), free.unlimited) refl
+reports_end-whole settings meaning bytes free =
+    let open_at : (count : ℕ) → has_room settings count ≡ true = λ count. ap (is_below count) free.unlimited in
+    rw (by_stop-none settings meaning bytes (never free), by_limit-none settings meaning bytes open_at) refl
 
 pub hits-are_counted : HitsAreCounted
 hits-are_counted settings meaning bytes free =
@@ -83,9 +80,11 @@ count_by-same p q same (x ∷ xs) =
     sum_by-cons (λ y. cond (p y) 1 0) x xs
     ∙ rw (same x, count_by-same p q same xs) (sym (sum_by-cons (λ y. cond (q y) 1 0) x xs))
 
-differ-kept : (b : Bool) → differ b false ≡ b
-differ-kept true = refl
-differ-kept false = refl
+-- without inversion a line hits if it matches
+hits_if-plain : (settings : Settings) (matches : Bool) → hits_if settings false ≡ false
+    → hits_if settings matches ≡ matches
+hits_if-plain settings true plain = ap not plain
+hits_if-plain settings false plain = plain
 
 pub predicates-are_counted : PredicatesAreCounted
 predicates-are_counted settings meaning bytes holds free plain same =
@@ -93,5 +92,5 @@ predicates-are_counted settings meaning bytes holds free plain same =
     ∙ count_by-same (is_hit settings meaning) (λ line. holds (strip settings.line_terminator line))
     (λ line.
     let stripped = strip settings.line_terminator line in
-    ap (differ (is_some (meaning.first stripped))) plain ∙ differ-kept (is_some (meaning.first stripped)) ∙ same stripped)
+    hits_if-plain settings (is_some (meaning.first stripped)) plain ∙ same stripped)
     (lines (byte_of settings.line_terminator) bytes)

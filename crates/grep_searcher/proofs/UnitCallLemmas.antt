@@ -19,11 +19,14 @@ use Rattle.grep_definitions.specs.Plans.{precedes_selected, report, report_end, 
 use Rattle.grep_definitions.specs.Plans.{Selection, some_below, start, is_touched_selected}
 use Rattle.grep_definitions.specs.Plans.{reports_end, touched_lines, Settings}
 use Rattle.grep_definitions.specs.Selections.{continues}
-use Rattle.grep_definitions.specs.SearchLaws.{is_match, is_matched, LinesAreNumbered, MatchesAreCounted, match_calls}
+use Rattle.grep_definitions.specs.SearchLaws.{is_match, is_matched, match_calls}
 use Rattle.grep_definitions.proofs.BelowLemmas.{first_below-before, first_below-here, first_below-none, first_below-nowhere}
 use Rattle.grep_definitions.proofs.BelowLemmas.{first_below-of, joined_from-equal, some_below-false, some_below-none}
 use Rattle.grep_matcher.proofs.LineStartLemmas.{line_start-ascends, line_start-within}
-use Rattle.grep_definitions.proofs.MatchCallLemmas.{count_below-few, first-passing, length-passing, passing}
+use Rattle.grep_definitions.proofs.MatchCallLemmas.{count_below-few, first-passing, length-match_calls, length-passing}
+use Rattle.grep_definitions.proofs.MatchCallLemmas.{passing}
+use Rattle.grep_definitions.proofs.LineSliceLemmas.{number-line}
+use Rattle.grep_definitions.proofs.SearchModeLemmas.{plan-by_line}
 use Rattle.grep_definitions.proofs.SearchLawLemmas.{turn_count-le}
 use Rattle.grep_searcher.specs.Units.{begins_unit, unit_bytes, unit_lines, unit_of, FirstMatchIsFirstUnit, MatchesAreUnits}
 use Rattle.grep_searcher.specs.Units.{MatchesAreWithinCount, UnitsAreCounted}
@@ -48,7 +51,7 @@ matches-joined f i n =
     ap (filter is_match) (map-joined (λ turn. turn.call) f i n)
     ∙ filter-joined is_match (λ j. map (λ turn. turn.call) (f j)) i n
 
-module _ (numbered : LinesAreNumbered) (k : Settings) (meaning : Meaning) (bytes : List ℕ) where
+module _ (k : Settings) (meaning : Meaning) (bytes : List ℕ) where
   abbrev n : ℕ
   n = line_count k bytes
 
@@ -72,7 +75,7 @@ module _ (numbered : LinesAreNumbered) (k : Settings) (meaning : Meaning) (bytes
           ≡ (if not later then unit_of k meaning bytes i ∷ [] else [])
       one true end = refl
       one false end = ap (λ number. matches number (start k bytes i) (unit_bytes k meaning bytes i) ∷ [])
-          (numbered k bytes i inside)
+          (number-line k bytes i inside)
 
       go : (a b c d : Bool)
           → match_calls (report k bytes touched i (if a then Some matched
@@ -129,7 +132,7 @@ module _ (numbered : LinesAreNumbered) (k : Settings) (meaning : Meaning) (bytes
       go (Some q) is =
           let here = first_below-of selected n q is in
           first_below-here (begins_unit k meaning bytes) n q here.0
-          (fresh (not k.invert_match) (nat_lt 0 q) (selected (q - 1)) (selected q) here.1
+          (fresh touched.joined (nat_lt 0 q) (selected (q - 1)) (selected q) here.1
           (λ above. let low = ltb-true 0 q above in first_below-before selected n q (q - 1) is (omega arith)))
           (some_below-none _ q (λ j less. unbegun j (first_below-before selected n q j is less)))
 
@@ -137,22 +140,22 @@ module _ (numbered : LinesAreNumbered) (k : Settings) (meaning : Meaning) (bytes
 abbrev plan_in : Settings → Meaning → List ℕ → Bool → List Call
 plan_in k meaning bytes across = match_calls (reports_plan k bytes (selection_in k meaning bytes across)).calls
 
-pub matches-are_units : LinesAreNumbered → MatchesAreUnits
-matches-are_units numbered k meaning bytes across =
-    ap (plan_in k meaning bytes) across ∙ match_calls-units numbered k meaning bytes
+pub matches-are_units : MatchesAreUnits
+matches-are_units k meaning bytes across =
+    ap (plan_in k meaning bytes) across ∙ match_calls-units k meaning bytes
 
-pub units-are_counted : LinesAreNumbered → UnitsAreCounted
-units-are_counted numbered k meaning bytes across =
-    ap length (matches-are_units numbered k meaning bytes across)
+pub units-are_counted : UnitsAreCounted
+units-are_counted k meaning bytes across =
+    ap length (matches-are_units k meaning bytes across)
     ∙ length-map (unit_lines k meaning bytes) (unit_of k meaning bytes)
     ∙ length-passing (begins_unit k meaning bytes) (line_count k bytes)
 
-pub first_match-is_first_unit : LinesAreNumbered → FirstMatchIsFirstUnit
-first_match-is_first_unit numbered k meaning bytes across =
-    ap (λ xs. slice_get xs 0) (matches-are_units numbered k meaning bytes across)
+pub first_match-is_first_unit : FirstMatchIsFirstUnit
+first_match-is_first_unit k meaning bytes across =
+    ap (λ xs. slice_get xs 0) (matches-are_units k meaning bytes across)
     ∙ slice_get-map (unit_of k meaning bytes) (unit_lines k meaning bytes) 0
     ∙ ap (option_map (unit_of k meaning bytes))
-    (first-passing (begins_unit k meaning bytes) (line_count k bytes) ∙ first-begun numbered k meaning bytes)
+    (first-passing (begins_unit k meaning bytes) (line_count k bytes) ∙ first-begun k meaning bytes)
 
 -- a line begins no earlier than as many bytes as there are lines before it
 start-high : (t : ℕ) (bytes : List ℕ) (i : ℕ) → i ≤ length (lines t bytes) → i ≤ line_start t bytes i
@@ -168,8 +171,8 @@ start-high t bytes (suc i) inside =
       line_start-ascends t bytes i below,
     )
 
-pub matches-are_within_count : LinesAreNumbered → MatchesAreCounted → MatchesAreWithinCount
-matches-are_within_count numbered are_counted k meaning bytes = go (is_across k meaning) refl
+pub matches-are_within_count : MatchesAreWithinCount
+matches-are_within_count k meaning bytes = go (is_across k meaning) refl
   where
     -- the byte count is where the lines end that may be reported
     count : (across : Bool) → is_across k meaning ≡ across
@@ -185,7 +188,8 @@ matches-are_within_count numbered are_counted k meaning bytes = go (is_across k 
           omega (
             arith,
             count false is,
-            are_counted k meaning bytes is,
+            ap (λ plan. length (match_calls plan.calls)) (plan-by_line k meaning bytes is),
+            length-match_calls k meaning bytes,
             count_below-few (is_matched k meaning bytes) end,
             start-high t bytes end (turn_count-le k meaning bytes),
           ),
@@ -197,7 +201,7 @@ matches-are_within_count numbered are_counted k meaning bytes = go (is_across k 
           omega (
             arith,
             count true is,
-            units-are_counted numbered k meaning bytes is,
+            units-are_counted k meaning bytes is,
             count_below-few (begins_unit k meaning bytes) end,
             start-high t bytes end (omega arith),
           ),

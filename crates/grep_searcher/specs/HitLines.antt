@@ -2,14 +2,14 @@
 use Rattle.std.specs.Prelude.{◌≡◌, ℕ, ◌<◌, Bool, false, List, count_by, is_some, None}
 use Rattle.grep_matcher.specs.Lines.{byte_of, lines, strip}
 use Rattle.grep_matcher.specs.Meanings.{Meaning}
-use Rattle.grep_definitions.specs.Plans.{line, line_count, differ, is_selected, Settings}
+use Rattle.grep_definitions.specs.Plans.{line, line_count, hits_if, is_selected, Settings}
 use Rattle.grep_definitions.specs.SearchLaws.{is_matched}
 use Rattle.grep_searcher.specs.LineCounts.{matched_count}
 
 -- a line hits if whether it matches without its terminator differs from inversion
 abbrev pub is_hit : Settings → Meaning → List ℕ → Bool
 is_hit settings meaning line =
-    differ (is_some (meaning.first (strip settings.line_terminator line))) settings.invert_match
+    hits_if settings (is_some (meaning.first (strip settings.line_terminator line)))
 
 -- no limit is set, and no stop at the next line that isn't selected
 pub record IsUnlimited (settings : Settings) : Type 0 where

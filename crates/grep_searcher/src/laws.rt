@@ -66,18 +66,13 @@ pub fn matches_are_units()
     ensures all { MatchesAreUnits }
     ensures counted { UnitsAreCounted }
     ensures first { FirstMatchIsFirstUnit }
-{
-    lines_are_numbered();
-}
+{}
 
 /// By line and across lines at most as many matches are reported as the byte count of the whole
 /// plan, and that is at most as many as there are bytes.
 pub fn matches_are_within_count()
     ensures { MatchesAreWithinCount }
-{
-    lines_are_numbered();
-    matches_are_counted();
-}
+{}
 
 /// A run that ended in `Ok`, of a sink whose steps are functions of the state and the call, is a
 /// fold over the planned calls: up to the first after which the sink doesn't go on, and then

@@ -13,14 +13,14 @@ use Rattle.grep_report.specs.ErrorMakers.{ErrorMakers}
 use Rattle.grep_definitions.specs.ContentsSearches.{IsFaultIn, of_sink, of_matcher}
 use Rattle.grep_definitions.specs.SearchTurns.{calls_across}
 use Rattle.grep_definitions.proofs.AcrossTurnEndLemmas.{through-is}
-use Rattle.grep_definitions.proofs.BelowLemmas.{below_none}
+use Rattle.grep_definitions.proofs.BelowLemmas.{room-first}
 use Rattle.grep_definitions.proofs.SinkRunLemmas.{AreMade-append, AreMade-ended}
 use Rattle.grep_walk.specs.declared.walk.Walk.{Walk}
 use Rattle.grep_walk.specs.AcrossWalks.{IsAcross, is_done, turns_before}
 use Rattle.grep_walk.specs.Walks.{Counted, skip_lines}
 use Rattle.grep_definitions.proofs.AcrossWalkLemmas as calls
 use Rattle.grep_walk.proofs.AcrossStepLemmas as steps
-use Rattle.grep_walk.proofs.AcrossUnitLemmas.{IsNext, limit-some}
+use Rattle.grep_walk.proofs.AcrossUnitLemmas.{IsNext}
 use Rattle.grep_walk.proofs.QuestionLemmas.{asked-inside}
 
 module _ (k : Settings) (meaning : Meaning) (bytes : List ℕ) where
@@ -163,8 +163,6 @@ module _ {State E F : Type 0} (step : Steps State E) (errors : ErrorMakers F E) 
       goes : is_done k start ≡ false
       goes = grind (
         arith,
-        below_none k.max_matches,
         asked.question.room,
-        limit-some k matcher.meaning bytes
-            (length asked.found),
+        room-first k (length asked.found),
       )

@@ -9,10 +9,10 @@ use Rattle.grep_matcher.specs.Lines.{lines, line_start, byte_of}
 use Rattle.grep_matcher.specs.Meanings.{Meaning}
 use Rattle.grep_lines.specs.Positions.{IsLine, IsLineStart}
 use Rattle.grep_report.specs.declared.sink_context.SinkContextKind.TheVariants.{After, Other}
-use Rattle.grep_definitions.specs.Plans.{is_free, count_below, is_at, is_below, Settings, Planned}
+use Rattle.grep_definitions.specs.Plans.{is_free, count_below, Settings, Planned, selects_free, has_room}
 use Rattle.grep_definitions.specs.AcrossLines.{is_selected}
 use Rattle.grep_definitions.specs.LineTurns.{context_turns, match_turns, number_of, pending_turns}
-use Rattle.grep_definitions.proofs.BelowLemmas.{below_next, below_none, count_below-le, is_below-le}
+use Rattle.grep_definitions.proofs.BelowLemmas.{count_below-le, room-le}
 use Rattle.grep_walk.specs.declared.walk.Walk.{Walk}
 use Rattle.grep_walk.specs.AcrossWalks.{IsAcross, IsLimited, turns_before, after_lines}
 use Rattle.grep_walk.specs.Walks.{line_end, line_turns, after_line, skip_lines}
@@ -36,10 +36,10 @@ module _ (k : Settings) (meaning : Meaning) (bytes : List ℕ) where
   Limited = IsLimited k meaning bytes
 
   -- the limit under inversion
-  limited-missed : k.invert_match ≡ true → (i c : ℕ) → Limited i c → S i ≡ false → Limited (i + 1) c
+  limited-missed : selects_free k ≡ true → (i c : ℕ) → Limited i c → S i ≡ false → Limited (i + 1) c
   limited-missed inverted i c limited missed =
       let more = count-next free i in
-      let over = is_below-le k.max_matches (count_below free i) (count_below free (i + 1))
+      let over = room-le k (count_below free i) (count_below free (i + 1))
       (count_below-le free i (i + 1) (omega arith)) in
       let hit = selected-inverted k meaning bytes inverted i in
       record {
@@ -47,7 +47,7 @@ module _ (k : Settings) (meaning : Meaning) (bytes : List ℕ) where
         counted = λ room. grind (arith, more, hit, missed, limited.below, limited.counted room, room);
       }
 
-  limited-lines : k.invert_match ≡ true → (m i c : ℕ) → Limited i c → ((j : ℕ) → i ≤ j → j < i + m → S j ≡ false)
+  limited-lines : selects_free k ≡ true → (m i c : ℕ) → Limited i c → ((j : ℕ) → i ≤ j → j < i + m → S j ≡ false)
       → Limited (i + m) c
   limited-lines inverted zero i c limited missed =
       let same : i ≡ i + zero = omega arith in
@@ -58,15 +58,14 @@ module _ (k : Settings) (meaning : Meaning) (bytes : List ℕ) where
       (limited-lines inverted m (i + 1) c (limited-missed inverted i c limited (missed i (omega arith) (omega arith)))
       (λ j low high. missed j (omega arith) (omega arith)))
 
-  limited-hit : k.invert_match ≡ true → (i c : ℕ) → Limited i c → is_at c k.max_matches ≡ false → S i ≡ true
+  limited-hit : selects_free k ≡ true → (i c : ℕ) → Limited i c → has_room k c ≡ true → S i ≡ true
       → Limited (i + 1) (c + 1)
   limited-hit inverted i c limited room hit =
       let here = selected-inverted k meaning bytes inverted i in
       let more : count_below free (i + 1) ≡ c + 1 =
       grind (arith, count-next free i, here, hit, limited.counted room) in
       record {
-        below = ap (λ m. is_below m k.max_matches) more
-            ∙ below_next k.max_matches c (grind (arith, limited.below, limited.counted room, room));
+        below = ap (has_room k) more;
         counted = λ room. more;
       }
 
@@ -75,7 +74,7 @@ module _ (k : Settings) (meaning : Meaning) (bytes : List ℕ) where
   across-start = record {
     placed = placed-start k meaning bytes;
     near = calls.near-none k meaning bytes;
-    limited = λ inverted. record { below = below_none k.max_matches; counted = λ room. refl };
+    limited = λ inverted. record { below = refl; counted = λ room. refl };
     ended = ended-start k meaning bytes;
   }
 
@@ -187,9 +186,9 @@ module _ {k : Settings} {meaning : Meaning} {bytes : List ℕ} {w : Walk} {p : �
     }
 
     pub walk-is : after_lines k w (here q) true ≡ walk-to chosen.last
-    walk-is = go k.invert_match refl
+    walk-is = go (selects_free k) refl
       where
-        go : (b : Bool) → k.invert_match ≡ b
+        go : (b : Bool) → selects_free k ≡ b
             → (if true && not b then walk-to (w.line + count (here q)) else after_line k w (here q) true)
             ≡ walk-to chosen.last
         go true is = ap walk-to (sym (chosen.single is))

@@ -1,6 +1,6 @@
 -- The unit of lines that a walk across lines comes to, the lines that aren't chosen before it, and the lines that are.
 use Rattle.std.proofs.Common.{◌≡◌, ℕ, ◌+◌, ◌-◌, ◌<◌, ◌≤◌, ◌==◌, Bool, true, false, not, ◌&&◌, List, length}
-use Rattle.std.proofs.Common.{if◌then◌else◌, None, refl, sym, ◌∙◌, ap, subst, arith, ⊎_elim}
+use Rattle.std.proofs.Common.{if◌then◌else◌, refl, sym, ◌∙◌, ap, subst, arith, ⊎_elim}
 use Rattle.std.proofs.Math.Bool.{and-false}
 use Rattle.std.proofs.lemmas.Bool.Decides.{nat_tests}
 use Rattle.std.proofs.lemmas.Bool.{lt-ltb, ltb-true, ltb-false, cases_Bool, cases_lt}
@@ -9,10 +9,10 @@ use Rattle.grep_matcher.specs.Lines.{lines, byte_of}
 use Rattle.grep_definitions.specs.LineSearch.{line_count}
 use Rattle.grep_matcher.specs.Meanings.{Meaning}
 use Rattle.grep_lines.specs.Positions.{IsLine, IsLineStart}
-use Rattle.grep_definitions.specs.Plans.{is_free, is_touched, all_matches, matches_up_to}
-use Rattle.grep_definitions.specs.Plans.{count_below, is_at, is_below, Settings}
+use Rattle.grep_definitions.specs.Plans.{is_free}
+use Rattle.grep_definitions.specs.Plans.{count_below, Settings, has_room, selects_free}
 use Rattle.grep_definitions.specs.AcrossLines.{is_selected, continues_unit}
-use Rattle.grep_definitions.proofs.BelowLemmas.{count_below-le, is_below-le}
+use Rattle.grep_definitions.proofs.BelowLemmas.{count_below-le, room-le, room-first}
 use Rattle.grep_definitions.proofs.BoolLemmas.{and-both, clash}
 use Rattle.grep_walk.specs.declared.blocks.Blocks.{Blocks}
 use Rattle.grep_walk.specs.declared.walk.Walk.{Walk}
@@ -35,31 +35,15 @@ module _ (k : Settings) (meaning : Meaning) (bytes : List ℕ) where
   free = is_free k meaning bytes
 
   -- which lines are selected, by which are touched
-  selected-plain : k.invert_match ≡ false → (j : ℕ) → S j ≡ is_hit k meaning bytes j
-  selected-plain plain j =
-      ap (λ b. if b then free j && is_below (count_below free j) k.max_matches
-      else is_touched k meaning bytes (matches_up_to meaning bytes k.max_matches) j) plain
-      ∙ ap (λ b. is_touched k meaning bytes
-      (matches_up_to meaning bytes (if b && is_below 0 k.max_matches then None else k.max_matches)) j) (sym plain)
+  selected-plain : selects_free k ≡ false → (j : ℕ) → S j ≡ is_hit k meaning bytes j
+  selected-plain plain j = rw plain refl
 
-  pub selected-inverted : k.invert_match ≡ true → (j : ℕ) → S j
-      ≡ (free j && is_below (count_below free j) k.max_matches)
-  selected-inverted inverted j =
-      ap (λ b. if b then free j && is_below (count_below free j) k.max_matches
-      else is_touched k meaning bytes (matches_up_to meaning bytes k.max_matches) j) inverted
+  pub selected-inverted : selects_free k ≡ true → (j : ℕ) → S j ≡ (free j && has_room k (count_below free j))
+  selected-inverted inverted j = rw inverted refl
 
   -- if the limit isn't 0
-  free-is : k.invert_match ≡ true → is_below 0 k.max_matches ≡ true → (j : ℕ) → j < n → free j
-      ≡ not (is_hit k meaning bytes j)
-  free-is inverted some j inside =
-      let test = lt-ltb j n inside in
-      ap (λ b. b && not (is_touched k meaning bytes (all_matches meaning bytes) j)) test
-      ∙ ap (λ b. not (is_touched k meaning bytes (matches_up_to meaning bytes (if b then None else k.max_matches)) j))
-      (sym (and-both k.invert_match _ inverted some))
-
-  -- as it isn't if more lines may be chosen
-  pub limit-some : (m : ℕ) → is_below m k.max_matches ≡ true → is_below 0 k.max_matches ≡ true
-  limit-some m below = grind (arith, is_below-le k.max_matches 0 m (omega arith))
+  free-is : selects_free k ≡ true → has_room k 0 ≡ true → (j : ℕ) → j < n → free j ≡ not (is_hit k meaning bytes j)
+  free-is inverted some j inside = let test = lt-ltb j n inside in rw (test, inverted, some) refl
 
   -- the next unit, which is looked for at the end of the last one
   module _ (start i low : ℕ) (unit : ℕ × ℕ) (some : start < length bytes) (at : IsLineStart t bytes start i)
@@ -122,10 +106,10 @@ module _ (k : Settings) (meaning : Meaning) (bytes : List ℕ) where
     pub at : IsLineStart t bytes end last
     pub some : w.line < last
     pub hits : (j : ℕ) → w.line ≤ j → j < last → S j ≡ true
-    pub closed : k.invert_match ≡ false → last < n → S last ≡ false
-    pub single : k.invert_match ≡ true → last ≡ w.line + 1
+    pub closed : selects_free k ≡ false → last < n → S last ≡ false
+    pub single : selects_free k ≡ true → last ≡ w.line + 1
     pub first : continues_unit k meaning bytes w.line ≡ false
-    pub room : k.invert_match ≡ true → is_at w.match_count k.max_matches ≡ false
+    pub room : selects_free k ≡ true → has_room k w.match_count ≡ true
 
 -- a walk that has come to a unit or is in it
 module _ {k : Settings} {meaning : Meaning} {bytes : List ℕ} {start : ℕ} {w : Walk} {unit : ℕ × ℕ} {blocks : Blocks}
@@ -133,26 +117,25 @@ module _ {k : Settings} {meaning : Meaning} {bytes : List ℕ} {start : ℕ} {w 
     (ready : IsReady k meaning bytes start w unit blocks) (some : start < length bytes)
     (ahead : is_done k w ≡ false → start < unit.1) where
   abbrev Chosen : Bool → Bool → Bool → ℕ
-  Chosen b c d = if not b then unit.0 else (if c then length bytes else (if d then start else unit.1))
+  Chosen b c d = if not b then unit.0 else (if not c then length bytes else (if d then start else unit.1))
 
   abbrev next : ℕ
   next = next_chosen k bytes start unit w
 
-  abbrev full : Bool
-  full = is_at w.match_count k.max_matches
+  abbrev room : Bool
+  room = has_room k w.match_count
 
   come : is_done k w ≡ false → IsComing k meaning bytes start unit
   come goes = ready.coming goes (ahead goes)
 
   -- the limit has room for as many lines as were chosen
-  room-is : k.invert_match ≡ true → full ≡ false → is_below (count_below (is_free k meaning bytes) w.line) k.max_matches
-      ≡ true
-  room-is inverted room = (across.limited inverted).below ∙ ap not room
+  room-is : selects_free k ≡ true → room ≡ true → has_room k (count_below (is_free k meaning bytes) w.line) ≡ true
+  room-is inverted some = (across.limited inverted).below ∙ some
 
   pub next-is : IsNext k meaning bytes w start next
-  next-is = go k.invert_match full (nat_lt start unit.0) refl refl refl
+  next-is = go (selects_free k) room (nat_lt start unit.0) refl refl refl
     where
-      go : (b c d : Bool) → k.invert_match ≡ b → full ≡ c → nat_lt start unit.0 ≡ d
+      go : (b c d : Bool) → selects_free k ≡ b → room ≡ c → nat_lt start unit.0 ≡ d
           → IsNext k meaning bytes w start (Chosen b c d)
       go false c d is_b is_c is_d =
           let here = come (grind (arith, is_b)) in
@@ -168,9 +151,9 @@ module _ {k : Settings} {meaning : Meaning} {bytes : List ℕ} {start : ℕ} {w 
                 ∙ here.is_unit.miss j (omega arith) (omega (arith, starts-from at j low))
                 (starts-before here.is_unit.begins j high);
           }
-      go true true d is_b is_c is_d =
+      go true false d is_b is_c is_d =
           let free = is_free k meaning bytes in
-          let over = (across.limited is_b).below ∙ ap not is_c in
+          let over = (across.limited is_b).below ∙ is_c in
           record {
             last = line_count k meaning bytes;
             at = end-start (byte_of k.line_terminator) bytes;
@@ -178,11 +161,11 @@ module _ {k : Settings} {meaning : Meaning} {bytes : List ℕ} {start : ℕ} {w 
             from = omega arith;
             within = omega arith;
             missed = λ j low high.
-                let none = is_below-le k.max_matches (count_below free w.line) (count_below free j)
+                let none = room-le k (count_below free w.line) (count_below free j)
                 (count_below-le free w.line j low) over in
                 selected-inverted k meaning bytes is_b j ∙ (ap (λ b. free j && b) none ∙ and-false (free j));
           }
-      go true false true is_b is_c is_d = record {
+      go true true true is_b is_c is_d = record {
         last = w.line;
         at = at;
         low = omega arith;
@@ -190,7 +173,7 @@ module _ {k : Settings} {meaning : Meaning} {bytes : List ℕ} {start : ℕ} {w 
         within = omega arith;
         missed = λ j low high. absurd (omega arith);
       }
-      go true false false is_b is_c is_d =
+      go true true false is_b is_c is_d =
           let here = come (grind (arith, is_c)) in
           let over = ltb-false start unit.0 is_d in
           let free = is_free k meaning bytes in
@@ -205,15 +188,15 @@ module _ {k : Settings} {meaning : Meaning} {bytes : List ℕ} {start : ℕ} {w 
                 let hit = here.is_unit.hit j inside (omega (arith, starts-from at j low))
                 (starts-before here.is_unit.ends j high) in
                 selected-inverted k meaning bytes is_b j
-                ∙ ap (λ b. b && is_below (count_below free j) k.max_matches)
-                (free-is k meaning bytes is_b (limit-some k meaning bytes _ (room-is is_b is_c)) j inside ∙ ap not hit);
+                ∙ ap (λ b. b && has_room k (count_below free j))
+                (free-is k meaning bytes is_b (room-first k _ (room-is is_b is_c)) j inside ∙ ap not hit);
           }
 
   -- past the lines that aren't chosen the walk comes to the unit, or has passed it
   coming-past : is_done k w ≡ false → (next ≤ unit.1) × (next < unit.1 → IsComing k meaning bytes next unit)
-  coming-past goes = go k.invert_match full (nat_lt start unit.0) refl refl
+  coming-past goes = go (selects_free k) room (nat_lt start unit.0) refl refl
     where
-      go : (b c d : Bool) → k.invert_match ≡ b → full ≡ c
+      go : (b c d : Bool) → selects_free k ≡ b → room ≡ c
           → (Chosen b c d ≤ unit.1) × (Chosen b c d < unit.1 → IsComing k meaning bytes (Chosen b c d) unit)
       go false c d is_b is_c =
           let here = come goes in
@@ -228,9 +211,9 @@ module _ {k : Settings} {meaning : Meaning} {bytes : List ℕ} {start : ℕ} {w 
               alone = here.alone;
             },
           )
-      go true true d is_b is_c = absurd (grind (arith, is_b, is_c, goes))
-      go true false true is_b is_c = (omega (arith, ahead goes), λ less. come goes)
-      go true false false is_b is_c = (omega arith, λ less. absurd (omega arith))
+      go true false d is_b is_c = absurd (grind (arith, is_b, is_c, goes))
+      go true true true is_b is_c = (omega (arith, ahead goes), λ less. come goes)
+      go true true false is_b is_c = (omega arith, λ less. absurd (omega arith))
 
   pub ready-past : (new : Walk) (p : ℕ) → p ≡ next → new.match_count ≡ w.match_count
       → IsReady k meaning bytes p new unit blocks
@@ -245,11 +228,11 @@ module _ {k : Settings} {meaning : Meaning} {bytes : List ℕ} {start : ℕ} {w 
   }
     where
       back : is_done k new ≡ false → is_done k w ≡ false
-      back goes = ap (λ c. k.invert_match && is_at c k.max_matches) (sym same) ∙ goes
+      back goes = ap (λ c. selects_free k && not (has_room k c)) (sym same) ∙ goes
 
   -- after a line it comes to the unit, or is in it
   coming-line : (end : ℕ) → IsLine (byte_of k.line_terminator) bytes w.line start end → is_done k w ≡ false
-      → (k.invert_match ≡ false → start < unit.0) → IsComing k meaning bytes end unit
+      → (selects_free k ≡ false → start < unit.0) → IsComing k meaning bytes end unit
   coming-line end line goes plain =
       let here = come goes in
       record {
@@ -283,7 +266,7 @@ module _ {k : Settings} {meaning : Meaning} {bytes : List ℕ} {start : ℕ} {w 
           (cases_Bool (is_joined k chosen));
     }
       where
-        outside : is_done k w ≡ false → is_joined k chosen ≡ false → k.invert_match ≡ false → start < unit.0
+        outside : is_done k w ≡ false → is_joined k chosen ≡ false → selects_free k ≡ false → start < unit.0
         outside goes part plain = ⊎_elim
             (λ less. less)
             (λ over.
@@ -298,12 +281,12 @@ module _ {k : Settings} {meaning : Meaning} {bytes : List ℕ} {start : ℕ} {w 
       → (is_joined k true ≡ false → (i : ℕ) → IsLineStart (byte_of k.line_terminator) bytes start i
       → IsLine (byte_of k.line_terminator) bytes i start end)
       → IsChosen k meaning bytes w end
-  chosen-is {end} = go k.invert_match full (nat_lt start unit.0) refl refl refl
+  chosen-is {end} = go (selects_free k) room (nat_lt start unit.0) refl refl refl
     where
       S : ℕ → Bool
       S = is_selected k meaning bytes
 
-      go : (b c d : Bool) → k.invert_match ≡ b → full ≡ c → nat_lt start unit.0 ≡ d → start ≡ Chosen b c d
+      go : (b c d : Bool) → selects_free k ≡ b → room ≡ c → nat_lt start unit.0 ≡ d → start ≡ Chosen b c d
           → (is_joined k true ≡ true → end ≡ unit.1)
           → (is_joined k true ≡ false → (i : ℕ) → IsLineStart (byte_of k.line_terminator) bytes start i
           → IsLine (byte_of k.line_terminator) bytes i start end)
@@ -331,9 +314,9 @@ module _ {k : Settings} {meaning : Meaning} {bytes : List ℕ} {start : ℕ} {w 
                 (cases_lt 0 w.line);
             room = λ inverted. absurd (clash inverted is_b);
           }
-      go true true d is_b is_c is_d same joined single = absurd (omega arith)
-      go true false false is_b is_c is_d same joined single = absurd (omega (arith, ahead (grind (arith, is_c))))
-      go true false true is_b is_c is_d same joined single =
+      go true false d is_b is_c is_d same joined single = absurd (omega arith)
+      go true true false is_b is_c is_d same joined single = absurd (omega (arith, ahead (grind (arith, is_c))))
+      go true true true is_b is_c is_d same joined single =
           let here = come (grind (arith, is_c)) in
           let line = single (ap not is_b) w.line at in
           let missed = here.is_unit.miss w.line line.listed (omega arith)
@@ -341,7 +324,7 @@ module _ {k : Settings} {meaning : Meaning} {bytes : List ℕ} {start : ℕ} {w 
           let is_open = room-is is_b is_c in
           let hit = selected-inverted k meaning bytes is_b w.line
           ∙ and-both (is_free k meaning bytes w.line) _
-          (free-is k meaning bytes is_b (limit-some k meaning bytes _ is_open) w.line line.listed ∙ ap not missed)
+          (free-is k meaning bytes is_b (room-first k _ is_open) w.line line.listed ∙ ap not missed)
           is_open in
           record {
             last = w.line + 1;

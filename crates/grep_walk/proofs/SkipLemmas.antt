@@ -1,5 +1,5 @@
 -- A walk that skips lines which don't match.
-use Rattle.std.proofs.Common.{◌≡◌, ℕ, zero, suc, ◌+◌, ◌-◌, ◌<◌, ◌≤◌, Bool, true, false, not, ◌||◌}
+use Rattle.std.proofs.Common.{◌≡◌, ℕ, zero, suc, ◌+◌, ◌-◌, ◌<◌, ◌≤◌, Bool, true, false, ◌||◌}
 use Rattle.std.proofs.Common.{if◌then◌else◌, List, length, drop, Some, None, refl, sym, ◌∙◌, ap, subst, arith}
 use Rattle.std.proofs.Common.{length-take, length-drop}
 use Rattle.std.proofs.lemmas.Bool.Decides.{nat_tests}
@@ -8,7 +8,7 @@ use Rattle.std.specs.Prelude.{nat_lt, IfSome, slice_range}
 use Rattle.grep_lines.specs.Positions.{IsLine, IsLineStart}
 use Rattle.grep_matcher.specs.Lines.{lines, line_start, byte_of}
 use Rattle.grep_matcher.specs.Meanings.{Meaning, MatcherFacts}
-use Rattle.grep_definitions.specs.Plans.{is_at, stops_next, Settings, Steps, all_true, AreMade}
+use Rattle.grep_definitions.specs.Plans.{stops_next, Settings, Steps, all_true, AreMade, has_room, hits_if}
 use Rattle.grep_definitions.specs.LineTurns.{matches_line}
 use Rattle.grep_report.specs.ErrorMakers.{ErrorMakers}
 use Rattle.grep_walk.specs.WalkFaults.{IsWalkFault}
@@ -25,7 +25,7 @@ use Rattle.grep_walk.specs.Origins.{Origin}
 
 -- what a walk that may skip lines has
 record IsSkipping (k : Settings) (w : Walk) : Type 0 where
-  plain : k.invert_match ≡ false
+  plain : hits_if k false ≡ false
   selects : k.passthru ≡ false
   none_left : w.after_context_left ≡ 0
   unstopped : stops_next k (nat_lt 0 w.match_count) ≡ false
@@ -115,9 +115,6 @@ module _ {S E : Type 0} (step : Steps S E) (k : Settings) (meaning : Meaning)
       there j start = subst (λ m. IsLine t window m p q)
           (start-same (record { listed = omega arith; begins = line.begins }) start) line
 
-      full : Bool
-      full = is_at w.match_count k.max_matches
-
       value : IsDecided k meaning w here false false
       value = record {
         chosen_is = grind (arith, missed, skipping.plain);
@@ -130,7 +127,7 @@ module _ {S E : Type 0} (step : Steps S E) (k : Settings) (meaning : Meaning)
       silent : AreMade step k now (line_turns k input w here false false) all_true now
       silent = rw (none_left, skipping.selects) (refl, refl)
 
-      room : full ≡ false
+      room : has_room k w.match_count ≡ true
       room = grind (arith, so_far.reported.walk.opened.filled skipping.selects, skipping.none_left)
 
       goes_on : is_over k (after_line k w here false) false ≡ false
@@ -203,5 +200,5 @@ pub failed-ahead : {S E F : Type 0} {step : Steps S E} {k : Settings} {gone wind
 failed-ahead {w = w} errors matcher bare so_far less may error e message fails =
     let there = line-there _ _ _ _ _ _ _ _ bare w _ so_far less in
     failed-matcher errors matcher bare so_far there.2 there.3
-    (ap (λ full. not full || nat_lt 0 w.after_context_left) may.room) _ error e
+    (ap (λ room. room || nat_lt 0 w.after_context_left) may.room) _ error e
     (asked-ahead so_far there.2 there.3 may) message fails

@@ -2,8 +2,8 @@
 use Rattle.grep_definitions.specs.Plans
 use Rattle.grep_definitions.specs.Plans.{planned, Planned, begins, context, Steps, Outcome}
 use Rattle.grep_definitions.specs.Plans.{all_true, stopped, failed, AreMade, counted, Settings}
-use Rattle.grep_definitions.specs.Plans.{is_at, joined_from, differ, stops_next}
-use Rattle.std.proofs.Common.{◌≡◌, ℕ, ◌+◌, ◌-◌, ◌<◌, ◌≤◌, Bool, true, false, not, ◌&&◌, ◌||◌, List, [], ◌∷◌, ◌++◌}
+use Rattle.grep_definitions.specs.Plans.{joined_from, stops_next, has_room, hits_if}
+use Rattle.std.proofs.Common.{◌≡◌, ℕ, ◌+◌, ◌-◌, ◌<◌, ◌≤◌, Bool, true, false, ◌||◌, List, [], ◌∷◌, ◌++◌}
 use Rattle.std.proofs.Common.{length, drop, refl, sym, ◌∙◌, ap, subst, arith, ⊎_elim, inl, inr, Ok}
 use Rattle.std.proofs.Common.{Err, if◌then◌else◌, length-take, length-drop}
 use Rattle.std.proofs.lemmas.Bool.Decides.{nat_tests}
@@ -14,6 +14,7 @@ use Rattle.grep_matcher.specs.Lines.{byte_of, lines}
 use Rattle.grep_matcher.specs.Meanings.{Meaning, MatcherFacts}
 use Rattle.grep_lines.specs.Positions.{IsLine, IsLineStart}
 use Rattle.grep_report.specs.declared.sink_context.SinkContextKind.TheVariants.{After, Other}
+use Rattle.grep_definitions.specs.Searches.{reports_nothing}
 use Rattle.grep_definitions.specs.LineSearch.{through, turns_at, turns, turns_through, byte_count}
 use Rattle.grep_definitions.specs.LineSearch
 use Rattle.grep_definitions.specs.LineTurns.{after_turns, context_turns, match_turns, pending_turns, matches_line}
@@ -110,7 +111,7 @@ module _ (k : Settings) (meaning : Meaning) (bytes : List ℕ) where
   ended-start = All-cons (λ turn. turn.if_false.count ≤ 0) (planned begins 0) [] (omega arith)
       (All-nil (λ turn. turn.if_false.count ≤ 0))
 
-  walk-start : (k.passthru ≡ false → is_at 0 k.max_matches ≡ true → ⊥) → IsWalk k meaning bytes start_walk
+  walk-start : (k.passthru ≡ false → has_room k 0 ≡ false → ⊥) → IsWalk k meaning bytes start_walk
   walk-start busy = record {
     placed = placed-start;
     near = IsNear-none k meaning bytes;
@@ -160,7 +161,7 @@ module _ (k : Settings) (meaning : Meaning) (bytes : List ℕ) where
       number-is : LineSearch.number k meaning bytes w.line ≡ number_of k w.line
       number-is = number-line k bytes w.line line.listed
 
-      hits-here : Plans.hits k meaning bytes w.line ≡ differ (matches_line k meaning here) k.invert_match
+      hits-here : Plans.hits k meaning bytes w.line ≡ hits_if k (matches_line k meaning here)
       hits-here = let inside = lt-ltb w.line n line.listed in rw (inside, line.line) refl
 
       pub chosen-here : (b r : Bool) → IsDecided k meaning w here b r → Plans.is_chosen k meaning bytes w.line ≡ b
@@ -386,7 +387,7 @@ module _ (k : Settings) (meaning : Meaning) (bytes : List ℕ) where
           )
 
     -- only `begin` was called, and no line may be reported
-    pub counted-idle : (new : S) → (not k.passthru && is_at 0 k.max_matches) ≡ true
+    pub counted-idle : (new : S) → reports_nothing k ≡ true
         → AreMadeFrom step k old (front 0) all_true new → IsCounted 0 all_true new
     counted-idle new idle begun = counted-done start_walk new (placed-start).at (IsNear-none k meaning bytes)
         (IsDone-none k meaning bytes (grind (arith, idle)) (grind (arith, idle))) begun
@@ -405,7 +406,7 @@ module _ (k : Settings) (meaning : Meaning) (bytes : List ℕ) where
         → AreMadeFrom step k (fresh old) (front 0) all_true new
     reported-begin new goes = from-fresh step k old (front 0) all_true new (inl (new, goes, (refl, refl)))
 
-    pub reported-start : (new : S) → (not k.passthru && is_at 0 k.max_matches) ≡ false → step old k begins (Ok true) new
+    pub reported-start : (new : S) → reports_nothing k ≡ false → step old k begins (Ok true) new
         → HasReported k meaning bytes step (fresh old) start_walk new
     reported-start new busy goes = record {
       walk = walk-start (λ plain full. grind (arith, busy, plain, full));

@@ -1,5 +1,5 @@
 -- A walk over the lines of a window, against the calls that are defined for the input.
-use Rattle.std.proofs.Common.{◌∙◌, ◌≡◌, ℕ, ◌+◌, ◌-◌, ◌<◌, ◌≤◌, ◌&&◌, min, Bool, true, false, not, List, [], ◌++◌, length}
+use Rattle.std.proofs.Common.{◌∙◌, ◌≡◌, ℕ, ◌+◌, ◌-◌, ◌<◌, ◌≤◌, min, Bool, true, false, List, [], ◌++◌, length}
 use Rattle.std.proofs.Common.{drop, arith, Ok, refl, sym, ap, ap₂, subst, inl, inr, length-take}
 use Rattle.std.proofs.Common.{append_assoc, length-drop, ⊎_elim}
 use Rattle.std.proofs.lemmas.Bool.{cases_lt}
@@ -8,12 +8,12 @@ use Rattle.grep_matcher.specs.Lines.{lines, line_start, strip, byte_of}
 use Rattle.grep_matcher.specs.Meanings.{Meaning, MatcherFacts}
 use Rattle.std.specs.Prelude.{slice_range, All}
 use Rattle.grep_lines.specs.Positions.{IsLine, IsLineStart}
-use Rattle.grep_definitions.specs.Plans.{Settings, begins, Steps, Outcome, all_true, AreMade, is_at, stops_next}
+use Rattle.grep_definitions.specs.Plans.{Settings, begins, Steps, Outcome, all_true, AreMade, stops_next}
 use Rattle.grep_definitions.specs.Plans.{Planned}
 use Rattle.grep_definitions.specs.LineSearch
 use Rattle.grep_definitions.specs.LineSearch.{turns, turns_before, byte_count}
 use Rattle.grep_definitions.specs.LineWalks.{IsNear, IsOpen}
-use Rattle.grep_definitions.specs.Searches.{IsClosed}
+use Rattle.grep_definitions.specs.Searches.{IsClosed, reports_nothing}
 use Rattle.grep_definitions.proofs.FirstTurnLemmas.{turns-seen}
 use Rattle.grep_definitions.proofs.FrontLemmas.{closed-append, count-after, start-there}
 use Rattle.grep_definitions.proofs.LimitLemmas.{turn_above, turn_all}
@@ -45,7 +45,7 @@ ordered-next k w p q window chosen below within ordered = record {
 pub searched-start : {S E : Type 0} (step : Steps S E) (k : Settings) (meaning : Meaning) (window input : List ℕ)
     (first now : S)
     → IsWindow (byte_of k.line_terminator) [] window input
-    → (not k.passthru && is_at 0 k.max_matches) ≡ false → step first k begins (Ok true) now
+    → reports_nothing k ≡ false → step first k begins (Ok true) now
     → HasSearched step k meaning [] window input (fresh first) 0 (start_walk k meaning input) now
 searched-start step k meaning window input first now shown busy begun = record {
   line = 0;
@@ -165,7 +165,7 @@ module _ {S E : Type 0} {step : Steps S E} {k : Settings} {meaning : Meaning} {g
       let sum : (before + (count - 1)) + 1 ≡ before + count = omega (arith, own.listed) in
       inr (record {
         allowed = may.allowed;
-        room = so_far.reported.walk.opened.below ∙ ap not may.room;
+        room = so_far.reported.walk.opened.below ∙ may.room;
         unstopped = ap (stops_next k) so_far.reported.walk.opened.any ∙ may.unstopped;
         end = before + count;
         after = omega (arith, own.listed);

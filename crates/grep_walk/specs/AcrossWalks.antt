@@ -1,7 +1,7 @@
 -- The walk of a search across lines: what it knows of the lines before it and of the unit that it
 -- comes to, and how lines move it on. No contract of grep_searcher cites these definitions.
-use Rattle.grep_definitions.specs.Plans.{planned, Planned, begins, is_free, count_below, is_at}
-use Rattle.grep_definitions.specs.Plans.{is_below, joined_from, Settings}
+use Rattle.grep_definitions.specs.Plans.{planned, Planned, begins, is_free, count_below, has_room}
+use Rattle.grep_definitions.specs.Plans.{selects_free, joined_from, Settings}
 use Rattle.std.specs.Prelude.{◌≡◌, ℕ, ◌+◌, ◌-◌, ◌<◌, ◌≤◌, Bool, true, false, not, ◌&&◌, nat_lt}
 use Rattle.std.specs.Prelude.{if◌then◌else◌, List, ◌∷◌, length, All}
 use Rattle.grep_matcher.specs.Lines.{lines, byte_of}
@@ -16,19 +16,19 @@ use Rattle.grep_walk.specs.Walks.{IsPlaced, line_end, after_line}
 
 -- whether as many lines were chosen under inversion as the limit has
 abbrev pub is_done : Settings → Walk → Bool
-is_done settings w = settings.invert_match && is_at w.match_count settings.max_matches
+is_done settings w = selects_free settings && not (has_room settings w.match_count)
 
 -- where the next chosen line begins, as far as is known from the unit that a walk at `start` comes
 -- to or is in
 abbrev pub next_chosen : Settings → List ℕ → ℕ → ℕ × ℕ → Walk → ℕ
 next_chosen settings bytes start unit w =
-    if not settings.invert_match then unit.0
-    else (if is_at w.match_count settings.max_matches then length bytes
+    if not (selects_free settings) then unit.0
+    else (if not (has_room settings w.match_count) then length bytes
     else (if nat_lt start unit.0 then start else unit.1))
 
 -- whether a chosen line is reported with the other lines of its unit
 abbrev pub is_joined : Settings → Bool → Bool
-is_joined settings chosen = chosen && not settings.invert_match
+is_joined settings chosen = chosen && not (selects_free settings)
 
 -- the walk after a line, or after a unit of chosen lines
 abbrev pub after_lines : Settings → Walk → List ℕ → Bool → Walk
@@ -51,10 +51,9 @@ module _ (settings : Settings) (meaning : Meaning) (bytes : List ℕ) where
 
   -- what a walk at line i knows of the limit under inversion, if c lines were chosen
   pub record IsLimited (i c : ℕ) : Type 0 where
-    pub below : is_below (count_below (is_free settings meaning bytes) i) settings.max_matches
-        ≡ not (is_at c settings.max_matches)
-    pub counted : is_at c settings.max_matches ≡ false
-        → count_below (is_free settings meaning bytes) i ≡ c
+    pub below : has_room settings (count_below (is_free settings meaning bytes) i)
+        ≡ has_room settings c
+    pub counted : has_room settings c ≡ true → count_below (is_free settings meaning bytes) i ≡ c
 
   -- where a walk is, and what it knows of the lines before it
   pub record IsAcross (w : Walk) : Type 0 where
@@ -62,7 +61,7 @@ module _ (settings : Settings) (meaning : Meaning) (bytes : List ℕ) where
     pub near : IsNear settings (is_selected settings meaning bytes) no_line
         (line_count settings meaning bytes) (line_count settings meaning bytes)
         w.next_unreported w.line w.after_context_left
-    pub limited : settings.invert_match ≡ true → IsLimited w.line w.match_count
+    pub limited : selects_free settings ≡ true → IsLimited w.line w.match_count
     pub ended : All (λ turn. turn.if_false.count ≤ w.offset) (turns_before w.next_unreported)
 
   -- a walk at `start` comes to a unit or is in it: without inversion it comes to it. No match
@@ -72,7 +71,7 @@ module _ (settings : Settings) (meaning : Meaning) (bytes : List ℕ) where
     pub is_unit : IsUnit settings meaning bytes low unit
     pub after : low ≤ start
     pub before : start ≤ unit.1
-    pub whole : settings.invert_match ≡ false → start ≤ unit.0
+    pub whole : selects_free settings ≡ false → start ≤ unit.0
     pub alone : 0 < is_unit.first → is_hit settings meaning bytes (is_unit.first - 1) ≡ false
 
   -- a walk at `start` has come to a unit or is in it, or is at its end. Nothing is known of it if

@@ -5,7 +5,8 @@ use Rattle.std.specs.Prelude.{if◌then◌else◌, nat_lt, List, length, Option,
 use Rattle.grep_lines.specs.Positions.{IsLine, IsLineStart}
 use Rattle.grep_matcher.specs.Meanings.{Meaning}
 use Rattle.grep_matcher.specs.Lines.{byte_of}
-use Rattle.grep_definitions.specs.Plans.{is_at, AsksAhead, is_declared, Settings, stops_next}
+use Rattle.grep_definitions.specs.Plans.{has_room, hits_if, AsksAhead, is_declared, Settings}
+use Rattle.grep_definitions.specs.Plans.{stops_next}
 use Rattle.grep_definitions.specs.LineTurns.{matches_line}
 use Rattle.grep_walk.specs.declared.look_ahead.Ahead.{Ahead}
 use Rattle.grep_walk.specs.declared.look_ahead.Questions.{Questions}
@@ -58,13 +59,13 @@ AreQuestions settings meaning ManyLines = AsksAhead settings meaning
 -- a walk may ask about many lines at once
 pub record MayAskAhead (settings : Settings) (meaning : Meaning) (w : Walk) : Type 0 where
   pub allowed : AsksAhead settings meaning
-  pub room : is_at w.match_count settings.max_matches ≡ false
+  pub room : has_room settings w.match_count ≡ true
   pub unstopped : stops_next settings (nat_lt 0 w.match_count) ≡ false
 
 -- whether a walk may skip lines that don't match: none is reported, and none ends the search
 abbrev pub can_skip : Settings → Walk → Bool
 can_skip settings w =
-    not settings.invert_match && not settings.passthru && w.after_context_left == 0
+    not (hits_if settings false) && not settings.passthru && w.after_context_left == 0
     && not (stops_next settings (nat_lt 0 w.match_count))
 
 -- whether it skips the lines from `start` up to another position

@@ -7,7 +7,7 @@ use Rattle.grep_matcher.specs.Meanings.{Meaning}
 use Rattle.grep_lines.specs.Positions.{IsLineStart}
 use Rattle.grep_report.specs.declared.sink_context.SinkContextKind.TheVariants.{Other}
 use Rattle.grep_definitions.specs.Plans.{Settings, Planned, Outcome, all_true, stopped, failed}
-use Rattle.grep_definitions.specs.Plans.{Steps, AreMade, counted, is_at, differ, stops_next}
+use Rattle.grep_definitions.specs.Plans.{Steps, AreMade, counted, has_room, hits_if, stops_next}
 use Rattle.grep_definitions.specs.LineSearch.{turns_before}
 use Rattle.grep_definitions.specs.LineWalks.{IsNear, IsOpen}
 use Rattle.grep_definitions.specs.LineTurns.{number_of, matches_line, pending_turns, match_turns}
@@ -31,17 +31,17 @@ trails Missed = false
 -- whether the line that a walk is at may be a match: the limit has room, or lines are left in the
 -- context after a match
 abbrev pub can_hit : Settings → Walk → Bool
-can_hit settings w = not (is_at w.match_count settings.max_matches) || nat_lt 0 w.after_context_left
+can_hit settings w = has_room settings w.match_count || nat_lt 0 w.after_context_left
 
 -- whether the line that a walk is at is chosen, and in the context after a match whether it is
 -- trailing
 pub record IsDecided (settings : Settings) (meaning : Meaning) (w : Walk) (line : List ℕ)
     (chosen trailing : Bool) : Type 0 where
-  pub chosen_is : chosen ≡ (not (is_at w.match_count settings.max_matches)
-      && differ (matches_line settings meaning line) settings.invert_match)
+  pub chosen_is : chosen ≡ (has_room settings w.match_count
+      && hits_if settings (matches_line settings meaning line))
   pub trailing_is : 0 < w.after_context_left
-      → trailing ≡ (is_at w.match_count settings.max_matches
-      && differ (matches_line settings meaning line) settings.invert_match)
+      → trailing ≡ (not (has_room settings w.match_count)
+      && hits_if settings (matches_line settings meaning line))
 
 -- where the line of these bytes ends in the whole input
 abbrev pub line_end : Walk → List ℕ → ℕ
@@ -107,7 +107,7 @@ AreCounts settings w line through =
 abbrev pub is_over : Settings → Walk → Bool → Bool
 is_over settings w chosen =
     (stops_next settings (nat_lt 0 w.match_count) && not chosen)
-    || (not settings.passthru && is_at w.match_count settings.max_matches
+    || (not settings.passthru && not (has_room settings w.match_count)
     && w.after_context_left == 0)
 
 -- the byte count after calls: that of the whole search, or the end of the turn that returned false

@@ -4,7 +4,7 @@ ghost use Rattle.std.specs.Prelude.{IfOk, IfErr, IfSome, IfNone};
 ghost use Rattle.std.specs.Option.{option_map};
 ghost use Rattle.grep_lines.specs.Positions.{IsLineStart};
 ghost use Rattle.grep_matcher.specs.Lines.{byte_of};
-ghost use Rattle.grep_definitions.specs.Plans.{IsAskedAfter, IsAskedAt, match_limit, is_below};
+ghost use Rattle.grep_definitions.specs.Plans.{IsAskedAfter, IsAskedAt, is_below};
 ghost use Rattle.grep_definitions.specs.Plans.{position_after};
 ghost use Rattle.grep_walk.specs.TouchedUnits.{AreFound, AreLeft, IsFound, HasNoMore, IsPart, IsUnit};
 
@@ -46,17 +46,6 @@ impl Config {
         };
         blocks.next = Some(self.block_from(bytes, 0, found));
         Ok(blocks)
-    }
-
-    // How many matches count, if there is a limit: under inversion the limit is one of lines, and
-    // all count unless it is 0.
-    fn match_limit(&self) -> Option<u64>
-        ensures { result ≡ match_limit self.now }
-    {
-        if self.invert_match && has_room(self.max_matches) {
-            return None;
-        }
-        self.max_matches
     }
 
     /// Returns the next unit, and moves past it. At the end of the bytes, if there is no other, it

@@ -1,6 +1,7 @@
 //! The settings of a searcher, and what they say of a search before its first line.
 ghost use Rattle.std.specs.Prelude.{◌≡◌};
 ghost use Rattle.grep_definitions.specs.SliceSearches.{is_searched_unchanged};
+ghost use Rattle.grep_definitions.specs.Plans.{has_room, hits_if, selects_free, match_limit};
 ghost use Rattle.grep_definitions.specs.Plans.{is_across, refusal_of};
 ghost use Rattle.grep_definitions.specs.Searches.{reads_lines};
 ghost use Rattle.grep_walk.specs.LookAheads.{excludes_terminator};
@@ -86,6 +87,41 @@ impl Model for Config {
 }
 
 impl Config {
+    /// Whether a line hits, by whether it matches.
+    pub fn hits_if(&self, matches: bool) -> bool
+        ensures { result ≡ hits_if self.now matches }
+    {
+        matches != self.invert_match
+    }
+
+    /// Across lines, whether the lines that no match touches are selected, each a report of its own.
+    pub fn selects_free(&self) -> bool
+        ensures { result ≡ selects_free self.now }
+    {
+        self.invert_match
+    }
+
+    /// Whether so many lines are fewer than the limit has.
+    pub fn has_room(&self, count: u64) -> bool
+        ensures { result ≡ has_room self.now count }
+    {
+        match self.max_matches {
+            Some(limit) => count < limit,
+            None => true,
+        }
+    }
+
+    /// How many matches count across lines, if there is a limit: where free lines are selected, the
+    /// limit is one of lines, and all matches count unless it is 0.
+    pub fn match_limit(&self) -> Option<u64>
+        ensures { result ≡ match_limit self.now }
+    {
+        if self.selects_free() && self.has_room(0) {
+            return None;
+        }
+        self.max_matches
+    }
+
     /// Why a search is refused, if it is.
     pub fn refusal<M: Matcher>(&self, matcher: &M) -> Option<ConfigError>
         ensures { result ≡ refusal_of self.now (M.facts matcher.now).meaning }

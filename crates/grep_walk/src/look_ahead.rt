@@ -201,7 +201,7 @@ impl Config {
     fn can_skip(&self, walk: &Walk) -> bool
         ensures { result ≡ can_skip self.now walk.now }
     {
-        !self.invert_match
+        !self.hits_if(false)
             && !self.passthru
             && walk.after_context_left == 0
             && !self.stops_next(walk)

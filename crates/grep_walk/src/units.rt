@@ -11,7 +11,6 @@ ghost use Rattle.grep_walk.specs.Walks.{IsOrdered};
 use crate::blocks::Blocks;
 use crate::config::Config;
 use crate::walk::Walk;
-use grep_lines::laws::lines_are_few;
 use grep_lines::line_count;
 use grep_matcher::{Match, Matcher};
 
@@ -44,7 +43,7 @@ impl Config {
             × IsAskedAt self.now (M.facts matcher.now).meaning bytes.now walk.now.line haystack
             × (M.facts matcher.now).fails haystack error) }
     {
-        if start < unit.end() || self.invert_match && self.is_full(walk) {
+        if start < unit.end() || self.selects_free() && self.is_full(walk) {
             return Ok(unit);
         }
         self.next_unit(matcher, bytes, blocks)
@@ -55,7 +54,7 @@ impl Config {
     pub fn next_chosen(&self, bytes: &[u8], start: usize, unit: &Match, walk: &Walk) -> usize
         ensures { result ≡ next_chosen self.now bytes.now start unit.now walk.now }
     {
-        if !self.invert_match {
+        if !self.selects_free() {
             unit.start()
         } else if self.is_full(walk) {
             bytes.len()
@@ -80,7 +79,7 @@ impl Config {
             → IsLineStart (byte_of self.now.line_terminator) bytes.now start i
             → IsLine (byte_of self.now.line_terminator) bytes.now i start result }
     {
-        if chosen && !self.invert_match {
+        if chosen && !self.selects_free() {
             return unit.end();
         }
         match self.next_line(bytes, start) {
@@ -97,9 +96,8 @@ impl Config {
         requires ordered { IsOrdered walk.now }
         ensures { result ≡ after_lines self.now walk.now lines.now chosen }
     {
-        lines_are_few();
         let mut next = self.after_line(walk, lines, chosen);
-        if chosen && !self.invert_match {
+        if chosen && !self.selects_free() {
             next.line = walk.line + line_count(lines, self.line_terminator.as_byte());
             next.next_unreported = next.line;
         }

@@ -5,14 +5,13 @@ ghost use Rattle.std.specs.Prelude.{length, nat_lt};
 ghost use Rattle.std.specs.Prelude.{IfOk, IfErr, IfSome, IfNone, MatchBool, None};
 ghost use Rattle.grep_matcher.specs.Lines.{byte_of, lines, strip};
 ghost use Rattle.grep_lines.specs.Positions.{IsLine, IsLineStart};
-ghost use Rattle.grep_definitions.specs.Plans.{is_at, differ, stops_next};
-ghost use Rattle.grep_definitions.specs.Searches.{IsClosed};
+ghost use Rattle.grep_definitions.specs.Plans.{has_room, hits_if, stops_next};
+ghost use Rattle.grep_definitions.specs.Searches.{IsClosed, reports_nothing};
 ghost use Rattle.grep_definitions.specs.LineTurns.{number_of, matches_line};
 ghost use Rattle.grep_walk.specs.Walks.{counts_lines, after_line, skip_lines, is_over, IsOrdered};
 ghost use Rattle.grep_walk.specs.Walks.{can_hit, chooses, trails, IsDecided};
 
 use crate::config::Config;
-use grep_lines::laws::lines_are_few;
 use grep_lines::{LineStep, line_count, without_terminator};
 use grep_matcher::Matcher;
 
@@ -117,12 +116,9 @@ impl Config {
 
     /// Whether the limit is reached.
     pub fn is_full(&self, walk: &Walk) -> bool
-        ensures { result ≡ is_at walk.now.match_count self.now.max_matches }
+        ensures { result ≡ not (has_room self.now walk.now.match_count) }
     {
-        match self.max_matches {
-            Some(limit) => walk.match_count == limit,
-            None => false,
-        }
+        !self.has_room(walk.match_count)
     }
 
     /// Whether lines are counted: if they are numbered, or reported around matches.
@@ -134,13 +130,9 @@ impl Config {
 
     /// Whether no line may be reported.
     pub fn reports_nothing(&self) -> bool
-        ensures { result ≡ (not self.now.passthru
-            && is_at 0 self.now.max_matches) }
+        ensures { result ≡ reports_nothing self.now }
     {
-        match self.max_matches {
-            Some(limit) => !self.passthru && limit == 0,
-            None => false,
-        }
+        !self.passthru && !self.has_room(0)
     }
 
     /// Whether the search ends at the next line that isn't chosen: it is to stop there, and a line
@@ -201,12 +193,12 @@ impl Config {
 
     // The verdict on the line that a walk is at, by whether it matches.
     fn verdict(&self, walk: &Walk, matches: bool) -> Verdict
-        ensures chosen { chooses result ≡ (not (is_at walk.now.match_count self.now.max_matches)
-            && differ matches self.now.invert_match) }
-        ensures trailing { trails result ≡ (is_at walk.now.match_count self.now.max_matches
-            && differ matches self.now.invert_match) }
+        ensures chosen { chooses result ≡ (has_room self.now walk.now.match_count
+            && hits_if self.now matches) }
+        ensures trailing { trails result ≡ (not (has_room self.now walk.now.match_count)
+            && hits_if self.now matches) }
     {
-        if matches == self.invert_match {
+        if !self.hits_if(matches) {
             Verdict::Missed
         } else if self.is_full(walk) {
             Verdict::Trailing
@@ -253,7 +245,6 @@ impl Config {
         ensures walk { result ≡ skip_lines self.now walk.now lines.now }
         ensures ordered { IsOrdered result }
     {
-        lines_are_few();
         Walk {
             offset: walk.offset + lines.len() as u64,
             line: walk.line + line_count(lines, self.line_terminator.as_byte()),
