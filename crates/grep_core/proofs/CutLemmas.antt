@@ -76,22 +76,7 @@ use Rattle.grep_report.specs.ErrorMakers.{ErrorMakers}
 use Rattle.grep_definitions.proofs.SearchLawLemmas.{turn_count-le}
 use Rattle.grep_walk.specs.declared.walk.Walk.{Walk}
 use Rattle.grep_core.specs.BinaryCalls.{FailsAtBinary, PassesBinary, Noted}
-use Rattle.grep_core.specs.Rolls.{
-  HasEnded,
-  HasMovedOn,
-  HasSeen,
-  HasPassedByte,
-  IsCountedFor,
-  IsBetween,
-  IsReadingOn,
-  IsReady,
-  IsRolling,
-  IsStreamCounted,
-  IsStartAt,
-  start_in,
-  not_passed,
-  was_passed,
-}
+use Rattle.grep_core.specs.Rolls.{HasEnded, HasMovedOn, HasSeen, HasPassedByte, IsReadingOn, IsReady, IsRolling, IsStreamCounted, IsStartAt, start_in, not_passed, was_passed}
 use Rattle.grep_core.specs.SearchBuffers.{detection_of}
 use Rattle.grep_core.proofs.ReadingLemmas as reading
 use Rattle.grep_core.proofs.ReadingLemmas.{HasFilled, IsHeld, IsStream}
@@ -100,7 +85,6 @@ use Rattle.grep_core.proofs.StreamSearchLemmas.{
   goes-true,
   noted-passed,
   uncut-passed,
-  binary-nil,
 }
 use Rattle.grep_core.proofs.StreamSearchLemmas as quitting
 use Rattle.grep_core.proofs.RollingLemmas as rolls
@@ -108,7 +92,6 @@ use Rattle.grep_core.proofs.StreamViewLemmas.{as-found}
 use Rattle.grep_line_buffer.proofs.InputViewLemmas as views
 use Rattle.grep_core.proofs.UnreadLemmas.{IsShort}
 use Rattle.grep_walk.specs.WalkFaults.{IsWalkFault}
-use Rattle.grep_definitions.proofs.FrontLemmas.{front-none, turns-within}
 use Rattle.grep_walk.proofs.WalkLemmas as walks
 use Rattle.grep_walk.proofs.WindowSearchLemmas.{calls-seen}
 use Rattle.grep_walk.specs.Origins.{AreMadeFrom, Origin}
@@ -239,6 +222,11 @@ module _ {R : Type 0} {remaining : R → Option (List ℕ)} {read_step : R → R
   module _ {new : BufferState} {d' : DecoderState} {r' : R} (fill : HasFilled remaining read_step k old d r new d' r')
       {sink : Noted S} (on : IsReadingOn step k meaning remaining read_step decoder reader first old d r w sink)
       (known : sink.binary ≡ old.binary) where
+    -- the search came to its end with this count
+    abbrev Ends : ℕ → Option ℕ → S → Type 0
+    Ends count binary last = IsStreamCounted step k meaning remaining read_step reader first
+        (record { count = count; binary = binary }) r' last
+
     abbrev seen-then : List ℕ
     seen-then = on.rolling.gone ++ old.shown
 
@@ -356,11 +344,9 @@ module _ {R : Type 0} {remaining : R → Option (List ℕ)} {read_step : R → R
             sink.sink made-so_far _ last called ends
 
         cut-counted : ((e : E) → outcome ≡ failed e → ⊥)
-            → IsStreamCounted step k meaning remaining read_step reader first
-            (record { count = w.offset; binary = Some offset }) r' last
+            → Ends w.offset (Some offset) last
         cut-counted succeeds =
-            subst (λ n. IsStreamCounted step k meaning remaining read_step reader first
-            (record { count = n; binary = Some offset }) r' last)
+            subst (λ n. Ends n (Some offset) last)
             (omega (arith, on.rolling.between.at, length-append on.rolling.gone old.shown))
             (quitting.ended-there step stream first (reading.taken k reads-now) _ _ cut-input sink.sink
             made-so_far _ last called ends succeeds
@@ -377,16 +363,13 @@ module _ {R : Type 0} {remaining : R → Option (List ℕ)} {read_step : R → R
 
     -- `binary_data` returned false, or the search is one that ends at the byte
     pub ended-cut : {sink' : Noted S} → PassesBinary step k new.binary sink false sink'
-        → IsStreamCounted step k meaning remaining read_step reader first
-        (record { count = w.offset; binary = sink'.binary }) r' sink'.sink
+        → Ends w.offset sink'.binary sink'.sink
     ended-cut {sink'} (inl (offset, is, unknown, now_known, (true, called, goes))) =
-        subst (λ binary. IsStreamCounted step k meaning remaining read_step reader first
-        (record { count = w.offset; binary = binary }) r' sink'.sink) (sym now_known)
+        rw now_known
         (cut-counted unknown offset is all_true sink'.sink (inl (sink'.sink, called, (refl, refl)))
         (λ all. goes-false k.binary_detection goes) (λ e fails. cc))
     ended-cut {sink'} (inl (offset, is, unknown, now_known, (false, called, goes))) =
-        subst (λ binary. IsStreamCounted step k meaning remaining read_step reader first
-        (record { count = w.offset; binary = binary }) r' sink'.sink) (sym now_known)
+        rw now_known
         (cut-counted unknown offset is _ sink'.sink (inr (inl (refl, called))) (λ all. cc) (λ e fails. cc))
     ended-cut (inr (why, goes, kept)) = cc
 
@@ -482,23 +465,16 @@ module _ {R : Type 0} {remaining : R → Option (List ℕ)} {read_step : R → R
             passes
 
         by : PassesBinary step k new.binary sink true sink' → Goes sink'
-        by (inr (why, goes, kept)) = record {
-          start = on.start;
-          rolling = record {
-            gone = on.rolling.gone;
-            given = on.rolling.given;
-            between = subst (λ (n : Noted S). IsBetween step k meaning on.rolling.gone old on.start w n.sink)
-                (sym kept) on.rolling.between;
-            holds = on.rolling.holds;
-            detects = on.rolling.detects;
-            uncut = on.rolling.uncut;
-          };
-          passed = subst (IsStartAt step k meaning raw w.offset first on.start)
-              (sym (ap (λ (n : Noted S). n.binary) kept) ∙ now-known)
-              (passed-later _ (omega arith) on.passed);
-          uncut = is-uncut;
-          known = now-known;
-        }
+        by (inr (why, goes, kept)) =
+            let still = sym (ap (λ (n : Noted S). n.binary) kept) ∙ now-known in
+            subst Goes (sym kept) (record {
+              start = on.start;
+              rolling = on.rolling;
+              passed = subst (IsStartAt step k meaning raw w.offset first on.start) still
+                  (passed-later _ (omega arith) on.passed);
+              uncut = is-uncut;
+              known = still;
+            })
         by (inl (offset, is, unknown, now_known, (returned, called, goes))) =
             let both = goes-true _ _ goes in
             record {
@@ -520,9 +496,8 @@ module _ {R : Type 0} {remaining : R → Option (List ℕ)} {read_step : R → R
       pub counted-shown : {w' : Walk} {last : S} → HasEnded step k meaning new w sink.sink w' last
           → IsStreamCounted step k meaning remaining read_step reader first
           (record { count = w'.offset; binary = sink.binary }) r' last
-      counted-shown {w'} {last} ended =
-          subst (λ b. IsStreamCounted step k meaning remaining read_step reader first
-          (record { count = w'.offset; binary = b }) r' last) (sym there.known)
+      counted-shown ended =
+          rw there.known
           (quitting.counted-planned stream.by_line (passed-further ended.low there.passed)
           (rolls.counted-filled stream there.rolling fill there.uncut busy ended))
 
@@ -567,37 +542,17 @@ module _ {R : Type 0} {remaining : R → Option (List ℕ)} {read_step : R → R
         ) in
         let held_now = rolls.held-now stream there.rolling fill in
         let reads = reading.reads stream held_now in
-        let over : (bytes : List ℕ) → IsCountedFor step k meaning there.start bytes w.offset all_true sink.sink =
-        λ bytes. subst (λ n. IsCountedFor step k meaning there.start bytes n all_true sink.sink) (sym zero)
-        (walks.counted-idle k meaning bytes step there.start sink.sink idle unread.begun) in
-        subst (λ b. IsStreamCounted step k meaning remaining read_step reader first
-        (record { count = w.offset; binary = b }) r' sink.sink) (sym there.known)
-        (quitting.counted-planned stream.by_line there.passed (record {
-          input = record {
-            taken = reading.taken k reads;
-            seen = [];
-            within = omega (arith, zero);
-            begins = λ bytes input. let text = reading.input-is k reads bytes input in (text.0, text.1);
-            front = λ bytes input. front-none;
-            clear = λ unfound bytes input. binary-nil k.binary_detection (byte_of k.line_terminator);
-          };
-          outcome = all_true;
-          over_seen = over [];
-          over_all = λ bytes input. over (view_of k bytes);
-          all = λ bytes input all. turns-within k meaning [] (view_of k bytes)
-              (λ some. rolls.nothing)
-              (omega (arith, (over (view_of k bytes)).is_count, zero));
-          ahead = λ limit is passes.
-              let few = reading.taken-few k reads passes
-              (fill.settled there.rolling.between.unended there.rolling.uncut)
-              (fill.passing there.rolling.between.unended there.rolling.uncut) in
-              omega (
-                arith,
-                few,
-                rolls.limit-within fill limit is,
-                fill.room,
-                reading.length-there held_now there.uncut,
-                ap length unread.none,
-                length-append there.rolling.gone old.shown,
-              );
-        }))
+        rw (zero, there.known) (quitting.counted-unseen _ _ step k meaning (reading.taken k reads)
+        (λ bytes input. let text = reading.input-is k reads bytes input in (text.0, text.1)) stream.by_line
+        (rw zero at there.passed) all_true
+        (λ bytes. walks.counted-idle k meaning bytes step there.start sink.sink idle unread.begun)
+        (λ limit is passes. omega (
+          arith,
+          reading.taken-few k reads passes (fill.settled there.rolling.between.unended there.rolling.uncut)
+              (fill.passing there.rolling.between.unended there.rolling.uncut),
+          rolls.limit-within fill limit is,
+          fill.room,
+          reading.length-there held_now there.uncut,
+          ap length unread.none,
+          length-append there.rolling.gone old.shown,
+        )))

@@ -112,7 +112,7 @@ module _ {S E F : Type 0} (step : Steps S E) (errors : ErrorMakers F E) (matcher
       result new
       → IsRun step k old (search_plan k matcher.meaning bytes) result new
   along {result} {new} run =
-      subst (λ plan. IsRun step k old plan result new) (sym (plans-turns k matcher.meaning bytes)) run
+      rw (plans-turns k matcher.meaning bytes) run
 
   pub searched-at : (b : ℕ) → quit_byte_of k.binary_detection ≡ Some b → {across : Bool} → across
       ≡ is_across k matcher.meaning

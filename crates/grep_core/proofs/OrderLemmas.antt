@@ -111,7 +111,7 @@ module _ {R : Type 0} (remaining : R → Option (List ℕ)) (read_step : R → R
       → ((e : Error) → fault ≡ Read e → HasFailedRead remaining read_step reader e reader') → IsMadeOf fault error
       → IsReadingError remaining read_step reader reader' error
   reading-error reader' (Read e) error fails is =
-      inl (subst (λ x. HasFailedRead remaining read_step reader x reader') (sym is) (fails e refl))
+      inl (rw is (fails e refl))
   reading-error reader' HeapLimit error fails is = inr (inl is)
   reading-error reader' Offset error fails is = inr (inr (inl is))
   reading-error reader' Memory error fails is = inr (inr (inr is))
@@ -221,8 +221,7 @@ module _ {S E : Type 0} (step : Steps S E) (k : Settings) where
         → HasCalled step k 0 old.sink.now (outcome_of end result) new.sink.now → QuitPasses old result end new
     clear old (Ok true) end new none called = (none, called)
     clear old (Ok false) end new none called =
-        subst (λ found. HasCalledTo step k 1 old.sink.now (count_to found end) new.sink.now) (sym none)
-        (stopped-to end (most called))
+        rw none (stopped-to end (most called))
       where
         most : HasCalled step k 0 old.sink.now (stopped (counted end)) new.sink.now
             → HasCalled step k 1 old.sink.now (stopped (counted end)) new.sink.now
@@ -236,9 +235,7 @@ module _ {S E : Type 0} (step : Steps S E) (k : Settings) where
         → step old.sink.now k (binary_data offset) returned new.sink.now
         → QuitPasses old result end new
     quits old end offset new is (Ok goes_on) ends made =
-        subst (λ r. QuitPasses old r end new) (sym ends)
-        (subst (λ found. HasCalledTo step k 1 old.sink.now (count_to found end) new.sink.now) (sym is)
-        (go goes_on made))
+        rw (ends, is) (go goes_on made)
       where
         go : (goes_on : Bool) → step old.sink.now k (binary_data offset) (Ok goes_on) new.sink.now
             → HasCalledTo step k 1 old.sink.now offset new.sink.now
@@ -252,7 +249,7 @@ module _ {S E : Type 0} (step : Steps S E) (k : Settings) where
             stopped-to _
             (order.called-binary _ k _ _ _ _ _ made detecting)
     quits old end offset new is (Err e) ends made =
-        subst (λ r. QuitPasses old r end new) (sym ends)
+        rw ends
         (order.called-binary _ k _ end _ _ _ made detecting)
 
     looked-at : (found : Option ℕ) (from : ℕ) (call : Call) (end : ℕ) (old : Quitting S) (result : Result Bool E)

@@ -191,13 +191,11 @@ module _ {S E : Type 0} (step : Steps S E) (may_call : S → Type 0) (k : Settin
       unheld (first.position-never (holds_byte b) turn later free none) clear (inl (mid, made, reported))
   quits-more turn {later} {old} {mid} {outcome} {new} free apart made (ended_before n is clear some reported) =
       ended_before (suc n) (first.position-later (holds_byte b) turn later n free is) clear some
-      (subst (λ l. AreMade step k old l outcome new.sink)
-      (sym (before-more b turn later n (apart-at b turn later n apart is)))
+      (rw (before-more b turn later n (apart-at b turn later n apart is))
       (inl (mid, made, reported)))
   quits-more turn {later} {old} {mid} free apart made (ended_at n is found last reported returned called end) =
       ended_at (suc n) (first.position-later (holds_byte b) turn later n free is) found last
-      (subst (λ l. AreMade step k old l all_true last)
-      (sym (before-more b turn later n (apart-at b turn later n apart is)))
+      (rw (before-more b turn later n (apart-at b turn later n apart is))
       (inl (mid, made, reported))) returned called end
 
   -- or it ended at that call
@@ -210,8 +208,7 @@ module _ {S E : Type 0} (step : Steps S E) (may_call : S → Type 0) (k : Settin
       go : (found : Option ℕ) → position (holds_byte b) later ≡ found → HasQuit (turn ∷ later) old outcome new
       go None is = unheld (first.position-never (holds_byte b) turn later free is) clear (reported later)
       go (Some n) is = ended_before (suc n) (first.position-later (holds_byte b) turn later n free is) clear some
-          (subst (λ l. AreMade step k old l outcome new.sink)
-          (sym (before-more b turn later n (apart-at b turn later n apart is)))
+          (rw (before-more b turn later n (apart-at b turn later n apart is))
           (reported (calls_before b later n)))
 
   abbrev Q : Steps (Watch S) E
@@ -291,10 +288,8 @@ module _ {S E : Type 0} (step : Steps S E) (may_call : S → Type 0) (k : Settin
       ap (λ (p : Planned). reported_from p.call + position_or_len (λ x. x == b) (reported_bytes p.call)) there
       ∙ ap (λ i. reported_from turn.call + i) (first.position-is (λ x. x == b) _ index holds) in
       ended_at n is (ap (λ (w : Watch S). w.found) end.0 ∙ found ∙ ap (λ n. Some n) (sym offset)) old
-      (subst (λ l. AreMade step k old l all_true old) (sym none) (refl, refl)) returned
-      (subst (λ n. step old k (binary_data n) returned new.sink) (sym offset)
-      (subst (λ (w : Watch S). step old k (binary_data (reported_from turn.call + index)) returned w.sink)
-      (sym end.0) called))
+      (rw none (refl, refl)) returned
+      (rw (offset, end.0) called)
       end.1
 
   looked : (call : Call) (old : Watch S) (result : Result Bool E) (mid : Watch S) → is_report call ≡ true
@@ -367,12 +362,12 @@ module _ {S E : Type 0} (step : Steps S E) (may_call : S → Type 0) (k : Settin
           → HasQuit (gap ∷ turn ∷ later) old.sink outcome new
       after quits_later result mid free none whole (inl (m, may, broken, made)) went =
           quits-more gap gap-free (apart free)
-          (subst (λ call. step old.sink k call (Ok true) m) (sym off) broken)
+          (rw off broken)
           (quits-report turn mid _ (report-no-break _ is) free made none went
           (quits_later mid whole none))
       after quits_later result mid free none whole (inr (never, broken)) went =
           halts gap turn _ later _ mid _ never same_end gap-free (apart free)
-          (subst (λ call. step old.sink k call result mid.sink) (sym off) broken) none went
+          (rw off broken) none went
 
       go : QuitsFrom later outcome new
           → (at : Option ℕ) → position_of b (reported_bytes turn.call) ≡ at → (result : Result Bool E) (mid : Watch S)
@@ -509,7 +504,7 @@ module _ {S E : Type 0} (step : Steps S E) (may_call : S → Type 0) (k : Settin
         next.0,
         inl (
           watch_of mid,
-          subst (λ n. quitting step may_call n (watch_of old) k turn.call (Ok true) (watch_of mid)) is made.2,
+          rw (sym is) made.2,
           next.1,
         ),
       )
@@ -517,8 +512,7 @@ module _ {S E : Type 0} (step : Steps S E) (may_call : S → Type 0) (k : Settin
     made.1 ∙ is,
     inr (inl (
       stops,
-      subst (λ n. quitting step may_call n (watch_of old) k turn.call (Ok false)
-          (watch_of new)) is made.2,
+      rw (sym is) made.2,
     )),
   )
   watched (turn ∷ later) old outcome new is (inr (inr (e, fails, made))) = (
@@ -526,8 +520,7 @@ module _ {S E : Type 0} (step : Steps S E) (may_call : S → Type 0) (k : Settin
     inr (inr (
       e,
       fails,
-      subst (λ n. quitting step may_call n (watch_of old) k turn.call (Err e)
-          (watch_of new)) is made.2,
+      rw (sym is) made.2,
     )),
   )
 
@@ -555,13 +548,8 @@ module _ {S E : Type 0} (step : Steps S E) (may_call : S → Type 0) (k : Settin
           → IsFinished (Quits step may_call) k outcome run.mid (counted count) result new
           → IsFinished (quitting step may_call b) k outcome (watch_of run.mid) (counted count) result (watch_of new)
       closed all_true same finished =
-          subst (λ n. quitting step may_call n (watch_of run.mid) k (finishes count None) (finish_result result)
-          (watch_of new)) same
           finished.2
       closed (stopped finish) same finished =
-          subst (λ n. quitting step may_call n (watch_of run.mid) k (finishes finish.count finish.binary)
-          (finish_result result)
-          (watch_of new)) same
           finished.2
       closed (failed e) same (fails, stays) = (fails, ap watch_of stays)
 

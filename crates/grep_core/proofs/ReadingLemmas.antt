@@ -241,13 +241,11 @@ module _ {R : Type 0} {remaining : R → Option (List ℕ)} {step : R → ReadRe
       → HasWaitedForLine remaining step lines d r r')
       → IsReadForLine remaining step k reader r'
   read-once {lines} {d} {r} {r'} same filled = for-line
-      (subst (λ s. HasWaitedForLine remaining step buffer decoder s r') same.2
-      (subst (λ s. HasWaitedForLine remaining step buffer s r r') same.1
-      (subst (λ s. HasWaitedForLine remaining step s d r r') same.0
+      (rw (sym same.0, sym same.1, sym same.2)
       (filled (ap (λ b. b.has_ended) same.0 ∙ ap (λ b. b.has_ended) empty)
       (ap is_cut same.0 ∙ (ap is_cut empty ∙ and-false (is_quit (detection_of k.binary_detection))))
       (subst HasReadNothing (sym (same.1 ∙ begun))
-      (record { fresh = λ settled. settled; held = refl; unended = refl }))))))
+      (record { fresh = λ settled. settled; held = refl; unended = refl }))))
 
 -- the bytes that were held and given come after those that were shown
 pub split-text : (gone shown rest given later : List ℕ) {bytes : List ℕ}

@@ -1,7 +1,6 @@
 -- A search of a reader, fill by fill, against the calls that are defined for every input that begins with what was
 -- read.
 use Rattle.grep_core.proofs.ReadingLemmas.{HasFilled, IsHeld, IsStream}
-use Rattle.grep_core.specs.HeldViews.{HoldsGiven}
 use Rattle.grep_core.specs.Rolls.{
   IsBetween,
   IsCountedFor,
@@ -29,7 +28,6 @@ use Rattle.grep_definitions.proofs.FrontLemmas.{
   turns-within,
 }
 use Rattle.grep_definitions.proofs.LimitLemmas.{turn_above}
-use Rattle.grep_lines.proofs.LineRangeLemmas.{end-start, start-same}
 use Rattle.grep_definitions.specs.Searches.{
   is_detecting,
   binary_of,
@@ -66,13 +64,12 @@ use Rattle.grep_line_buffer.specs.BufferStates.{
 }
 use Rattle.grep_line_buffer.specs.Detections.{detected, found_in, is_quit}
 use Rattle.grep_matcher.proofs.LineLemmas.{lines-append}
-use Rattle.grep_lines.specs.Positions.{IsLineStart}
 use Rattle.grep_matcher.specs.Lines.{lines, byte_of}
 use Rattle.grep_matcher.specs.Meanings.{Meaning, MatcherFacts}
 use Rattle.grep_report.specs.ErrorMakers.{ErrorMakers}
 use Rattle.grep_walk.proofs.WalkLemmas.{start_walk, reported-begin}
 use Rattle.grep_walk.proofs.WindowLemmas.{roll-input}
-use Rattle.grep_walk.proofs.WindowSearchLemmas.{line-seen, passed-all, searched-rolled, searched-start}
+use Rattle.grep_walk.proofs.WindowSearchLemmas.{line-seen, passed-end, searched-rolled, searched-start}
 use Rattle.grep_walk.specs.Origins.{Origin, fresh}
 use Rattle.grep_walk.specs.WalkFaults.{IsWalkFault}
 use Rattle.grep_walk.specs.Walks.{AreCounts, recounted, IsCount}
@@ -140,15 +137,6 @@ t_of k = byte_of k.line_terminator
 
 module _ {S E : Type 0} {step : Steps S E} {k : Settings} {meaning : Meaning}
   where
-    -- at the end of what is shown, if nothing follows it
-    passed-end : {gone shown : List ℕ} {start : ℕ} {first : Origin S} {w : Walk} {now : S}
-        → IsReady step k meaning gone shown start first w now → start ≡ length shown
-        → HasPassed step k meaning gone shown (gone ++ (shown ++ [])) first w now
-    passed-end {shown} ready end =
-        passed-all step k _ _ shown _ _ _ _ _ (ready [] nothing) end
-        (λ i here. start-same
-        (subst (λ p. IsLineStart (t_of k) shown p i) end here) (end-start _ shown))
-
     counted-end : {gone shown : List ℕ} {first : Origin S} {w : Walk} {now : S} → IsClosed (t_of k) gone
         → HasPassed step k meaning gone shown (gone ++ (shown ++ [])) first w now
         → IsCountedFor step k meaning first (gone ++ (shown ++ [])) w.offset all_true now
@@ -166,8 +154,7 @@ module _ {S E : Type 0} {step : Steps S E} {k : Settings} {meaning : Meaning}
       low = omega arith;
       high = omega (arith, same, low);
       counted = λ gone first opens ready after closes last.
-          subst (λ xs. IsCountedFor step k meaning first (gone ++ (old.shown ++ xs)) w.offset all_true now)
-          (sym (last (inl same))) (counted-end opens (passed-end ready same));
+          rw (last (inl same)) (counted-end opens (passed-end (ready [] nothing) same));
     }
 
     module _ (old : BufferState) {w : Walk} {now : S} {window : List ℕ} {start : ℕ}
@@ -198,8 +185,7 @@ module _ {S E : Type 0} {step : Steps S E} {k : Settings} {meaning : Meaning}
             → HasSearched step k meaning gone old.shown input first (start_in old w) w now
             → HasPassed step k meaning gone old.shown input first w' now'
         passed-there {gone} {input} {first} searched =
-            subst (λ xs. HasPassed step k meaning gone xs input first w' now') shown
-            (passes gone input first (searched-there searched))
+            rw (sym shown) (passes gone input first (searched-there searched))
 
         -- its last line is unterminated, so that nothing follows
         pub ended-broken : w.offset ≤ w'.offset → w'.offset ≤ old.offset + length old.shown
@@ -209,8 +195,7 @@ module _ {S E : Type 0} {step : Steps S E} {k : Settings} {meaning : Meaning}
           low = low;
           high = high;
           counted = λ gone first opens ready after closes last.
-              subst (λ xs. IsCountedFor step k meaning first (gone ++ (old.shown ++ xs)) w'.offset all_true now')
-              (sym (last (inr broken))) (counted-end opens (passed-there (ready [] nothing)));
+              rw (last (inr broken)) (counted-end opens (passed-there (ready [] nothing)));
         }
 
         -- some of its lines are kept for the next one
@@ -231,17 +216,11 @@ module _ {S E : Type 0} {step : Steps S E} {k : Settings} {meaning : Meaning}
         next-rolled r closed shuts keeps gone first opens ready = (
           shuts gone opens,
           λ more after closes.
-              let input : List ℕ = gone ++ (old.shown ++ (more ++ after)) in
               let passed = passed-there (ready (more ++ after) (λ _. closed)) in
-              subst (λ xs. HasSearched step k meaning (gone ++ take r old.shown) (drop r old.shown ++ more) xs first
-              (length (drop r old.shown)) w' now')
-              (roll-input gone _ more after r)
-              (subst (λ p. HasSearched step k meaning (gone ++ take r old.shown) (drop r old.shown ++ more) input first
-              p w' now')
-              (sym (length-drop r old.shown))
+              rw (sym (roll-input gone old.shown more after r), length-drop r old.shown)
               (searched-rolled step k _ _ _ _ _ _ _ passed _
               _ _
-              (keeps gone more after opens closes _ _ passed.searched.counts passed.searched.walked.inside))),
+              (keeps gone more after opens closes _ _ passed.searched.counts passed.searched.walked.inside)),
         )
 
     module _ {gone : List ℕ} {old : BufferState} {first : Origin S} {w : Walk} {now : S}
@@ -254,8 +233,8 @@ module _ {S E : Type 0} {step : Steps S E} {k : Settings} {meaning : Meaning}
 
       here : reports_nothing k ≡ false → HasPassed step k meaning gone old.shown (gone ++ (old.shown ++ [])) first w now
       here busy = passed-end
-          (subst (λ xs. IsReady step k meaning gone xs (length old.shown) first w now) (append-nil old.shown)
-          (between.next busy [])) refl
+          (subst (λ xs. HasSearched step k meaning gone xs (gone ++ (xs ++ [])) first (length old.shown) w now)
+          (append-nil old.shown) (between.next busy [] [] nothing)) refl
 
       -- the calls so far are those over the lines that were seen
       pub counted-seen : IsCountedFor step k meaning first seen w.offset all_true now
@@ -268,16 +247,8 @@ module _ {S E : Type 0} {step : Steps S E} {k : Settings} {meaning : Meaning}
               (counted-end between.opens (here busy))
           by-cases true idle =
               let unread = between.idle idle in
-              let zero : 0 ≡ w.offset = omega (
-                arith,
-                between.at,
-                ap length unread.none,
-                length-append gone
-                    old.shown,
-              ) in
-              subst (λ n. IsCountedFor step k meaning first seen n all_true now) zero
-              (subst (λ xs. IsCountedFor step k meaning first xs 0 all_true now) (sym unread.none)
-              (walks.counted-idle k meaning [] step first now idle unread.begun))
+              let zero : w.offset ≡ 0 = omega (arith, between.at, ap length unread.none, length-append gone old.shown) in
+              rw (zero, unread.none) (walks.counted-idle k meaning [] step first now idle unread.begun)
 
       -- and the search goes on after them, whatever follows
       pub goes-on : {bytes : List ℕ} (back : List ℕ) → bytes ≡ seen ++ back → GoesOnAfter k meaning bytes seen
@@ -374,11 +345,10 @@ module _ {S E : Type 0} {step : Steps S E} {k : Settings} {meaning : Meaning}
               between.offset,
             ) in
             let next = on.next gone first between.opens
-            (subst (λ p. IsReady step k meaning gone new.shown p first w now) (sym start) (filled-ready busy)) in
+            (rw start (filled-ready busy)) in
             let rest = unended-filled fill.fitting.terminator given fill.fills.appended between.unfinished way
             (omega (arith, on.some, start)) on.closed in
-            subst (λ b. IsBetween step k meaning (gone ++ take on.count new.shown) b first w' now') (sym on.moved)
-            (record {
+            rw on.moved (record {
               opens = next.0;
               shut = closed-drop t _ _ on.closed;
               unfinished = rest.1;
@@ -435,9 +405,7 @@ module _ {R : Type 0} {remaining : R → Option (List ℕ)} {read_step : R → R
       few = omega (arith, ap (λ xs. length (lines t xs)) shown);
       fits = λ limit is i x below. absurd (omega (arith, below, ap (λ xs. length (lines t xs)) shown));
       at = omega (arith, ap length shown);
-      next = λ some. subst (λ xs. (more after : List ℕ) → (0 < length after → IsClosed t (xs ++ more))
-          → HasSearched step k meaning [] (xs ++ more) ([] ++ ((xs ++ more) ++ after)) (fresh first) (length xs)
-          (start_walk k meaning []) now) (sym shown)
+      next = λ some. rw shown
           (λ more after closes. searched-start step k _ more _ first now
           (windows.shown t [] more after (λ none. nothing none) closes) some begun);
       idle = λ idle. record {
@@ -479,9 +447,6 @@ module _ {R : Type 0} {remaining : R → Option (List ℕ)} {read_step : R → R
       (stream : IsStream remaining read_step k meaning decoder)
       (so_far : IsRolling step k meaning remaining read_step decoder reader first old d r w now)
       (fill : HasFilled remaining read_step k old d r new d' r') where
-    abbrev end_byte : ℕ
-    end_byte = byte_of k.line_terminator
-
     abbrev pub raw : List ℕ
     raw = so_far.given ++ fill.fills.given
 
@@ -527,14 +492,14 @@ module _ {R : Type 0} {remaining : R → Option (List ℕ)} {read_step : R → R
       uncut_way : IsUncut old new
       uncut_way = uncut-filled uncut fill.filled
 
-      closes : (bytes : List ℕ) (input : Input bytes) → 0 < length (after bytes input) → IsClosed end_byte new.shown
+      closes : (bytes : List ℕ) (input : Input bytes) → 0 < length (after bytes input) → IsClosed (t_of k) new.shown
       closes bytes input = closed-filled fill.fitting.terminator _ uncut_way (last bytes input)
 
       abbrev front : (bytes : List ℕ) (input : Input bytes) → IsFront k (view_of k bytes) shown
       front bytes input = record {
         after = after bytes input;
         whole = sym (after-is bytes input) ∙ sym (append_assoc so_far.gone new.shown (after bytes input));
-        closed = λ some. closed-append end_byte _ _ so_far.between.opens (closes bytes input some);
+        closed = λ some. closed-append (t_of k) _ _ so_far.between.opens (closes bytes input some);
         held = fits-filled so_far.between fill uncut;
       }
 
@@ -542,8 +507,7 @@ module _ {R : Type 0} {remaining : R → Option (List ℕ)} {read_step : R → R
       start-is = omega (arith, so_far.between.at, fill.same.offset, so_far.between.offset)
 
       ready : IsReady step k meaning so_far.gone new.shown (start_in new w) first w now
-      ready = subst (λ p. IsReady step k meaning so_far.gone new.shown p first w now) (sym start-is)
-          (filled-ready so_far.between fill uncut busy)
+      ready = rw start-is (filled-ready so_far.between fill uncut busy)
 
       -- what is shown was seen
       abbrev seen-to : (low : ℕ) → low ≤ length shown
@@ -557,7 +521,7 @@ module _ {R : Type 0} {remaining : R → Option (List ℕ)} {read_step : R → R
         clear = λ unfound bytes input.
             let text = reading.input-is k reads-now bytes input in
             ap (λ xs. binary_of k (take (length shown) xs)) text.1
-            ∙ (as-found k.binary_detection _ _ ∙ views.clear-front _ end_byte raw _ _
+            ∙ (as-found k.binary_detection _ _ ∙ views.clear-front _ (t_of k) raw _ _
             (omega (
               arith,
               reading.length-there held-now uncut,
@@ -569,7 +533,7 @@ module _ {R : Type 0} {remaining : R → Option (List ℕ)} {read_step : R → R
       -- a fault within what is shown
       pub faulted-filled : {F : Type 0} {errors : ErrorMakers F E} {matcher : MatcherFacts F} {e : E} {now' : S}
           → ((gone : List ℕ) (first : Origin S) → IsReady step k meaning gone new.shown (start_in new w) first w now
-          → (after : List ℕ) → (0 < length after → IsClosed end_byte new.shown)
+          → (after : List ℕ) → (0 < length after → IsClosed (t_of k) new.shown)
           → IsWalkFault step errors matcher k (gone ++ (new.shown ++ after)) first e now')
           → HasFailed step k meaning remaining read_step errors matcher reader first raw new.binary w.offset e r' now'
       faulted-filled {errors} {matcher} {e} {now'} fault = record {
@@ -581,8 +545,7 @@ module _ {R : Type 0} {remaining : R → Option (List ℕ)} {read_step : R → R
         ));
         over_seen = subst (λ xs. IsWalkFault step errors matcher k (so_far.gone ++ xs) first e now')
             (append-nil new.shown) (fault so_far.gone first ready [] nothing);
-        over_all = λ bytes input. subst (λ xs. IsWalkFault step errors matcher k xs first e now')
-            (after-is bytes input)
+        over_all = λ bytes input. rw (sym (after-is bytes input))
             (fault so_far.gone first ready (after bytes input) (closes bytes input));
       }
 
@@ -600,7 +563,7 @@ module _ {R : Type 0} {remaining : R → Option (List ℕ)} {read_step : R → R
             let count = subst (λ o. IsCount o (LineSearch.byte_count k meaning (view_of k bytes)) w'.offset) all
             (over bytes input).is_count in
             let text : view_of k bytes ≡ shown ++ after bytes input = (front bytes input).whole in
-            subst (λ xs. LineSearch.turn_count k meaning xs ≤ length (lines end_byte shown)) (sym text)
+            subst (λ xs. LineSearch.turn_count k meaning xs ≤ length (lines (t_of k) shown)) (sym text)
             (turns-within k meaning shown _ (front bytes input).closed
             (subst (λ xs. LineSearch.byte_count k meaning xs ≤ length shown) text (omega (arith, count, high))));
         ahead = λ limit is passes.
@@ -619,11 +582,10 @@ module _ {R : Type 0} {remaining : R → Option (List ℕ)} {read_step : R → R
         where
           over : (bytes : List ℕ) (input : Input bytes)
               → IsCountedFor step k meaning first (view_of k bytes) w'.offset ended.outcome now'
-          over bytes input = subst (λ xs. IsCountedFor step k meaning first xs w'.offset ended.outcome now')
-              (after-is bytes input)
+          over bytes input = rw (sym (after-is bytes input))
               (ended.counted so_far.gone first so_far.between.opens ready (after bytes input) (closes bytes input)
               (λ nothing_new. last-filled fill.fitting.terminator (view bytes input).0 uncut_way (last bytes input)
-              (subst (λ p. IsLast end_byte new.shown p) start-is nothing_new)))
+              (subst (IsLast (t_of k) new.shown) start-is nothing_new)))
 
           high : w'.offset ≤ length shown
           high = omega (
@@ -644,16 +606,14 @@ module _ {R : Type 0} {remaining : R → Option (List ℕ)} {read_step : R → R
         gone = so_far.gone ++ take on.count new.shown;
         between = between-next so_far.between fill uncut busy on;
         given = raw;
-        holds = subst (λ b. HoldsGiven remaining read_step (so_far.gone ++ take on.count new.shown) b.detection
-            b.terminator b
-            decoder reader raw d' r') (sym on.moved) (record {
-              whole = sym (consumed on.count) ∙ (held-now.holds.whole
-                  ∙ (ap (λ x. detected x old.terminator raw) (sym fill.same.detection)
-                  ∙ ap (λ c. detected new.detection c raw) (sym fill.same.terminator)));
-              found = held-now.holds.found ∙ (ap (λ x. found_in x old.terminator raw) (sym fill.same.detection)
-                  ∙ ap (λ c. found_in new.detection c raw) (sym fill.same.terminator));
-              decodes = held-now.holds.decodes;
-            });
+        holds = rw on.moved (record {
+          whole = sym (consumed on.count) ∙ (held-now.holds.whole
+              ∙ (ap (λ x. detected x old.terminator raw) (sym fill.same.detection)
+              ∙ ap (λ c. detected new.detection c raw) (sym fill.same.terminator)));
+          found = held-now.holds.found ∙ (ap (λ x. found_in x old.terminator raw) (sym fill.same.detection)
+              ∙ ap (λ c. found_in new.detection c raw) (sym fill.same.terminator));
+          decodes = held-now.holds.decodes;
+        });
         detects = ap (λ b. b.detection) on.moved ∙ (fill.same.detection ∙ so_far.detects);
         uncut = ap is_cut on.moved ∙ uncut;
       }

@@ -49,31 +49,7 @@ use Rattle.grep_definitions.specs.Plans.{
   Settings,
   SearcherState,
 }
-use Rattle.grep_definitions.specs.Searches.{
-  quits,
-  on_stream,
-  binary_of,
-  view_of,
-  BinaryPoint,
-  plan_with,
-  calls_with,
-  planned_binary,
-  with_offset,
-  binary_position,
-  IsInput,
-  searched_bytes,
-  Taken,
-  reports_nothing,
-  IsPoint,
-  IsCutAt,
-  IsReaderSearch,
-  IsSearchOf,
-  Points,
-  ran,
-  asked,
-  IsStreamPoint,
-  IsRead,
-}
+use Rattle.grep_definitions.specs.Searches.{quits, on_stream, binary_of, view_of, BinaryPoint, plan_with, calls_with, planned_binary, with_offset, IsInput, searched_bytes, Taken, reports_nothing, IsPoint, IsCutAt, IsReaderSearch, IsSearchOf, Points, ran, asked, IsStreamPoint, IsRead}
 use Rattle.grep_definitions.specs.SinkRuns.{after_binary}
 use Rattle.grep_definitions.specs.DecodedInputs.{passes_unchanged}
 use Rattle.grep_definitions.specs.LineSearch.{byte_count, turns, through}
@@ -330,8 +306,7 @@ module _ {S E : Type 0} {step : Steps S E} {k : Settings} {meaning : Meaning} (b
         → AreMadeFrom step k next (LineSearch.turns k meaning over) outcome last → (bytes : List ℕ) → One bytes
         → IsPoint k meaning bytes on_stream (length input.seen) (search_plan k meaning over).calls (point_of start)
     plan-point over so_far bytes is =
-        subst (λ cs. IsPoint k meaning bytes on_stream (length input.seen) cs (point_of start))
-        (sym (calls-are k meaning by_line over)) (point-at so_far bytes is)
+        rw (calls-are k meaning by_line over) (point-at so_far bytes is)
 
     -- the calls for the lines that were seen
     pub seen-made : {last : S} → AreMadeFrom step k next (LineSearch.turns k meaning input.seen) all_true last
@@ -343,8 +318,7 @@ module _ {S E : Type 0} {step : Steps S E} {k : Settings} {meaning : Meaning} (b
       point_of start,
       plan-point _ so_far,
       goes-on start,
-      subst (λ cs. AreMade step k old (calls_with (point_of start) cs) all_true last)
-          (sym (calls-are k meaning by_line _)) (made-with start so_far),
+      rw (calls-are k meaning by_line input.seen) (made-with start so_far),
     )
 
   -- a walk over it came to its end
@@ -387,7 +361,7 @@ module _ {S E F : Type 0} {step : Steps S E} {errors : ErrorMakers F E} (matcher
       → IsSearchOf step errors matcher k IsAt HasRead bytes old (Err e) last
   fault-of IsAt HasRead bytes {e} {last} is_at (at_call so_far) =
       ran (point_of begun)
-      (subst (λ cs. IsAt cs (point_of begun)) (sym (calls-are k matcher.meaning by_line bytes)) (is_at _ _ so_far))
+      (rw (calls-are k matcher.meaning by_line bytes) (is_at _ _ so_far))
       (record { outcome = failed e; mid = last; made = made-along by_line begun bytes so_far; finished = (refl, refl) })
       tt
   fault-of IsAt HasRead bytes is_at (at_question haystack error made later asks first fails message so_far) =
@@ -447,8 +421,7 @@ module _ {R : Type 0} {remaining : R → Option (List ℕ)} {read_step : R → R
   is-one = ([], (λ ended. refl), refl)
 
   made-front : AreMade step k old front all_true mid
-  made-front = subst (λ cs. AreMade step k old cs all_true mid) (sym (plan-calls seen))
-      before
+  made-front = subst (λ cs. AreMade step k old cs all_true mid) (sym (plan-calls seen)) before
 
   abbrev at-seen : (bytes : List ℕ) → IsOne bytes → IsStreamPoint k meaning bytes front point
   at-seen bytes one = stream-point k _ bytes seen _ (cut bytes one) front [] (sym (append-nil front))
@@ -488,8 +461,7 @@ module _ {R : Type 0} {remaining : R → Option (List ℕ)} {read_step : R → R
         λ p same. record {
           outcome = failed e;
           mid = last;
-          made = subst (λ o. AreMade step k old (plan_with k.binary_detection (Some point) p).calls o last) fails
-              (made-quit p same);
+          made = rw (sym fails) (made-quit p same);
           finished = (refl, refl);
         } in
         record {
@@ -554,32 +526,36 @@ pub none-counted : {E : Type 0} {outcome : Outcome E} (whole : ℕ) → IsCount 
     ≡ 0
 none-counted whole same all = sym (subst (λ o. IsCount o whole 0) all same)
 
--- no binary byte is in no bytes
-pub binary-nil : (d : BinaryDetection) (t : ℕ) → binary_position d t [] ≡ None
-binary-nil d t = as-found d t [] ∙ found-nil _ t
-
 module _ {R : Type 0} (remaining : R → Option (List ℕ)) (read_step : R → ReadResult → R → Type 0) where
-  module _ {S E : Type 0} (step : Steps S E) (k : Settings) (meaning : Meaning) where
-    -- nothing was taken
-    abbrev seen-none : (reader : R) → HasSeen step k meaning remaining read_step reader [] None 0 reader
-    seen-none reader = record {
-      taken = record { ended = false; pieces = []; calls = refl; takes = Consumes-nil (remaining reader) };
-      seen = [];
-      within = omega arith;
-      begins = λ bytes input. (bytes, refl);
-      front = λ bytes input. front-none;
-      clear = λ none bytes input. binary-nil k.binary_detection (byte_of k.line_terminator);
-    }
+  -- nothing was taken
+  abbrev nothing-taken : (reader : R) → Taken remaining read_step reader reader
+  nothing-taken reader = record { ended = false; pieces = []; calls = refl; takes = Consumes-nil (remaining reader) }
 
-    module _ (by_line : is_across k meaning ≡ false) {reader : R} {old new : S}
+  module _ {S E : Type 0} (step : Steps S E) (k : Settings) (meaning : Meaning) where
+    -- no line was seen of what was taken
+    module _ {reader reader' : R} {given : List ℕ} {found : Option ℕ} (taken : Taken remaining read_step reader reader')
+        (begins : (bytes : List ℕ) → IsInput k taken.ended taken.pieces bytes → (later : List ℕ) × (bytes ≡ given ++ later))
       where
-        -- a search that made no report and reads nothing
-        counted-unread : (outcome : Outcome E)
-            → ((bytes : List ℕ) → IsCountedFor step k meaning (fresh old) bytes 0 outcome new)
-            → IsStreamCounted step k meaning remaining read_step reader old (record { count = 0; binary = None }) reader
+        abbrev seen-none : HasSeen step k meaning remaining read_step reader given found 0 reader'
+        seen-none = record {
+          taken = taken;
+          seen = [];
+          within = omega arith;
+          begins = begins;
+          front = λ bytes input. front-none;
+          clear = λ none bytes input. as-found k.binary_detection _ [] ∙ found-nil _ (byte_of k.line_terminator);
+        }
+
+        -- nor was any reported
+        pub counted-unseen : is_across k meaning ≡ false → {old new : S} {next : Origin S}
+            → IsStartAt step k meaning given 0 old next found → (outcome : Outcome E)
+            → ((bytes : List ℕ) → IsCountedFor step k meaning next bytes 0 outcome new)
+            → ((limit : ℕ) → k.heap_limit ≡ Some limit → passes_unchanged k (concat taken.pieces) ≡ true
+            → length (concat taken.pieces) ≤ 0 + limit + 3)
+            → IsStreamCounted step k meaning remaining read_step reader old (record { count = 0; binary = found }) reader'
             new
-        counted-unread outcome over = counted-planned by_line (not_passed refl) (record {
-          input = seen-none reader;
+        counted-unseen by_line begun outcome over ahead = counted-planned by_line begun (record {
+          input = seen-none;
           outcome = outcome;
           over_seen = over [];
           over_all = λ bytes input. over (view_of k bytes);
@@ -590,22 +566,28 @@ module _ {R : Type 0} (remaining : R → Option (List ℕ)) (read_step : R → R
                 none-counted (byte_count k meaning (view_of k bytes)) (over (view_of k bytes)).is_count
                     all,
               ));
-          ahead = λ limit is same. omega arith;
+          ahead = ahead;
         })
 
-        -- `begin` returned false
-        pub counted-unbegun : step old k begins (Ok false) new
-            → IsStreamCounted step k meaning remaining read_step reader old (record { count = 0; binary = None }) reader
-            new
-        counted-unbegun stops = counted-unread _
-            (λ bytes. walks.counted-unbegun k meaning bytes step old new stops)
+    abbrev IsUnread : R → S → S → Type 0
+    IsUnread reader old new =
+        IsStreamCounted step k meaning remaining read_step reader old (record { count = 0; binary = None }) reader new
 
-        -- no line may have a turn
-        pub counted-idle : reports_nothing k ≡ true → step old k begins (Ok true) new
-            → IsStreamCounted step k meaning remaining read_step reader old (record { count = 0; binary = None }) reader
-            new
-        counted-idle idle goes = counted-unread _ (λ bytes. walks.counted-idle k meaning bytes step _ new
-            idle (walks.reported-begin k meaning bytes step old new goes))
+    module _ (by_line : is_across k meaning ≡ false) {reader : R} {old new : S} where
+      counted-unread : (outcome : Outcome E)
+          → ((bytes : List ℕ) → IsCountedFor step k meaning (fresh old) bytes 0 outcome new) → IsUnread reader old new
+      counted-unread outcome over = counted-unseen {given = []} (nothing-taken reader) (λ bytes input. (bytes, refl)) by_line
+          (not_passed refl) outcome over (λ limit is same. omega arith)
+
+      -- `begin` returned false
+      pub counted-unbegun : step old k begins (Ok false) new → IsUnread reader old new
+      counted-unbegun stops = counted-unread _
+          (λ bytes. walks.counted-unbegun k meaning bytes step old new stops)
+
+      -- no line may have a turn
+      pub counted-idle : reports_nothing k ≡ true → step old k begins (Ok true) new → IsUnread reader old new
+      counted-idle idle goes = counted-unread _ (λ bytes. walks.counted-idle k meaning bytes step _ new
+          idle (walks.reported-begin k meaning bytes step old new goes))
 
   -- `begin` failed
   pub fault-begin : {S E F : Type 0} (step : Steps S E) (errors : ErrorMakers F E) (matcher : MatcherFacts F)
@@ -623,8 +605,8 @@ module _ {R : Type 0} (remaining : R → Option (List ℕ)) (read_step : R → R
           fails,
         ));
       }) in
-      failed-planned _ by_line (not_passed refl) (record {
-        input = seen-none step _ _ _;
+      failed-planned _ by_line {given = []} (not_passed refl) (record {
+        input = seen-none step _ _ (nothing-taken _) (λ bytes input. (bytes, refl));
         over_seen = made [];
         over_all = λ bytes input. made (view_of state.settings bytes);
       })
@@ -670,6 +652,7 @@ module _ {S E F : Type 0} (step : Steps S E) (errors : ErrorMakers F E) (matcher
       → IsStreamCounted step k matcher.meaning remaining read_step reader old finish reader' last
       → step last k (finishes finish.count finish.binary) (finish_result result) new
       → IsReaderSearch remaining read_step step errors matcher state on_stream reader old result reader' new
+  unfolding run-over
   ended result {new} begun counted made =
       let meaning = matcher.meaning in
       let plan : Plan = plan_with k.binary_detection counted.point (search_plan k meaning counted.seen) in
@@ -678,12 +661,7 @@ module _ {S E F : Type 0} (step : Steps S E) (errors : ErrorMakers F E) (matcher
         seen = counted.seen;
         front = counted.front;
         over_seen = ran counted.point counted.at_seen
-            (record {
-              outcome = counted.outcome;
-              mid = last;
-              made = counted.over_seen.made;
-              finished = finished-after plan _ _ counted.over_seen.ending made;
-            })
+            (run-over counted.over_seen made)
             (read result (
               (λ all goes_on bytes input.
                   subst (λ m. (selection_in k meaning (view_of k bytes) m).end ≤ line_count k counted.seen)

@@ -181,8 +181,7 @@ module _ {R : Type 0} {remaining : R → Option (List ℕ)} {read_step : R → R
     crowded-there : {bytes : List ℕ} (later : List ℕ) (least : ℕ) → HasNoLine old new
         → bytes ≡ (so_far.gone ++ held new) ++ later
         → length (held new) ≡ new.size → 0 < least → least ≤ new.size → IsCrowded k meaning bytes seen least
-    crowded-there later least no_line is full some enough = subst (λ xs. IsCrowded k meaning xs seen least)
-        (sym (text-is later is))
+    crowded-there later least no_line is full some enough = rw (text-is later is)
         (crowded k _ _ _ _ later least
         so_far.between.opens so_far.between.shut
         (unended-is no_line)

@@ -97,6 +97,14 @@ passed-all step k meaning gone window input first p w now so_far end last = reco
       omega (arith, last (so_far.line - before) so_far.walked.inside.line.begins);
 }
 
+-- as it has at its end
+pub passed-end : {S E : Type 0} {step : Steps S E} {k : Settings} {meaning : Meaning} {gone window input : List ℕ}
+    {first : Origin S} {p : ℕ} {w : Walk} {now : S} → HasSearched step k meaning gone window input first p w now
+    → p ≡ length window → HasPassed step k meaning gone window input first w now
+passed-end {k} {window} so_far end = passed-all _ _ _ _ _ _ _ _ _ _ so_far end (λ i here. start-same
+    (subst (λ p. IsLineStart (byte_of k.line_terminator) window p i) end here)
+    (end-start (byte_of k.line_terminator) window))
+
 abbrev IsCounted : {S E : Type 0} → Steps S E → Settings → Meaning → List ℕ → Origin S → ℕ → Outcome E → S → Type 0
 IsCounted step k meaning input first count outcome new =
     CountedFrom step k first (turns k meaning input) (byte_count k meaning input) count outcome new

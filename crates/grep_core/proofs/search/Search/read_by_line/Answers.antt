@@ -61,6 +61,10 @@ stream g c = record {
   begun = c.requires.started;
 }
 
+abbrev streamed : (g : Over) (c : goal.After-passes_binary g) → IsStream g.R.Source.remaining g.R.Source.step
+    c.args.self.now.config (meaning-of g c.args.matcher.now) c.args.decoder.now
+streamed g c = stream g (goal.at.After-passes_binary g c).After-questions-questions
+
 -- a fill that succeeded
 abbrev filled : (g : Over) (c : goal.After-passes_binary g) → HasFilled g.R.Source.remaining g.R.Source.step
     c.args.self.now.config c.fills.lines c.fills.decoder c.fills.reader c.fill.new.self c.fill.new.decoder
@@ -120,7 +124,7 @@ there : (g : Over) (c : goal.Else-not-branch g) → IsLawful (g.M.Matcher.facts 
     c.in_default.ensures.reads.given c.fill.new.self (noted c.passes_binary.new.sink c.passes_binary.new.binary)
 there g c lawful first begun =
     let here = (goal.at.Else-not-branch g c).After-passes_binary in
-    cuts.goes-on (stream g (goal.at.Else-not-branch g c).After-questions-questions) (filled g here)
+    cuts.goes-on (streamed g here) (filled g here)
     (c.fills.invariant.rolling lawful first begun) (c.fills.invariant.noted lawful) (passes g c)
 
 -- why no more is read
@@ -200,7 +204,7 @@ returns-in_err-passes_binary-clause-fault g c =
     let p = err_from_is_err_and c.from_residual.result c.from_residual.ensures.1 in
     let at = (goal.at.returns-in_err-passes_binary-clause-fault g c).After-passes_binary in
     rw (p.1, p.2) (λ lawful first begun has_buffers.
-    inl (cuts.fault-cut (stream g (goal.at.returns-in_err-passes_binary-clause-fault g c).After-questions-questions) (filled g at)
+    inl (cuts.fault-cut (streamed g at) (filled g at)
     (c.fills.invariant.rolling lawful first begun) (c.fills.invariant.noted lawful)
     (g.M.Matcher.facts c.args.matcher.now) (noted c.passes_binary.new.sink c.passes_binary.new.binary)
     (rw (exact g at) at c.in_err-passes_binary.ensures.fails)))
@@ -208,7 +212,7 @@ returns-in_err-passes_binary-clause-fault g c =
 pub returns-then-not-branch-clause-counted : goal.returns-then-not-branch-clause-counted
 returns-then-not-branch-clause-counted g c = λ lawful first begun.
     let at = (goal.at.returns-then-not-branch-clause-counted g c).After-passes_binary in
-    cuts.ended-cut (stream g (goal.at.returns-then-not-branch-clause-counted g c).After-questions-questions) (filled g at)
+    cuts.ended-cut (streamed g at) (filled g at)
     (c.fills.invariant.rolling lawful first begun) (c.fills.invariant.noted lawful)
     {sink' = noted c.passes_binary.new.sink c.passes_binary.new.binary}
     (rw (exact g at, c.if-not-branch.true) at c.in_ok-passes_binary.ensures.passes)
@@ -220,7 +224,7 @@ returns-in_err-search_shown-clause-fault g c =
     let on = (goal.at.returns-in_err-search_shown-clause-fault g c).Else-not-branch in
     let at = (goal.at.Else-not-branch g on).After-passes_binary in
     rw (p.1, p.2) (λ lawful first begun has_buffers.
-    inl (cuts.fault-shown (stream g (goal.at.returns-in_err-search_shown-clause-fault g c).After-questions-questions) (filled g at)
+    inl (cuts.fault-shown (streamed g at) (filled g at)
     (there g on lawful first begun) (sym c.reports_nothing.ensures ∙ c.if-reports_nothing.false)
     (g.M.Matcher.facts c.args.matcher.now) (c.in_err-search_shown.ensures.fault lawful)))
 
@@ -228,14 +232,14 @@ pub returns-then-reports_nothing-clause-counted : goal.returns-then-reports_noth
 returns-then-reports_nothing-clause-counted g c = λ lawful first begun.
     let on = (goal.at.returns-then-reports_nothing-clause-counted g c).Else-not-branch in
     let at = (goal.at.Else-not-branch g on).After-passes_binary in
-    cuts.counted-idle (stream g (goal.at.returns-then-reports_nothing-clause-counted g c).After-questions-questions) (filled g at)
+    cuts.counted-idle (streamed g at) (filled g at)
     (there g on lawful first begun) (sym c.reports_nothing.ensures ∙ c.if-reports_nothing.true)
 
 pub returns-then-not-branch-2-clause-counted : goal.returns-then-not-branch-2-clause-counted
 returns-then-not-branch-2-clause-counted g c = λ lawful first begun.
     let on = (goal.at.returns-then-not-branch-2-clause-counted g c).Else-not-branch in
     let at = (goal.at.Else-not-branch g on).After-passes_binary in
-    cuts.counted-shown (stream g (goal.at.returns-then-not-branch-2-clause-counted g c).After-questions-questions) (filled g at)
+    cuts.counted-shown (streamed g at) (filled g at)
     (there g on lawful first begun) (sym c.reports_nothing.ensures ∙ c.if-reports_nothing.false)
     (c.in_ok-search_shown.ensures.ends lawful c.if-not-branch-2.true)
 
@@ -268,7 +272,7 @@ fills-preserved g c =
       noted = λ lawful. noting.noted-passed g.C.Calls.step k c.fills.lines.binary _ _ (noted c.fills.sink c.fills.binary)
           _ reads.found (c.fills.invariant.noted lawful)
           (passes g on) ∙ sym c.in_ok-search_shown.ensures.binary;
-      rolling = λ lawful first begun. cuts.reads-on (stream g (goal.at.fills-preserved g c).After-questions-questions) (filled g at)
+      rolling = λ lawful first begun. cuts.reads-on (streamed g at) (filled g at)
           (there g on lawful first begun) busy (c.in_ok-search_shown.ensures.goes_on lawful moves)
           (omega (arith, c.in_ok-search_shown.ensures.ahead moves))
           (λ gone count. consumed-held gone c.fill.new.self.shown c.fill.new.self.rest count);
