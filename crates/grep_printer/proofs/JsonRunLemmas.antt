@@ -10,7 +10,7 @@ use Rattle.grep_searcher.specs.SearchErrors.{IsOutOfMemory}
 use Rattle.grep_searcher.specs.declared.SearchError.{SearchError}
 use Rattle.grep_printer.proofs.RunFoldLemmas.{run-fails, run-keeps}
 use Rattle.grep_printer.proofs.TextFailureLemmas.{begins-before, begins-itself, fails-in, stops-in}
-use Rattle.grep_printer.specs.JsonSteps.{IsComposingCall, IsComposingJson, IsJsonError, IsSameJson, PrintsJson}
+use Rattle.grep_printer.specs.JsonSteps.{IsJsonError, IsSameJson, PrintsJson}
 use Rattle.grep_printer.specs.JsonSteps.{PrintsJsonCall, PrintsJsonPlan, json_frame, json_text_of}
 use Rattle.grep_printer.specs.JsonTexts.{JsonFrame, JsonPrinted, json_printed_of, json_printed_with, json_progress}
 use Rattle.grep_printer.specs.JsonTexts.{json_text}
@@ -29,17 +29,6 @@ same-more old mid new first later = record {
 
 module _ {M W F : Type 0} (facts : M → MatcherFacts F) (first_at : M → List ℕ → ℕ → Option (ℕ × ℕ))
     (settings : Settings) where
-  -- the matcher failed, or there was no memory for its matches
-  pub composing-fails : (call : Call) (old new : JsonSink M W) (e : SearchError Global) → IsComposingJson old new
-      → IsOutOfMemory e ⊎ IsJsonError facts old settings (reported_bytes call) e
-      → IsComposingCall facts first_at old settings call (Err e) new
-  composing-fails call old new e composing cause = record {
-    same = composing.same;
-    writer = composing.writer;
-    has_failed = composing.has_failed;
-    made = record { progress = composing.progress; cause = cause };
-  }
-
   -- the texts of a sink's calls depend on the same
   same-frame : (old new : JsonSink M W) → IsSameJson old new → json_frame facts first_at new settings ≡ json_frame facts first_at old settings
   same-frame old new same =

@@ -10,16 +10,11 @@ use Rattle.grep_searcher.specs.SearchErrors.{IsOutOfMemory}
 use Rattle.grep_searcher.specs.declared.SearchError.{SearchError}
 use Rattle.grep_searcher.specs.declared.SearchError.TheVariants.{Io}
 use Rattle.grep_printer.specs.JsonTexts.{JsonFrame, json_printed_of, json_progress, json_text}
+use Rattle.grep_printer.specs.JsonTexts.{with_text}
 use Rattle.grep_printer.specs.ReportedParts.{FailsAtReport}
 use Rattle.grep_printer.specs.TextFailures.{IsCutShort}
 use Rattle.grep_printer.specs.declared.json_printer.Json.{Json}
 use Rattle.grep_printer.specs.declared.json_printer.JsonSink.{JsonSink}
-
--- the text and the matches at hand alone have changed
-pub record IsSamePrinter {W : Type 0} (old new : Json W) : Type 0 where
-  pub writer : new.writer ≡ old.writer
-  pub always_begin_end : new.always_begin_end ≡ old.always_begin_end
-  pub has_failed : new.has_failed ≡ old.has_failed
 
 -- the matcher, the path and the settings of a sink stay, and so does the printer that it refers to
 pub record IsSameJson {M W : Type 0} (old new : JsonSink M W) : Type 0 where
@@ -28,20 +23,14 @@ pub record IsSameJson {M W : Type 0} (old new : JsonSink M W) : Type 0 where
   pub path : new.path ≡ old.path
   pub always_begin_end : new.printer.now.always_begin_end ≡ old.printer.now.always_begin_end
 
--- a sink of which the text and the matches at hand alone have changed
-pub record IsComposingJson {M W : Type 0} (old new : JsonSink M W) : Type 0 where
-  pub same : IsSameJson old new
-  pub progress : new.progress ≡ old.progress
-  pub writer : new.printer.now.writer ≡ old.printer.now.writer
-  pub has_failed : new.printer.now.has_failed ≡ old.printer.now.has_failed
-
--- the text at hand was written
+-- the text at hand was written, and its bytes are counted
 pub record IsJsonWritten {M W : Type 0} (write_step : W → OutputCall → W → Type 0)
     (old new : JsonSink M W) : Type 0 where
   pub same : IsSameJson old new
-  pub written : WritesAll write_step old.printer.now.writer old.printer.now.text.items
+  pub written : WritesAll write_step old.printer.now.writer old.printer.now.draft.text.items
       new.printer.now.writer
-  pub progress : new.progress ≡ old.progress
+  pub progress : new.progress
+      ≡ with_text old.progress old.printer.now.draft.text.items
   pub has_failed : new.printer.now.has_failed ≡ old.printer.now.has_failed
 
 -- the writer failed after some first bytes of it
@@ -50,9 +39,10 @@ pub record FailsToWriteJson {M W : Type 0} (write_step : W → OutputCall → W 
   pub same : IsSameJson old new
   pub error : Error
   pub is_io : e ≡ Io error
-  pub failed : FailsToWrite write_step old.printer.now.writer old.printer.now.text.items error
+  pub failed : FailsToWrite write_step old.printer.now.writer old.printer.now.draft.text.items error
       new.printer.now.writer
-  pub progress : new.progress ≡ old.progress
+  pub progress : new.progress
+      ≡ with_text old.progress old.printer.now.draft.text.items
   pub has_failed : new.printer.now.has_failed ≡ true
 
 module _ {M W F : Type 0} (facts : M → MatcherFacts F) where
@@ -76,11 +66,12 @@ module _ {M W F : Type 0} (facts : M → MatcherFacts F)
   abbrev pub json_text_of : JsonSink M W → Settings → Call → List ℕ
   json_text_of sink settings call = json_text (json_frame sink settings) sink.progress call
 
-  -- the text of a call is made, and nothing is written
+  -- the text of a call is made, and nothing is written; its bytes aren't counted yet
   pub record ComposesCall (old : JsonSink M W) (settings : Settings) (call : Call)
       (new : JsonSink M W) : Type 0 where
-    pub text : new.printer.now.text.items ≡ json_text_of old settings call
-    pub progress : new.progress ≡ json_progress (json_frame old settings) old.progress call
+    pub text : new.printer.now.draft.text.items ≡ json_text_of old settings call
+    pub progress : with_text new.progress (json_text_of old settings call)
+        ≡ json_progress (json_frame old settings) old.progress call
 
   -- there was no memory for it, or the matcher failed
   pub record FailsToCompose (old : JsonSink M W) (settings : Settings) (call : Call)

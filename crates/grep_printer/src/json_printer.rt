@@ -1,31 +1,22 @@
 //! The printer of JSON.
-ghost use Rattle.std.specs.Prelude.{◌≡◌, ◌⊎◌, ◌≤◌, ◌++◌, All, IfErr, MatchResult, OnErr, OnOk};
-ghost use Rattle.std.specs.Prelude.{◌||◌, if◌then◌else◌, is_ok, length, not, true, false};
-ghost use Rattle.grep_searcher.specs.SearchErrors.{IsOutOfMemory};
+ghost use Rattle.std.specs.Prelude.{◌≡◌, ◌||◌, MatchResult, if◌then◌else◌, is_ok, not, true, false};
 ghost use Rattle.grep_searcher.specs.SinkArguments.{context_call, match_call};
 ghost use Rattle.grep_output.specs.Outputs.{Writes, flushes};
-ghost use Rattle.grep_printer.specs.JsonMessages.{begin_json, json_line, report_json};
-ghost use Rattle.grep_printer.specs.JsonMessages.{summary_json};
+ghost use Rattle.grep_printer.specs.JsonMessages.{json_line, summary_json};
 ghost use Rattle.grep_printer.specs.JsonPieces.{AreWithin, message_of};
 ghost use Rattle.grep_printer.specs.JsonSteps.{FailsToWriteJson, FailsToWriteText, IsSameJson};
-ghost use Rattle.grep_printer.specs.JsonSteps.{IsComposingCall, IsComposingJson, IsJsonError};
-ghost use Rattle.grep_printer.specs.JsonSteps.{IsJsonWritten, IsSamePrinter, WritesText};
-ghost use Rattle.grep_printer.specs.JsonSteps.{json_frame};
-ghost use Rattle.grep_printer.specs.JsonTexts.{context_submatches, end_text, is_reported};
-ghost use Rattle.grep_printer.specs.JsonTexts.{new_json_progress, opening_line, report_line};
-ghost use Rattle.grep_printer.specs.JsonTexts.{stats_of, submatches_of, with_match};
-ghost use Rattle.grep_printer.specs.JsonTexts.{with_size, with_text};
+ghost use Rattle.grep_printer.specs.JsonSteps.{IsComposingCall, IsJsonWritten, WritesText};
+ghost use Rattle.grep_printer.specs.JsonTexts.{end_text, is_reported, new_json_progress, stats_of};
+ghost use Rattle.grep_printer.specs.JsonTexts.{with_match, with_size};
 ghost use Rattle.grep_printer.specs.StatsSums.{nanos_of};
 
-use crate::json_lines::{Message, Report, add_message};
-use crate::parts::find_reported_parts;
+use crate::json_draft::{JsonDraft, Place};
+use crate::json_lines::Message;
 use crate::stats::{Stats, nanoseconds};
 use grep_lines::line_count;
 use grep_output::{Output, write_all};
-use grep_searcher::{
-    FindAt, Match, SearchError, Searcher, Sink, SinkContext, SinkFinish, SinkMatch,
-};
-use std::alloc::{AllocError, Allocator, Global};
+use grep_searcher::{FindAt, SearchError, Searcher, Sink, SinkContext, SinkFinish, SinkMatch};
+use std::alloc::{Allocator, Global};
 use std::io;
 use std::time::Duration;
 
@@ -64,8 +55,7 @@ impl JsonBuilder {
     {
         Json {
             writer,
-            text: Vec::new(alloc),
-            submatches: Vec::new(alloc),
+            draft: JsonDraft::new(alloc),
             always_begin_end: self.always_begin_end,
             has_failed: false,
         }
@@ -77,9 +67,7 @@ impl JsonBuilder {
 #[derive(Drop)]
 pub struct Json<W> {
     writer: W,
-    // The text of the call at hand, and the matches in its report.
-    text: Vec<u8>,
-    submatches: Vec<Match>,
+    draft: JsonDraft,
     always_begin_end: bool,
     has_failed: bool,
 }
@@ -119,53 +107,11 @@ impl<W> Json<W> {
     {
         let Json {
             writer,
-            text: _,
-            submatches: _,
+            draft: _,
             always_begin_end: _,
             has_failed: _,
         } = self;
         writer
-    }
-
-    // Makes a text of the message that a search begins.
-    fn compose_begin(&mut self, path: Option<&str>) -> Result<(), AllocError>
-        ensures same { IsSamePrinter self.old self.new }
-        ensures text { OnOk result (self.new.text.items ≡ json_line (begin_json path.entry)) }
-    {
-        self.text.clear();
-        add_message(&mut self.text, Message::Begin(path))
-    }
-
-    // Makes a text of a report with the matches at hand, after the message that the search begins
-    // if that isn't written yet.
-    fn compose_report(
-        &mut self,
-        is_begun: bool,
-        kind: &str,
-        path: Option<&str>,
-        place: &Place,
-        bytes: &[u8],
-    ) -> Result<(), AllocError>
-        requires { All (λ range. range.1 ≤ length bytes.now) self.old.submatches.items }
-        ensures same { IsSamePrinter self.old self.new }
-        ensures submatches { self.new.submatches ≡ self.old.submatches }
-        ensures text { OnOk result (self.new.text.items
-            ≡ opening_line path.entry is_begun ++ json_line (report_json kind.now path.entry
-            bytes.now place.now.number place.now.offset self.old.submatches.items)) }
-    {
-        self.text.clear();
-        if !is_begun {
-            add_message(&mut self.text, Message::Begin(path))?;
-        }
-        let report = Report {
-            kind,
-            path,
-            bytes,
-            number: place.number,
-            offset: place.offset,
-            ranges: &self.submatches,
-        };
-        add_message(&mut self.text, Message::Report(report))
     }
 }
 
@@ -201,21 +147,20 @@ impl<W: Output> Json<W> {
             (λ e. FailsToWriteText W.step self.old (json_line (message_of message.entry)) e
             self.new) }
     {
-        self.text.clear();
-        add_message(&mut self.text, message)?;
+        self.draft.compose(message)?;
         self.write_text()?;
         Ok(())
     }
 
     // Writes the text at hand.
     fn write_text(&mut self) -> io::Result<()>
-        ensures written { Writes W.step self.old.writer self.old.text.items result self.new.writer }
-        ensures text { self.new.text.items ≡ self.old.text.items }
+        ensures written { Writes W.step self.old.writer self.old.draft.text.items result
+            self.new.writer }
         ensures always_begin_end { self.new.always_begin_end ≡ self.old.always_begin_end }
         ensures has_failed { self.new.has_failed
             ≡ (if is_ok result then self.old.has_failed else true) }
     {
-        match write_all(&mut self.writer, &self.text) {
+        match write_all(&mut self.writer, &self.draft.text) {
             Ok(()) => Ok(()),
             Err(error) => {
                 self.has_failed = true;
@@ -223,13 +168,6 @@ impl<W: Output> Json<W> {
             }
         }
     }
-}
-
-// Where a report is: the number of its first line, and its offset.
-#[derive(Clone, Copy)]
-struct Place {
-    number: Option<u64>,
-    offset: u64,
 }
 
 // What was reported to a sink, and written: whether the message that the search begins was,
@@ -348,68 +286,6 @@ impl<'s, M: FindAt, W: Output> JsonSink<'s, M, W> {
 }
 
 impl<'s, M: FindAt, W: Output> JsonSink<'s, M, W> {
-    // Finds the matches in a report.
-    fn find_submatches<A: Allocator + Copy>(
-        &mut self,
-        searcher: &Searcher<A>,
-        bytes: &[u8],
-    ) -> Result<(), SearchError>
-        ensures composing { IsComposingJson self.old self.new }
-        ensures submatches { OnOk result (self.new.printer.now.submatches.items ≡ submatches_of
-            (json_frame M.facts M.first_at self.old searcher.now.settings) bytes.now) }
-        ensures within { OnOk result
-            (All (λ range. range.1 ≤ length bytes.now) self.new.printer.now.submatches.items) }
-        ensures error { IfErr result (λ e. IsOutOfMemory e
-            ⊎ IsJsonError M.facts self.old searcher.now.settings bytes.now e) }
-    {
-        find_reported_parts(&mut self.printer.submatches, searcher, &self.matcher, bytes)
-    }
-
-    // Finds the matches in a line that isn't a match, if lines without a match are selected.
-    fn find_context_submatches<A: Allocator + Copy>(
-        &mut self,
-        searcher: &Searcher<A>,
-        bytes: &[u8],
-    ) -> Result<(), SearchError>
-        ensures composing { IsComposingJson self.old self.new }
-        ensures submatches { OnOk result (self.new.printer.now.submatches.items ≡ context_submatches
-            (json_frame M.facts M.first_at self.old searcher.now.settings) bytes.now) }
-        ensures within { OnOk result
-            (All (λ range. range.1 ≤ length bytes.now) self.new.printer.now.submatches.items) }
-        ensures error { IfErr result (λ e. IsOutOfMemory e
-            ⊎ IsJsonError M.facts self.old searcher.now.settings bytes.now e) }
-    {
-        if searcher.invert_match() {
-            return self.find_submatches(searcher, bytes);
-        }
-        self.printer.submatches.clear();
-        Ok(())
-    }
-
-    // Makes the text of a report with the matches at hand, and counts its bytes.
-    fn compose_report(&mut self, kind: &str, place: &Place, bytes: &[u8]) -> Result<(), AllocError>
-        requires { All (λ range. range.1 ≤ length bytes.now)
-            self.old.printer.now.submatches.items }
-        ensures same { IsSameJson self.old self.new }
-        ensures writer { self.new.printer.now.writer ≡ self.old.printer.now.writer }
-        ensures has_failed { self.new.printer.now.has_failed ≡ self.old.printer.now.has_failed }
-        ensures submatches { self.new.printer.now.submatches ≡ self.old.printer.now.submatches }
-        ensures text { OnOk result (self.new.printer.now.text.items
-            ≡ report_line self.old.path self.old.progress kind.now bytes.now place.now.number
-            place.now.offset self.old.printer.now.submatches.items) }
-        ensures counted { OnOk result (self.new.progress ≡ with_text self.old.progress
-            (report_line self.old.path self.old.progress kind.now bytes.now place.now.number
-            place.now.offset self.old.printer.now.submatches.items)) }
-        ensures uncounted { OnErr result (self.new.progress ≡ self.old.progress) }
-    {
-        let is_begun = self.progress.is_begun;
-        self.printer
-            .compose_report(is_begun, kind, self.path, place, bytes)?;
-        let size = self.printer.text.len();
-        self.progress.add_text(size);
-        Ok(())
-    }
-
     // Makes the text of a match.
     fn compose_match<A: Allocator + Copy>(
         &mut self,
@@ -420,15 +296,20 @@ impl<'s, M: FindAt, W: Output> JsonSink<'s, M, W> {
             (match_call found.now) result self.new }
     {
         let bytes = found.bytes();
-        if let Err(error) = self.find_submatches(searcher, bytes) {
+        let draft = &mut self.printer.draft;
+        if let Err(error) = draft.find_submatches(searcher, &self.matcher, bytes) {
             return Err(error);
         }
         let place = Place {
+            kind: "match",
             number: found.line_number(),
             offset: found.absolute_byte_offset(),
         };
-        self.compose_report("match", &place, bytes)?;
-        let matches = self.printer.submatches.len();
+        let is_begun = self.progress.is_begun;
+        self.printer
+            .draft
+            .compose_report(is_begun, self.path, &place, bytes)?;
+        let matches = self.printer.draft.submatches.len();
         let lines = line_count(bytes, searcher.line_terminator().as_byte());
         self.progress.add_match(lines, matches);
         Ok(())
@@ -444,40 +325,30 @@ impl<'s, M: FindAt, W: Output> JsonSink<'s, M, W> {
             (context_call line.now) result self.new }
     {
         let bytes = line.bytes();
-        if let Err(error) = self.find_context_submatches(searcher, bytes) {
+        let draft = &mut self.printer.draft;
+        if let Err(error) = draft.find_context_submatches(searcher, &self.matcher, bytes) {
             return Err(error);
         }
         let place = Place {
+            kind: "context",
             number: line.line_number(),
             offset: line.absolute_byte_offset(),
         };
-        self.compose_report("context", &place, bytes)?;
+        let is_begun = self.progress.is_begun;
+        self.printer
+            .draft
+            .compose_report(is_begun, self.path, &place, bytes)?;
         Ok(())
     }
 
-    // Makes the text of the message that the search begins, and counts its bytes.
-    fn compose_begin(&mut self) -> Result<(), AllocError>
-        ensures same { IsSameJson self.old self.new }
-        ensures writer { self.new.printer.now.writer ≡ self.old.printer.now.writer }
-        ensures has_failed { self.new.printer.now.has_failed ≡ self.old.printer.now.has_failed }
-        ensures text { OnOk result
-            (self.new.printer.now.text.items ≡ json_line (begin_json self.old.path)) }
-        ensures counted { OnOk result (self.new.progress
-            ≡ with_text self.old.progress (json_line (begin_json self.old.path))) }
-        ensures uncounted { OnErr result (self.new.progress ≡ self.old.progress) }
-    {
-        self.printer.compose_begin(self.path)?;
-        let size = self.printer.text.len();
-        self.progress.add_text(size);
-        Ok(())
-    }
-
-    // Writes the text at hand.
+    // Writes the text at hand, and counts its bytes.
     fn write(&mut self) -> Result<bool, SearchError>
         ensures { MatchResult result
             (λ goes. (goes ≡ true) × IsJsonWritten W.step self.old self.new)
             (λ e. FailsToWriteJson W.step self.old e self.new) }
     {
+        let size = self.printer.draft.text.len();
+        self.progress.add_text(size);
         match self.printer.write_text() {
             Ok(()) => Ok(true),
             Err(error) => Err(SearchError::Io(error)),
@@ -498,7 +369,7 @@ impl<'s, M: FindAt, W: Output> Sink for JsonSink<'s, M, W> {
         if !self.printer.always_begin_end || self.progress.is_begun {
             return Ok(true);
         }
-        self.compose_begin()?;
+        self.printer.draft.compose(Message::Begin(self.path))?;
         self.write()
     }
 

@@ -10,6 +10,7 @@ mod colors;
 mod config;
 mod draft;
 mod fields;
+mod json_draft;
 mod json_lines;
 mod json_printer;
 pub mod laws;

@@ -1,7 +1,7 @@
 use Rattle.std.proofs.Common.{length, arith}
 use Rattle.std.proofs.lemmas.Result.{on_ok_weaker}
 use Rattle.grep_printer.proofs.FoundPartLemmas.{ends-within}
-use Rattle.grep_printer.proofs.json_printer.JsonSink.find_submatches.Goals as goal
+use Rattle.grep_printer.proofs.json_draft.JsonDraft.find_submatches.Goals as goal
 
 pub returns-clause-within : goal.returns-clause-within
 returns-clause-within g c =
