@@ -1,7 +1,8 @@
 -- Which inputs are searched as they are.
-use Rattle.std.proofs.Common.{◌≡◌, ℕ, Bool, true, false, not, ◌||◌, ◌&&◌, List, ◌++◌, Option, Some, None, refl, ap}
+use Rattle.std.proofs.Common.{◌≡◌, Bool, true, false, not, ◌||◌, ◌&&◌, ◌++◌, Option, Some, None, refl, ap}
 use Rattle.std.specs.Prelude.{is_some, if◌then◌else◌}
-use Rattle.grep_decode.specs.Decoded.{by_mark, decoded, found_mark, is_unchanged, mark_of, marked}
+use Rattle.grep_decode.proofs.DecodedTextLemmas.{unchanged-decoded}
+use Rattle.grep_decode.specs.Decoded.{by_mark, found_mark, mark_of, marked}
 use Rattle.grep_decode.specs.declared.label.Label.{Label}
 use Rattle.grep_decode.specs.declared.label.Label.TheVariants.{Utf8}
 use Rattle.grep_definitions.specs.Searches.{searched_bytes, encoding_after, encoding_of}
@@ -14,10 +15,9 @@ use Rattle.grep_definitions.specs.SearchLaws.{
   UnmarkedIsUnchanged,
 }
 
-pub unchanged-input : ((label : Option Label) (sniff : Bool) (bytes : List ℕ) → is_unchanged label sniff bytes ≡ true
-    → decoded label sniff bytes ≡ bytes) → UnchangedIsInput
+pub unchanged-input : UnchangedIsInput
 unfolding searched_bytes is_searched_unchanged
-unchanged-input law settings input is = law settings.encoding settings.bom_sniffing input is
+unchanged-input settings input is = unchanged-decoded settings.encoding settings.bom_sniffing input is
 
 pub unsniffed-unchanged : UnsniffedIsUnchanged
 unfolding is_searched_unchanged

@@ -58,7 +58,16 @@ use Rattle.grep_matcher.specs.Meanings.{Meaning}
 use Rattle.grep_lines.proofs.LineStepLemmas.{lines-numbered}
 use Rattle.grep_report.specs.declared.sink_context.SinkContextKind.TheVariants.{Before, After, Other}
 use Rattle.grep_definitions.proofs.LineSliceLemmas.{line-report}
-use Rattle.grep_definitions.specs.SearchLaws.{is_match, is_matched, match_calls, match_of, matched_lines}
+use Rattle.grep_definitions.specs.SearchLaws.{
+  is_match,
+  is_matched,
+  match_calls,
+  match_of,
+  matched_lines,
+  FirstMatchIsFirst,
+  MatchesAreCounted,
+  MatchesAreMatchedLines,
+}
 use Rattle.grep_definitions.specs.LineSearch
 use Rattle.grep_definitions.proofs.BoolLemmas.{both_true, not_false, clash}
 use Rattle.grep_definitions.proofs.BelowLemmas.{
@@ -79,6 +88,7 @@ use Rattle.grep_definitions.proofs.BelowLemmas.{
   room-first,
 }
 use Rattle.grep_definitions.proofs.SearchLawLemmas.{turn_count-le}
+use Rattle.grep_definitions.proofs.SearchModeLemmas.{plan-by_line}
 
 -- the numbers below n that pass, each as a list of one
 abbrev pub passing : (ℕ → Bool) → ℕ → List ℕ
@@ -318,3 +328,19 @@ count_below-few p (suc n) = go (p n) (count_below-few p n)
     go : (b : Bool) → count_below p n ≤ n → (if b then count_below p n + 1 else count_below p n) ≤ suc n
     go true before = omega arith
     go false before = omega arith
+
+-- by line these are the matched lines, as many, and the first is the first selected line
+pub matches-are_matched_lines : MatchesAreMatchedLines
+matches-are_matched_lines k meaning bytes by_line =
+    ap (λ plan. match_calls plan.calls) (plan-by_line k meaning bytes by_line)
+    ∙ match_calls-turns k meaning bytes
+
+pub matches-are_counted : MatchesAreCounted
+matches-are_counted k meaning bytes by_line =
+    ap (λ plan. length (match_calls plan.calls)) (plan-by_line k meaning bytes by_line)
+    ∙ length-match_calls k meaning bytes
+
+pub first_match-is_first : FirstMatchIsFirst
+first_match-is_first k meaning bytes by_line =
+    ap (λ plan. slice_get (match_calls plan.calls) 0) (plan-by_line k meaning bytes by_line)
+    ∙ first-match_calls k meaning bytes

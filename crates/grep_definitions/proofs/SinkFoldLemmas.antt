@@ -68,7 +68,8 @@ use Rattle.grep_definitions.specs.Searches.{
 }
 use Rattle.grep_report.specs.ErrorMakers.{ErrorMakers}
 use Rattle.grep_definitions.specs.SliceSearches.{IsSliceSearch, IsSliceRead, IsSliceSearchedIf, is_searched_unchanged}
-use Rattle.grep_definitions.specs.SearchLaws.{UnchangedIsInput, calls_of, is_match, match_calls}
+use Rattle.grep_definitions.specs.SearchLaws.{calls_of, is_match, match_calls}
+use Rattle.grep_definitions.proofs.DecodedLemmas.{unchanged-input}
 use Rattle.grep_definitions.specs.SinkFolds.{
   fold_while,
   run_fold,
@@ -325,8 +326,8 @@ module _ {S E F : Type 0} (step : Steps S E) (errors : ErrorMakers F E) (matcher
           | inr cut ↦ inr cut
         ]
 
-  pub searches-run : UnchangedIsInput → SearchesRun step errors matcher
-  searches-run law state input old new none lawful searched = go (is_searched_unchanged state.settings input) refl
+  pub searches-run : SearchesRun step errors matcher
+  searches-run state input old new none lawful searched = go (is_searched_unchanged state.settings input) refl
       searched
     where
       go : (b : Bool) → is_searched_unchanged state.settings input ≡ b
@@ -335,7 +336,7 @@ module _ {S E F : Type 0} (step : Steps S E) (errors : ErrorMakers F E) (matcher
           input)) (Ok tt) new
       go true is searched =
           subst (λ bytes. IsRun step state.settings old (search_plan state.settings matcher.meaning bytes) (Ok tt) new)
-          (sym (law state.settings input is))
+          (sym (unchanged-input state.settings input is))
           (along state.settings (IsPoint state.settings matcher.meaning input (look_of state.settings matcher.meaning
           true) (length input))
           (λ calls point at. subst (λ look. IsPoint state.settings matcher.meaning input look (length input) calls

@@ -18,8 +18,6 @@ ghost use Rattle.grep_definitions.specs.BinaryLaws.{QuitReportsAreClear, Counted
 ghost use Rattle.grep_definitions.specs.BinaryLaws.{SeenLinesAreClear, SeenLinesBegin};
 ghost use Rattle.grep_definitions.specs.CountLaws.{NumbersChangeNoCount, NumbersChangeNoBytes};
 
-use grep_decode::laws::unchanged_is_decoded;
-
 /// An input without a label, and without a mark that is looked for and found, is searched as it is.
 /// After a mark of UTF-8 that is looked for, what comes after it is searched as it is.
 pub fn unchanged_is_searched()
@@ -28,9 +26,7 @@ pub fn unchanged_is_searched()
     ensures unmarked { UnmarkedIsUnchanged }
     ensures passes { UnchangedPasses }
     ensures marked { MarkedPasses }
-{
-    unchanged_is_decoded();
-}
+{}
 
 /// The reports ascend, and no byte is reported twice: each report has a byte, and ends by the
 /// offset of each later one.

@@ -1,5 +1,5 @@
 -- Sinks and handlers that append something of each call to what they keep.
-use Rattle.std.proofs.Common.{◌≡◌, ℕ, Bool, true, false, List, [], ◌∷◌, ◌++◌, sym, ap, subst, ◌∙◌, inl, inr, append_assoc}
+use Rattle.std.proofs.Common.{◌≡◌, Bool, true, false, List, [], ◌∷◌, ◌++◌, sym, ap, subst, ◌∙◌, inl, inr, append_assoc}
 use Rattle.std.proofs.lemmas.Bool.{false≢true}
 use Rattle.std.proofs.lemmas.List.{append-nil}
 use Rattle.std.proofs.lemmas.List.Folds.{flat_map-map}
@@ -7,7 +7,8 @@ use Rattle.std.specs.Prelude.{Ok}
 use Rattle.std.specs.List.{flat_map}
 use Rattle.grep_definitions.specs.Plans.{AreMade, Call, Finish, finishes, IsFinished, Outcome}
 use Rattle.grep_definitions.specs.Plans.{Planned, Steps, Settings}
-use Rattle.grep_definitions.specs.SearchLaws.{calls_of, MatchesAreMatchedLines, match_calls, match_of, matched_lines}
+use Rattle.grep_definitions.specs.SearchLaws.{calls_of, match_calls, match_of, matched_lines}
+use Rattle.grep_definitions.proofs.MatchCallLemmas.{matches-are_matched_lines}
 use Rattle.grep_definitions.specs.SinkFolds.{fold_while}
 use Rattle.grep_searcher.specs.AppendedParts.{AppendsMatches, AppendsParts, RunsAppend, RunsAppendLines, RunsAppendMatches}
 use Rattle.grep_searcher.proofs.MatchHandlerLemmas.{runs-handle}
@@ -57,9 +58,9 @@ module _ {H E : Type 0} (goes : H → Call → Bool) (next : H → Call → H) (
       ap kept (runs-handle goes next fails settings old plan new run)
       ∙ fold_while-append kept part by old (match_calls plan.calls)
 
-  pub runs-append_lines : MatchesAreMatchedLines → RunsAppendLines goes next fails X
-  runs-append_lines are_matched kept part by settings meaning bytes by_line old new run =
+  pub runs-append_lines : RunsAppendLines goes next fails X
+  runs-append_lines kept part by settings meaning bytes by_line old new run =
       runs-append_matches kept part by settings old _ new run
-      ∙ ap (λ calls. kept old ++ flat_map part calls) (are_matched settings meaning bytes by_line)
+      ∙ ap (λ calls. kept old ++ flat_map part calls) (matches-are_matched_lines settings meaning bytes by_line)
       ∙ ap (λ parts. kept old ++ parts)
       (flat_map-map part (match_of settings bytes) (matched_lines settings meaning bytes))

@@ -1,5 +1,5 @@
 -- How far a search that ends at the first match has read.
-use Rattle.std.proofs.Common.{◌≡◌, ℕ, ◌+◌, ◌<◌, ◌≤◌, Bool, true, false, not, ◌&&◌, List, [], ◌∷◌, ◌++◌, length}
+use Rattle.std.proofs.Common.{◌≡◌, ℕ, ◌+◌, ◌<◌, Bool, true, false, not, ◌&&◌, List, [], ◌∷◌, ◌++◌, length}
 use Rattle.std.proofs.Common.{Option, Some, None, Ok, refl, sym, ap, subst, ◌∙◌, inl, inr, arith, if◌then◌else◌}
 use Rattle.std.proofs.Common.{length-append}
 use Rattle.std.proofs.lemmas.Bool.{false≢true}
@@ -14,7 +14,6 @@ use Rattle.grep_decode.specs.Decoded.{begins_with_mark, found_mark, mark_of}
 use Rattle.grep_decode.specs.Source.{ReadResult}
 use Rattle.grep_decode.specs.declared.label.Label.{Label}
 use Rattle.grep_decode.specs.declared.label.Label.TheVariants.{Utf8, Utf16Le, Utf16Be}
-use Rattle.grep_matcher.proofs.LineLemmas.{AreLines-lines}
 use Rattle.grep_matcher.specs.Lines.{byte_of, lines}
 use Rattle.grep_matcher.specs.Meanings.{MatcherFacts, Meaning}
 use Rattle.grep_report.specs.ErrorMakers.{ErrorMakers}
@@ -22,14 +21,15 @@ use Rattle.grep_definitions.specs.Plans.{search_plan, selection_in, AreMade, beg
 use Rattle.grep_definitions.specs.Plans.{breaks, Call, context, Finish, finish_after, finishes}
 use Rattle.grep_definitions.specs.Plans.{IsFinished, IsRun, matches, Outcome, Plan, Planned}
 use Rattle.grep_definitions.specs.Plans.{planned, breaks_before, calls_at, count_at, first_below}
-use Rattle.grep_definitions.specs.Plans.{in_context, joined_from, Kind, kind, line, line_count}
-use Rattle.grep_definitions.specs.Plans.{matched, report, reports_plan, Selection, some_below}
+use Rattle.grep_definitions.specs.Plans.{in_context, Kind, kind, line_count}
+use Rattle.grep_definitions.specs.Plans.{matched, report, reports_plan, Selection}
 use Rattle.grep_definitions.specs.Plans.{start, is_selected, reports_end, selected_lines, Settings}
-use Rattle.grep_definitions.specs.Plans.{SearcherState}
-use Rattle.grep_definitions.specs.Searches.{BinaryPoint, nowhere, plan_with, encoding_after}
+use Rattle.grep_definitions.specs.Searches.{BinaryPoint, plan_with, encoding_after}
 use Rattle.grep_definitions.specs.Searches.{encoding_of, IsClosed, IsFront, searched_bytes}
-use Rattle.grep_definitions.specs.Searches.{IsReaderSearch, IsSearchOf, ran}
-use Rattle.grep_definitions.specs.SearchLaws.{FirstMatchIsFirst, is_match, match_calls, match_of, reported_to, UnchangedIsInput}
+use Rattle.grep_definitions.specs.Searches.{IsSearchOf, ran}
+use Rattle.grep_definitions.specs.SearchLaws.{is_match, match_calls, match_of, reported_to}
+use Rattle.grep_definitions.proofs.DecodedLemmas.{unchanged-input}
+use Rattle.grep_definitions.proofs.MatchCallLemmas.{first_match-is_first}
 use Rattle.grep_definitions.specs.SinkFolds.{IsMatchOk}
 use Rattle.grep_definitions.specs.SliceSearches.{is_searched_unchanged}
 use Rattle.grep_definitions.proofs.BelowLemmas.{first_below-before, first_below-here, first_below-of, some_below-none}
@@ -40,7 +40,7 @@ use Rattle.grep_matcher.proofs.LineStartLemmas.{line_start-more}
 use Rattle.grep_definitions.proofs.ListLemmas.{All-joined_from}
 use Rattle.grep_definitions.proofs.SearchLawLemmas.{turn_count-le}
 use Rattle.grep_definitions.proofs.SinkFoldLemmas.{reader_searches-run}
-use Rattle.grep_searcher.specs.BoundedReads.{IsReadToMatch, IsReadUpTo, ReadersFindLines}
+use Rattle.grep_searcher.specs.BoundedReads.{ReadersFindLines}
 use Rattle.grep_searcher.specs.MatchHandlers.{has_selected, IsFoundStep}
 use Rattle.grep_searcher.proofs.MatchHandlerLemmas.{first_below-some, runs-find_selected}
 
@@ -196,7 +196,7 @@ unencoded k front back = go k.encoding k.bom_sniffing
 
 -- ---- a search of a reader
 
-module _ (is_first : FirstMatchIsFirst) (unchanged : UnchangedIsInput) {F E : Type 0}
+module _ {F E : Type 0}
     (errors : ErrorMakers F E) (matcher : MatcherFacts F) {R : Type 0} (remaining : R → Option (List ℕ))
     (read_step : R → ReadResult → R → Type 0) where
   -- a run over the lines that were seen, with what it has read
@@ -248,11 +248,11 @@ module _ (is_first : FirstMatchIsFirst) (unchanged : UnchangedIsInput) {F E : Ty
       by.undetected by.lawful searched in
       let whole = taken-input remaining read_step k input reader reader' all runs.0.taken in
       let is_found : new ≡ has_selected k meaning (searched_bytes k input) =
-      runs-find_selected is_first E k meaning (searched_bytes k input) by.by_line old new is_new
+      runs-find_selected E k meaning (searched_bytes k input) by.by_line old new is_new
       (runs.1 (searched_bytes k input) whole) in (
         is_found,
         λ limit i limited as_it_is first.
-            let same : searched_bytes k input ≡ input = unchanged k input as_it_is in
+            let same : searched_bytes k input ≡ input = unchanged-input k input as_it_is in
             let found : new ≡ true = is_found ∙ ap (has_selected k meaning) same
             ∙ sym (first_below-some (is_selected k meaning input) (line_count k input)) ∙ ap is_some first in
             let seen = runs.0.seen in
@@ -270,7 +270,7 @@ module _ (is_first : FirstMatchIsFirst) (unchanged : UnchangedIsInput) {F E : Ty
             (subst (λ left. Consumes left (remaining reader') pieces) all runs.0.taken.takes) in
             let none = unencoded k pieces part.0 (subst (λ bytes. is_searched_unchanged k bytes ≡ true) part.1 as_it_is) in
             let ahead = (run.1.1 by.by_line).ahead limit limited none in
-            let end = first-end k meaning input seen front i at.found first (sym (is_first k meaning seen by.by_line)
+            let end = first-end k meaning input seen front i at.found first (sym (first_match-is_first k meaning seen by.by_line)
             ∙ at.first) in
             record {
               read = pieces;

@@ -7,7 +7,8 @@ use Rattle.std.specs.Borrow.{Bor}
 use Rattle.std.specs.declared.io.Error.{Error}
 use Rattle.grep_definitions.specs.Plans.{line, start, Settings, Call, begins, matches, context}
 use Rattle.grep_definitions.specs.Plans.{breaks, binary_data, finishes}
-use Rattle.grep_definitions.specs.SearchLaws.{MatchesAreMatchedLines, match_of, matched_lines}
+use Rattle.grep_definitions.specs.SearchLaws.{match_of, matched_lines}
+use Rattle.grep_definitions.proofs.MatchCallLemmas.{matches-are_matched_lines}
 use Rattle.grep_definitions.specs.SinkFolds.{AreTaken, IsTakenOk}
 use Rattle.grep_definitions.proofs.SinkFoldLemmas.{runs-take_matches}
 use Rattle.grep_matcher.specs.Meanings.{Meaning}
@@ -74,11 +75,10 @@ module _ {F : Type 0} (call : F → ℕ → Bor (List ℕ) → Result Bool Error
         )
     kept-matches (i ∷ later) old new (inr here) = absurd (let never = (kept-one i old new false here).0 in cc)
 
-  pub closures-keep : MatchesAreMatchedLines → {S : Type 0} (closure : S → F)
-      → ClosuresKeep call is_text closure text_of
-  closures-keep are_matched closure name kept by settings meaning bytes by_line plan same old new run =
+  pub closures-keep : {S : Type 0} (closure : S → F) → ClosuresKeep call is_text closure text_of
+  closures-keep closure name kept by settings meaning bytes by_line plan same old new run =
       kept-matches name kept by settings meaning bytes (matched_lines settings meaning bytes) (closure old)
       (closure new)
       (subst (λ calls. AreTaken (IsCalledAt call is_text) (closure old) calls (closure new))
-      (same ∙ are_matched settings meaning bytes by_line)
+      (same ∙ matches-are_matched_lines settings meaning bytes by_line)
       (closures-are_called call is_text closure settings old plan new run).taken)

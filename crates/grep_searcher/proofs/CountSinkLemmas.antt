@@ -4,7 +4,7 @@ use Rattle.grep_definitions.specs.Plans.{search_plan, Call}
 use Rattle.grep_definitions.specs.SearchLaws.{match_calls}
 use Rattle.grep_definitions.specs.SinkFolds.{fold_while}
 use Rattle.grep_searcher.specs.CountSinks.{counted, RunsCount, RunsCountAll}
-use Rattle.grep_searcher.specs.Units.{MatchesAreWithinCount}
+use Rattle.grep_searcher.proofs.UnitCallLemmas.{matches-are_within_count}
 use Rattle.grep_searcher.proofs.MatchHandlerLemmas.{runs-fit, runs-handle}
 
 -- each of some matches is counted, up to the largest number
@@ -18,13 +18,13 @@ runs-count E settings old plan new fits run =
     runs-handle {E = E} (λ _ _. true) counted (λ _ _ _ _. ⊥) settings old plan new run
     ∙ fold_while-counted old (match_calls plan.calls) fits
 
-pub runs-count_all : MatchesAreWithinCount → (E : Type 0) → RunsCountAll E
-runs-count_all within E settings meaning bytes old new is_new run =
+pub runs-count_all : (E : Type 0) → RunsCountAll E
+runs-count_all E settings meaning bytes old new is_new run =
     let plan = search_plan settings meaning bytes in
     omega (
       arith,
       is_new,
-      (within settings meaning bytes).0,
+      (matches-are_within_count settings meaning bytes).0,
       runs-fit {E = E} (λ _ _. true) counted (λ _ _ _ _. ⊥) (λ _ _. refl) settings old plan new run,
       runs-count E settings old plan new (omega (arith, is_new)) run,
     )

@@ -1,6 +1,6 @@
 -- What handlers of matches make of a run.
 use Rattle.std.proofs.Common.{◌≡◌, ℕ, zero, suc, ◌+◌, Bool, true, false, List, [], ◌∷◌, ◌++◌, length, map, Some, None}
-use Rattle.std.proofs.Common.{◌<◌, ◌^◌, refl, sym, ap, subst, ◌∙◌, append_assoc, arith, inl, inr, Result, Ok, Err}
+use Rattle.std.proofs.Common.{◌<◌, ◌^◌, refl, sym, ap, subst, ◌∙◌, append_assoc, arith, inl, inr, Ok, Err}
 use Rattle.std.proofs.Common.{if◌then◌else◌}
 use Rattle.std.proofs.Math.Seq.{take-nil}
 use Rattle.std.proofs.lemmas.Bool.{false≢true, le-ltb, lt-ltb}
@@ -12,13 +12,15 @@ use Rattle.grep_definitions.specs.Plans.{Call, begins, matches, context, breaks,
 use Rattle.grep_definitions.specs.Plans.{finishes, Steps, Finish, Planned, Plan, Outcome, AreMade}
 use Rattle.grep_definitions.specs.Plans.{IsFinished, IsRun, first_below, line_count, some_below}
 use Rattle.grep_definitions.specs.Plans.{is_selected, is_touched_selected, Settings}
-use Rattle.grep_definitions.specs.SearchLaws.{FirstMatchIsFirst, MatchesAreMatchedLines, match_calls, match_of}
+use Rattle.grep_definitions.specs.SearchLaws.{match_calls, match_of}
+use Rattle.grep_definitions.proofs.MatchCallLemmas.{first_match-is_first, matches-are_matched_lines}
 use Rattle.grep_definitions.specs.SearchLaws.{is_match, matched_lines}
 use Rattle.grep_definitions.specs.SinkFolds.{fold_while, IsMatchOk}
 use Rattle.grep_definitions.proofs.SinkFoldLemmas.{runs-fold_matches}
 use Rattle.grep_searcher.specs.MatchHandlers.{KeptReport, kept_of, collected, FirstReports, has_room}
 use Rattle.grep_searcher.specs.MatchHandlers.{with_first, IsHandlerStep, LacksMemory, RunsHandle, RunsFit, RunsFailAt}
-use Rattle.grep_searcher.specs.Units.{FirstMatchIsFirstUnit, unit_of}
+use Rattle.grep_searcher.specs.Units.{unit_of}
+use Rattle.grep_searcher.proofs.UnitCallLemmas.{first_match-is_first_unit}
 use Rattle.grep_searcher.specs.MatchHandlers.{IsFoundStep, RunsFindAcross, RunsFindSelected, RunsCollect, RunsCollectLines, RunsHandFirst}
 use Rattle.grep_searcher.specs.MatchHandlers.{RunsCollectUntil, RunsHandFirstLines}
 
@@ -139,15 +141,15 @@ runs-find {E} f p n settings plan old new is_first is_new run =
     ∙ ap (λ found. fold_while (λ _ _. false) (λ _ _. true) found calls) is_new
     ∙ fold_while-found calls ∙ ap is_some is_first ∙ is_some-mapped f (first_below p n) ∙ first_below-some p n
 
-pub runs-find_selected : FirstMatchIsFirst → (E : Type 0) → RunsFindSelected E
-runs-find_selected is_first E settings meaning bytes by_line old new is_new run =
+pub runs-find_selected : (E : Type 0) → RunsFindSelected E
+runs-find_selected E settings meaning bytes by_line old new is_new run =
     runs-find (match_of settings bytes) (is_selected settings meaning bytes) (line_count settings bytes) settings _ old new
-    (is_first settings meaning bytes by_line) is_new run
+    (first_match-is_first settings meaning bytes by_line) is_new run
 
-pub runs-find_across : FirstMatchIsFirstUnit → (E : Type 0) → RunsFindAcross E
-runs-find_across is_first E settings meaning bytes across old new is_new run =
+pub runs-find_across : (E : Type 0) → RunsFindAcross E
+runs-find_across E settings meaning bytes across old new is_new run =
     runs-find (unit_of settings meaning bytes) (is_touched_selected settings meaning bytes) (line_count settings bytes)
-    settings _ old new (is_first settings meaning bytes across) is_new run
+    settings _ old new (first_match-is_first_unit settings meaning bytes across) is_new run
 
 -- each match is kept
 fold_while-collected : (old : List KeptReport) (calls : List Call)
@@ -176,10 +178,10 @@ map-kept_lines : (f : ℕ → Call) (listed : List ℕ) → map kept_of (map f l
 map-kept_lines f [] = refl
 map-kept_lines f (i ∷ later) = ap (λ kept. kept_of (f i) ∷ kept) (map-kept_lines f later)
 
-pub runs-collect_lines : MatchesAreMatchedLines → (A : Type 0) → RunsCollectLines A
-runs-collect_lines are_matched A settings meaning bytes by_line old new run =
+pub runs-collect_lines : (A : Type 0) → RunsCollectLines A
+runs-collect_lines A settings meaning bytes by_line old new run =
     runs-collect A settings old _ new run
-    ∙ ap (λ calls. old ++ map kept_of calls) (are_matched settings meaning bytes by_line)
+    ∙ ap (λ calls. old ++ map kept_of calls) (matches-are_matched_lines settings meaning bytes by_line)
     ∙ ap (λ kept. old ++ kept) (map-kept_lines (match_of settings bytes) (matched_lines settings meaning bytes))
 
 abbrev kept_up_to : ℕ → List KeptReport → FirstReports
@@ -213,11 +215,11 @@ runs-hand_first A settings limit old plan new is_new run =
     runs-handle goes with_first (LacksMemory {A = A}) settings old plan new run
     ∙ ap (λ first. fold_while goes with_first first calls) is_new ∙ fold_while-first limit limit [] calls (omega arith)
 
-pub runs-hand_first_lines : MatchesAreMatchedLines → (A : Type 0) → RunsHandFirstLines A
-runs-hand_first_lines are_matched A settings meaning bytes by_line limit old new is_new run =
+pub runs-hand_first_lines : (A : Type 0) → RunsHandFirstLines A
+runs-hand_first_lines A settings meaning bytes by_line limit old new is_new run =
     let listed = matched_lines settings meaning bytes in
     runs-hand_first A settings limit old _ new is_new run
     ∙ ap (kept_up_to limit)
-    (ap (λ calls. map kept_of (take limit calls)) (are_matched settings meaning bytes by_line)
+    (ap (λ calls. map kept_of (take limit calls)) (matches-are_matched_lines settings meaning bytes by_line)
     ∙ ap (map kept_of) (take-map (match_of settings bytes) limit listed)
     ∙ map-kept_lines (match_of settings bytes) (take limit listed))

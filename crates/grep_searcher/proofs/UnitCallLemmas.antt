@@ -9,24 +9,22 @@ use Rattle.std.specs.Prelude.{filter, map, nat_lt, slice_get}
 use Rattle.std.specs.Option.{option_map}
 use Rattle.grep_matcher.specs.Lines.{byte_of, lines, line_start}
 use Rattle.grep_matcher.specs.Meanings.{Meaning}
-use Rattle.grep_matcher.proofs.LineLemmas.{AreLines-lines}
 use Rattle.grep_report.specs.declared.sink_context.SinkContextKind.TheVariants.{Before, After, Other}
 use Rattle.grep_definitions.specs.Plans.{is_across, search_plan, selection_in, planned, Call}
 use Rattle.grep_definitions.specs.Plans.{Planned, breaks, matches, breaks_before, calls_at}
-use Rattle.grep_definitions.specs.Plans.{count_at, count_below, first_below, follows_selected}
+use Rattle.grep_definitions.specs.Plans.{count_at, first_below, follows_selected}
 use Rattle.grep_definitions.specs.Plans.{in_context, joined_from, kind, line_count, matched, number}
-use Rattle.grep_definitions.specs.Plans.{precedes_selected, report, report_end, reports_plan}
-use Rattle.grep_definitions.specs.Plans.{Selection, some_below, start, is_touched_selected}
+use Rattle.grep_definitions.specs.Plans.{precedes_selected, report, reports_plan}
+use Rattle.grep_definitions.specs.Plans.{Selection, start, is_touched_selected}
 use Rattle.grep_definitions.specs.Plans.{reports_end, touched_lines, Settings}
 use Rattle.grep_definitions.specs.Selections.{continues}
 use Rattle.grep_definitions.specs.SearchLaws.{is_match, is_matched, match_calls}
 use Rattle.grep_definitions.proofs.BelowLemmas.{first_below-before, first_below-here, first_below-none, first_below-nowhere}
 use Rattle.grep_definitions.proofs.BelowLemmas.{first_below-of, joined_from-equal, some_below-false, some_below-none}
 use Rattle.grep_matcher.proofs.LineStartLemmas.{line_start-ascends, line_start-within}
-use Rattle.grep_definitions.proofs.MatchCallLemmas.{count_below-few, first-passing, length-match_calls, length-passing}
+use Rattle.grep_definitions.proofs.MatchCallLemmas.{count_below-few, first-passing, length-passing, matches-are_counted}
 use Rattle.grep_definitions.proofs.MatchCallLemmas.{passing}
 use Rattle.grep_definitions.proofs.LineSliceLemmas.{number-line}
-use Rattle.grep_definitions.proofs.SearchModeLemmas.{plan-by_line}
 use Rattle.grep_definitions.proofs.SearchLawLemmas.{turn_count-le}
 use Rattle.grep_searcher.specs.Units.{begins_unit, unit_bytes, unit_lines, unit_of, FirstMatchIsFirstUnit, MatchesAreUnits}
 use Rattle.grep_searcher.specs.Units.{MatchesAreWithinCount, UnitsAreCounted}
@@ -188,8 +186,7 @@ matches-are_within_count k meaning bytes = go (is_across k meaning) refl
           omega (
             arith,
             count false is,
-            ap (λ plan. length (match_calls plan.calls)) (plan-by_line k meaning bytes is),
-            length-match_calls k meaning bytes,
+            matches-are_counted k meaning bytes is,
             count_below-few (is_matched k meaning bytes) end,
             start-high t bytes end (turn_count-le k meaning bytes),
           ),

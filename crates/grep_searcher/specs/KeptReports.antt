@@ -1,5 +1,5 @@
 -- What a sink that keeps each report makes of a call, and of a run.
-use Rattle.std.specs.Prelude.{◌≡◌, Bool, true, List, [], ◌∷◌, ◌++◌, Result, Ok, Err}
+use Rattle.std.specs.Prelude.{◌≡◌, true, List, [], ◌∷◌, ◌++◌, Ok, Err}
 use Rattle.std.specs.List.{flat_map}
 use Rattle.grep_report.specs.SearchErrors.{IsOutOfMemory}
 use Rattle.grep_report.specs.declared.sink_error.SearchError.{SearchError}

@@ -105,17 +105,12 @@ pub fn runs_append_parts<S: Sink, X>()
 pub fn runs_count_matches<E>()
     ensures all { RunsCountAll E }
     ensures added { RunsCount E }
-{
-    matches_are_within_count();
-}
+{}
 
 /// By line, a run of a new `Count` that ended in `Ok` counted the matched lines.
 pub fn runs_count_lines<E>()
     ensures { RunsCountLines E }
-{
-    matches_are_counted();
-    runs_count_matches::<E>();
-}
+{}
 
 /// A run of `OnMatch` that ended in `Ok` made its handler handle the matches that are reported, in
 /// order, up to the first after which the search doesn't go on. One that ended in an error made it
@@ -133,28 +128,21 @@ pub fn runs_handle_matches<H: MatchHandler>()
 pub fn runs_append_matches<H: MatchHandler, X>()
     ensures all { RunsAppendMatches H.goes H.next H.fails X }
     ensures lines { RunsAppendLines H.goes H.next H.fails X }
-{
-    matches_are_matched_lines();
-}
+{}
 
 /// A run of a new `Found` that ended in `Ok` found a match exactly if a line is selected, by line
 /// and across lines.
 pub fn runs_find_selected<E>()
     ensures lines { RunsFindSelected E }
     ensures across { RunsFindAcross E }
-{
-    first_match_is_first();
-    matches_are_units();
-}
+{}
 
 /// A run of a new `First` that ended in `Ok` kept the first matches that are reported, up to its
 /// limit; by line these are the first matched lines.
 pub fn runs_hand_first<A: Allocator + Copy>()
     ensures all { RunsHandFirst A }
     ensures lines { RunsHandFirstLines A }
-{
-    matches_are_matched_lines();
-}
+{}
 
 /// A run of `Collect` that ended in `Ok` kept the matches that are reported, after those that it
 /// had kept; by line these are the matched lines, each with its number, its offset and its bytes. One
@@ -163,9 +151,7 @@ pub fn runs_collect_lines<A: Allocator + Copy>()
     ensures all { RunsCollect A }
     ensures lines { RunsCollectLines A }
     ensures failed { RunsCollectUntil A }
-{
-    matches_are_matched_lines();
-}
+{}
 
 /// A run of `Reports` that ended in `Ok` kept the reports of the plan, after those that it had kept.
 /// One that ended in an error, which is out of memory, kept those before the report at which it
@@ -199,25 +185,19 @@ pub fn bytes_closures_are_called<F: FnMut(u64, &[u8]) -> Result<bool, io::Error>
 /// matches.
 pub fn closures_keep_calls<F: FnMut(u64, &str) -> Result<bool, io::Error>>(_: &UTF8<F>)
     ensures { ClosuresKeep F.step IsUtf8Text (λ (s : UTF8 F). s.0) (λ bytes. bytes) }
-{
-    matches_are_matched_lines();
-}
+{}
 
 /// If the closure of `Lossy` keeps its calls so, a run adds the numbers and texts of the matched
 /// lines, with each ill-formed part replaced.
 pub fn lossy_closures_keep_calls<F: FnMut(u64, &str) -> Result<bool, io::Error>>(_: &Lossy<F>)
     ensures { ClosuresKeep F.step IsLossyText (λ (s : Lossy F). s.0) utf8_lossy }
-{
-    matches_are_matched_lines();
-}
+{}
 
 /// If the closure of `Bytes` keeps its calls so, a run adds the numbers and bytes of the matched
 /// lines.
 pub fn bytes_closures_keep_calls<F: FnMut(u64, &[u8]) -> Result<bool, io::Error>>(_: &Bytes<F>)
     ensures { ClosuresKeep F.step IsWholeText (λ (s : Bytes F). s.0) (λ bytes. bytes) }
-{
-    matches_are_matched_lines();
-}
+{}
 
 /// A run of `Matches` that ended in `Ok` lent its closure the matches that are reported, in order,
 /// up to the first at which it returned false. If each call that returns goes on and appends a part
@@ -251,9 +231,7 @@ where
     S::Error: SinkError<A>,
     ensures { (matcher : M) → SearchesRun S.step
         (makers_of M.Error.output S.Error.makers) (M.facts matcher) }
-{
-    unchanged_is_searched();
-}
+{}
 
 /// Without binary detection, a search of a reader with a lawful matcher that ended in `Ok` is a run
 /// over what was taken, whatever follows.
@@ -331,19 +309,14 @@ where
 pub fn slices_count_lines<A: Allocator + Copy, M: Matcher, E: SinkError<A>>()
     ensures { (matcher : M) → SlicesCountLines
         (makers_of M.Error.output E.makers) (M.facts matcher) }
-{
-    unchanged_is_searched();
-    runs_count_lines::<E>();
-}
+{}
 
 /// So did such a search of a reader that says which bytes remain.
 pub fn readers_count_lines<A: Allocator + Copy, M: Matcher, R: Source, E: SinkError<A>>()
     ensures { (matcher : M) → ReadersCountLines
         (makers_of M.Error.output E.makers) (M.facts matcher)
         R.remaining R.step }
-{
-    runs_count_lines::<E>();
-}
+{}
 
 /// So did such a search of a file that says which bytes remain. After `search_path` such a file is
 /// one that was opened.
@@ -351,9 +324,7 @@ pub fn files_count_lines<A: Allocator + Copy, M: Matcher, F: Read, E: SinkError<
     ensures { (matcher : M) → ReadersCountLines
         (makers_of M.Error.output E.makers) (M.facts matcher)
         F.remaining (IsFileRead F.remaining) }
-{
-    runs_count_lines::<E>();
-}
+{}
 
 /// A search of a reader that says which bytes remain, by line and without binary detection, with a
 /// lawful matcher and a new `Found`, if it ended in `Ok`, found a match exactly if a line is selected.
@@ -363,10 +334,7 @@ pub fn readers_find_lines<A: Allocator + Copy, M: Matcher, R: Source, E: SinkErr
     ensures { (matcher : M) → ReadersFindLines
         (makers_of M.Error.output E.makers) (M.facts matcher)
         R.remaining R.step }
-{
-    unchanged_is_searched();
-    first_match_is_first();
-}
+{}
 
 /// So did such a search of a file that says which bytes remain. After `search_path` such a file is
 /// one that was opened.
@@ -374,7 +342,4 @@ pub fn files_find_lines<A: Allocator + Copy, M: Matcher, F: Read, E: SinkError<A
     ensures { (matcher : M) → ReadersFindLines
         (makers_of M.Error.output E.makers) (M.facts matcher)
         F.remaining (IsFileRead F.remaining) }
-{
-    unchanged_is_searched();
-    first_match_is_first();
-}
+{}

@@ -11,7 +11,6 @@ ghost use Rattle.grep_report.specs.ErrorMakers.{makers_of};
 use crate::searcher::Searcher;
 use crate::searcher::sink_calls::SinkCalls;
 use crate::sink::Sink;
-use grep_definitions::laws::unchanged_is_searched;
 use grep_matcher::Matcher;
 use grep_report::SinkError;
 use std::alloc::Allocator;
@@ -79,7 +78,6 @@ impl<A: Allocator + Copy> Searcher<A> {
             × S.Error.makers.is_io error e) }
         ensures may_call { S.may_call sink.new }
     {
-        unchanged_is_searched();
         match self.config.refusal(&matcher) {
             Some(refusal) => Err(S::Error::error_config(self.alloc, refusal)),
             None => self.search_input(&matcher, bytes, sink),
@@ -119,7 +117,6 @@ impl<A: Allocator + Copy> Searcher<A> {
             × S.Error.makers.is_io error e) }
         ensures may_call { S.may_call sink.new }
     {
-        unchanged_is_searched();
         if self.config.is_searched_unchanged(input) {
             return self
                 .search()

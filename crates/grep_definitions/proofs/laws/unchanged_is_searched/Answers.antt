@@ -8,7 +8,7 @@ use Rattle.grep_definitions.proofs.DecodedLemmas.{
 use Rattle.grep_definitions.proofs.laws.unchanged_is_searched.Goals as goal
 
 pub returns-clause-input : goal.returns-clause-input
-returns-clause-input c = unchanged-input c.unchanged_is_decoded.ensures
+returns-clause-input c = unchanged-input
 
 pub returns-clause-unsniffed : goal.returns-clause-unsniffed
 returns-clause-unsniffed c = unsniffed-unchanged

@@ -4,4 +4,4 @@ use Rattle.grep_searcher.proofs.ClosureSinkLemmas.{closures-keep}
 use Rattle.grep_searcher.proofs.laws.lossy_closures_keep_calls.Goals as goal
 
 pub returns : goal.returns
-returns g c = closures-keep (goal.F-step g) IsLossyText utf8_lossy (λ _ _ h. h) c.matches_are_matched_lines.ensures _
+returns g c = closures-keep (goal.F-step g) IsLossyText utf8_lossy (λ _ _ h. h) _

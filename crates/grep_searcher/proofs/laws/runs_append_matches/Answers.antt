@@ -8,4 +8,3 @@ returns-clause-all g c =
 pub returns-clause-lines : goal.returns-clause-lines
 returns-clause-lines g c =
     runs-append_lines g.H.MatchHandler.goes g.H.MatchHandler.next g.H.MatchHandler.fails _
-    c.matches_are_matched_lines.ensures

@@ -5,7 +5,7 @@ pub returns-clause-all : goal.returns-clause-all
 returns-clause-all g c = runs-collect _
 
 pub returns-clause-lines : goal.returns-clause-lines
-returns-clause-lines g c = runs-collect_lines c.matches_are_matched_lines.ensures _
+returns-clause-lines g c = runs-collect_lines _
 
 pub returns-clause-failed : goal.returns-clause-failed
 returns-clause-failed g c = runs-collect_until _

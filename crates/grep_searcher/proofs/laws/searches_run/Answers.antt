@@ -2,4 +2,4 @@ use Rattle.grep_definitions.proofs.SinkFoldLemmas.{searches-run}
 use Rattle.grep_searcher.proofs.laws.searches_run.Goals as goal
 
 pub returns : goal.returns
-returns g c = λ matcher. searches-run g.S.Sink.step _ _ c.unchanged_is_searched.ensures.input
+returns g c = λ matcher. searches-run g.S.Sink.step _ _
