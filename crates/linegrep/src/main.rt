@@ -14,6 +14,7 @@ mod printers;
 mod run;
 mod search;
 mod walk;
+mod wildcards;
 
 use crate::command::command;
 use crate::failures::Failure;

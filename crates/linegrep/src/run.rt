@@ -1,7 +1,7 @@
 //! A run over files.
 use crate::engine::{Engine, written_error};
 use crate::failures::{Failure, report_cause};
-use crate::globs::Chooser;
+use crate::globs::Globs;
 use crate::haystacks::{Haystack, PathHaystack, ReaderHaystack};
 use crate::options::shows_paths;
 use crate::printers::Searched;
@@ -43,27 +43,26 @@ impl Flags {
 
 /// A run over files: what it searches with, and what came of those that it has searched.
 #[derive(Drop)]
-pub struct Run<'r, T, E, C> {
+pub struct Run<'r, T, E> {
     rt: &'r T,
     engine: &'r mut E,
-    chooser: &'r mut C,
+    globs: &'r mut Globs,
     flags: Flags,
     has_match: bool,
     has_error: bool,
 }
 
-impl<'r, T, E, C> Run<'r, T, E, C>
+impl<'r, T, E> Run<'r, T, E>
 where
     T: Files + Eprint + AllocGlobal + Clone + Drop,
     E: Engine,
-    C: Chooser,
 {
     /// A run that has searched nothing yet.
-    pub fn new(rt: &'r T, engine: &'r mut E, chooser: &'r mut C, flags: Flags) -> Run<'r, T, E, C> {
+    pub fn new(rt: &'r T, engine: &'r mut E, globs: &'r mut Globs, flags: Flags) -> Run<'r, T, E> {
         Run {
             rt,
             engine,
-            chooser,
+            globs,
             flags,
             has_match: false,
             has_error: false,
@@ -131,7 +130,7 @@ where
     fn walk(&mut self, folder: &str) -> io::Result<()> {
         let mut walk = Walk::new(self.rt, self.flags.shows_hidden, folder)?;
         for _ in 0..u64::MAX {
-            match walk.next(self.chooser)? {
+            match walk.next(self.globs)? {
                 Some(found) => self.search_found(&found)?,
                 None => break,
             }

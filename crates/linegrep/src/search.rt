@@ -75,9 +75,9 @@ fn search_matcher<T, M: FindAt, R: Source, W: Output>(
 where
     T: Files + Clock + Eprint + AllocGlobal + Clone + Drop,
 {
-    let globs = Globs::read(rt.alloc(), matches)?;
+    let mut globs = Globs::read(rt.alloc(), matches)?;
     let mut engine = PrintingEngine::new(rt, searcher, matcher, printer);
-    search_chosen(rt, matches, paths, &globs, &mut engine, input)
+    search_chosen(rt, matches, paths, &mut globs, &mut engine, input)
 }
 
 // Searches what globs choose.
@@ -85,7 +85,7 @@ fn search_chosen<T, E: Engine, R: Source>(
     rt: &T,
     matches: &ArgMatches<'_>,
     paths: &[String],
-    globs: &Globs,
+    globs: &mut Globs,
     engine: &mut E,
     input: &mut R,
 ) -> Result<ExitCode, Failure>
@@ -93,6 +93,5 @@ where
     T: Files + Eprint + AllocGlobal + Clone + Drop,
 {
     let flags = Flags::new(rt, matches, paths);
-    let mut chooser = globs.matcher(rt.alloc())?;
-    Run::new(rt, engine, &mut chooser, flags).complete(paths, input)
+    Run::new(rt, engine, globs, flags).complete(paths, input)
 }

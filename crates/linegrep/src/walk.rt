@@ -1,5 +1,5 @@
 //! The files of a folder and of the folders in it.
-use crate::globs::{Choice, Chooser};
+use crate::globs::{Choice, Globs};
 use std::fs::DirEntry;
 use std::rt::Files;
 use std::{fs, io};
@@ -47,7 +47,7 @@ impl<'r, T: Files + AllocGlobal + Clone + Drop> Walk<'r, T> {
 
     /// The next that is found and that the globs choose, or `None` at the end. What can't be read
     /// is left out, and the walk goes on. The only error is being out of memory.
-    pub fn next<C: Chooser>(&mut self, globs: &mut C) -> io::Result<Option<Found>> {
+    pub fn next(&mut self, globs: &mut Globs) -> io::Result<Option<Found>> {
         for _ in 0..u64::MAX {
             match self.pending.pop() {
                 Some(Entry::File(path)) => return Ok(Some(Found::File(path))),
@@ -67,7 +67,7 @@ impl<'r, T: Files + AllocGlobal + Clone + Drop> Walk<'r, T> {
     }
 
     // Adds what a folder holds, the last name first.
-    fn push_entries<C: Chooser>(&mut self, globs: &mut C, folder: &str) -> io::Result<()> {
+    fn push_entries(&mut self, globs: &mut Globs, folder: &str) -> io::Result<()> {
         let mut entries = Vec::new(self.rt.alloc());
         for entry in fs::read_dir(self.rt, name_of(folder))? {
             self.push_entry(globs, folder, entry, &mut entries)?;
@@ -78,9 +78,9 @@ impl<'r, T: Files + AllocGlobal + Clone + Drop> Walk<'r, T> {
     }
 
     // Adds an entry of a folder, if it is one to visit, or why it can't be read.
-    fn push_entry<C: Chooser>(
+    fn push_entry(
         &self,
-        globs: &mut C,
+        globs: &mut Globs,
         folder: &str,
         entry: io::Result<DirEntry<T>>,
         entries: &mut Vec<Entry>,
@@ -100,12 +100,7 @@ impl<'r, T: Files + AllocGlobal + Clone + Drop> Walk<'r, T> {
 
     // An entry of a folder, if it is one to visit. One that can't be looked at is left out like a
     // file.
-    fn entry<C: Chooser>(
-        &self,
-        globs: &mut C,
-        folder: &str,
-        name: &str,
-    ) -> io::Result<Option<Entry>> {
+    fn entry(&self, globs: &mut Globs, folder: &str, name: &str) -> io::Result<Option<Entry>> {
         let path = self.join(folder, name)?;
         let kind = match fs::symlink_metadata(self.rt, path.as_str()) {
             Ok(metadata) => metadata.file_type(),
@@ -130,13 +125,7 @@ impl<'r, T: Files + AllocGlobal + Clone + Drop> Walk<'r, T> {
         }))
     }
 
-    fn is_chosen<C: Chooser>(
-        &self,
-        globs: &mut C,
-        path: &str,
-        name: &str,
-        is_folder: bool,
-    ) -> bool {
+    fn is_chosen(&self, globs: &mut Globs, path: &str, name: &str, is_folder: bool) -> bool {
         match globs.choice(path, is_folder) {
             Choice::Chosen => true,
             Choice::LeftOut => false,

@@ -1,0 +1,282 @@
+//! The wildcards of a glob, which match paths.
+use std::alloc::{AllocError, Global};
+
+/// Why a glob isn't read.
+#[derive(Clone, Copy)]
+pub enum Error {
+    /// It isn't well formed.
+    Malformed(&'static str),
+    /// There is no memory.
+    OutOfMemory,
+}
+
+impl From<AllocError> for Error {
+    fn from(_: AllocError) -> Error {
+        Error::OutOfMemory
+    }
+}
+
+/// The parts of a glob, which say of a path whether it matches.
+#[derive(Drop)]
+pub struct Wildcards {
+    parts: Vec<Part>,
+    // The braces that are open where parts are added, the innermost last.
+    braces: Vec<Brace>,
+    // Whether a name begins there.
+    begins_name: bool,
+}
+
+// A part of a glob, and whether a match may have come to it.
+#[derive(Clone, Copy)]
+struct Part {
+    kind: Kind,
+    is_reached: bool,
+}
+
+// What a part of a glob matches.
+#[derive(Clone, Copy)]
+enum Kind {
+    // One letter.
+    One(Letters),
+    // Any number of letters.
+    Many(Letters),
+    // Nothing, or letters that end in a slash.
+    Folders,
+    // Nothing: the letters from the first to the last are members of the class that follows.
+    Range(char, char),
+    // Nothing: choices begin.
+    Open,
+    // Nothing: a choice ends, and another one begins.
+    Comma(Brace),
+    // Nothing: the last choice ends.
+    Close(Brace),
+}
+
+// Some letters.
+#[derive(Clone, Copy)]
+enum Letters {
+    All,
+    // Those that a name may have.
+    NotSlash,
+    Only(char),
+    // The members of a class, or all others.
+    Class { is_negated: bool },
+}
+
+// Where choices begin, and the last comma between them.
+#[derive(Clone, Copy)]
+struct Brace {
+    open: usize,
+    comma: Option<usize>,
+}
+
+impl Wildcards {
+    /// Reads a glob: one of names in any folder, or of whole paths.
+    pub fn new(alloc: Global, glob: &[char], is_of_names: bool) -> Result<Wildcards, Error> {
+        let mut wildcards = Wildcards {
+            parts: Vec::new(alloc),
+            braces: Vec::new(alloc),
+            begins_name: true,
+        };
+        match wildcards.add_all(glob, is_of_names) {
+            Ok(()) => Ok(wildcards),
+            Err(error) => Err(error),
+        }
+    }
+
+    /// Whether a path matches.
+    pub fn is_match(&mut self, path: &str) -> bool {
+        let parts = self.parts.as_mut_slice();
+        let mut is_match = advance(parts, None);
+        for letter in path.chars() {
+            is_match = advance(parts, Some(letter));
+        }
+        is_match
+    }
+
+    fn add_all(&mut self, glob: &[char], is_of_names: bool) -> Result<(), Error> {
+        let mut left = glob;
+        if is_of_names {
+            left = self.add(Kind::Folders, glob)?;
+        }
+        for _ in glob {
+            left = self.add_first(left)?;
+        }
+        if self.braces.is_empty() {
+            Ok(())
+        } else {
+            Err(Error::Malformed("a brace isn't closed"))
+        }
+    }
+
+    // Adds what a glob begins with, and gives what follows it.
+    fn add_first<'g>(&mut self, glob: &'g [char]) -> Result<&'g [char], Error> {
+        match glob {
+            ['*', '*', '/', rest @ ..] if self.begins_name => self.add(Kind::Folders, rest),
+            ['*', '*'] if self.begins_name => self.add(Kind::Many(Letters::All), &[]),
+            ['*', rest @ ..] => self.add(Kind::Many(Letters::NotSlash), rest),
+            ['?', rest @ ..] => self.add(Kind::One(Letters::NotSlash), rest),
+            ['[', '!' | '^', rest @ ..] => self.add_class(rest, true),
+            ['[', rest @ ..] => self.add_class(rest, false),
+            ['\\', letter, rest @ ..] => self.add(Kind::One(Letters::Only(*letter)), rest),
+            ['\\'] => Err(Error::Malformed("it ends in a backslash")),
+            _ => self.add_choice(glob),
+        }
+    }
+
+    // Adds a part of choices in braces, or a letter.
+    fn add_choice<'g>(&mut self, glob: &'g [char]) -> Result<&'g [char], Error> {
+        match glob {
+            ['{', rest @ ..] => self.open(rest),
+            ['}', rest @ ..] => self.close(rest),
+            [',', rest @ ..] if !self.braces.is_empty() => self.add_comma(rest),
+            [letter, rest @ ..] => self.add(Kind::One(Letters::Only(*letter)), rest),
+            [] => Ok(glob),
+        }
+    }
+
+    fn open<'g>(&mut self, rest: &'g [char]) -> Result<&'g [char], Error> {
+        let open = self.parts.len();
+        match self.braces.push(Brace { open, comma: None }) {
+            Ok(()) => self.add(Kind::Open, rest),
+            Err(_) => Err(Error::OutOfMemory),
+        }
+    }
+
+    // Adds a comma between choices in the innermost brace.
+    fn add_comma<'g>(&mut self, rest: &'g [char]) -> Result<&'g [char], Error> {
+        let at = self.parts.len();
+        let Some(brace) = self.braces.last_mut() else {
+            return Ok(rest);
+        };
+        let before = *brace;
+        brace.comma = Some(at);
+        self.add(Kind::Comma(before), rest)
+    }
+
+    fn close<'g>(&mut self, rest: &'g [char]) -> Result<&'g [char], Error> {
+        match self.braces.pop() {
+            Some(brace) => self.add(Kind::Close(brace), rest),
+            None => Err(Error::Malformed("a brace isn't opened")),
+        }
+    }
+
+    // Adds a class, of which the opening bracket is left out, and gives what follows it. A bracket
+    // that comes first is a member.
+    fn add_class<'g>(&mut self, class: &'g [char], is_negated: bool) -> Result<&'g [char], Error> {
+        let mut left = self.add_member(class)?;
+        for _ in class {
+            left = match left {
+                [']', rest @ ..] => {
+                    return self.add(Kind::One(Letters::Class { is_negated }), rest);
+                }
+                _ => self.add_member(left)?,
+            };
+        }
+        Err(Error::Malformed("a bracket isn't closed"))
+    }
+
+    // Adds what the members of a class begin with: a letter, or two with a dash between them, which
+    // make a range.
+    fn add_member<'g>(&mut self, left: &'g [char]) -> Result<&'g [char], Error> {
+        match left {
+            [first, '-', last, rest @ ..] if *last != ']' => self.add_range(*first, *last, rest),
+            [letter, rest @ ..] => self.add(Kind::Range(*letter, *letter), rest),
+            [] => Err(Error::Malformed("a bracket isn't closed")),
+        }
+    }
+
+    fn add_range<'g>(
+        &mut self,
+        first: char,
+        last: char,
+        rest: &'g [char],
+    ) -> Result<&'g [char], Error> {
+        if first > last {
+            return Err(Error::Malformed("a range ends before it begins"));
+        }
+        self.add(Kind::Range(first, last), rest)
+    }
+
+    // Adds a part, and gives what follows it.
+    fn add<'g>(&mut self, kind: Kind, rest: &'g [char]) -> Result<&'g [char], Error> {
+        self.begins_name = matches!(kind, Kind::Folders | Kind::One(Letters::Only('/')));
+        let part = Part {
+            kind,
+            is_reached: false,
+        };
+        match self.parts.push(part) {
+            Ok(()) => Ok(rest),
+            Err(_) => Err(Error::OutOfMemory),
+        }
+    }
+}
+
+// Takes a letter of a path, or none before the first, and says whether a match may end there. The
+// parts are gone through in order, and each says whether the next is reached.
+fn advance(parts: &mut [Part], letter: Option<char>) -> bool {
+    let mut is_reached = letter.is_none();
+    let mut is_member = false;
+    for at in 0..parts.len() {
+        let part = parts[at];
+        let (here, next) = match part.kind {
+            Kind::Range(first, last) => {
+                is_member = is_member || is_between(letter, first, last);
+                (false, is_reached)
+            }
+            Kind::One(letters) => {
+                let passes = part.is_reached && letters.have(letter, is_member);
+                is_member = false;
+                (is_reached, passes)
+            }
+            Kind::Folders => {
+                let stays = part.is_reached && letter.is_some();
+                let ends = part.is_reached && letter == Some('/');
+                (is_reached || stays, is_reached || ends)
+            }
+            Kind::Many(letters) => {
+                let stays = is_reached || part.is_reached && letters.have(letter, false);
+                (stays, stays)
+            }
+            Kind::Open => (is_reached, is_reached),
+            Kind::Comma(brace) => {
+                let open = was_reached(parts, Some(brace.open));
+                (is_reached || was_reached(parts, brace.comma), open)
+            }
+            Kind::Close(brace) => (false, is_reached || was_reached(parts, brace.comma)),
+        };
+        parts[at].is_reached = here;
+        is_reached = next;
+    }
+    is_reached
+}
+
+fn was_reached(parts: &[Part], at: Option<usize>) -> bool {
+    match at {
+        Some(at) => parts.get(at).map_or(false, |part| part.is_reached),
+        None => false,
+    }
+}
+
+// Whether there is a letter, and it is between two.
+fn is_between(letter: Option<char>, first: char, last: char) -> bool {
+    match letter {
+        Some(letter) => first <= letter && letter <= last,
+        None => false,
+    }
+}
+
+impl Letters {
+    // Whether a letter, if there is one, is one of these. The class may have it as a member.
+    fn have(self, letter: Option<char>, is_member: bool) -> bool {
+        let Some(letter) = letter else {
+            return false;
+        };
+        match self {
+            Letters::All => true,
+            Letters::NotSlash => letter != '/',
+            Letters::Only(only) => letter == only,
+            Letters::Class { is_negated } => is_member != is_negated,
+        }
+    }
+}
