@@ -1,19 +1,25 @@
 //! The text of one call of a search.
-ghost use Rattle.std.specs.Prelude.{◌≡◌, ◌+◌, ◌<◌, ◌^◌, ◌∷◌, [], OnOk, length};
+ghost use Rattle.std.specs.Prelude.{◌≡◌, ◌⊎◌, ◌+◌, ◌<◌, ◌^◌, ◌∷◌, [], IfErr, OnOk, length};
 ghost use Rattle.std.specs.Prelude.{if◌then◌else◌, ◌++◌, codes, decimal};
 ghost use Rattle.grep_report.specs.SinkReports.{match_bytes};
+ghost use Rattle.grep_searcher.specs.SearchErrors.{IsOutOfMemory};
 ghost use Rattle.grep_printer.specs.ColoredTexts.{color_of, path_color};
 ghost use Rattle.grep_printer.specs.LineTexts.{opening_text};
 ghost use Rattle.grep_printer.specs.MatchedParts.{AreInOrder};
 ghost use Rattle.grep_printer.specs.PartTexts.{column_of, context_text, match_text, writes_parts};
-ghost use Rattle.grep_printer.specs.StandardTexts.{binary_message, path_prefix};
+ghost use Rattle.grep_printer.specs.ReportedParts.{FailsAtReport, reported_parts};
+ghost use Rattle.grep_printer.specs.StandardTexts.{asks_for_parts, binary_message, path_prefix};
 
 use crate::colors::{ColorSpecs, push_colored};
+use crate::config::Config;
 use crate::fields::{Layout, LineKind, Place, push_digits};
+use crate::parts::find_reported_parts;
 use crate::reports::Report;
 use crate::standard::Progress;
-use grep_searcher::{BinaryDetection, Match, SinkContext, SinkMatch};
-use std::alloc::{AllocError, Global};
+use grep_searcher::{
+    BinaryDetection, FindAt, Match, SearchError, Searcher, SinkContext, SinkMatch,
+};
+use std::alloc::{AllocError, Allocator, Global};
 
 // What is said of a binary byte, before its offset and what ends both messages.
 const STOPPED: &str =
@@ -35,6 +41,53 @@ impl Draft {
             text: Vec::new(alloc),
             parts: Vec::new(alloc),
         }
+    }
+
+    // Finds the parts of a report that match, if they are asked for.
+    pub(crate) fn find_parts<M: FindAt, A: Allocator + Copy>(
+        &mut self,
+        config: &Config,
+        searcher: &Searcher<A>,
+        matcher: &M,
+        bytes: &[u8],
+    ) -> Result<(), SearchError>
+        ensures parts { OnOk result (self.new.parts.items
+            ≡ (if asks_for_parts config.now then reported_parts (M.first_at matcher.now)
+            searcher.now.settings (M.facts matcher.now).meaning bytes.now else [])) }
+        ensures ordered { OnOk result (AreInOrder 0 (length bytes.now) self.new.parts.items) }
+        ensures error { IfErr result (λ e. IsOutOfMemory e
+            ⊎ FailsAtReport (M.facts matcher.now) searcher.now.settings bytes.now e) }
+    {
+        if !config.asks_for_parts() {
+            self.parts.clear();
+            return Ok(());
+        }
+        find_reported_parts(&mut self.parts, searcher, matcher, bytes)
+    }
+
+    // Finds the parts of a line that isn't a match. It has none unless the lines without one are
+    // selected.
+    pub(crate) fn find_context_parts<M: FindAt, A: Allocator + Copy>(
+        &mut self,
+        config: &Config,
+        searcher: &Searcher<A>,
+        matcher: &M,
+        line: &[u8],
+    ) -> Result<(), SearchError>
+        ensures parts { OnOk result (self.new.parts.items
+            ≡ (if searcher.now.settings.invert_match
+            then (if asks_for_parts config.now then reported_parts (M.first_at matcher.now)
+            searcher.now.settings (M.facts matcher.now).meaning line.now else [])
+            else [])) }
+        ensures ordered { OnOk result (AreInOrder 0 (length line.now) self.new.parts.items) }
+        ensures error { IfErr result (λ e. IsOutOfMemory e
+            ⊎ FailsAtReport (M.facts matcher.now) searcher.now.settings line.now e) }
+    {
+        if searcher.invert_match() {
+            return self.find_parts(config, searcher, matcher, line);
+        }
+        self.parts.clear();
+        Ok(())
     }
 
     // Begins a text, which is empty but for the opening before the first report of a search.

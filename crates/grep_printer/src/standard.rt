@@ -6,16 +6,13 @@ ghost use Rattle.grep_report.specs.SinkReports.{match_bytes};
 ghost use Rattle.grep_searcher.specs.SearchErrors.{IsOutOfMemory};
 ghost use Rattle.grep_searcher.specs.SinkArguments.{context_call, match_call};
 ghost use Rattle.grep_output.specs.Outputs.{Writes, flushes};
-ghost use Rattle.grep_printer.specs.MatchedParts.{AreInOrder};
 ghost use Rattle.grep_printer.specs.StandardSteps.{IsComposing, IsErrorAt, IsWritten};
 ghost use Rattle.grep_printer.specs.StandardSteps.{FailsToBeWritten, frame_of, report_of};
-ghost use Rattle.grep_printer.specs.StandardTexts.{context_parts, is_hidden, is_text, layout_of};
-ghost use Rattle.grep_printer.specs.StandardTexts.{new_progress, parts_of};
+ghost use Rattle.grep_printer.specs.StandardTexts.{is_hidden, is_text, layout_of, new_progress};
 
 use crate::config::Config;
 use crate::draft::Draft;
 use crate::fields::Layout;
-use crate::parts::find_reported_parts;
 use grep_output::{Output, write_all};
 use grep_searcher::{FindAt, SearchError, Searcher, Sink, SinkContext, SinkFinish, SinkMatch};
 use std::alloc::{Allocator, Global};
@@ -197,32 +194,6 @@ impl<'s, M: FindAt, W: Output> StandardSink<'s, M, W> {
         self.progress.binary.is_some() && searcher.binary_detection().convert_byte().is_some()
     }
 
-    // Finds the parts of a report that match, if they are asked for.
-    fn find_parts<A: Allocator + Copy>(
-        &mut self,
-        searcher: &Searcher<A>,
-        bytes: &[u8],
-    ) -> Result<(), SearchError>
-        ensures composing { IsComposing self.old self.new }
-        ensures parts { OnOk result (self.new.printer.now.draft.parts.items
-            ≡ parts_of (frame_of M.facts M.first_at self.old searcher.now.settings) bytes.now) }
-        ensures ordered { OnOk result
-            (AreInOrder 0 (length bytes.now) self.new.printer.now.draft.parts.items) }
-        ensures error { IfErr result (λ e. IsOutOfMemory e
-            ⊎ IsErrorAt M.facts self.old searcher.now.settings bytes.now e) }
-    {
-        if !self.printer.config.asks_for_parts() {
-            self.printer.draft.parts.clear();
-            return Ok(());
-        }
-        find_reported_parts(
-            &mut self.printer.draft.parts,
-            searcher,
-            &self.matcher,
-            bytes,
-        )
-    }
-
     // Makes the text of a match.
     fn compose_match<A: Allocator + Copy>(
         &mut self,
@@ -236,11 +207,12 @@ impl<'s, M: FindAt, W: Output> StandardSink<'s, M, W> {
         ensures error { IfErr result (λ e. IsOutOfMemory e
             ⊎ IsErrorAt M.facts self.old searcher.now.settings (match_bytes found.now) e) }
     {
-        match self.find_parts(searcher, found.bytes()) {
+        let layout = self.layout(searcher);
+        let draft = &mut self.printer.draft;
+        match draft.find_parts(&layout.config, searcher, &self.matcher, found.bytes()) {
             Ok(()) => {}
             Err(error) => return Err(error),
         }
-        let layout = self.layout(searcher);
         self.printer.draft.open(&layout, &self.progress)?;
         let is_across = searcher.multi_line_with_matcher(&self.matcher);
         self.printer.draft.push_match(&layout, found, is_across)?;
@@ -261,36 +233,14 @@ impl<'s, M: FindAt, W: Output> StandardSink<'s, M, W> {
         ensures error { IfErr result (λ e. IsOutOfMemory e
             ⊎ IsErrorAt M.facts self.old searcher.now.settings line.now.bytes e) }
     {
-        match self.find_context_parts(searcher, line.bytes()) {
+        let layout = self.layout(searcher);
+        let draft = &mut self.printer.draft;
+        match draft.find_context_parts(&layout.config, searcher, &self.matcher, line.bytes()) {
             Ok(()) => {}
             Err(error) => return Err(error),
         }
-        let layout = self.layout(searcher);
         self.printer.draft.open(&layout, &self.progress)?;
         self.printer.draft.push_context(&layout, line)?;
-        Ok(())
-    }
-
-    // Finds the parts of a line that isn't a match. It has none unless the lines without one are
-    // selected.
-    fn find_context_parts<A: Allocator + Copy>(
-        &mut self,
-        searcher: &Searcher<A>,
-        line: &[u8],
-    ) -> Result<(), SearchError>
-        ensures composing { IsComposing self.old self.new }
-        ensures parts { OnOk result (self.new.printer.now.draft.parts.items
-            ≡ context_parts (frame_of M.facts M.first_at self.old searcher.now.settings)
-            line.now) }
-        ensures ordered { OnOk result
-            (AreInOrder 0 (length line.now) self.new.printer.now.draft.parts.items) }
-        ensures error { IfErr result (λ e. IsOutOfMemory e
-            ⊎ IsErrorAt M.facts self.old searcher.now.settings line.now e) }
-    {
-        if searcher.invert_match() {
-            return self.find_parts(searcher, line);
-        }
-        self.printer.draft.parts.clear();
         Ok(())
     }
 
