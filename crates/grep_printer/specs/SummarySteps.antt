@@ -21,13 +21,6 @@ pub record IsSameSummary {M W : Type 0} (old new : SummarySink M W) : Type 0 whe
   pub path : new.path ≡ old.path
   pub config : new.printer.now.config ≡ old.printer.now.config
 
--- a sink of which the text and the parts at hand alone have changed
-pub record IsCounting {M W : Type 0} (old new : SummarySink M W) : Type 0 where
-  pub same : IsSameSummary old new
-  pub counts : new.counts ≡ old.counts
-  pub writer : new.printer.now.writer ≡ old.printer.now.writer
-  pub has_failed : new.printer.now.has_failed ≡ old.printer.now.has_failed
-
 module _ {M W F : Type 0} (facts : M → MatcherFacts F)
     (first_at : M → List ℕ → ℕ → Option (ℕ × ℕ)) where
   -- what the texts of a sink's calls depend on

@@ -3,12 +3,10 @@ ghost use Rattle.std.specs.Prelude.{◌≡◌, ◌⊎◌, ◌++◌, ◌∷◌, �
 ghost use Rattle.std.specs.Prelude.{if◌then◌else◌, is_ok, length, not};
 ghost use Rattle.grep_output.specs.Outputs.{Writes, flushes};
 ghost use Rattle.grep_searcher.specs.SearchErrors.{IsOutOfMemory};
-ghost use Rattle.grep_printer.specs.ReportedParts.{FailsAtReport};
-ghost use Rattle.grep_printer.specs.SummarySteps.{IsCounting, summary_frame};
+ghost use Rattle.grep_printer.specs.ReportedParts.{FailsAtReport, reported_parts};
 ghost use Rattle.grep_printer.specs.SummaryTexts;
-ghost use Rattle.grep_printer.specs.SummaryTexts.{count_line, counted_parts, counts_parts};
-ghost use Rattle.grep_printer.specs.SummaryTexts.{finish_text, has_found, no_counts, path_line};
-ghost use Rattle.grep_printer.specs.SummaryTexts.{with_report};
+ghost use Rattle.grep_printer.specs.SummaryTexts.{count_line, counts_parts, finish_text};
+ghost use Rattle.grep_printer.specs.SummaryTexts.{has_found, no_counts, path_line, with_report};
 
 use crate::fields::{push_digits, push_path};
 use crate::parts::find_reported_parts;
@@ -244,26 +242,28 @@ impl<'s, M: FindAt, W: Output> SummarySink<'s, M, W> {
             _ => self.counts.match_count > 0,
         }
     }
+}
 
-    // Finds the parts of a report that match, if they are counted.
-    fn find_parts<A: Allocator + Copy>(
-        &mut self,
-        searcher: &Searcher<A>,
-        bytes: &[u8],
-    ) -> Result<(), SearchError>
-        ensures counting { IsCounting self.old self.new }
-        ensures parts { OnOk result (self.new.printer.now.parts.items ≡ counted_parts
-            (summary_frame M.facts M.first_at self.old searcher.now.settings) bytes.now) }
-        ensures error { IfErr result (λ e. IsOutOfMemory e
-            ⊎ ((counts_parts self.old.printer.now.config.kind ≡ true)
-            × FailsAtReport (M.facts self.old.matcher) searcher.now.settings bytes.now e)) }
-    {
-        if !self.printer.config.kind.counts_parts() {
-            self.printer.parts.clear();
-            return Ok(());
-        }
-        find_reported_parts(&mut self.printer.parts, searcher, &self.matcher, bytes)
+// Finds the parts of a report that match, if they are counted.
+fn find_counted_parts<M: FindAt, A: Allocator + Copy>(
+    parts: &mut Vec<Match>,
+    kind: SummaryKind,
+    searcher: &Searcher<A>,
+    matcher: &M,
+    bytes: &[u8],
+) -> Result<(), SearchError>
+    ensures parts { OnOk result (parts.new.items
+        ≡ (if counts_parts kind then reported_parts (M.first_at matcher.now) searcher.now.settings
+        (M.facts matcher.now).meaning bytes.now else [])) }
+    ensures error { IfErr result (λ e. IsOutOfMemory e
+        ⊎ ((counts_parts kind ≡ true)
+        × FailsAtReport (M.facts matcher.now) searcher.now.settings bytes.now e)) }
+{
+    if !kind.counts_parts() {
+        parts.clear();
+        return Ok(());
     }
+    find_reported_parts(parts, searcher, matcher, bytes)
 }
 
 impl<'s, M: FindAt, W: Output> Sink for SummarySink<'s, M, W> {
@@ -284,11 +284,13 @@ impl<'s, M: FindAt, W: Output> Sink for SummarySink<'s, M, W> {
         searcher: &Searcher<A>,
         found: &SinkMatch<'_>,
     ) -> Result<bool, SearchError> {
-        match self.find_parts(searcher, found.bytes()) {
+        let kind = self.printer.config.kind;
+        let parts = &mut self.printer.parts;
+        match find_counted_parts(parts, kind, searcher, &self.matcher, found.bytes()) {
             Ok(()) => {
                 let parts = self.printer.parts.len();
                 self.counts.add_report(parts);
-                Ok(self.printer.config.kind.counts_on())
+                Ok(kind.counts_on())
             }
             Err(error) => Err(error),
         }

@@ -1,4 +1,4 @@
-use Rattle.std.proofs.Common.{◌≡◌, ◌⊎◌, inr, subst, true}
+use Rattle.std.proofs.Common.{◌≡◌, ◌⊎◌, inr, rules, subst, true}
 use Rattle.grep_searcher.specs.SearchErrors.{IsOutOfMemory}
 use Rattle.grep_printer.specs.ReportedParts.{FailsAtReport}
 use Rattle.grep_printer.specs.SummaryTexts.{counts_parts}
@@ -7,13 +7,12 @@ use Rattle.grep_printer.proofs.summary.SummarySinkSink.matched.Goals as goal
 pub returns-in-Err-clause-step : goal.returns-in-Err-clause-step
 returns-in-Err-clause-step g c =
     let sink = c.args.self.now in
-    let e = c.in-Err.error in
-    let counting = c.in-Err.ensures.counting in record {
-      same = counting.same;
-      counts = counting.counts;
+    let e = c.in-Err.error in record {
+      same = search rules;
+      counts = search rules;
       cause = inr (record {
-        unwritten = counting.writer;
-        has_failed = counting.has_failed;
+        unwritten = search rules;
+        has_failed = search rules;
         cause = subst (λ bytes. IsOutOfMemory e ⊎ ((counts_parts sink.printer.now.config.kind ≡ true)
             × FailsAtReport (g.M.Matcher.facts sink.matcher) c.args.searcher.now.settings bytes e)) c.bytes.ensures
             c.in-Err.ensures.error;
