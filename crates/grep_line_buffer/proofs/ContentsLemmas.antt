@@ -11,7 +11,7 @@ use Rattle.grep_line_buffer.specs.Appends.{Reads}
 use Rattle.grep_line_buffer.specs.BufferStates.{IsWithin}
 use Rattle.grep_line_buffer.specs.Contents.{first_size, IsBelow, ContentsFail}
 use Rattle.grep_line_buffer.specs.Room.{IsFullFault, IsLarge, next_size}
-use Rattle.grep_line_buffer.proofs.ReadLemmas.{Continues, HasRead, HasRead-none, HasRead-more}
+use Rattle.grep_line_buffer.proofs.ReadLemmas.{HasRead, HasRead-none, HasRead-more}
 
 -- a number that is less than one within the limit is below it
 pub below-within : (limit : Option ℕ) (n size : ℕ) → n < size → IsWithin limit size → IsBelow limit n
@@ -97,16 +97,16 @@ module _ {R : Type 0} (remaining : R → Option (List ℕ)) (step : R → ReadRe
   -- one read
   pub IsReading-more : (limit : Option ℕ) (capacity now len count : ℕ) (d d1 d2 : DecoderState) (r r1 r2 : R)
       (made bytes items : List ℕ)
-      → Continues remaining step → IsReading limit capacity d r len made now d1 r1 → take len bytes ≡ take len made
+      → IsReading limit capacity d r len made now d1 r1 → take len bytes ≡ take len made
       → length bytes ≡ length made → items ≡ bytes → len + count ≤ length bytes
       → Reads remaining step d1 r1 (take count (drop len bytes)) d2 r2 → d2.capacity ≡ d1.capacity
       → IsReading limit capacity d r (len + count) items now d2 r2
-  IsReading-more limit capacity now len count d d1 d2 r r1 r2 made bytes items continues before front same is bound
+  IsReading-more limit capacity now len count d d1 d2 r r1 r2 made bytes items before front same is bound
       reads held =
       subst (λ l. IsReading limit capacity d r (len + count) l now d2 r2) (sym is) (record {
         read = subst (λ l. HasRead remaining step d r l d2 r2)
             (sym (take-add len count bytes ∙ ap (λ l. l ++ take count (drop len bytes)) front))
-            (HasRead-more remaining step d d1 d2 r r1 r2 (take len made) (take count (drop len bytes)) continues
+            (HasRead-more remaining step d d1 d2 r r1 r2 (take len made) (take count (drop len bytes))
             before.read reads held);
         fits = bound;
         within = subst (IsWithin limit) (sym same) before.within;
@@ -116,13 +116,12 @@ module _ {R : Type 0} (remaining : R → Option (List ℕ)) (step : R → ReadRe
 
   -- a read that gave nothing
   pub HasRead-last : (d d1 d2 : DecoderState) (r r1 r2 : R) (len count : ℕ) (made bytes items : List ℕ)
-      → Continues remaining step
       → HasRead remaining step d r (take len made) d1 r1 → take len bytes ≡ take len made → items ≡ take len bytes
       → count ≡ 0
       → Reads remaining step d1 r1 (take count (drop len bytes)) d2 r2 → d2.capacity ≡ d1.capacity
       → HasRead remaining step d r items d2 r2
-  HasRead-last d d1 d2 r r1 r2 len count made bytes items continues before front is zero reads held =
+  HasRead-last d d1 d2 r r1 r2 len count made bytes items before front is zero reads held =
       subst (λ l. HasRead remaining step d r l d2 r2)
       (ap (λ n. take len made ++ take n (drop len bytes)) zero ∙ (append-nil (take len made) ∙ sym (is ∙ front)))
-      (HasRead-more remaining step d d1 d2 r r1 r2 (take len made) (take count (drop len bytes)) continues before reads
+      (HasRead-more remaining step d d1 d2 r r1 r2 (take len made) (take count (drop len bytes)) before reads
       held)

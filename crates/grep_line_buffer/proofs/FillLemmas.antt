@@ -30,7 +30,7 @@ use Rattle.grep_line_buffer.specs.Fills.{IfRead, UnlessRead, Fills, FailsToFill,
 use Rattle.grep_line_buffer.specs.Fills.{HasWaitedForLine, MayGrow}
 use Rattle.grep_line_buffer.specs.Appends.{Appends, Detects, FailsToRead}
 use Rattle.grep_line_buffer.specs.Room.{IsFullFault}
-use Rattle.grep_line_buffer.proofs.ReadLemmas.{Continues, HasRead, HasRead-none, HasRead-more, HasRead-failed}
+use Rattle.grep_line_buffer.proofs.ReadLemmas.{HasRead, HasRead-none, HasRead-more, HasRead-failed}
 
 -- parts of a window
 abbrev rest_of : BufferState → List ℕ
@@ -378,10 +378,10 @@ module _ {R : Type 0} (remaining : R → Option (List ℕ)) (step : R → ReadRe
 
   -- it goes on with one read
   pub IsFilling-more : (old now next made : BufferState) (d d1 d2 : DecoderState) (r r1 r2 : R) (count : ℕ)
-      → Continues remaining step → HasNone old d r now d1 r1
+      → HasNone old d r now d1 r1
       → (came : Appends remaining step count now d1 r1 next d2 r2)
       → Comes count now came.given made → d2.capacity ≡ d1.capacity → IsFilling old d r made d2 r2
-  IsFilling-more old now next made d d1 d2 r r1 r2 count continues before came comes capacity =
+  IsFilling-more old now next made d d1 d2 r r1 r2 count before came comes capacity =
       let f = before.filling in
       let same-d = f.same.detection in
       let same-t = f.same.terminator in
@@ -432,7 +432,7 @@ module _ {R : Type 0} (remaining : R → Option (List ℕ)) (step : R → ReadRe
         );
         within = subst (λ w. IsWithin w.limit w.size) (sym comes.others) f.within;
         grows = grows-held old now made f.grows (ap size_of comes.others) (omega (arith, len));
-        read = HasRead-more remaining step d d1 d2 r r1 r2 f.raw came.given continues f.read came.reads capacity;
+        read = HasRead-more remaining step d d1 d2 r r1 r2 f.raw came.given f.read came.reads capacity;
       }
 
   -- what a fill says of the bytes that it appended
@@ -616,14 +616,14 @@ module _ {R : Type 0} (remaining : R → Option (List ℕ)) (step : R → ReadRe
     pub uncut : is_cut new ≡ false
 
   pub HasNone-fault : (old now new : BufferState) (d d1 d2 : DecoderState) (r r1 r2 : R) (e : Error)
-      → Continues remaining step → HasNone old d r now d1 r1 → FailsToRead remaining step d1 r1 e d2 r2 → 0 < now.free
+      → HasNone old d r now d1 r1 → FailsToRead remaining step d1 r1 e d2 r2 → 0 < now.free
       → d2.capacity ≡ d1.capacity → new ≡ now
       → ReadFault old d r e new d2 r2
-  HasNone-fault old now new d d1 d2 r r1 r2 e continues before failed some capacity is =
+  HasNone-fault old now new d d1 d2 r r1 r2 e before failed some capacity is =
       let f = before.filling in
       let appended : held now ≡ held old ++ detected old.detection old.terminator f.raw =
       ap (λ l. l ++ now.rest) f.shown ∙ ap (λ l. held old ++ l) f.came in
-      let out = HasRead-failed remaining step d d1 d2 r r1 r2 f.raw e continues f.read failed capacity in
+      let out = HasRead-failed remaining step d d1 d2 r r1 r2 f.raw e f.read failed capacity in
       subst (λ w. ReadFault old d r e w d2 r2) (sym is) (record {
         same = f.same;
         within = f.within;
@@ -678,10 +678,10 @@ module _ {R : Type 0} (remaining : R → Option (List ℕ)) (step : R → ReadRe
 
   -- the end of such a read, which gave none
   pub IsFilling-none : (old now next : BufferState) (d d1 d2 : DecoderState) (r r1 r2 : R) (count : ℕ)
-      → Continues remaining step → HasNone old d r now d1 r1 → Appends remaining step count now d1 r1 next d2 r2 → count
+      → HasNone old d r now d1 r1 → Appends remaining step count now d1 r1 next d2 r2 → count
       ≡ 0
       → d2.capacity ≡ d1.capacity → IsFilling old d r next d2 r2
-  IsFilling-none old now next d d1 d2 r r1 r2 count continues before came zero capacity =
+  IsFilling-none old now next d d1 d2 r r1 r2 count before came zero capacity =
       let empty : came.given ≡ [] = nil_from_length came.given (came.counted ∙ zero) in
       let rest : next.rest ≡ now.rest ++ detected now.detection now.terminator came.given =
       ap rest_of came.appended ∙ ap (λ l. now.rest ++ l) (empty ∙ sym (detected-nil now.detection now.terminator)
@@ -694,7 +694,7 @@ module _ {R : Type 0} (remaining : R → Option (List ℕ)) (step : R → ReadRe
       in
       let len : length (now.shown ++ (now.rest ++ came.given)) ≡ length (held now) =
       ap (λ l. length (now.shown ++ (now.rest ++ l))) empty ∙ ap (λ l. length (now.shown ++ l)) (append-nil now.rest) in
-      IsFilling-more old now next next d d1 d2 r r1 r2 count continues before came (record {
+      IsFilling-more old now next next d d1 d2 r r1 r2 count before came (record {
         rest = rest;
         binary = found;
         whole = ap (λ w. w.free + length (held w)) came.appended ∙ (omega (arith, len, zero));

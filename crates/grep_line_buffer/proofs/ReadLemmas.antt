@@ -4,6 +4,7 @@ use Rattle.std.proofs.Common.{◌∙◌, arith, append-nil, length-append}
 use Rattle.std.proofs.KnownBytes.{Consumes-nil, Consumes-trans, Consumes-kept}
 use Rattle.std.specs.Io.KnownBytes.{Consumes}
 use Rattle.std.specs.declared.io.Error.{Error}
+use Rattle.grep_decode.proofs.DecoderLemmas.{Decodes-append}
 use Rattle.grep_decode.specs.declared.mode.Mode.TheVariants.{Passing}
 use Rattle.grep_decode.specs.DecoderStates.{DecoderState, Decodes, IsSettled, TakesAtMost, runs_ahead, yet}
 use Rattle.grep_decode.specs.Source.{ReadResult}
@@ -18,11 +19,6 @@ TakesAtMost-append a b c first second most p q within =
     (p.0 ++ q.0, rw length-append (omega (arith, p.1, q.1)), Consumes-trans a b c p.0 q.0 p.2 q.2)
 
 module _ {R : Type 0} (remaining : R → Option (List ℕ)) (step : R → ReadResult → R → Type 0) where
-  -- reads of a decoder and then some more are reads of it
-  abbrev pub Continues : Type 0
-  Continues = (d d1 d2 : DecoderState) (r r1 r2 : R) (given more : List ℕ) → Decodes remaining step d r given d1 r1
-      → Decodes remaining step d1 r1 more d2 r2 → Decodes remaining step d r (given ++ more) d2 r2
-
   -- Reads of a decoder, none or some, gave these bytes.
   pub record HasRead (d : DecoderState) (r : R) (given : List ℕ) (d' : DecoderState) (r' : R) : Type 0 where
     pub decodes : Decodes remaining step d r given d' r'
@@ -58,10 +54,10 @@ module _ {R : Type 0} (remaining : R → Option (List ℕ)) (step : R → ReadRe
       (subst (TakesAtMost (remaining r1) (remaining r2)) most (read.ahead passing))
 
   -- and then one more
-  pub HasRead-more : (d d1 d2 : DecoderState) (r r1 r2 : R) (given came : List ℕ) → Continues → HasRead d r given d1 r1
+  pub HasRead-more : (d d1 d2 : DecoderState) (r r1 r2 : R) (given came : List ℕ) → HasRead d r given d1 r1
       → Reads remaining step d1 r1 came d2 r2 → d2.capacity ≡ d1.capacity → HasRead d r (given ++ came) d2 r2
-  HasRead-more d d1 d2 r r1 r2 given came continues before read capacity = record {
-    decodes = continues d d1 d2 r r1 r2 given came before.decodes read.decodes;
+  HasRead-more d d1 d2 r r1 r2 given came before read capacity = record {
+    decodes = Decodes-append remaining step d d1 d2 r r1 r2 given came before.decodes read.decodes;
     gives = Consumes-trans _ _ _ given came before.gives read.gives;
     begins = inl read.settled;
     stays = λ settled. read.stays (subst (λ m. IsSettled m) (sym (before.stays settled)) settled)
@@ -78,14 +74,13 @@ module _ {R : Type 0} (remaining : R → Option (List ℕ)) (step : R → ReadRe
       pub stays : IsSettled d.mode → d'.mode ≡ d.mode
       pub capacity : d'.capacity ≡ d.capacity
 
-  pub HasRead-failed : (d d1 d2 : DecoderState) (r r1 r2 : R) (given : List ℕ) (e : Error) → Continues
-      → HasRead d r given d1 r1
+  pub HasRead-failed : (d d1 d2 : DecoderState) (r r1 r2 : R) (given : List ℕ) (e : Error) → HasRead d r given d1 r1
       → FailsToRead remaining step d1 r1 e d2 r2 → d2.capacity ≡ d1.capacity → HasFailed d r given e d2 r2
-  HasRead-failed d d1 d2 r r1 r2 given e continues before failed capacity = record {
+  HasRead-failed d d1 d2 r r1 r2 given e before failed capacity = record {
     after = record {
       mid = failed.failed.mid;
       decodes = subst (λ l. Decodes remaining step d r l d2 failed.failed.mid) (append-nil given)
-          (continues d d1 d2 r r1 failed.failed.mid given [] before.decodes failed.failed.decodes);
+          (Decodes-append remaining step d d1 d2 r r1 failed.failed.mid given [] before.decodes failed.failed.decodes);
       unended = failed.failed.unended;
       failed = failed.failed.failed;
     };

@@ -14,7 +14,6 @@ ghost use Rattle.grep_line_buffer.specs.Room.{IsFullFault, IsLarge, next_size};
 
 use crate::fill_error::FillError;
 use crate::room::{larger_size, read_after};
-use grep_decode::laws::{reads_continue, reads_fail};
 use grep_decode::{Decoder, Source};
 use std::alloc::{AllocError, Allocator};
 
@@ -68,8 +67,6 @@ pub fn read_contents<A: Allocator, B: Allocator, R: Source>(
     ensures empty { IfRead result (λ _. decoder.new.ready ≡ []) }
     ensures waits { IfRead result (λ _. IsWaiting decoder.new.mode decoder.new.held) }
 {
-    reads_continue::<R>();
-    reads_fail::<R>();
     contents.clear();
     let mut len = 0;
     'reads: loop {

@@ -25,7 +25,6 @@ ghost use Rattle.grep_line_buffer.specs.Room.{IsFullFault};
 use crate::detection::Detection;
 use crate::fill_error::FillError;
 use crate::room::{enlarge, read_after};
-use grep_decode::laws::{reads_continue, reads_fail};
 use grep_decode::{Decoder, Source};
 use grep_lines::replace_bytes;
 use memchr::{memchr, memrchr};
@@ -260,8 +259,6 @@ impl<A: Allocator> LineBuffer<A> {
         ensures empty { IfRead result (λ _. decoder.new.ready ≡ []) }
         ensures waits { IfRead result (λ _. IsWaiting decoder.new.mode decoder.new.held) }
     {
-        reads_continue::<R>();
-        reads_fail::<R>();
         if self.has_ended() {
             return Ok(!self.buffer().is_empty());
         }

@@ -1,5 +1,6 @@
 use Rattle.std.proofs.Common.{◌≡◌, length, take, drop, sym, ap, subst, ◌∙◌, arith, take_all, length-take, []}
 use Rattle.std.proofs.lemmas.List.{with_items_is}
+use Rattle.grep_decode.proofs.DecoderLemmas.{Decodes-none, reads-fail}
 use Rattle.grep_line_buffer.specs.BufferStates.{IsWithin}
 use Rattle.grep_line_buffer.specs.Room.{IsLarge}
 use Rattle.grep_line_buffer.proofs.ContentsLemmas.{below-within, contents-full, HasRead-last, IsReading-first}
@@ -61,7 +62,7 @@ returns-in-Ok-eq0 g c =
     c.read_after.new.reader =
     HasRead-last rem step c.args.decoder.now c.reads.decoder c.read_after.new.decoder c.args.reader.now c.reads.reader
     c.read_after.new.reader
-    len c.in-Ok-eq0.field-0 w.items bytes c.truncate.new.self.items c.reads_continue.ensures.more room.read front all
+    len c.in-Ok-eq0.field-0 w.items bytes c.truncate.new.self.items room.read front all
     c.in-Ok-eq0.field-0-test read c.read_after.ensures.capacity in
     let none : take c.in-Ok-eq0.field-0 (drop len bytes)
     ≡ [] = ap (λ n. take n (drop len bytes)) c.in-Ok-eq0.field-0-test in
@@ -106,7 +107,7 @@ returns-in-Err-read_after g c =
     (sym (all ∙ front)) room.read in
     let out = HasRead-failed rem step c.args.decoder.now c.reads.decoder c.read_after.new.decoder c.args.reader.now
     c.reads.reader
-    c.read_after.new.reader given c.in-Err-read_after.e c.reads_continue.ensures.more before failed
+    c.read_after.new.reader given c.in-Err-read_after.e before failed
     c.read_after.ensures.capacity in
     record {
       capacity = out.capacity;
@@ -119,7 +120,7 @@ returns-in-Err-read_after g c =
       below = tt;
       error = below-within c.args.limit _ (length w.items)
           (omega (arith, made.room, ap length all, length-take len bytes)) made.within;
-      fault = c.reads_fail.ensures _ _ _ _ _ _ given _ before.decodes failed.failed;
+      fault = reads-fail g.R.Source.remaining g.R.Source.step _ _ _ _ _ _ given _ before.decodes failed.failed;
       ahead = tt;
       settled = tt;
       stays = out.stays;
@@ -131,7 +132,7 @@ pub reads-init : goal.reads-init
 reads-init g c = IsReading-first g.R.Source.remaining g.R.Source.step c.args.limit c.args.contents.now.cap
     c.clear.new.self.cap
     c.args.decoder.now c.args.reader.now c.clear.new.self.items
-    (c.reads_continue.ensures.none c.args.decoder.now c.args.reader.now) c.clear.ensures.items
+    (Decodes-none g.R.Source.remaining g.R.Source.step c.args.decoder.now c.args.reader.now) c.clear.ensures.items
     (omega (arith, c.clear.ensures.capacity))
 
 pub reads-preserved : goal.reads-preserved
@@ -150,6 +151,6 @@ reads-preserved g c =
     c.in-Ok.count
     c.args.decoder.now c.reads.decoder c.read_after.new.decoder c.args.reader.now c.reads.reader c.read_after.new.reader
     w.items bytes _
-    c.reads_continue.ensures.more room (c.read_after.ensures.front ∙ ap (take c.reads.len) c.deref_mut.ensures.value)
+    room (c.read_after.ensures.front ∙ ap (take c.reads.len) c.deref_mut.ensures.value)
     same
     (with_items_is w bytes whole) c.in-Ok.ensures.bound c.in-Ok.ensures.reads c.read_after.ensures.capacity

@@ -1,6 +1,7 @@
 use Rattle.std.proofs.Common.{◌≡◌, ◌<◌, inl, Bool, length, true, false, refl, sym, ap, ◌∙◌, rules, arith}
 use Rattle.std.proofs.lemmas.Bool.{false≢true}
 use Rattle.std.proofs.lemmas.List.{nil_from_length}
+use Rattle.grep_decode.proofs.DecoderLemmas.{Decodes-none, reads-fail}
 use Rattle.grep_line_buffer.specs.BufferStates.{held, is_cut, HasNoLine}
 use Rattle.grep_line_buffer.specs.Fills.{PassesOffsets}
 use Rattle.grep_line_buffer.proofs.FillLemmas.{Fills-none, only-limit, Outcome-none, IsFilling-stopped, IsFilling-shown}
@@ -15,7 +16,7 @@ pub returns-then-has_ended : goal.returns-then-has_ended
 returns-then-has_ended g c =
     let was : c.args.self.now.has_ended ≡ true = sym c.has_ended.ensures.value ∙ c.if-has_ended.true in
     let shown = c.has_ended.ensures.shown c.if-has_ended.true in
-    let out = Outcome-none g.R.Source.remaining g.R.Source.step c.args.self.now _ _ (c.reads_continue.ensures.none _ _)
+    let out = Outcome-none g.R.Source.remaining g.R.Source.step c.args.self.now _ _ (Decodes-none g.R.Source.remaining g.R.Source.step _ _)
     c.has_ended.ensures.within in
     let filled = filled-before c.args.self.now was shown.0 shown.1 in
     record {
@@ -57,7 +58,7 @@ returns-then-not-has_offsets g c =
       unended = was;
     }
     in
-    let out = Outcome-none g.R.Source.remaining g.R.Source.step c.args.self.now _ _ (c.reads_continue.ensures.none _ _)
+    let out = Outcome-none g.R.Source.remaining g.R.Source.step c.args.self.now _ _ (Decodes-none g.R.Source.remaining g.R.Source.step _ _)
     c.has_ended.ensures.within in
     record {
       same = out.same;
@@ -130,7 +131,7 @@ returns-in-Err-read g c =
     let made = c.make_room.ensures in
     let room = HasNone-room _ _ _ _ _ _ _ _ _ _ _ c.reads.invariant made.same made.free made.within made.grows in
     let failed = c.in-Err-read.ensures.failed in
-    let out = HasNone-fault _ _ _ _ _ _ _ _ _ _ _ c.in-Err-read.e c.reads_continue.ensures.more room failed
+    let out = HasNone-fault _ _ _ _ _ _ _ _ _ _ _ c.in-Err-read.e room failed
     c.in_default.ensures.ok
     c.read.ensures.capacity c.in-Err-read.ensures.same in
     let error : HasNoLine c.args.self.now c.read.new.self
@@ -147,7 +148,7 @@ returns-in-Err-read g c =
       filled = tt;
       error = error;
       limit = only-limit _ _ _ error tt;
-      fault = c.reads_fail.ensures _ _ _ _ _ _ _ _ room.filling.read.decodes failed.failed;
+      fault = reads-fail g.R.Source.remaining g.R.Source.step _ _ _ _ _ _ _ _ room.filling.read.decodes failed.failed;
       uncut = out.uncut;
       fits = tt;
       begins = λ _ _ _. tt;
@@ -169,7 +170,7 @@ returns-then-count-eq0 g c =
     let made = c.make_room.ensures in
     let room = HasNone-room _ _ _ _ _ _ _ _ _ _ _ c.reads.invariant made.same made.free made.within made.grows in
     let came = c.in-Ok.ensures.reads in
-    let next = IsFilling-none _ _ _ _ _ _ _ _ _ _ _ _ c.reads_continue.ensures.more room came c.if-count-eq0.true
+    let next = IsFilling-none _ _ _ _ _ _ _ _ _ _ _ _ room came c.if-count-eq0.true
     c.read.ensures.capacity in
     let none = nil_from_length came.given (came.counted ∙ c.if-count-eq0.true) in
     let out = IsFilling-ended _ _ _ _ _ _ _ _ _ next c.end-then-count-eq0.ensures.same in
@@ -212,7 +213,7 @@ returns-then-not-has_offsets-2 g c =
     let room = HasNone-room _ _ _ _ _ _ _ _ _ _ _ c.reads.invariant made.same made.free made.within made.grows in
     let came = c.in-Ok.ensures.reads in
     let comes = Comes-detected _ _ _ _ _ _ _ _ _ _ came c.detect.ensures.detects in
-    let next = IsFilling-more _ _ _ _ _ _ _ _ _ _ _ _ _ c.reads_continue.ensures.more room came comes
+    let next = IsFilling-more _ _ _ _ _ _ _ _ _ _ _ _ _ room came comes
     c.read.ensures.capacity in
     let out = IsFilling-stopped _ _ _ _ _ _ _ _ _ next refl in
     let error = IsFilling-past _ _ _ _ _ _ _ _ _ _ _ room next c.if-not-has_offsets-2.ensures in
@@ -251,7 +252,7 @@ returns-then-show_lines g c =
     let room = HasNone-room _ _ _ _ _ _ _ _ _ _ _ c.reads.invariant made.same made.free made.within made.grows in
     let came = c.in-Ok.ensures.reads in
     let comes = Comes-detected _ _ _ _ _ _ _ _ _ _ came c.detect.ensures.detects in
-    let next = IsFilling-more _ _ _ _ _ _ _ _ _ _ _ _ _ c.reads_continue.ensures.more room came comes
+    let next = IsFilling-more _ _ _ _ _ _ _ _ _ _ _ _ _ room came comes
     c.read.ensures.capacity in
     let going = sym c.is_cut-in-reads.ensures.value ∙ c.if-is_cut-2.false in
     let shows = c.if-show_lines.ensures in
@@ -289,7 +290,7 @@ returns-then-show_lines g c =
     }
 
 pub reads-init : goal.reads-init
-reads-init g c = HasNone-first g.R.Source.remaining g.R.Source.step _ _ _ _ _ (c.reads_continue.ensures.none _ _)
+reads-init g c = HasNone-first g.R.Source.remaining g.R.Source.step _ _ _ _ _ (Decodes-none g.R.Source.remaining g.R.Source.step _ _)
     c.roll.ensures.same
     (c.roll.ensures.free ∙ ap size_of c.roll.ensures.same) (sym c.has_ended.ensures.value ∙ c.if-has_ended.false)
     c.has_ended.ensures.within c.if-not-has_offsets.ensures
@@ -301,7 +302,7 @@ reads-preserved g c =
     let room = HasNone-room _ _ _ _ _ _ _ _ _ _ _ c.reads.invariant made.same made.free made.within made.grows in
     let came = c.in-Ok.ensures.reads in
     let comes = Comes-detected _ _ _ _ _ _ _ _ _ _ came c.detect.ensures.detects in
-    let next = IsFilling-more _ _ _ _ _ _ _ _ _ _ _ _ _ c.reads_continue.ensures.more room came comes
+    let next = IsFilling-more _ _ _ _ _ _ _ _ _ _ _ _ _ room came comes
     c.read.ensures.capacity in
     let going = sym c.is_cut-in-reads.ensures.value ∙ c.if-is_cut-2.false in
     let shows = c.if-show_lines.ensures in
@@ -318,7 +319,7 @@ returns-then-is_cut-2 g c =
     let room = HasNone-room _ _ _ _ _ _ _ _ _ _ _ c.reads.invariant made.same made.free made.within made.grows in
     let came = c.in-Ok.ensures.reads in
     let comes = Comes-detected _ _ _ _ _ _ _ _ _ _ came c.detect.ensures.detects in
-    let next = IsFilling-more _ _ _ _ _ _ _ _ _ _ _ _ _ c.reads_continue.ensures.more room came comes
+    let next = IsFilling-more _ _ _ _ _ _ _ _ _ _ _ _ _ room came comes
     c.read.ensures.capacity in
     let cut = sym c.is_cut-in-reads.ensures.value ∙ c.if-is_cut-2.true in
     let still = ap is_cut c.end-then-is_cut-2.ensures.same ∙ cut in
@@ -357,5 +358,5 @@ returns-then-is_cut-2 g c =
 
 pub returns-then-is_cut-clause-reads : goal.returns-then-is_cut-clause-reads
 returns-then-is_cut-clause-reads g c =
-    Fills-none g.R.Source.remaining g.R.Source.step c.args.self.now _ _ _ _ _ (c.reads_continue.ensures.none _ _)
+    Fills-none g.R.Source.remaining g.R.Source.step c.args.self.now _ _ _ _ _ (Decodes-none g.R.Source.remaining g.R.Source.step _ _)
     c.roll.ensures.same c.end.ensures.same
