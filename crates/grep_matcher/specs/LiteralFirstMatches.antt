@@ -72,7 +72,8 @@ module _ (hay literal : List ℕ) where
       ))
       (first-below n)
 
-  found-or-none : FindsNeedle hay literal 0 None ⊎ ((k : ℕ) × FindsNeedle hay literal 0 (Some k))
+  -- it occurs nowhere, or there is a first occurrence
+  pub found-or-none : FindsNeedle hay literal 0 None ⊎ ((k : ℕ) × FindsNeedle hay literal 0 (Some k))
   found-or-none = ⊎_elim
       (λ none. inl (λ k low high occurs. none k high occurs))
       (λ found. inr (found.0, (found.1, found.2)))

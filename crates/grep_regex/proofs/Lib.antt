@@ -8,6 +8,7 @@ pub mod WrittenLemmas
 pub mod ReadsLemmas
 pub mod RefusalLemmas
 pub mod ClearLemmas
+pub mod SpelledLemmas
 pub mod StrippedLemmas
 pub mod StrippedTreeLemmas
 pub mod FindLemmas

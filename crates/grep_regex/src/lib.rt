@@ -8,6 +8,7 @@ mod error;
 mod finder;
 mod frame;
 pub mod laws;
+mod literal;
 mod locality;
 mod matcher;
 mod named;

@@ -1,5 +1,5 @@
 //! A compiled regular expression.
-ghost use Rattle.std.specs.Prelude.{◌≡◌, ℕ, IfOk, IfErr, OnOk, IsTrue, None, map};
+ghost use Rattle.std.specs.Prelude.{◌≡◌, ℕ, IfOk, IfErr, IfSome, OnOk, IsTrue, None, map};
 ghost use Rattle.std.specs.Option.{option_copied};
 ghost use Rattle.regex_hir.specs.Meaning.{meaning};
 ghost use Rattle.grep_matcher.specs.FindResults.{holds_if_some};
@@ -7,11 +7,13 @@ ghost use Rattle.grep_regex.specs.AbsentBytes.{is_absent};
 ghost use Rattle.grep_regex.specs.Locality.{is_by_line};
 ghost use Rattle.grep_regex.specs.Patterns.{excluded_bytes, AvoidsAbsent, FindsAs};
 ghost use Rattle.grep_regex.specs.Refusals.{IsOfCompiler, IsRefusal, IsTerminatorError};
+ghost use Rattle.grep_regex.specs.Spelled.{IsSpelled};
 ghost use Rattle.grep_regex.specs.Stripped.{AreAscii};
 
 use crate::absent::absent_bytes;
 use crate::error::Error;
 use crate::frame::framed;
+use crate::literal::literal_of;
 use crate::locality::is_by_line;
 use crate::options::Options;
 use crate::parse::{Choice, read_choice};
@@ -164,6 +166,13 @@ impl Regex {
             ≡ holds_if_some (option_copied result) byte }
     {
         self.shared.absent()
+    }
+
+    // The bytes of the literal that was compiled, if it is one that isn't empty.
+    pub(crate) fn literal(&self) -> Option<&[u8]>
+        ensures { IfSome result (λ bytes. IsSpelled (program_re self.now) bytes.now) }
+    {
+        literal_of(&self.shared.program.hir)
     }
 
     // What searches for the expression.
