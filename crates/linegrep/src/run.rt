@@ -5,7 +5,7 @@ use crate::globs::Globs;
 use crate::haystacks::{Haystack, PathHaystack, ReaderHaystack};
 use crate::options::shows_paths;
 use crate::printers::Searched;
-use crate::walk::{Found, Walk};
+use crate::walk::{Entry, Walk};
 use clap::ArgMatches;
 use grep_searcher::Source;
 use std::fmt::Display;
@@ -82,15 +82,10 @@ where
         }
     }
 
-    // Searches the files at some paths. If there is none, it searches the current folder or the
-    // input. An error is the writer's, or one of being out of memory.
+    // Searches the files at some paths. An error is the writer's, or one of being out of memory.
     fn search_paths<R: Source>(&mut self, paths: &[String], input: &mut R) -> io::Result<()> {
         if paths.is_empty() {
-            return if self.flags.is_recursive {
-                self.search_folder("")
-            } else {
-                self.search_input(input)
-            };
+            return self.search_default(input);
         }
         for path in paths {
             self.search_operand(path.as_str(), input)?;
@@ -99,6 +94,15 @@ where
             }
         }
         Ok(())
+    }
+
+    // Searches what is searched without a path: the current folder, or the input.
+    fn search_default<R: Source>(&mut self, input: &mut R) -> io::Result<()> {
+        if self.flags.is_recursive {
+            self.search_folder("")
+        } else {
+            self.search_input(input)
+        }
     }
 
     // Searches what an operand names: the input, a folder or a file.
@@ -128,10 +132,16 @@ where
 
     // Searches what a walk through a folder finds.
     fn walk(&mut self, folder: &str) -> io::Result<()> {
-        let mut walk = Walk::new(self.rt, self.flags.shows_hidden, folder)?;
+        match Walk::new(self.rt, self.flags.shows_hidden, folder) {
+            Ok(mut walk) => self.visit_all(&mut walk),
+            Err(error) => Err(error),
+        }
+    }
+
+    fn visit_all(&mut self, walk: &mut Walk<'r, T>) -> io::Result<()> {
         for _ in 0..u64::MAX {
-            match walk.next(self.globs)? {
-                Some(found) => self.search_found(&found)?,
+            match walk.pop() {
+                Some(entry) => self.visit(walk, &entry)?,
                 None => break,
             }
             if self.is_over() {
@@ -141,11 +151,12 @@ where
         Ok(())
     }
 
-    // Searches a file that a walk has found, or says why something can't be read.
-    fn search_found(&mut self, found: &Found) -> io::Result<()> {
-        match found {
-            Found::File(path) => self.search_path(path.as_str()),
-            Found::Unread(path, error) => {
+    // Searches a file, enters a folder, or says why something can't be read.
+    fn visit(&mut self, walk: &mut Walk<'r, T>, entry: &Entry) -> io::Result<()> {
+        match entry {
+            Entry::File(path) => self.search_path(path.as_str()),
+            Entry::Folder(path) => walk.enter(self.globs, path.as_str()),
+            Entry::Unread(path, error) => {
                 self.report(path.as_str(), error);
                 Ok(())
             }
@@ -210,8 +221,12 @@ where
 
 // Whether there is a folder at one of the paths, or no path at all.
 fn names_folder<T: Files>(rt: &T, paths: &[String]) -> bool {
+    for path in paths {
+        if path.as_str() != "-" && is_folder(rt, path.as_str()) {
+            return true;
+        }
+    }
     paths.is_empty()
-        || paths.iter().any(|path| path.as_str() != "-" && is_folder(rt, path.as_str()))
 }
 
 // Whether there is a folder at a path.

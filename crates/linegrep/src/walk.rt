@@ -6,15 +6,17 @@ use std::{fs, io};
 
 /// What is found in folders.
 #[derive(Drop)]
-pub enum Found {
+pub enum Entry {
     /// A file, by its path.
     File(String),
+    /// A folder, by its path.
+    Folder(String),
     /// What can't be read: a path, and why.
     Unread(String, io::Error),
 }
 
-/// Walks through a folder and the folders in it, in the order of their names, and finds the regular
-/// files that are chosen. Links aren't followed.
+/// A walk through a folder and the folders in it, in the order of their names, which finds the
+/// regular files that are chosen. Links aren't followed.
 #[derive(Drop)]
 pub struct Walk<'r, T> {
     rt: &'r T,
@@ -23,110 +25,104 @@ pub struct Walk<'r, T> {
     pending: Vec<Entry>,
 }
 
-// A file or a folder that was found, or what can't be read.
-#[derive(Drop)]
-enum Entry {
-    File(String),
-    Folder(String),
-    Unread(String, io::Error),
-}
-
 impl<'r, T: Files + AllocGlobal + Clone + Drop> Walk<'r, T> {
     /// A walk through the folder at a path, or through the current one if the path is empty. Hidden
     /// files and folders, whose names begin with a dot, are found only if `shows_hidden` is set or
     /// a glob asks for them. The only error is being out of memory.
     pub fn new(rt: &'r T, shows_hidden: bool, folder: &str) -> io::Result<Walk<'r, T>> {
-        let mut pending = Vec::new(rt.alloc());
-        pending.push(Entry::Folder(String::from_str(rt.alloc(), folder)?))?;
-        Ok(Walk {
+        let mut walk = Walk {
             rt,
             shows_hidden,
-            pending,
-        })
+            pending: Vec::new(rt.alloc()),
+        };
+        match walk.push_folder(folder) {
+            Ok(()) => Ok(walk),
+            Err(error) => Err(error),
+        }
     }
 
-    /// The next that is found and that the globs choose, or `None` at the end. What can't be read
-    /// is left out, and the walk goes on. The only error is being out of memory.
-    pub fn next(&mut self, globs: &mut Globs) -> io::Result<Option<Found>> {
-        for _ in 0..u64::MAX {
-            match self.pending.pop() {
-                Some(Entry::File(path)) => return Ok(Some(Found::File(path))),
-                Some(Entry::Unread(path, error)) => return Ok(Some(Found::Unread(path, error))),
-                Some(Entry::Folder(path)) => match self.push_entries(globs, path.as_str()) {
-                    Ok(()) => {}
-                    Err(error) if error.kind() == io::ErrorKind::OutOfMemory => return Err(error),
-                    Err(error) => {
-                        let name = String::from_str(self.rt.alloc(), name_of(path.as_str()))?;
-                        return Ok(Some(Found::Unread(name, error)));
-                    }
-                },
-                None => return Ok(None),
+    fn push_folder(&mut self, folder: &str) -> io::Result<()> {
+        let path = String::from_str(self.rt.alloc(), folder)?;
+        self.push(Entry::Folder(path))
+    }
+
+    /// The next to be visited, or `None` at the end.
+    pub fn pop(&mut self) -> Option<Entry> {
+        self.pending.pop()
+    }
+
+    /// Adds what a folder holds and the globs choose, or that the folder can't be read. The only
+    /// error is being out of memory.
+    pub fn enter(&mut self, globs: &mut Globs, folder: &str) -> io::Result<()> {
+        match self.push_entries(globs, folder) {
+            Err(error) if error.kind() != io::ErrorKind::OutOfMemory => {
+                self.push_unread(folder, error)
             }
+            entered => entered,
         }
-        Ok(None)
     }
 
     // Adds what a folder holds, the last name first.
     fn push_entries(&mut self, globs: &mut Globs, folder: &str) -> io::Result<()> {
-        let mut entries = Vec::new(self.rt.alloc());
+        let start = self.pending.len();
         for entry in fs::read_dir(self.rt, name_of(folder))? {
-            self.push_entry(globs, folder, entry, &mut entries)?;
+            self.push_entry(globs, folder, entry)?;
         }
-        entries.sort_unstable_by(|a, b| b.path().cmp(a.path()));
-        self.pending.append(&mut entries)?;
+        if let Some(found) = self.pending.as_mut_slice().get_mut(start..) {
+            found.sort_unstable_by(|a, b| b.path().cmp(a.path()));
+        }
         Ok(())
     }
 
     // Adds an entry of a folder, if it is one to visit, or why it can't be read.
     fn push_entry(
-        &self,
+        &mut self,
         globs: &mut Globs,
         folder: &str,
         entry: io::Result<DirEntry<T>>,
-        entries: &mut Vec<Entry>,
     ) -> io::Result<()> {
-        let entry = match entry {
-            Ok(entry) => self.entry(globs, folder, entry.file_name())?,
-            Err(error) => {
-                let name = String::from_str(self.rt.alloc(), name_of(folder))?;
-                Some(Entry::Unread(name, error))
-            }
-        };
-        if let Some(entry) = entry {
-            entries.push(entry)?;
+        match entry {
+            Ok(entry) => self.push_name(globs, folder, entry.file_name()),
+            Err(error) => self.push_unread(folder, error),
         }
-        Ok(())
     }
 
-    // An entry of a folder, if it is one to visit. One that can't be looked at is left out like a
-    // file.
-    fn entry(&self, globs: &mut Globs, folder: &str, name: &str) -> io::Result<Option<Entry>> {
+    // Adds what has a name in a folder, if it is to be visited. What can't be looked at is left out
+    // like a file.
+    fn push_name(&mut self, globs: &mut Globs, folder: &str, name: &str) -> io::Result<()> {
         let path = self.join(folder, name)?;
-        let kind = match fs::symlink_metadata(self.rt, path.as_str()) {
-            Ok(metadata) => metadata.file_type(),
-            Err(error) => {
-                return Ok(if self.is_chosen(globs, path.as_str(), name, false) {
-                    Some(Entry::Unread(path, error))
-                } else {
-                    None
-                });
-            }
-        };
-        let is_folder = kind.is_dir();
-        if !(is_folder || kind.is_file())
-            || !self.is_chosen(globs, path.as_str(), name, is_folder)
-        {
-            return Ok(None);
+        match self.entry(path) {
+            Some(entry) if self.is_chosen(globs, &entry, name) => self.push(entry),
+            _ => Ok(()),
         }
-        Ok(Some(if is_folder {
-            Entry::Folder(path)
-        } else {
-            Entry::File(path)
-        }))
     }
 
-    fn is_chosen(&self, globs: &mut Globs, path: &str, name: &str, is_folder: bool) -> bool {
-        match globs.choice(path, is_folder) {
+    fn push_unread(&mut self, folder: &str, error: io::Error) -> io::Result<()> {
+        match String::from_str(self.rt.alloc(), name_of(folder)) {
+            Ok(name) => self.push(Entry::Unread(name, error)),
+            Err(error) => Err(io::Error::from(error)),
+        }
+    }
+
+    fn push(&mut self, entry: Entry) -> io::Result<()> {
+        match self.pending.push(entry) {
+            Ok(()) => Ok(()),
+            Err(_) => Err(io::Error::from(io::ErrorKind::OutOfMemory)),
+        }
+    }
+
+    // What is at a path, unless it is neither a file nor a folder.
+    fn entry(&self, path: String) -> Option<Entry> {
+        match fs::symlink_metadata(self.rt, path.as_str()) {
+            Ok(metadata) if metadata.is_dir() => Some(Entry::Folder(path)),
+            Ok(metadata) if metadata.is_file() => Some(Entry::File(path)),
+            Ok(_) => None,
+            Err(error) => Some(Entry::Unread(path, error)),
+        }
+    }
+
+    fn is_chosen(&self, globs: &mut Globs, entry: &Entry, name: &str) -> bool {
+        match globs.choice(entry.path(), matches!(entry, Entry::Folder(_))) {
             Choice::Chosen => true,
             Choice::LeftOut => false,
             Choice::Unmatched => self.shows_hidden || !name.starts_with('.'),
