@@ -1,8 +1,7 @@
 //! A searcher, a matcher and a printer, which search as one.
-use crate::haystacks::Haystack;
 use crate::printers::{Printer, Searched};
 use grep_output::Output;
-use grep_searcher::{BinaryDetection, FindAt, SearchError, Searcher};
+use grep_searcher::{BinaryDetection, FindAt, SearchError, Searcher, Source};
 use std::io;
 use std::rt::Clock;
 
@@ -10,7 +9,7 @@ use std::rt::Clock;
 /// is proved without what a searcher and a printer consist of.
 pub trait Engine {
     /// Searches a haystack, and writes what is found in it, with a path if there is one.
-    fn search<H: Haystack>(&mut self, haystack: &mut H, path: Option<&str>) -> Searched;
+    fn search<H: Source>(&mut self, haystack: &mut H, path: Option<&str>) -> Searched;
 
     /// From now on the search of a binary file ends where that shows, or goes on as it did at
     /// first.
@@ -55,7 +54,7 @@ impl<'e, T, M, W> PrintingEngine<'e, T, M, W> {
 }
 
 impl<'e, T: Clock, M: FindAt, W: Output> Engine for PrintingEngine<'e, T, M, W> {
-    fn search<H: Haystack>(&mut self, haystack: &mut H, path: Option<&str>) -> Searched {
+    fn search<H: Source>(&mut self, haystack: &mut H, path: Option<&str>) -> Searched {
         self.printer
             .search(self.rt, self.searcher, self.matcher, haystack, path)
     }

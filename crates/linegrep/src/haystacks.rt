@@ -1,54 +1,45 @@
 //! What is searched.
+ghost use Rattle.std.specs.Prelude.{⊤};
+
 use grep_searcher::{Matcher, SearchError, Searcher, Sink, Source};
-use std::rt::Files;
+use std::io;
+use std::io::Read;
 
-/// What can be searched. The contracts of a searcher's calls aren't passed on: the program needs
-/// none of them, and is proved sooner without them.
-pub trait Haystack {
-    /// Searches it.
-    fn search<M: Matcher, S: Sink<Error = SearchError>>(
-        &mut self,
-        searcher: &mut Searcher,
-        matcher: &M,
-        sink: &mut S,
-    ) -> Result<(), SearchError>
-        requires { S.may_call sink.old };
-}
-
-/// The file at a path.
+/// What is searched: an open file, or what a reader gives. It is one type, so that the program has
+/// one search of each printer, and it says nothing of its bytes, of which the program knows nothing.
 #[derive(Drop)]
-pub struct PathHaystack<'h, T> {
-    /// What opens it.
-    pub rt: &'h T,
-    /// The path.
-    pub path: &'h str,
+pub enum Haystack<'h, F, R> {
+    /// A file.
+    File(&'h mut F),
+    /// A reader.
+    Reader(&'h mut R),
 }
 
-impl<'h, T: Files> Haystack for PathHaystack<'h, T> {
-    fn search<M: Matcher, S: Sink<Error = SearchError>>(
-        &mut self,
-        searcher: &mut Searcher,
-        matcher: &M,
-        sink: &mut S,
-    ) -> Result<(), SearchError> {
-        searcher.search_path(self.rt, matcher, self.path, sink)
+impl<'h, F: Read, R: Source> Source for Haystack<'h, F, R> {
+    ghost step = { λ _ _ _. ⊤ };
+
+    ghost gives = { λ s t bytes h. tt };
+
+    ghost keeps = { λ s t e h. tt };
+
+    fn pull(&mut self, buffer: &mut [u8]) -> io::Result<usize> {
+        match self {
+            Haystack::File(file) => file.read(buffer),
+            Haystack::Reader(reader) => reader.pull(buffer),
+        }
     }
 }
 
-/// What a reader gives.
-#[derive(Drop)]
-pub struct ReaderHaystack<'h, R> {
-    /// The reader.
-    pub reader: &'h mut R,
-}
-
-impl<'h, R: Source> Haystack for ReaderHaystack<'h, R> {
-    fn search<M: Matcher, S: Sink<Error = SearchError>>(
-        &mut self,
-        searcher: &mut Searcher,
-        matcher: &M,
-        sink: &mut S,
-    ) -> Result<(), SearchError> {
-        searcher.search_reader(matcher, &mut *self.reader, sink)
-    }
+/// Searches what a source gives. The contract of a searcher's call isn't passed on: the program
+/// needs none of it, and is proved sooner without it.
+pub fn search<M: Matcher, H: Source, S: Sink<Error = SearchError>>(
+    searcher: &mut Searcher,
+    matcher: &M,
+    haystack: &mut H,
+    sink: &mut S,
+) -> Result<(), SearchError>
+where
+    requires { S.may_call sink.old }
+{
+    searcher.search_reader(matcher, haystack, sink)
 }

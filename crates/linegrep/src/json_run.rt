@@ -1,9 +1,9 @@
 //! Searches of which the reports are written as JSON.
-use crate::haystacks::Haystack;
+use crate::haystacks::search;
 use crate::printers::Searched;
 use grep_output::Output;
 use grep_printer::{Json, JsonSink, Stats};
-use grep_searcher::{FindAt, SearchError, Searcher};
+use grep_searcher::{FindAt, SearchError, Searcher, Source};
 use std::rt::Clock;
 use std::time::{Duration, Instant};
 
@@ -27,7 +27,7 @@ impl<W: Output> JsonRun<W> {
     }
 
     /// Searches a haystack, which messages name by a path.
-    pub fn search<T: Clock, M: FindAt, H: Haystack>(
+    pub fn search<T: Clock, M: FindAt, H: Source>(
         &mut self,
         rt: &T,
         searcher: &mut Searcher,
@@ -37,7 +37,7 @@ impl<W: Output> JsonRun<W> {
     ) -> Searched {
         let start = Instant::now(rt).ok();
         let mut sink = self.printer.sink(matcher, path);
-        let result = haystack.search(searcher, matcher, &mut sink);
+        let result = search(searcher, matcher, haystack, &mut sink);
         let has_match = sink.has_match();
         let ended = end(rt, &mut sink, start, result);
         self.keep(has_match, ended)

@@ -1,9 +1,9 @@
 //! What writes what is found.
-use crate::haystacks::Haystack;
+use crate::haystacks::search;
 use crate::json_run::JsonRun;
 use grep_output::Output;
 use grep_printer::{Standard, Summary};
-use grep_searcher::{FindAt, SearchError, Searcher};
+use grep_searcher::{FindAt, SearchError, Searcher, Source};
 use std::rt::Clock;
 
 /// What writes what is found.
@@ -28,7 +28,7 @@ pub struct Searched {
 
 impl<W: Output> Printer<W> {
     /// Searches a haystack, and writes what is found in it, with a path if there is one.
-    pub fn search<T: Clock, M: FindAt, H: Haystack>(
+    pub fn search<T: Clock, M: FindAt, H: Source>(
         &mut self,
         rt: &T,
         searcher: &mut Searcher,
@@ -67,7 +67,7 @@ impl<W: Output> Printer<W> {
 }
 
 // Searches a haystack, and writes the lines that match.
-fn print<M: FindAt, W: Output, H: Haystack>(
+fn print<M: FindAt, W: Output, H: Source>(
     printer: &mut Standard<W>,
     searcher: &mut Searcher,
     matcher: &M,
@@ -75,13 +75,13 @@ fn print<M: FindAt, W: Output, H: Haystack>(
     path: Option<&str>,
 ) -> Searched {
     let mut sink = printer.sink(matcher, path);
-    let result = haystack.search(searcher, matcher, &mut sink);
+    let result = search(searcher, matcher, haystack, &mut sink);
     let has_match = sink.has_match();
     Searched { has_match, result }
 }
 
 // Searches a haystack, and writes a summary.
-fn sum_up<M: FindAt, W: Output, H: Haystack>(
+fn sum_up<M: FindAt, W: Output, H: Source>(
     printer: &mut Summary<W>,
     searcher: &mut Searcher,
     matcher: &M,
@@ -89,7 +89,7 @@ fn sum_up<M: FindAt, W: Output, H: Haystack>(
     path: Option<&str>,
 ) -> Searched {
     let mut sink = printer.sink(matcher, path);
-    let result = haystack.search(searcher, matcher, &mut sink);
+    let result = search(searcher, matcher, haystack, &mut sink);
     let has_match = sink.has_match();
     Searched { has_match, result }
 }

@@ -2,13 +2,14 @@
 use crate::engine::{Engine, written_error};
 use crate::failures::{Failure, report_cause};
 use crate::globs::Globs;
-use crate::haystacks::{Haystack, PathHaystack, ReaderHaystack};
+use crate::haystacks::Haystack;
 use crate::options::shows_paths;
 use crate::printers::Searched;
 use crate::walk::{Entry, Walk};
 use clap::ArgMatches;
 use grep_searcher::Source;
 use std::fmt::Display;
+use std::fs::File;
 use std::process::ExitCode;
 use std::rt::Files;
 use std::{fs, io};
@@ -39,30 +40,44 @@ impl Flags {
             is_quiet: matches.get_flag("quiet"),
         }
     }
+
+    // The path that is written for a haystack with a name, if paths are.
+    fn shown<'n>(&self, name: &'n str) -> Option<&'n str> {
+        if self.shows_paths { Some(name) } else { None }
+    }
 }
 
 /// A run over files: what it searches with, and what came of those that it has searched.
 #[derive(Drop)]
-pub struct Run<'r, T, E> {
+pub struct Run<'r, T, E, R> {
     rt: &'r T,
     engine: &'r mut E,
     globs: &'r mut Globs,
+    input: &'r mut R,
     flags: Flags,
     has_match: bool,
     has_error: bool,
 }
 
-impl<'r, T, E> Run<'r, T, E>
+impl<'r, T, E, R> Run<'r, T, E, R>
 where
     T: Files + Eprint + AllocGlobal + Clone + Drop,
     E: Engine,
+    R: Source,
 {
     /// A run that has searched nothing yet.
-    pub fn new(rt: &'r T, engine: &'r mut E, globs: &'r mut Globs, flags: Flags) -> Run<'r, T, E> {
+    pub fn new(
+        rt: &'r T,
+        engine: &'r mut E,
+        globs: &'r mut Globs,
+        input: &'r mut R,
+        flags: Flags,
+    ) -> Run<'r, T, E, R> {
         Run {
             rt,
             engine,
             globs,
+            input,
             flags,
             has_match: false,
             has_error: false,
@@ -70,12 +85,8 @@ where
     }
 
     /// Searches the files at some paths, writes what is left, and gives the status.
-    pub fn complete<R: Source>(
-        &mut self,
-        paths: &[String],
-        input: &mut R,
-    ) -> Result<ExitCode, Failure> {
-        match self.search_paths(paths, input) {
+    pub fn complete(&mut self, paths: &[String]) -> Result<ExitCode, Failure> {
+        match self.search_paths(paths) {
             Ok(()) => self.finish(),
             Err(error) if self.engine.has_failed() => Err(Failure::Output(error)),
             Err(error) => Err(Failure::System(error)),
@@ -83,12 +94,12 @@ where
     }
 
     // Searches the files at some paths. An error is the writer's, or one of being out of memory.
-    fn search_paths<R: Source>(&mut self, paths: &[String], input: &mut R) -> io::Result<()> {
+    fn search_paths(&mut self, paths: &[String]) -> io::Result<()> {
         if paths.is_empty() {
-            return self.search_default(input);
+            return self.search_default();
         }
         for path in paths {
-            self.search_operand(path.as_str(), input)?;
+            self.search_operand(path.as_str())?;
             if self.is_over() {
                 break;
             }
@@ -97,18 +108,18 @@ where
     }
 
     // Searches what is searched without a path: the current folder, or the input.
-    fn search_default<R: Source>(&mut self, input: &mut R) -> io::Result<()> {
+    fn search_default(&mut self) -> io::Result<()> {
         if self.flags.is_recursive {
             self.search_folder("")
         } else {
-            self.search_input(input)
+            self.search_input()
         }
     }
 
     // Searches what an operand names: the input, a folder or a file.
-    fn search_operand<R: Source>(&mut self, path: &str, input: &mut R) -> io::Result<()> {
+    fn search_operand(&mut self, path: &str) -> io::Result<()> {
         if path == "-" {
-            self.search_input(input)
+            self.search_input()
         } else if self.flags.is_recursive && is_folder(self.rt, path) {
             self.search_folder(path)
         } else {
@@ -163,27 +174,28 @@ where
         }
     }
 
-    // Searches the file at a path.
+    // Searches the file at a path, or says why it can't be opened.
     fn search_path(&mut self, path: &str) -> io::Result<()> {
-        let mut haystack = PathHaystack { rt: self.rt, path };
-        self.search(&mut haystack, path)
+        match File::open(self.rt, path) {
+            Ok(mut file) => self.search_file(path, &mut file),
+            Err(error) => {
+                self.report(path, &error);
+                Ok(())
+            }
+        }
+    }
+
+    fn search_file(&mut self, path: &str, file: &mut T::File) -> io::Result<()> {
+        let mut haystack: Haystack<'_, T::File, R> = Haystack::File(file);
+        let searched = self.engine.search(&mut haystack, self.flags.shown(path));
+        self.keep(path, searched)
     }
 
     // Searches standard input.
-    fn search_input<R: Source>(&mut self, input: &mut R) -> io::Result<()> {
-        let mut haystack = ReaderHaystack { reader: input };
-        self.search(&mut haystack, STDIN)
-    }
-
-    // Searches a haystack with a name.
-    fn search<H: Haystack>(&mut self, haystack: &mut H, name: &str) -> io::Result<()> {
-        let path = if self.flags.shows_paths {
-            Some(name)
-        } else {
-            None
-        };
-        let searched = self.engine.search(haystack, path);
-        self.keep(name, searched)
+    fn search_input(&mut self) -> io::Result<()> {
+        let mut haystack: Haystack<'_, T::File, R> = Haystack::Reader(&mut *self.input);
+        let searched = self.engine.search(&mut haystack, self.flags.shown(STDIN));
+        self.keep(STDIN, searched)
     }
 
     // Goes on after a search. An error of reading is reported; one of writing ends the run.

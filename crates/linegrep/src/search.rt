@@ -93,5 +93,5 @@ where
     T: Files + Eprint + AllocGlobal + Clone + Drop,
 {
     let flags = Flags::new(rt, matches, paths);
-    Run::new(rt, engine, globs, flags).complete(paths, input)
+    Run::new(rt, engine, globs, input, flags).complete(paths)
 }
