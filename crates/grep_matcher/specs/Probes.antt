@@ -1,9 +1,9 @@
--- Three bytes of a literal.
+-- Some bytes of a literal.
 use Rattle.std.specs.Prelude.{ℕ, ◌<◌, List, length}
 use Rattle.grep_matcher.specs.declared.probe.Probe.{Probe}
+use Rattle.grep_matcher.specs.declared.probe.Probe.TheVariants.{One, Three}
 
--- their places are in the literal
-pub record IsProbeOf (probe : Probe) (literal : List ℕ) : Type 0 where
-  pub first : probe.first < length literal
-  pub second : probe.second < length literal
-  pub third : probe.third < length literal
+-- their positions are in the literal
+abbrev pub IsProbeOf : Probe → List ℕ → Type 0
+IsProbeOf (One index) literal = index < length literal
+IsProbeOf (Three first second third) literal = (first < length literal) × (second < length literal) × (third < length literal)

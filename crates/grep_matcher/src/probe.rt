@@ -1,6 +1,9 @@
-//! A search for a literal of frequent bytes by three of them. By two, as `memchr` searches for a
-//! short literal, so many places are candidates that looking at those costs more than a third byte.
-ghost use Rattle.std.specs.Prelude.{◌≡◌, ◌≤◌, ◌<◌, ◌+◌, ℕ, length, slice_index, IsTrue, IfSome};
+//! A search for a literal by its rarest byte, if that is rare in text, or by three of its bytes, if
+//! all are frequent. `memchr` searches for a short literal by two: where one of them is rare the
+//! other is loaded in vain, and where both are frequent so many positions are candidates that
+//! looking at those costs more than a third byte.
+ghost use Rattle.std.specs.Prelude.{◌≡◌, ◌≤◌, ◌<◌, ◌+◌, ◌^◌, ℕ, List, length, slice_index};
+ghost use Rattle.std.specs.Prelude.{IsTrue, IfSome};
 ghost use Rattle.memchr.specs.Find.{FindsNeedle, Nowhere, OccursAt};
 ghost use Rattle.memchr.specs.Lanes.{Covers};
 ghost use Rattle.grep_matcher.specs.Probes.{IsProbeOf};
@@ -16,87 +19,162 @@ const STEP: usize = 4 * WIDTH;
 // From which rank on a byte is frequent in text: the letters of English but for some ten.
 const FREQUENT: u8 = 220;
 
-// The length of the longest literal that is searched for in this way. Each step that finds the
-// three bytes looks at as many bytes more.
+// Below which rank a byte is rare in text: capitals, most digits and most punctuation.
+const RARE: u8 = 195;
+
+// How many bytes a step with the bytes has to save at least: the finder is faster than steps that
+// are searched more often than once in so many bytes.
+const SAVED: usize = 1024;
+
+// How many steps are searched before it is seen whether they save that.
+const TRIED: usize = 8;
+
+// The length of the longest literal that is searched for in this way. Each step that has the bytes
+// is searched with as many bytes more.
 const LONGEST: usize = 32;
 
-/// The positions in a literal of three of its bytes.
+/// The positions in a literal of the bytes that it is searched for by.
 #[derive(Clone, Copy)]
-pub(crate) struct Probe {
-    first: usize,
-    second: usize,
-    third: usize,
+pub(crate) enum Probe {
+    /// A rare byte.
+    One(usize),
+    /// Three frequent bytes.
+    Three(usize, usize, usize),
 }
 
 impl Probe {
-    /// The three rarest bytes of a literal, if it isn't long, all its bytes are frequent, and three
-    /// of them differ.
+    /// The rarest byte of a literal if it is rare, or the three rarest if all are frequent and three
+    /// of them differ; none if the literal is long or has one byte.
     pub(crate) fn new(literal: &[u8]) -> Option<Probe>
         ensures { IfSome result (λ probe. IsProbeOf probe literal.now) }
     {
         let pair = Pair::new(literal)?;
         let (first, second) = (pair.index1() as usize, pair.index2() as usize);
-        if literal.len() > LONGEST || rank(literal[first]) < FREQUENT {
+        if literal.len() > LONGEST {
+            return None;
+        }
+        let least = rank(literal[first]);
+        if least < RARE {
+            return Some(Probe::One(first));
+        }
+        if least < FREQUENT {
             return None;
         }
         let third = rarest_other(literal, first, second)?;
-        Some(Probe {
-            first,
-            second,
-            third,
-        })
+        Some(Probe::Three(first, second, third))
     }
 
     /// The position of the first occurrence of the literal that a finder has, which is this
     /// probe's.
+    #[inline(always)]
     pub(crate) fn find(&self, finder: &Finder<'_>, haystack: &[u8]) -> Option<usize>
         requires { IsProbeOf self.now finder.now }
         ensures { FindsNeedle haystack.now finder.now 0 result }
     {
-        let literal = finder.needle();
-        let mut from = 0;
-        'steps: loop {
-            let end = from + (haystack.len() - from).min(literal.len() + STEP - 1);
-            match finder.find(&haystack[from..end]) {
-                Some(position) => return Some(from + position),
-                None if end == haystack.len() => return None,
-                None => from = self.skip(haystack, literal, from + STEP),
-            }
+        let end = part_end(haystack, finder.needle(), 0, 0);
+        match finder.find(&haystack[0..end]) {
+            Some(position) => Some(position),
+            None if end == haystack.len() => None,
+            None => self.find_after(finder, haystack),
         }
     }
 
-    // Skips steps in which the three bytes don't occur together, and returns the position after
-    // them.
-    #[inline(always)]
-    fn skip(&self, haystack: &[u8], literal: &[u8], from: usize) -> usize
-        requires probe { IsProbeOf self.now literal.now }
-        requires within { from ≤ length haystack.now }
-        ensures low { from ≤ result }
-        ensures within { result ≤ length haystack.now }
-        ensures passed { Nowhere (OccursAt haystack.now literal.now) from result }
+    // The position of the first occurrence, if none is in the first step.
+    #[inline(never)]
+    fn find_after(&self, finder: &Finder<'_>, haystack: &[u8]) -> Option<usize>
+        requires probe { IsProbeOf self.now finder.now }
+        requires within { STEP ≤ length haystack.now }
+        requires passed { Nowhere (OccursAt haystack.now finder.now) 0 STEP }
+        ensures { FindsNeedle haystack.now finder.now 0 result }
     {
-        if haystack.len() < STEP + literal.len() {
-            return from;
+        let literal = finder.needle();
+        match *self {
+            Probe::One(index) => find_by(finder, haystack, &OneByte::new(haystack, literal, index)),
+            Probe::Three(first, second, third) => {
+                let bytes = ThreeBytes::new(haystack, literal, first, second, third);
+                find_by(finder, haystack, &bytes)
+            }
         }
-        let probed = Probed {
-            haystack,
-            literal,
-            first: self.first,
-            second: self.second,
-            third: self.third,
-            bytes: (
-                literal[self.first],
-                literal[self.second],
-                literal[self.third],
-            ),
-        };
-        let last = haystack.len() - STEP - literal.len();
-        let mut position = from;
-        while position <= last && probed.is_quiet(position) {
-            position += STEP;
-        }
-        position
     }
+}
+
+// The position of the first occurrence, if none is in the first step. Each later step that has the
+// bytes is searched by the finder, and the rest too if these are many.
+#[inline(always)]
+fn find_by<B: Bytes>(finder: &Finder<'_>, haystack: &[u8], bytes: &B) -> Option<usize>
+    requires haystack { B.haystack bytes.now ≡ haystack.now }
+    requires literal { B.literal bytes.now ≡ finder.now }
+    requires within { STEP ≤ length haystack.now }
+    requires passed { Nowhere (OccursAt haystack.now finder.now) 0 STEP }
+    ensures { FindsNeedle haystack.now finder.now 0 result }
+{
+    let literal = finder.needle();
+    let mut from = STEP;
+    let mut tried = 1;
+    'steps: loop {
+        from = skip(haystack, literal, from, bytes);
+        let end = part_end(haystack, literal, from, tried);
+        match finder.find(&haystack[from..end]) {
+            Some(position) => return Some(from + position),
+            None if end == haystack.len() => return None,
+            None => from += STEP,
+        }
+        tried += 1;
+    }
+}
+
+// Where the part ends that is searched next, by how many were searched before it.
+#[inline(always)]
+fn part_end(haystack: &[u8], literal: &[u8], from: usize, tried: usize) -> usize
+    requires { from ≤ length haystack.now }
+    ensures low { from ≤ result }
+    ensures within { result ≤ length haystack.now }
+    ensures step { result < length haystack.now
+        → from + STEP + length literal.now ≤ result + 1 }
+{
+    if TRIED <= tried && from / SAVED < tried {
+        return haystack.len();
+    }
+    from + (haystack.len() - from).min(literal.len() + STEP - 1)
+}
+
+// Skips steps in which the bytes don't occur together, and returns the position after them.
+#[inline(always)]
+fn skip<B: Bytes>(haystack: &[u8], literal: &[u8], from: usize, bytes: &B) -> usize
+    requires haystack { B.haystack bytes.now ≡ haystack.now }
+    requires literal { B.literal bytes.now ≡ literal.now }
+    requires within { from ≤ length haystack.now }
+    ensures low { from ≤ result }
+    ensures within { result ≤ length haystack.now }
+    ensures passed { Nowhere (OccursAt haystack.now literal.now) from result }
+{
+    if haystack.len() < STEP + literal.len() {
+        return from;
+    }
+    let last = haystack.len() - STEP - literal.len();
+    let mut position = from;
+    while position <= last && is_quiet(bytes, position) {
+        position += STEP;
+    }
+    position
+}
+
+// Whether the literal can't begin at any position of a step.
+#[inline(always)]
+fn is_quiet<B: Bytes>(bytes: &B, position: usize) -> bool
+    requires within { position + STEP + length (B.literal bytes.now)
+        ≤ length (B.haystack bytes.now) }
+    requires fits { position + STEP < 2 ^ 64 }
+    ensures { IsTrue result
+        → Nowhere (OccursAt (B.haystack bytes.now) (B.literal bytes.now)) position
+        (position + STEP) }
+{
+    let front = either(bytes.marks(position), bytes.marks(position + WIDTH));
+    let back = either(
+        bytes.marks(position + 2 * WIDTH),
+        bytes.marks(position + 3 * WIDTH),
+    );
+    highest_bits(either(front, back)) == 0
 }
 
 // How frequent a byte is in text.
@@ -122,9 +200,59 @@ fn rarest_other(literal: &[u8], first: usize, second: usize) -> Option<usize>
     rarest
 }
 
-// A haystack, and three bytes of a literal with their positions in it.
+// Some bytes of a literal, which are looked for in a haystack.
+trait Bytes {
+    ghost haystack: { Self → List ℕ };
+
+    ghost literal: { Self → List ℕ };
+
+    // For each position from one on, 255 if the bytes stand where the literal would have them.
+    fn marks(&self, position: usize) -> u8x32
+        requires { position + WIDTH + length (literal self.now) ≤ length (haystack self.now) + 1 }
+        ensures { Covers (OccursAt (haystack self.now) (literal self.now)) position result };
+}
+
+// One byte of a literal.
 #[derive(Drop)]
-struct Probed<'a> {
+struct OneByte<'a> {
+    haystack: &'a [u8],
+    literal: &'a [u8],
+    index: usize,
+    byte: u8,
+    ghost within: { index < length literal.now },
+    ghost is: { byte ≡ slice_index literal.now index },
+}
+
+impl<'a> OneByte<'a> {
+    #[inline(always)]
+    fn new(haystack: &'a [u8], literal: &'a [u8], index: usize) -> OneByte<'a>
+        requires { index < length literal.now }
+        ensures haystack { result.haystack.now ≡ haystack.now }
+        ensures literal { result.literal.now ≡ literal.now }
+    {
+        OneByte {
+            haystack,
+            literal,
+            index,
+            byte: literal[index],
+        }
+    }
+}
+
+impl<'a> Bytes for OneByte<'a> {
+    ghost haystack = { λ s. s.haystack.now };
+
+    ghost literal = { λ s. s.literal.now };
+
+    #[inline(always)]
+    fn marks(&self, position: usize) -> u8x32 {
+        equal_from(self.haystack, position + self.index, self.byte)
+    }
+}
+
+// Three bytes of a literal.
+#[derive(Drop)]
+struct ThreeBytes<'a> {
     haystack: &'a [u8],
     literal: &'a [u8],
     first: usize,
@@ -139,30 +267,39 @@ struct Probed<'a> {
     ghost third_is: { bytes.2 ≡ slice_index literal.now third },
 }
 
-impl<'a> Probed<'a> {
-    // Whether the literal can't begin at any position of a step.
+impl<'a> ThreeBytes<'a> {
     #[inline(always)]
-    fn is_quiet(&self, position: usize) -> bool
-        requires { position + STEP + length self.now.literal.now ≤ length self.now.haystack.now }
-        ensures { IsTrue result
-            → Nowhere (OccursAt self.now.haystack.now self.now.literal.now) position
-            (position + STEP) }
+    fn new(
+        haystack: &'a [u8],
+        literal: &'a [u8],
+        first: usize,
+        second: usize,
+        third: usize,
+    ) -> ThreeBytes<'a>
+        requires first { first < length literal.now }
+        requires second { second < length literal.now }
+        requires third { third < length literal.now }
+        ensures haystack { result.haystack.now ≡ haystack.now }
+        ensures literal { result.literal.now ≡ literal.now }
     {
-        let front = either(self.marks(position), self.marks(position + WIDTH));
-        let back = either(
-            self.marks(position + 2 * WIDTH),
-            self.marks(position + 3 * WIDTH),
-        );
-        highest_bits(either(front, back)) == 0
+        ThreeBytes {
+            haystack,
+            literal,
+            first,
+            second,
+            third,
+            bytes: (literal[first], literal[second], literal[third]),
+        }
     }
+}
 
-    // For each position from one on, 255 if the three bytes stand where the literal would have them.
+impl<'a> Bytes for ThreeBytes<'a> {
+    ghost haystack = { λ s. s.haystack.now };
+
+    ghost literal = { λ s. s.literal.now };
+
     #[inline(always)]
-    fn marks(&self, position: usize) -> u8x32
-        requires { position + WIDTH + length self.now.literal.now
-            ≤ length self.now.haystack.now + 1 }
-        ensures { Covers (OccursAt self.now.haystack.now self.now.literal.now) position result }
-    {
+    fn marks(&self, position: usize) -> u8x32 {
         both(
             both(
                 equal_from(self.haystack, position + self.first, self.bytes.0),

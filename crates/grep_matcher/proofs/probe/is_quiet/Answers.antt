@@ -3,11 +3,11 @@ use Rattle.std.specs.Int.{bit_at}
 use Rattle.std.proofs.lemmas.Nat.Bits.{bit_at-zero}
 use Rattle.std.proofs.lemmas.Bool.{eqb-true, cases_lt}
 use Rattle.memchr.proofs.lemmas.ScanLemmas.{IsLow, IsLow-either, Nowhere-low}
-use Rattle.grep_matcher.proofs.probe.Probed.is_quiet.Goals as goal
+use Rattle.grep_matcher.proofs.probe.is_quiet.Goals as goal
 
 -- no bit is set, so that no lane of the four vectors is
 pub returns : goal.returns
-returns c quiet =
+returns g c quiet =
     let clear = λ (k : ℕ). ap (λ m. bit_at m k) (eqb-true _ _ quiet) ∙ bit_at-zero k in
     let all : IsLow c.either.result = λ k below. ⊎_elim (λ low. low)
     (λ high. absurd (omega (arith, clear k, (c.highest_bits.ensures k).1 high))) (cases_lt _ 128) in
