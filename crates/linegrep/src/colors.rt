@@ -3,15 +3,10 @@ use clap::ArgMatches;
 use grep_printer::ColorSpecs;
 use std::env;
 use std::env::VarError;
-use std::rt::Env;
 
 /// The colours that the arguments ask for. If they leave it open, a terminal gets colours, unless
 /// the environment asks for none.
-pub fn color_specs<T: Env + AllocGlobal>(
-    rt: &T,
-    matches: &ArgMatches<'_>,
-    is_terminal: bool,
-) -> ColorSpecs {
+pub fn color_specs(rt: &HostRuntime, matches: &ArgMatches<'_>, is_terminal: bool) -> ColorSpecs {
     let is_colored = match matches.get_str("color") {
         Some("always") => true,
         Some("never") => false,
@@ -25,7 +20,7 @@ pub fn color_specs<T: Env + AllocGlobal>(
 }
 
 // Whether the environment names a terminal that has colours: any but the dumb one.
-fn has_colors<T: Env + AllocGlobal>(rt: &T) -> bool {
+fn has_colors(rt: &HostRuntime) -> bool {
     match env::var(rt, "TERM") {
         Ok(term) => term.as_str() != "dumb",
         Err(VarError::NotUnicode) => true,
@@ -34,6 +29,6 @@ fn has_colors<T: Env + AllocGlobal>(rt: &T) -> bool {
 }
 
 // Whether the environment doesn't ask for texts without colours.
-fn allows_colors<T: Env + AllocGlobal>(rt: &T) -> bool {
+fn allows_colors(rt: &HostRuntime) -> bool {
     matches!(env::var(rt, "NO_COLOR"), Err(VarError::NotPresent))
 }

@@ -3,7 +3,6 @@ use crate::printers::{Printer, Searched};
 use grep_output::Output;
 use grep_searcher::{BinaryDetection, FindAt, SearchError, Searcher, Source};
 use std::io;
-use std::rt::Clock;
 
 /// What searches haystacks, and writes what is found. A run over files is generic in it, and so
 /// is proved without what a searcher and a printer consist of.
@@ -25,8 +24,8 @@ pub trait Engine {
 
 /// The engine of a searcher, a matcher and a printer.
 #[derive(Drop)]
-pub struct PrintingEngine<'e, T, M, W> {
-    rt: &'e T,
+pub struct PrintingEngine<'e, M, W> {
+    rt: &'e HostRuntime,
     searcher: &'e mut Searcher,
     matcher: &'e M,
     printer: &'e mut Printer<W>,
@@ -34,14 +33,14 @@ pub struct PrintingEngine<'e, T, M, W> {
     detection: BinaryDetection,
 }
 
-impl<'e, T, M, W> PrintingEngine<'e, T, M, W> {
+impl<'e, M, W> PrintingEngine<'e, M, W> {
     /// An engine, by whose clock messages say how long a search took.
     pub fn new(
-        rt: &'e T,
+        rt: &'e HostRuntime,
         searcher: &'e mut Searcher,
         matcher: &'e M,
         printer: &'e mut Printer<W>,
-    ) -> PrintingEngine<'e, T, M, W> {
+    ) -> PrintingEngine<'e, M, W> {
         let detection = *searcher.binary_detection();
         PrintingEngine {
             rt,
@@ -53,7 +52,7 @@ impl<'e, T, M, W> PrintingEngine<'e, T, M, W> {
     }
 }
 
-impl<'e, T: Clock, M: FindAt, W: Output> Engine for PrintingEngine<'e, T, M, W> {
+impl<'e, M: FindAt, W: Output> Engine for PrintingEngine<'e, M, W> {
     fn search<H: Source>(&mut self, haystack: &mut H, path: Option<&str>) -> Searched {
         self.printer
             .search(self.rt, self.searcher, self.matcher, haystack, path)

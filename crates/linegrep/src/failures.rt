@@ -28,7 +28,7 @@ pub enum Failure {
 impl Failure {
     /// Says what went wrong, and gives the status to exit with: 2, or 0 if help was asked for and
     /// could be written, or if nobody reads the output any more.
-    pub fn report<T: Print + Eprint + AllocGlobal>(&self, rt: &T) -> ExitCode {
+    pub fn report(&self, rt: &HostRuntime) -> ExitCode {
         let reported = match self {
             Failure::Usage(error) => error.print(rt),
             Failure::NoPattern => say(rt, &NO_PATTERN),
@@ -54,12 +54,12 @@ impl Failure {
 }
 
 // Says something on standard error.
-fn say<T: Eprint, D: Display>(rt: &T, text: &D) -> io::Result<()> {
+fn say<D: Display>(rt: &HostRuntime, text: &D) -> io::Result<()> {
     eprintln!(rt; "linegrep: {text}")
 }
 
 // Says what the system refuses, or that an argument is no text.
-fn report_system<T: Eprint>(rt: &T, error: &io::Error) -> io::Result<()> {
+fn report_system(rt: &HostRuntime, error: &io::Error) -> io::Result<()> {
     if error.kind() == io::ErrorKind::InvalidData {
         say(rt, &"an argument isn't UTF-8")
     } else {
@@ -68,13 +68,13 @@ fn report_system<T: Eprint>(rt: &T, error: &io::Error) -> io::Result<()> {
 }
 
 // Says why help or the version can't be written, and gives the status.
-fn report_help<T: Eprint + AllocGlobal>(rt: &T, error: io::Error) -> ExitCode {
+fn report_help(rt: &HostRuntime, error: io::Error) -> ExitCode {
     let _ = report_output(rt, &error);
     ExitCode::from(Failure::Output(error).status())
 }
 
 // Says why nothing more can be written, unless nobody reads it.
-fn report_output<T: Eprint + AllocGlobal>(rt: &T, error: &io::Error) -> io::Result<()> {
+fn report_output(rt: &HostRuntime, error: &io::Error) -> io::Result<()> {
     if error.kind() == io::ErrorKind::BrokenPipe {
         return Ok(());
     }
@@ -83,11 +83,7 @@ fn report_output<T: Eprint + AllocGlobal>(rt: &T, error: &io::Error) -> io::Resu
 
 /// Says on standard error what can't be read or written, and why: the system's words, without the
 /// number of the error.
-pub fn report_cause<T: Eprint + AllocGlobal, E: Display>(
-    rt: &T,
-    name: &str,
-    error: &E,
-) -> io::Result<()> {
+pub fn report_cause<E: Display>(rt: &HostRuntime, name: &str, error: &E) -> io::Result<()> {
     let cause = format!(in rt.alloc(); "{error}")?;
     eprintln!(rt; "linegrep: {name}: {}", words_of(cause.as_str()))
 }
@@ -100,7 +96,7 @@ fn words_of(cause: &str) -> &str {
 }
 
 // Says why a pattern can't be compiled, with a mark below the place if there is one.
-fn report_pattern<T: Eprint>(rt: &T, text: &str, error: &grep_regex::Error) -> io::Result<()> {
+fn report_pattern(rt: &HostRuntime, text: &str, error: &grep_regex::Error) -> io::Result<()> {
     match error {
         grep_regex::Error::Syntax { pattern: _, error } => {
             say(rt, &error.kind.message())?;
@@ -119,7 +115,7 @@ fn report_pattern<T: Eprint>(rt: &T, text: &str, error: &grep_regex::Error) -> i
 }
 
 // Writes the text of a pattern, unless it isn't known.
-fn report_text<T: Eprint>(rt: &T, text: &str) -> io::Result<()> {
+fn report_text(rt: &HostRuntime, text: &str) -> io::Result<()> {
     if text.is_empty() {
         return Ok(());
     }
@@ -127,7 +123,7 @@ fn report_text<T: Eprint>(rt: &T, text: &str) -> io::Result<()> {
 }
 
 // Writes a mark below the character that begins at a position of a text, counted in bytes.
-fn report_mark<T: Eprint>(rt: &T, text: &str, start: usize) -> io::Result<()> {
+fn report_mark(rt: &HostRuntime, text: &str, start: usize) -> io::Result<()> {
     eprint!(rt; "    ")?;
     for (at, _) in text.char_indices() {
         if at >= start {

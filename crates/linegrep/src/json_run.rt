@@ -4,7 +4,6 @@ use crate::printers::Searched;
 use grep_output::Output;
 use grep_printer::{Json, JsonSink, Stats};
 use grep_searcher::{FindAt, SearchError, Searcher, Source};
-use std::rt::Clock;
 use std::time::{Duration, Instant};
 
 /// A printer of JSON, with what all searches have come to so far, and when the run began. Where the
@@ -18,7 +17,7 @@ pub struct JsonRun<W> {
 
 impl<W: Output> JsonRun<W> {
     /// A run that begins now.
-    pub fn new<T: Clock>(rt: &T, printer: Json<W>) -> JsonRun<W> {
+    pub fn new(rt: &HostRuntime, printer: Json<W>) -> JsonRun<W> {
         JsonRun {
             printer,
             stats: Stats::new(),
@@ -27,9 +26,9 @@ impl<W: Output> JsonRun<W> {
     }
 
     /// Searches a haystack, which messages name by a path.
-    pub fn search<T: Clock, M: FindAt, H: Source>(
+    pub fn search<M: FindAt, H: Source>(
         &mut self,
-        rt: &T,
+        rt: &HostRuntime,
         searcher: &mut Searcher,
         matcher: &M,
         haystack: &mut H,
@@ -44,7 +43,7 @@ impl<W: Output> JsonRun<W> {
     }
 
     /// Writes what all searches have come to, and what the writer keeps.
-    pub fn finish<T: Clock>(&mut self, rt: &T) -> Result<(), SearchError> {
+    pub fn finish(&mut self, rt: &HostRuntime) -> Result<(), SearchError> {
         self.printer
             .write_summary(&self.stats, elapsed(rt, self.start))?;
         match self.printer.flush() {
@@ -72,8 +71,8 @@ impl<W: Output> JsonRun<W> {
 }
 
 // Writes that a search has ended, unless it failed, and gives what it has come to.
-fn end<T: Clock, M: FindAt, W: Output>(
-    rt: &T,
+fn end<M: FindAt, W: Output>(
+    rt: &HostRuntime,
     sink: &mut JsonSink<'_, M, W>,
     start: Option<Instant>,
     searched: Result<(), SearchError>,
@@ -85,7 +84,7 @@ fn end<T: Clock, M: FindAt, W: Output>(
 }
 
 // How long it took since then.
-fn elapsed<T: Clock>(rt: &T, start: Option<Instant>) -> Duration {
+fn elapsed(rt: &HostRuntime, start: Option<Instant>) -> Duration {
     match start {
         Some(start) => match start.elapsed(rt) {
             Ok(elapsed) => elapsed,

@@ -12,7 +12,6 @@ use grep_searcher::{
     BinaryDetection, ConfigError, Encoding, LineTerminator, Searcher, SearcherBuilder,
 };
 use std::alloc::Global;
-use std::rt::{Clock, Env};
 
 /// The searcher that the arguments ask for. Lines are numbered for a terminal, if nothing else is
 /// asked for. A failure is one of a setting, or of being out of memory.
@@ -65,8 +64,8 @@ fn surround(builder: &mut SearcherBuilder, matches: &ArgMatches<'_>) {
 
 /// The printer that the arguments ask for, which writes to `writer`. A terminal gets headings, and
 /// colours.
-pub fn build_printer<T: Clock + Env + AllocGlobal, W: Output>(
-    rt: &T,
+pub fn build_printer<W: Output>(
+    rt: &HostRuntime,
     matches: &ArgMatches<'_>,
     is_terminal: bool,
     writer: W,

@@ -5,7 +5,6 @@ use clap::ArgMatches;
 use grep_regex::{Error, Regex, RegexMatcherBuilder};
 use grep_searcher::LineTerminator;
 use std::alloc::{AllocError, Global};
-use std::rt::Files;
 use std::{fs, io};
 
 /// The patterns and the paths that the arguments name.
@@ -22,10 +21,7 @@ impl Operands {
     /// Reads them from parsed arguments, and from the files of patterns, which have one in each
     /// line. A failure is that there is no pattern, that a file can't be read, or that there is no
     /// memory.
-    pub fn read<T: Files + AllocGlobal>(
-        rt: &T,
-        matches: &ArgMatches<'_>,
-    ) -> Result<Operands, Failure> {
+    pub fn read(rt: &HostRuntime, matches: &ArgMatches<'_>) -> Result<Operands, Failure> {
         let mut operands = Operands {
             patterns: Vec::new(rt.alloc()),
             paths: Vec::new(rt.alloc()),
@@ -36,11 +32,7 @@ impl Operands {
         }
     }
 
-    fn add_all<T: Files + AllocGlobal>(
-        &mut self,
-        rt: &T,
-        matches: &ArgMatches<'_>,
-    ) -> Result<(), Failure> {
+    fn add_all(&mut self, rt: &HostRuntime, matches: &ArgMatches<'_>) -> Result<(), Failure> {
         let patterns = matches.get_strs("regexp").unwrap_or(&[]);
         let files = matches.get_strs("file").unwrap_or(&[]);
         let operands = matches.get_strs("operands").unwrap_or(&[]);
@@ -57,7 +49,7 @@ impl Operands {
     }
 
     // Adds the lines of files to the patterns.
-    fn add_files<T: Files + AllocGlobal>(&mut self, rt: &T, files: &[&str]) -> Result<(), Failure> {
+    fn add_files(&mut self, rt: &HostRuntime, files: &[&str]) -> Result<(), Failure> {
         for file in files {
             match fs::read_to_string(rt, *file) {
                 Ok(text) => add_lines(rt.alloc(), &mut self.patterns, text.as_str())?,

@@ -4,7 +4,6 @@ use crate::json_run::JsonRun;
 use grep_output::Output;
 use grep_printer::{Standard, Summary};
 use grep_searcher::{FindAt, SearchError, Searcher, Source};
-use std::rt::Clock;
 
 /// What writes what is found.
 #[derive(Drop)]
@@ -28,9 +27,9 @@ pub struct Searched {
 
 impl<W: Output> Printer<W> {
     /// Searches a haystack, and writes what is found in it, with a path if there is one.
-    pub fn search<T: Clock, M: FindAt, H: Source>(
+    pub fn search<M: FindAt, H: Source>(
         &mut self,
-        rt: &T,
+        rt: &HostRuntime,
         searcher: &mut Searcher,
         matcher: &M,
         haystack: &mut H,
@@ -53,7 +52,7 @@ impl<W: Output> Printer<W> {
     }
 
     /// Writes what all searches have come to, if that is asked for, and what the writer keeps.
-    pub fn finish<T: Clock>(&mut self, rt: &T) -> Result<(), SearchError> {
+    pub fn finish(&mut self, rt: &HostRuntime) -> Result<(), SearchError> {
         let flushed = match self {
             Printer::Lines(printer) => printer.flush(),
             Printer::Summary(printer) => printer.flush(),

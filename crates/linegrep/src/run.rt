@@ -11,7 +11,6 @@ use grep_searcher::Source;
 use std::fmt::Display;
 use std::fs::File;
 use std::process::ExitCode;
-use std::rt::Files;
 use std::{fs, io};
 
 // The name of standard input.
@@ -29,7 +28,7 @@ pub struct Flags {
 
 impl Flags {
     /// What parsed arguments say of a run over the files at some paths.
-    pub fn new<T: Files>(rt: &T, matches: &ArgMatches<'_>, paths: &[String]) -> Flags {
+    pub fn new(rt: &HostRuntime, matches: &ArgMatches<'_>, paths: &[String]) -> Flags {
         let is_recursive = matches.get_flag("recursive");
         let names_folder = is_recursive && names_folder(rt, paths);
         Flags {
@@ -49,8 +48,8 @@ impl Flags {
 
 /// A run over files: what it searches with, and what came of those that it has searched.
 #[derive(Drop)]
-pub struct Run<'r, T, E, R> {
-    rt: &'r T,
+pub struct Run<'r, E, R> {
+    rt: &'r HostRuntime,
     engine: &'r mut E,
     globs: &'r mut Globs,
     input: &'r mut R,
@@ -59,20 +58,19 @@ pub struct Run<'r, T, E, R> {
     has_error: bool,
 }
 
-impl<'r, T, E, R> Run<'r, T, E, R>
+impl<'r, E, R> Run<'r, E, R>
 where
-    T: Files + Eprint + AllocGlobal + Clone + Drop,
     E: Engine,
     R: Source,
 {
     /// A run that has searched nothing yet.
     pub fn new(
-        rt: &'r T,
+        rt: &'r HostRuntime,
         engine: &'r mut E,
         globs: &'r mut Globs,
         input: &'r mut R,
         flags: Flags,
-    ) -> Run<'r, T, E, R> {
+    ) -> Run<'r, E, R> {
         Run {
             rt,
             engine,
@@ -149,7 +147,7 @@ where
         }
     }
 
-    fn visit_all(&mut self, walk: &mut Walk<'r, T>) -> io::Result<()> {
+    fn visit_all(&mut self, walk: &mut Walk<'r>) -> io::Result<()> {
         for _ in 0..u64::MAX {
             match walk.pop() {
                 Some(entry) => self.visit(walk, &entry)?,
@@ -163,7 +161,7 @@ where
     }
 
     // Searches a file, enters a folder, or says why something can't be read.
-    fn visit(&mut self, walk: &mut Walk<'r, T>, entry: &Entry) -> io::Result<()> {
+    fn visit(&mut self, walk: &mut Walk<'r>, entry: &Entry) -> io::Result<()> {
         match entry {
             Entry::File(path) => self.search_path(path.as_str()),
             Entry::Folder(path) => walk.enter(self.globs, path.as_str()),
@@ -185,15 +183,15 @@ where
         }
     }
 
-    fn search_file(&mut self, path: &str, file: &mut T::File) -> io::Result<()> {
-        let mut haystack: Haystack<'_, T::File, R> = Haystack::File(file);
+    fn search_file(&mut self, path: &str, file: &mut File) -> io::Result<()> {
+        let mut haystack: Haystack<'_, File, R> = Haystack::File(file);
         let searched = self.engine.search(&mut haystack, self.flags.shown(path));
         self.keep(path, searched)
     }
 
     // Searches standard input.
     fn search_input(&mut self) -> io::Result<()> {
-        let mut haystack: Haystack<'_, T::File, R> = Haystack::Reader(&mut *self.input);
+        let mut haystack: Haystack<'_, File, R> = Haystack::Reader(&mut *self.input);
         let searched = self.engine.search(&mut haystack, self.flags.shown(STDIN));
         self.keep(STDIN, searched)
     }
@@ -232,7 +230,7 @@ where
 }
 
 // Whether there is a folder at one of the paths, or no path at all.
-fn names_folder<T: Files>(rt: &T, paths: &[String]) -> bool {
+fn names_folder(rt: &HostRuntime, paths: &[String]) -> bool {
     for path in paths {
         if path.as_str() != "-" && is_folder(rt, path.as_str()) {
             return true;
@@ -242,7 +240,7 @@ fn names_folder<T: Files>(rt: &T, paths: &[String]) -> bool {
 }
 
 // Whether there is a folder at a path.
-fn is_folder<T: Files>(rt: &T, path: &str) -> bool {
+fn is_folder(rt: &HostRuntime, path: &str) -> bool {
     match fs::metadata(rt, path) {
         Ok(metadata) => metadata.is_dir(),
         Err(_) => false,

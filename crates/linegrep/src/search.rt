@@ -13,25 +13,21 @@ use grep_regex::{Naming, Regex};
 use grep_searcher::{FindAt, Searcher, Source};
 use std::marker::Brand;
 use std::process::ExitCode;
-use std::rt::{Clock, Files};
 
 /// Searches the files at the paths, one after another, and writes what is found. If there is no
 /// path, it searches the current folder under `-r`, and otherwise what `input` gives. The status is
 /// 0 if there is a match, 1 if there is none, and 2 if a file can't be read, which standard error
 /// says. If nothing is to be written, the first match ends it with 0.
-pub fn search_all<T, R: Source, W: Output>(
-    rt: &T,
+pub fn search_all<R: Source, W: Output>(
+    rt: &HostRuntime,
     matches: &ArgMatches<'_>,
     operands: &Operands,
     searcher: &mut Searcher,
     printer: &mut Printer<W>,
     input: &mut R,
-) -> Result<ExitCode, Failure>
-where
-    T: Files + Clock + Eprint + AllocGlobal + Clone + Drop,
-{
+) -> Result<ExitCode, Failure> {
     let regex = compile(rt.alloc(), matches, &operands.patterns)?;
-    search_named::<Brand, T, R, W>(
+    search_named::<Brand, R, W>(
         rt,
         matches,
         &operands.paths,
@@ -43,8 +39,8 @@ where
 }
 
 // Searches for a compiled expression, which `N` names: no call of its matcher compares texts.
-fn search_named<N: Naming, T, R: Source, W: Output>(
-    rt: &T,
+fn search_named<N: Naming, R: Source, W: Output>(
+    rt: &HostRuntime,
     matches: &ArgMatches<'_>,
     paths: &[String],
     regex: &Regex,
@@ -53,7 +49,6 @@ fn search_named<N: Naming, T, R: Source, W: Output>(
     input: &mut R,
 ) -> Result<ExitCode, Failure>
 where
-    T: Files + Clock + Eprint + AllocGlobal + Clone + Drop,
     requires { IsNamed N.options N.patterns regex.now }
 {
     match regex.named_matcher::<N>(rt.alloc()) {
@@ -63,35 +58,29 @@ where
 }
 
 // Searches with a matcher.
-fn search_matcher<T, M: FindAt, R: Source, W: Output>(
-    rt: &T,
+fn search_matcher<M: FindAt, R: Source, W: Output>(
+    rt: &HostRuntime,
     matches: &ArgMatches<'_>,
     paths: &[String],
     matcher: &M,
     searcher: &mut Searcher,
     printer: &mut Printer<W>,
     input: &mut R,
-) -> Result<ExitCode, Failure>
-where
-    T: Files + Clock + Eprint + AllocGlobal + Clone + Drop,
-{
+) -> Result<ExitCode, Failure> {
     let mut globs = Globs::read(rt.alloc(), matches)?;
     let mut engine = PrintingEngine::new(rt, searcher, matcher, printer);
     search_chosen(rt, matches, paths, &mut globs, &mut engine, input)
 }
 
 // Searches what globs choose.
-fn search_chosen<T, E: Engine, R: Source>(
-    rt: &T,
+fn search_chosen<E: Engine, R: Source>(
+    rt: &HostRuntime,
     matches: &ArgMatches<'_>,
     paths: &[String],
     globs: &mut Globs,
     engine: &mut E,
     input: &mut R,
-) -> Result<ExitCode, Failure>
-where
-    T: Files + Eprint + AllocGlobal + Clone + Drop,
-{
+) -> Result<ExitCode, Failure> {
     let flags = Flags::new(rt, matches, paths);
     Run::new(rt, engine, globs, input, flags).complete(paths)
 }

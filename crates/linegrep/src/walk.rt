@@ -1,7 +1,6 @@
 //! The files of a folder and of the folders in it.
 use crate::globs::{Choice, Globs};
 use std::fs::DirEntry;
-use std::rt::Files;
 use std::{fs, io};
 
 /// What is found in folders.
@@ -18,18 +17,18 @@ pub enum Entry {
 /// A walk through a folder and the folders in it, in the order of their names, which finds the
 /// regular files that are chosen. Links aren't followed.
 #[derive(Drop)]
-pub struct Walk<'r, T> {
-    rt: &'r T,
+pub struct Walk<'r> {
+    rt: &'r HostRuntime,
     shows_hidden: bool,
     // What is still to be visited, the next last.
     pending: Vec<Entry>,
 }
 
-impl<'r, T: Files + AllocGlobal + Clone + Drop> Walk<'r, T> {
+impl<'r> Walk<'r> {
     /// A walk through the folder at a path, or through the current one if the path is empty. Hidden
     /// files and folders, whose names begin with a dot, are found only if `shows_hidden` is set or
     /// a glob asks for them. The only error is being out of memory.
-    pub fn new(rt: &'r T, shows_hidden: bool, folder: &str) -> io::Result<Walk<'r, T>> {
+    pub fn new(rt: &'r HostRuntime, shows_hidden: bool, folder: &str) -> io::Result<Walk<'r>> {
         let mut walk = Walk {
             rt,
             shows_hidden,
@@ -79,7 +78,7 @@ impl<'r, T: Files + AllocGlobal + Clone + Drop> Walk<'r, T> {
         &mut self,
         globs: &mut Globs,
         folder: &str,
-        entry: io::Result<DirEntry<T>>,
+        entry: io::Result<DirEntry<HostRuntime>>,
     ) -> io::Result<()> {
         match entry {
             Ok(entry) => self.push_name(globs, folder, entry.file_name()),
