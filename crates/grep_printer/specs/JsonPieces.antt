@@ -1,24 +1,28 @@
 -- The messages of a printer of JSON and their pieces, as the code has them.
-use Rattle.std.specs.Prelude.{ℕ, ◌≤◌, All, List, [], ◌∷◌, ◌++◌, decimal, length}
+use Rattle.std.specs.Prelude.{◌≤◌, All, List, [], ◌∷◌, ◌++◌, decimal, length}
 use Rattle.json.specs.Json.{Json}
 use Rattle.json.specs.Token.{Token}
 use Rattle.json.specs.Tree.{json_tokens}
-use Rattle.grep_printer.specs.JsonMessages.{begin_json, end_json, optional_json, path_json}
-use Rattle.grep_printer.specs.JsonMessages.{report_json, summary_json}
+use Rattle.grep_printer.specs.JsonMessages.{begin_json, bytes_json, end_json, optional_json}
+use Rattle.grep_printer.specs.JsonMessages.{path_json, report_json, seconds_text, summary_json}
 use Rattle.grep_printer.specs.declared.json_lines.Message.{Message}
 use Rattle.grep_printer.specs.declared.json_lines.Message.TheVariants.{Begin, Report as reports, End}
 use Rattle.grep_printer.specs.declared.json_lines.Message.TheVariants.{Summary}
 use Rattle.grep_printer.specs.declared.json_lines.Report.{Report}
 use Rattle.grep_printer.specs.declared.messages.Piece.{Piece}
-use Rattle.grep_printer.specs.declared.messages.Piece.TheVariants.{Open, Close, Key, Text}
-use Rattle.grep_printer.specs.declared.messages.Piece.TheVariants.{Optional, Path, Count}
+use Rattle.grep_printer.specs.declared.messages.Piece.TheVariants.{Open, Close, CloseArray, Key}
+use Rattle.grep_printer.specs.declared.messages.Piece.TheVariants.{Text, Bytes, Seconds, Optional}
+use Rattle.grep_printer.specs.declared.messages.Piece.TheVariants.{Path, Count}
 
 -- the tokens of a piece
 abbrev pub piece_tokens : Piece → List Token
 piece_tokens Open = Token.begin_object ∷ []
 piece_tokens Close = Token.end_object ∷ []
+piece_tokens CloseArray = Token.end_array ∷ []
 piece_tokens (Key name) = Token.key name.now ∷ []
 piece_tokens (Text text) = Token.string text.now ∷ []
+piece_tokens (Bytes bytes) = json_tokens (bytes_json bytes.now)
+piece_tokens (Seconds micros) = Token.string (seconds_text micros) ∷ []
 piece_tokens (Optional number) = json_tokens (optional_json number)
 piece_tokens (Path path) = json_tokens (path_json path)
 piece_tokens (Count name count) = Token.key name.now ∷ Token.number (decimal count) ∷ []
@@ -27,6 +31,10 @@ piece_tokens (Count name count) = Token.key name.now ∷ Token.number (decimal c
 abbrev pub pieces_tokens : List Piece → List Token
 pieces_tokens [] = []
 pieces_tokens (piece ∷ later) = piece_tokens piece ++ pieces_tokens later
+
+-- the end of a message
+abbrev pub last_tokens : List Token
+last_tokens = Token.end_object ∷ Token.end_object ∷ []
 
 -- the message of a report
 abbrev pub report_of : Report → Json

@@ -5,7 +5,7 @@ ghost use Rattle.grep_printer.specs.JsonMessages.{begin_json, end_json, json_lin
 ghost use Rattle.grep_printer.specs.JsonMessages.{summary_json};
 ghost use Rattle.grep_printer.specs.JsonPieces.{AreWithin, message_of, report_of};
 
-use crate::messages::{Piece, push_bytes, push_pieces, push_stats, push_submatches, push_time};
+use crate::messages::{Piece, microseconds, push_pieces, push_stats, push_submatches};
 use crate::stats::Stats;
 use grep_searcher::Match;
 use json::Writer;
@@ -58,7 +58,7 @@ fn push_message(out: &mut Writer, alloc: Global, message: Message<'_>) -> Result
         (out.new.tokens ≡ out.old.tokens ++ json_tokens (message_of message.entry)) }
 {
     match message {
-        Message::Begin(path) => push_begin(out, path),
+        Message::Begin(path) => push_begin(out, alloc, path),
         Message::Report(report) => push_report(out, alloc, &report),
         Message::End(path, binary, stats) => push_end(out, alloc, path, binary, &stats),
         Message::Summary(stats, total) => push_summary(out, alloc, &stats, total),
@@ -67,13 +67,14 @@ fn push_message(out: &mut Writer, alloc: Global, message: Message<'_>) -> Result
 
 // Pushes the message that a search begins.
 #[tactic(auto, unfolding(crate::specs::JsonMessages::begin_json))]
-fn push_begin(out: &mut Writer, path: Option<&str>) -> Result<(), AllocError>
+fn push_begin(out: &mut Writer, alloc: Global, path: Option<&str>) -> Result<(), AllocError>
     ensures before { out.new.before ≡ out.old.before }
     ensures tokens { OnOk result
         (out.new.tokens ≡ out.old.tokens ++ json_tokens (begin_json path.entry)) }
 {
     push_pieces(
         out,
+        alloc,
         &[
             Piece::Open,
             Piece::Key("type"),
@@ -98,6 +99,7 @@ fn push_report(out: &mut Writer, alloc: Global, report: &Report<'_>) -> Result<(
 {
     push_pieces(
         out,
+        alloc,
         &[
             Piece::Open,
             Piece::Key("type"),
@@ -107,20 +109,14 @@ fn push_report(out: &mut Writer, alloc: Global, report: &Report<'_>) -> Result<(
             Piece::Key("path"),
             Piece::Path(report.path),
             Piece::Key("lines"),
-        ],
-    )?;
-    push_bytes(out, alloc, report.bytes)?;
-    push_pieces(
-        out,
-        &[
+            Piece::Bytes(report.bytes),
             Piece::Key("line_number"),
             Piece::Optional(report.number),
             Piece::Count("absolute_offset", report.offset),
             Piece::Key("submatches"),
         ],
     )?;
-    push_submatches(out, alloc, report.bytes, report.ranges)?;
-    push_pieces(out, &[Piece::Close, Piece::Close])
+    push_submatches(out, alloc, report.bytes, report.ranges)
 }
 
 // Pushes the message that a search ends.
@@ -138,6 +134,7 @@ fn push_end(
 {
     push_pieces(
         out,
+        alloc,
         &[
             Piece::Open,
             Piece::Key("type"),
@@ -150,12 +147,11 @@ fn push_end(
             Piece::Optional(binary),
         ],
     )?;
-    push_stats(out, alloc, stats)?;
-    push_pieces(out, &[Piece::Close, Piece::Close])
+    push_stats(out, alloc, stats)
 }
 
 // Pushes the message about all searches.
-#[tactic(auto, unfolding(crate::specs::JsonMessages::summary_json))]
+#[tactic(auto, unfolding(crate::specs::JsonMessages::summary_json, crate::specs::JsonMessages::time_json))]
 fn push_summary(
     out: &mut Writer,
     alloc: Global,
@@ -168,6 +164,7 @@ fn push_summary(
 {
     push_pieces(
         out,
+        alloc,
         &[
             Piece::Open,
             Piece::Key("type"),
@@ -175,9 +172,13 @@ fn push_summary(
             Piece::Key("data"),
             Piece::Open,
             Piece::Key("elapsed_total"),
+            Piece::Open,
+            Piece::Count("secs", total / 1_000_000_000),
+            Piece::Count("nanos", total % 1_000_000_000),
+            Piece::Key("human"),
+            Piece::Seconds(microseconds(total)),
+            Piece::Close,
         ],
     )?;
-    push_time(out, alloc, total)?;
-    push_stats(out, alloc, stats)?;
-    push_pieces(out, &[Piece::Close, Piece::Close])
+    push_stats(out, alloc, stats)
 }

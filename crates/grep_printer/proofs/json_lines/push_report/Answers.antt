@@ -5,10 +5,4 @@ use Rattle.grep_printer.proofs.json_lines.push_report.Goals as goal
 pub returns-clause-tokens : goal.returns-clause-tokens
 unfolding report_json
 returns-clause-tokens c =
-    simp append_assoc (simp (
-      c.in_ok-push_submatches.ensures.tokens,
-      c.in_ok-push_pieces-2.ensures.tokens,
-      c.in_ok-push_bytes.ensures.tokens,
-      c.in_ok-push_pieces.ensures.tokens,
-      append_assoc,
-    ) at c.push_pieces-3.ensures.tokens)
+    simp append_assoc (simp (c.in_ok-push_pieces.ensures.tokens, append_assoc) at c.push_submatches.ensures.tokens)

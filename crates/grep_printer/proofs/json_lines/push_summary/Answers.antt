@@ -1,13 +1,12 @@
 use Rattle.std.proofs.Common.{append_assoc}
-use Rattle.grep_printer.specs.JsonMessages.{summary_json}
+use Rattle.grep_printer.specs.JsonMessages.{summary_json, time_json}
 use Rattle.grep_printer.proofs.json_lines.push_summary.Goals as goal
 
 pub returns-clause-tokens : goal.returns-clause-tokens
-unfolding summary_json
+unfolding summary_json time_json
 returns-clause-tokens c =
     simp append_assoc (simp (
-      c.in_ok-push_stats.ensures.tokens,
-      c.in_ok-push_time.ensures.tokens,
+      c.microseconds.ensures,
       c.in_ok-push_pieces.ensures.tokens,
       append_assoc,
-    ) at c.push_pieces-2.ensures.tokens)
+    ) at c.push_stats.ensures.tokens)
