@@ -16,6 +16,9 @@ use std::alloc::{AllocError, Global};
 use std::io;
 use std::marker::Model;
 
+// Up to this length the finder searches a haystack by itself, as a line alone.
+const SHORT: usize = 512;
+
 /// A pattern that matches a literal: some bytes, exactly. The empty literal matches every haystack,
 /// at its start.
 ///
@@ -78,8 +81,8 @@ impl<'n> LiteralMatcher<'n> {
         ensures { FindsNeedle haystack.now self.now 0 result }
     {
         match &self.probe {
-            Some(probe) => probe.find(&self.finder, haystack),
-            None => self.finder.find(haystack),
+            Some(probe) if haystack.len() > SHORT => probe.find(&self.finder, haystack),
+            _ => self.finder.find(haystack),
         }
     }
 }

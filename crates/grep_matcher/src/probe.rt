@@ -27,7 +27,7 @@ const RARE: u8 = 195;
 const SAVED: usize = 1024;
 
 // How many steps are searched before it is seen whether they save that.
-const TRIED: usize = 8;
+const TRIED: usize = 4;
 
 // The length of the longest literal that is searched for in this way. Each step that has the bytes
 // is searched with as many bytes more.
@@ -66,7 +66,6 @@ impl Probe {
 
     /// The position of the first occurrence of the literal that a finder has, which is this
     /// probe's.
-    #[inline(always)]
     pub(crate) fn find(&self, finder: &Finder<'_>, haystack: &[u8]) -> Option<usize>
         requires { IsProbeOf self.now finder.now }
         ensures { FindsNeedle haystack.now finder.now 0 result }

@@ -23,7 +23,8 @@ impl<A: Allocator + Copy> Searcher<A> {
     }
 }
 
-// The calls of a sink, each with the searcher.
+// The calls of a sink, each with the searcher. What those for a line return is taken apart, so that
+// the room for an error isn't copied (`sink_lines.rt` of grep_core).
 pub(crate) struct SinkCalls<S>(PhantomData<S>);
 
 impl<A: Allocator + Copy, S: Sink> Calls<Searcher<A>> for SinkCalls<S> {
@@ -46,7 +47,10 @@ impl<A: Allocator + Copy, S: Sink> Calls<Searcher<A>> for SinkCalls<S> {
         sink: &mut S,
         found: &SinkMatch<'_>,
     ) -> Result<bool, S::Error> {
-        sink.matched(search.searcher, found)
+        match sink.matched(search.searcher, found) {
+            Ok(goes_on) => Ok(goes_on),
+            Err(error) => Err(error),
+        }
     }
 
     fn context<B>(
@@ -54,7 +58,10 @@ impl<A: Allocator + Copy, S: Sink> Calls<Searcher<A>> for SinkCalls<S> {
         sink: &mut S,
         line: &SinkContext<'_>,
     ) -> Result<bool, S::Error> {
-        sink.context(search.searcher, line)
+        match sink.context(search.searcher, line) {
+            Ok(goes_on) => Ok(goes_on),
+            Err(error) => Err(error),
+        }
     }
 
     fn context_break<B>(

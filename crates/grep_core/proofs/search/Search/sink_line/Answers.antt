@@ -1,4 +1,4 @@
-use Rattle.std.proofs.Common.{rules, ◌≡◌, ◌-◌, true, false, refl}
+use Rattle.std.proofs.Common.{rules, ◌≡◌, ◌-◌, true, false, refl, Ok, Err}
 use Rattle.std.proofs.lemmas.Result.{err_from_is_err_and}
 use Rattle.std.specs.Prelude.{slice_range}
 use Rattle.grep_definitions.specs.LineTurns.{pending_turns, match_turns}
@@ -38,8 +38,8 @@ returns-then-not-branch-clause-reported g c =
     stop))
     c.sink_before_context.new.sink (λ e. cc) (reported gone input inside stop))
 
-pub returns-then-is_chosen-clause-reported : goal.returns-then-is_chosen-clause-reported
-returns-then-is_chosen-clause-reported g c =
+pub returns-in-Ok-clause-reported : goal.returns-in-Ok-clause-reported
+returns-in-Ok-clause-reported g c =
     let w = c.args.walk.now in
     let chosen : chooses c.args.verdict ≡ true = search rules in
     let here = slice_range c.args.window.now c.args.start c.args.end in
@@ -50,16 +50,31 @@ returns-then-is_chosen-clause-reported g c =
     _
     _ c.args.sink.now
     c.sink_before_context.new.sink
-    (outcome_of stop c.sink_matched.result) c.sink_matched.new.sink (reported gone input inside stop)
-    (c.sink_matched.ensures.reported stop))
+    (outcome_of stop (Ok c.in-Ok.goes_on)) c.sink_matched.new.sink (reported gone input inside stop)
+    (c.in-Ok.ensures.reported stop))
+
+pub returns-in-Err-clause-reported : goal.returns-in-Err-clause-reported
+returns-in-Err-clause-reported g c =
+    let w = c.args.walk.now in
+    let chosen : chooses c.args.verdict ≡ true = search rules in
+    let here = slice_range c.args.window.now c.args.start c.args.end in
+    let stop = line_end w here in
+    let goes : c.in_ok-sink_before_context.field-0 ≡ true = search rules in
+    let reported = rw goes at c.in_ok-sink_before_context.ensures.reported in
+    rw chosen (λ gone input inside. AreMade-append g.C.Calls.step c.args.self.now.config
+    _
+    _ c.args.sink.now
+    c.sink_before_context.new.sink
+    (outcome_of stop (Err c.in-Err.error)) c.sink_matched.new.sink (reported gone input inside stop)
+    (c.in-Err.ensures.reported stop))
 
 pub returns-then-not-branch-clause-called : goal.returns-then-not-branch-clause-called
 returns-then-not-branch-clause-called g c =
     let stops : c.in_ok-sink_before_context.field-0 ≡ false = search rules in
     rw stops at c.in_ok-sink_before_context.ensures.called
 
-pub returns-then-is_chosen-clause-called : goal.returns-then-is_chosen-clause-called
-returns-then-is_chosen-clause-called g c = λ stop.
+pub returns-in-Ok-clause-called : goal.returns-in-Ok-clause-called
+returns-in-Ok-clause-called g c = λ stop.
     let w = c.args.walk.now in
     let goes : c.in_ok-sink_before_context.field-0 ≡ true = search rules in
     let first = rw goes at c.in_ok-sink_before_context.ensures.called in
@@ -68,9 +83,26 @@ returns-then-is_chosen-clause-called g c = λ stop.
     _ (first stop) (called-match _ _ w.next_unreported w.line
     w.offset stop (slice_range c.args.window.now c.args.start c.args.end) _
     _
-    _ (c.sink_matched.ensures.reported stop))
+    _ (c.in-Ok.ensures.reported stop))
 
-pub returns-then-self-clause-called : goal.returns-then-self-clause-called
-returns-then-self-clause-called g c = λ stop.
+pub returns-in-Err-clause-called : goal.returns-in-Err-clause-called
+returns-in-Err-clause-called g c = λ stop.
+    let w = c.args.walk.now in
+    let goes : c.in_ok-sink_before_context.field-0 ≡ true = search rules in
+    let first = rw goes at c.in_ok-sink_before_context.ensures.called in
+    called-then _ _ _ _
+    _
+    _ (first stop) (called-match _ _ w.next_unreported w.line
+    w.offset stop (slice_range c.args.window.now c.args.start c.args.end) _
+    _
+    _ (c.in-Err.ensures.reported stop))
+
+pub returns-in-Ok-sink_context-clause-called : goal.returns-in-Ok-sink_context-clause-called
+returns-in-Ok-sink_context-clause-called g c = λ stop.
     called-one _ _ _ stop _ _
-    _ c.sink_context.ensures.step refl refl
+    _ c.in-Ok-sink_context.ensures.step refl refl
+
+pub returns-in-Err-sink_context-clause-called : goal.returns-in-Err-sink_context-clause-called
+returns-in-Err-sink_context-clause-called g c = λ stop.
+    called-one _ _ _ stop _ _
+    _ c.in-Err-sink_context.ensures.step refl refl

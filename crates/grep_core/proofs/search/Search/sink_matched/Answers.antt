@@ -16,14 +16,27 @@ returns-then-not-branch-clause-reported g c =
     _ stop
     c.args.sink.now (stopped (counted stop)) c.sink_break.new.sink (λ x. cc) (reported stop)
 
-pub returns-clause-reported : goal.returns-clause-reported
-returns-clause-reported g c =
+pub returns-in-Ok-clause-reported : goal.returns-in-Ok-clause-reported
+returns-in-Ok-clause-reported g c =
     let w = c.args.walk.now in
     let gap = c.is_gap_before_match-is_gap.ensures in
     let goes : c.in_ok-sink_break.field-0 ≡ true = search rules in
     let reported = rw (goes, gap) at c.in_ok-sink_break.ensures.reported in
     let number = c.number-number.ensures in
-    let step = rw (c.new-found.ensures, number) at c.matched.ensures.step in
+    let step = rw (c.new-found.ensures, number) at c.in-Ok.ensures.step in
+    λ stop. AreMade-broken g.C.Calls.step _
+    (nat_lt 0 c.args.self.now.config.after_context && is_gap c.args.self.now.config w.next_unreported w.line w.line)
+    _ stop
+    c.args.sink.now _ _ _ (reported stop) step
+
+pub returns-in-Err-clause-reported : goal.returns-in-Err-clause-reported
+returns-in-Err-clause-reported g c =
+    let w = c.args.walk.now in
+    let gap = c.is_gap_before_match-is_gap.ensures in
+    let goes : c.in_ok-sink_break.field-0 ≡ true = search rules in
+    let reported = rw (goes, gap) at c.in_ok-sink_break.ensures.reported in
+    let number = c.number-number.ensures in
+    let step = rw (c.new-found.ensures, number) at c.in-Err.ensures.step in
     λ stop. AreMade-broken g.C.Calls.step _
     (nat_lt 0 c.args.self.now.config.after_context && is_gap c.args.self.now.config w.next_unreported w.line w.line)
     _ stop
