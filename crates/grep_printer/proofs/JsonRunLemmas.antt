@@ -8,6 +8,7 @@ use Rattle.grep_matcher.specs.Meanings.{MatcherFacts}
 use Rattle.grep_searcher.specs.Plans.{Call, Plan, IsRun, reported_bytes, Settings}
 use Rattle.grep_searcher.specs.SearchErrors.{IsOutOfMemory}
 use Rattle.grep_searcher.specs.declared.SearchError.{SearchError}
+use Rattle.grep_printer.proofs.JsonStepLemmas.{same-json}
 use Rattle.grep_printer.proofs.RunFoldLemmas.{run-fails, run-keeps}
 use Rattle.grep_printer.proofs.TextFailureLemmas.{begins-before, begins-itself, fails-in, stops-in}
 use Rattle.grep_printer.specs.JsonSteps.{IsJsonError, IsSameJson, PrintsJson}
@@ -17,15 +18,6 @@ use Rattle.grep_printer.specs.JsonTexts.{json_text}
 use Rattle.grep_printer.specs.ReportedParts.{FailsAtReport}
 use Rattle.grep_printer.specs.TextFailures.{IsCutShort}
 use Rattle.grep_printer.specs.declared.json_printer.JsonSink.{JsonSink}
-
--- one step after another
-same-more : {M W : Type 0} (old mid new : JsonSink M W) → IsSameJson old mid → IsSameJson mid new → IsSameJson old new
-same-more old mid new first later = record {
-  printer = later.printer ∙ first.printer;
-  matcher = later.matcher ∙ first.matcher;
-  path = later.path ∙ first.path;
-  always_begin_end = later.always_begin_end ∙ first.always_begin_end;
-}
 
 module _ {M W F : Type 0} (facts : M → MatcherFacts F) (first_at : M → List ℕ → ℕ → Option (ℕ × ℕ))
     (settings : Settings) where
@@ -60,7 +52,7 @@ module _ {M W F : Type 0} (facts : M → MatcherFacts F) (first_at : M → List 
   printed-more frame start printed old call b new before step = (
     step.goes_on,
     record {
-      same = same-more start old new before.same step.same;
+      same = same-json start old new before.same step.same;
       framed = same-frame facts first_at settings old new step.same ∙ before.framed;
       written = Writes-more write_step start.printer.now.writer old.printer.now.writer new.printer.now.writer
           printed.text (json_text frame printed.progress call) (Ok tt) before.written
@@ -112,7 +104,7 @@ module _ {M W F : Type 0} (facts : M → MatcherFacts F) (first_at : M → List 
       let has = way.has in
       let text = json_text frame way.made.progress way.call in
       let mid = way.mid.printer.now.writer in (
-        same-more old way.mid new has.same way.failed.same,
+        same-json old way.mid new has.same way.failed.same,
         elim way.failed.cause [
           | inl writing ↦ inl (
             fails-in write_step old.printer.now.writer mid way.made.text text all has.written way.leads

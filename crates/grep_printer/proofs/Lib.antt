@@ -1,14 +1,17 @@
 pub mod ColorLemmas
 pub mod JsonBytesLemmas
 pub mod JsonRunLemmas
+pub mod JsonStepLemmas
 pub mod FoundPartLemmas
 pub mod PartTextLemmas
 pub mod PlanCountLemmas
 pub mod PrintedRunLemmas
 pub mod ReadBackLemmas
+pub mod ReportLemmas
 pub mod ReportToldLemmas
 pub mod RunFoldLemmas
 pub mod SomeTextLemmas
+pub mod StandardStepLemmas
 pub mod SuccessiveLemmas
 pub mod SummaryLemmas
 pub mod TextFailureLemmas

@@ -10,22 +10,13 @@ use Rattle.grep_searcher.specs.declared.SearchError.{SearchError}
 use Rattle.grep_printer.proofs.RunFoldLemmas.{FailsOnTheWay, run-fails, run-keeps}
 use Rattle.grep_printer.proofs.SomeTextLemmas.{text-more, text-none}
 use Rattle.grep_printer.proofs.TextFailureLemmas.{begins-before, begins-itself, fails-in, stops-in}
+use Rattle.grep_printer.proofs.StandardStepLemmas.{same-more}
 use Rattle.grep_printer.specs.ReportedParts.{FailsAtReport}
 use Rattle.grep_printer.specs.StandardSteps.{FailsAlongPlan, FailsToWritePlan, IsSameSink, Prints, PrintsCall}
 use Rattle.grep_printer.specs.StandardSteps.{PrintsPlan, frame_of, text_of}
 use Rattle.grep_printer.specs.StandardTexts.{Frame, Printed, call_text, goes_on, is_text, nothing_printed}
 use Rattle.grep_printer.specs.StandardTexts.{printed_of, printed_with, progress_after}
 use Rattle.grep_printer.specs.declared.standard.StandardSink.{StandardSink}
-
--- one step after another
-same-more : {M W : Type 0} (old mid new : StandardSink M W) → IsSameSink old mid → IsSameSink mid new
-    → IsSameSink old new
-same-more old mid new first later = record {
-  printer = later.printer ∙ first.printer;
-  matcher = later.matcher ∙ first.matcher;
-  path = later.path ∙ first.path;
-  config = later.config ∙ first.config;
-}
 
 module _ {M W F : Type 0} (facts : M → MatcherFacts F) (first_at : M → List ℕ → ℕ → Option (ℕ × ℕ))
     (write_step : W → OutputCall → W → Type 0) (settings : Settings) where

@@ -1,14 +1,21 @@
 -- The messages of a printer of JSON and their pieces, as the code has them.
-use Rattle.std.specs.Prelude.{◌≤◌, All, List, [], ◌∷◌, ◌++◌, decimal, length}
+use Rattle.std.specs.Prelude.{ℕ, ◌≤◌, All, List, [], ◌∷◌, ◌++◌, decimal, length, Option}
+use Rattle.std.specs.Borrow.{Bor}
 use Rattle.json.specs.Json.{Json}
 use Rattle.json.specs.Token.{Token}
 use Rattle.json.specs.Tree.{json_tokens}
 use Rattle.grep_printer.specs.JsonMessages.{begin_json, bytes_json, end_json, optional_json}
 use Rattle.grep_printer.specs.JsonMessages.{path_json, report_json, seconds_text, summary_json}
+use Rattle.grep_searcher.specs.Lines.{lines}
+use Rattle.grep_printer.specs.JsonTexts.{with_match, with_size}
+use Rattle.grep_printer.specs.Reports.{type_of}
 use Rattle.grep_printer.specs.declared.json_lines.Message.{Message}
 use Rattle.grep_printer.specs.declared.json_lines.Message.TheVariants.{Begin, Report as reports, End}
 use Rattle.grep_printer.specs.declared.json_lines.Message.TheVariants.{Summary}
-use Rattle.grep_printer.specs.declared.json_lines.Report.{Report}
+use Rattle.grep_printer.specs.declared.json_printer.JsonProgress.{JsonProgress}
+use Rattle.grep_printer.specs.declared.report.Report.{Report}
+use Rattle.grep_printer.specs.declared.report.ReportKind.{ReportKind}
+use Rattle.grep_printer.specs.declared.report.ReportKind.TheVariants.{Match, Context}
 use Rattle.grep_printer.specs.declared.messages.Piece.{Piece}
 use Rattle.grep_printer.specs.declared.messages.Piece.TheVariants.{Open, Close, CloseArray, Key}
 use Rattle.grep_printer.specs.declared.messages.Piece.TheVariants.{Text, Bytes, Seconds, Optional}
@@ -36,22 +43,33 @@ pieces_tokens (piece ∷ later) = piece_tokens piece ++ pieces_tokens later
 abbrev pub last_tokens : List Token
 last_tokens = Token.end_object ∷ Token.end_object ∷ []
 
--- the message of a report
-abbrev pub report_of : Report → Json
-report_of report =
-    report_json report.kind.now report.path report.bytes.now report.number report.offset
-    report.ranges.now
+-- the message of a report in a path, with the matches in it
+abbrev pub report_of : Option (Bor (List ℕ)) → Report → List (ℕ × ℕ) → Json
+report_of path report ranges =
+    report_json (type_of report.kind) path report.bytes.now report.number report.offset ranges
 
 -- a message
 abbrev pub message_of : Message → Json
 message_of (Begin path) = begin_json path
-message_of (reports report) = report_of report
+message_of (reports path report ranges) = report_of path report ranges.now
 message_of (End path binary stats) = end_json path binary stats
 message_of (Summary stats total) = summary_json stats total
 
 -- the matches of a report are in its bytes
 abbrev pub AreWithin : Message → Type 0
 AreWithin (Begin path) = Unit {0}
-AreWithin (reports report) = All (λ range. range.1 ≤ length report.bytes.now) report.ranges.now
+AreWithin (reports path report ranges) =
+    All (λ range. range.1 ≤ length report.bytes.now) ranges.now
 AreWithin (End path binary stats) = Unit {0}
 AreWithin (Summary stats total) = Unit {0}
+
+-- what was reported, with so many matches in a report of so many lines
+abbrev pub with_matches : ReportKind → JsonProgress → ℕ → ℕ → JsonProgress
+with_matches Match progress line_count match_count = with_match progress line_count match_count
+with_matches (Context kind) progress line_count match_count = progress
+
+-- what was reported, with a report whose text has so many bytes, and so many matches in it
+abbrev pub after_report : JsonProgress → ℕ → Report → ℕ → ℕ → JsonProgress
+after_report progress size report match_count terminator =
+    with_matches report.kind (with_size progress size)
+    (length (lines terminator report.bytes.now)) match_count

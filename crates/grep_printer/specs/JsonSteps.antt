@@ -1,5 +1,5 @@
 -- What a printer of JSON does at a call of a search, and in a whole search.
-use Rattle.std.specs.Prelude.{◌≡◌, ◌⊎◌, ℕ, Bool, true, List, MatchResult, Option, Result, Ok}
+use Rattle.std.specs.Prelude.{◌≡◌, ◌⊎◌, ℕ, Bool, true, List, Option, Result, Ok}
 use Rattle.std.specs.Prelude.{Err}
 use Rattle.std.specs.Global.{Global}
 use Rattle.std.specs.declared.io.Error.{Error}
@@ -10,10 +10,10 @@ use Rattle.grep_searcher.specs.SearchErrors.{IsOutOfMemory}
 use Rattle.grep_searcher.specs.declared.SearchError.{SearchError}
 use Rattle.grep_searcher.specs.declared.SearchError.TheVariants.{Io}
 use Rattle.grep_printer.specs.JsonTexts.{JsonFrame, json_printed_of, json_progress, json_text}
-use Rattle.grep_printer.specs.JsonTexts.{with_text}
 use Rattle.grep_printer.specs.ReportedParts.{FailsAtReport}
 use Rattle.grep_printer.specs.TextFailures.{IsCutShort}
 use Rattle.grep_printer.specs.declared.json_printer.Json.{Json}
+use Rattle.grep_printer.specs.declared.json_printer.JsonProgress.{JsonProgress}
 use Rattle.grep_printer.specs.declared.json_printer.JsonSink.{JsonSink}
 
 -- the matcher, the path and the settings of a sink stay, and so does the printer that it refers to
@@ -23,27 +23,43 @@ pub record IsSameJson {M W : Type 0} (old new : JsonSink M W) : Type 0 where
   pub path : new.path ≡ old.path
   pub always_begin_end : new.printer.now.always_begin_end ≡ old.printer.now.always_begin_end
 
--- the text at hand was written, and its bytes are counted
+-- a sink of which the text and the matches at hand alone have changed
+pub record IsComposingJson {M W : Type 0} (old new : JsonSink M W) : Type 0 where
+  pub same : IsSameJson old new
+  pub progress : new.progress ≡ old.progress
+  pub writer : new.printer.now.writer ≡ old.printer.now.writer
+  pub has_failed : new.printer.now.has_failed ≡ old.printer.now.has_failed
+
+-- the text at hand was written, and this is what was reported then
 pub record IsJsonWritten {M W : Type 0} (write_step : W → OutputCall → W → Type 0)
-    (old new : JsonSink M W) : Type 0 where
+    (old : JsonSink M W) (told : JsonProgress) (new : JsonSink M W) : Type 0 where
   pub same : IsSameJson old new
   pub written : WritesAll write_step old.printer.now.writer old.printer.now.draft.text.items
       new.printer.now.writer
-  pub progress : new.progress
-      ≡ with_text old.progress old.printer.now.draft.text.items
+  pub progress : new.progress ≡ told
   pub has_failed : new.printer.now.has_failed ≡ old.printer.now.has_failed
 
 -- the writer failed after some first bytes of it
 pub record FailsToWriteJson {M W : Type 0} (write_step : W → OutputCall → W → Type 0)
-    (old : JsonSink M W) (e : SearchError Global) (new : JsonSink M W) : Type 0 where
+    (old : JsonSink M W) (told : JsonProgress) (e : SearchError Global) (new : JsonSink M W)
+    : Type 0 where
   pub same : IsSameJson old new
   pub error : Error
   pub is_io : e ≡ Io error
   pub failed : FailsToWrite write_step old.printer.now.writer old.printer.now.draft.text.items error
       new.printer.now.writer
-  pub progress : new.progress
-      ≡ with_text old.progress old.printer.now.draft.text.items
+  pub progress : new.progress ≡ told
   pub has_failed : new.printer.now.has_failed ≡ true
+
+-- the text at hand is written if it was made, and nothing is if it wasn't
+abbrev pub WritesJsonMade : {M W : Type 0} → (W → OutputCall → W → Type 0) → JsonSink M W
+    → Result (Unit {0}) (SearchError Global) → JsonProgress → Result Bool (SearchError Global)
+    → JsonSink M W → Type 0
+WritesJsonMade write_step old made progress (Ok goes) new =
+    (goes ≡ true) × (made ≡ Ok tt) × IsJsonWritten write_step old progress new
+WritesJsonMade write_step old made progress (Err e) new =
+    ((made ≡ Ok tt) × FailsToWriteJson write_step old progress e new)
+    ⊎ ((made ≡ Err e) × IsComposingJson old new)
 
 module _ {M W F : Type 0} (facts : M → MatcherFacts F) where
   -- the error is the matcher's, for the bytes of a report, as a message
@@ -65,28 +81,6 @@ module _ {M W F : Type 0} (facts : M → MatcherFacts F)
   -- the text of a call of a sink
   abbrev pub json_text_of : JsonSink M W → Settings → Call → List ℕ
   json_text_of sink settings call = json_text (json_frame sink settings) sink.progress call
-
-  -- the text of a call is made, and nothing is written; its bytes aren't counted yet
-  pub record ComposesCall (old : JsonSink M W) (settings : Settings) (call : Call)
-      (new : JsonSink M W) : Type 0 where
-    pub text : new.printer.now.draft.text.items ≡ json_text_of old settings call
-    pub progress : with_text new.progress (json_text_of old settings call)
-        ≡ json_progress (json_frame old settings) old.progress call
-
-  -- there was no memory for it, or the matcher failed
-  pub record FailsToCompose (old : JsonSink M W) (settings : Settings) (call : Call)
-      (e : SearchError Global) (new : JsonSink M W) : Type 0 where
-    pub progress : new.progress ≡ old.progress
-    pub cause : IsOutOfMemory e ⊎ IsJsonError facts old settings (reported_bytes call) e
-
-  -- a sink before the text of a call is written
-  pub record IsComposingCall (old : JsonSink M W) (settings : Settings) (call : Call)
-      (result : Result (Unit {0}) (SearchError Global)) (new : JsonSink M W) : Type 0 where
-    pub same : IsSameJson old new
-    pub writer : new.printer.now.writer ≡ old.printer.now.writer
-    pub has_failed : new.printer.now.has_failed ≡ old.printer.now.has_failed
-    pub made : MatchResult result (λ u. ComposesCall old settings call new)
-        (λ e. FailsToCompose old settings call e new)
 
 module _ {M W F : Type 0} (facts : M → MatcherFacts F)
     (first_at : M → List ℕ → ℕ → Option (ℕ × ℕ)) (write_step : W → OutputCall → W → Type 0) where

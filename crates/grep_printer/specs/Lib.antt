@@ -10,6 +10,7 @@ pub mod MatchedParts
 pub mod PartTexts
 pub mod PlanCounts
 pub mod ReportedParts
+pub mod Reports
 pub mod StandardSteps
 pub mod StandardTexts
 pub mod StatsSums

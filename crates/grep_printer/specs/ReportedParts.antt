@@ -1,5 +1,5 @@
 -- The parts of a report that match, and the matcher's error in their place.
-use Rattle.std.specs.Prelude.{ℕ, if◌then◌else◌, List, length, Option}
+use Rattle.std.specs.Prelude.{ℕ, Bool, if◌then◌else◌, List, [], length, Option}
 use Rattle.std.specs.Global.{Global}
 use Rattle.grep_matcher.specs.Meanings.{MatcherFacts}
 use Rattle.grep_searcher.specs.Plans.{is_across, Settings}
@@ -20,6 +20,12 @@ abbrev pub reported_parts : (List ℕ → ℕ → Option (ℕ × ℕ)) → Setti
 reported_parts first_at settings meaning bytes =
     parts_in (first_at (asked_bytes settings meaning bytes))
     (length (asked_bytes settings meaning bytes)) (length bytes)
+
+-- those parts, if they are asked for
+abbrev pub asked_parts : Bool → (List ℕ → ℕ → Option (ℕ × ℕ)) → Settings → Meaning → List ℕ
+    → List (ℕ × ℕ)
+asked_parts is_asked first_at settings meaning bytes =
+    if is_asked then reported_parts first_at settings meaning bytes else []
 
 -- an error is the matcher's, for the bytes of a report, as a message
 abbrev pub FailsAtReport : {F : Type 0} → MatcherFacts F → Settings → List ℕ → SearchError Global

@@ -1,5 +1,5 @@
 -- What a standard printer does at a call of a search, and in a whole search.
-use Rattle.std.specs.Prelude.{◌≡◌, ◌⊎◌, ℕ, Bool, true, ◌||◌, List, ◌++◌, Option, Result, Ok, Err}
+use Rattle.std.specs.Prelude.{◌≡◌, ◌⊎◌, ℕ, Bool, true, ◌||◌, List, Option, Result, Ok, Err}
 use Rattle.std.specs.Global.{Global}
 use Rattle.std.specs.declared.io.Error.{Error}
 use Rattle.grep_output.specs.Outputs.{OutputCall, FailsToWrite, WritesAll}
@@ -10,8 +10,9 @@ use Rattle.grep_searcher.specs.declared.SearchError.{SearchError}
 use Rattle.grep_searcher.specs.declared.SearchError.TheVariants.{Io}
 use Rattle.grep_printer.specs.ReportedParts.{FailsAtReport}
 use Rattle.grep_printer.specs.StandardTexts.{Frame, call_text, goes_on, is_text}
-use Rattle.grep_printer.specs.StandardTexts.{opening_of, printed_of, progress_after, report_text}
+use Rattle.grep_printer.specs.StandardTexts.{printed_of, progress_after}
 use Rattle.grep_printer.specs.TextFailures.{FailsInText, StopsInText}
+use Rattle.grep_printer.specs.declared.standard.Progress.{Progress}
 use Rattle.grep_printer.specs.declared.standard.StandardSink.{StandardSink}
 
 -- the matcher, the path and the settings of a sink stay, and so does the printer that it refers to
@@ -29,28 +30,39 @@ pub record IsComposing {M W : Type 0} (old new : StandardSink M W) : Type 0 wher
   pub has_written : new.printer.now.has_written ≡ old.printer.now.has_written
   pub has_failed : new.printer.now.has_failed ≡ old.printer.now.has_failed
 
--- the text at hand was written
+-- the text at hand was written, and this is what was reported then
 pub record IsWritten {M W : Type 0} (write_step : W → OutputCall → W → Type 0)
-    (old new : StandardSink M W) : Type 0 where
+    (old : StandardSink M W) (told : Progress) (new : StandardSink M W) : Type 0 where
   pub same : IsSameSink old new
   pub written : WritesAll write_step old.printer.now.writer old.printer.now.draft.text.items
       new.printer.now.writer
-  pub progress : new.progress ≡ old.progress
+  pub progress : new.progress ≡ told
   pub has_written : new.printer.now.has_written
       ≡ (old.printer.now.has_written || is_text old.printer.now.draft.text.items)
   pub has_failed : new.printer.now.has_failed ≡ old.printer.now.has_failed
 
 -- the writer failed after some first bytes of it
 pub record FailsToBeWritten {M W : Type 0} (write_step : W → OutputCall → W → Type 0)
-    (old : StandardSink M W) (e : SearchError Global) (new : StandardSink M W) : Type 0 where
+    (old : StandardSink M W) (told : Progress) (e : SearchError Global)
+    (new : StandardSink M W) : Type 0 where
   pub same : IsSameSink old new
   pub error : Error
   pub is_io : e ≡ Io error
   pub failed : FailsToWrite write_step old.printer.now.writer old.printer.now.draft.text.items error
       new.printer.now.writer
-  pub progress : new.progress ≡ old.progress
+  pub progress : new.progress ≡ told
   pub has_written : new.printer.now.has_written ≡ old.printer.now.has_written
   pub has_failed : new.printer.now.has_failed ≡ true
+
+-- the text at hand is written if it was made, and nothing is if it wasn't
+abbrev pub WritesMade : {M W : Type 0} → (W → OutputCall → W → Type 0) → StandardSink M W
+    → Result (Unit {0}) (SearchError Global) → Progress → Result Bool (SearchError Global)
+    → StandardSink M W → Type 0
+WritesMade write_step old made progress (Ok goes) new =
+    (goes ≡ true) × (made ≡ Ok tt) × IsWritten write_step old progress new
+WritesMade write_step old made progress (Err e) new =
+    ((made ≡ Ok tt) × FailsToBeWritten write_step old progress e new)
+    ⊎ ((made ≡ Err e) × IsComposing old new)
 
 module _ {M W F : Type 0} (facts : M → MatcherFacts F) where
   -- the error is the matcher's, for the bytes of a report, as a message
@@ -68,12 +80,6 @@ module _ {M W F : Type 0} (facts : M → MatcherFacts F)
     meaning = (facts sink.matcher).meaning;
     first_at = first_at sink.matcher;
   }
-
-  -- the text of a report of a sink that isn't hidden
-  abbrev pub report_of : StandardSink M W → Settings → Call → List ℕ
-  report_of sink settings call =
-      opening_of (frame_of sink settings) sink.progress
-      ++ report_text (frame_of sink settings) call
 
   -- the text of a call of a sink
   abbrev pub text_of : StandardSink M W → Settings → Call → List ℕ

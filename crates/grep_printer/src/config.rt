@@ -1,5 +1,5 @@
 //! How a standard printer writes reports.
-ghost use Rattle.std.specs.Prelude.{◌≡◌, [], true, false, None};
+ghost use Rattle.std.specs.Prelude.{◌≡◌, ◌&&◌, [], true, false, None};
 ghost use Rattle.grep_printer.specs.StandardTexts.{asks_for_parts, default_config};
 
 use crate::colors::ColorSpecs;
@@ -32,12 +32,12 @@ pub(crate) struct Config {
 }
 
 impl Config {
-    // Whether the parts of reports that match are asked for: to write them, their columns, or their
-    // colours.
-    pub(crate) fn asks_for_parts(&self) -> bool
-        ensures { result ≡ asks_for_parts self.now }
+    // Whether the parts of a report that match are asked for: to write them, their columns, or their
+    // colours, if it has some.
+    pub(crate) fn asks_for_parts(&self, has_parts: bool) -> bool
+        ensures { result ≡ (has_parts && asks_for_parts self.now) }
     {
-        self.only_matching || self.column || self.color_specs.matched().is_some()
+        has_parts && (self.only_matching || self.column || self.color_specs.matched().is_some())
     }
 }
 

@@ -1,24 +1,21 @@
 //! The text of one call of a search.
-ghost use Rattle.std.specs.Prelude.{◌≡◌, ◌⊎◌, ◌+◌, ◌<◌, ◌^◌, ◌∷◌, [], IfErr, OnOk, length};
-ghost use Rattle.std.specs.Prelude.{if◌then◌else◌, ◌++◌, codes, decimal};
-ghost use Rattle.grep_report.specs.SinkReports.{match_bytes};
+ghost use Rattle.std.specs.Prelude.{◌≡◌, ◌⊎◌, ◌+◌, ◌<◌, ◌^◌, ◌∷◌, ◌++◌, [], IfErr, OnOk, length};
+ghost use Rattle.std.specs.Prelude.{codes, decimal};
 ghost use Rattle.grep_searcher.specs.SearchErrors.{IsOutOfMemory};
 ghost use Rattle.grep_printer.specs.ColoredTexts.{color_of, path_color};
-ghost use Rattle.grep_printer.specs.LineTexts.{opening_text};
 ghost use Rattle.grep_printer.specs.MatchedParts.{AreInOrder};
-ghost use Rattle.grep_printer.specs.PartTexts.{column_of, context_text, match_text, writes_parts};
-ghost use Rattle.grep_printer.specs.ReportedParts.{FailsAtReport, reported_parts};
-ghost use Rattle.grep_printer.specs.StandardTexts.{asks_for_parts, binary_message, path_prefix};
+ghost use Rattle.grep_printer.specs.PartTexts.{writes_parts};
+ghost use Rattle.grep_printer.specs.ReportedParts.{FailsAtReport};
+ghost use Rattle.grep_printer.specs.Reports.{composed_text, drawn_text, report_place, text_before};
+ghost use Rattle.grep_printer.specs.Reports.{whole_text};
+ghost use Rattle.grep_printer.specs.StandardTexts.{binary_message, message_text, path_prefix};
 
 use crate::colors::{ColorSpecs, push_colored};
-use crate::config::Config;
-use crate::fields::{Layout, LineKind, Place, push_digits};
-use crate::parts::find_reported_parts;
-use crate::reports::Report;
+use crate::fields::{Layout, Place, push_digits};
+use crate::parts::find_asked_parts;
+use crate::report::{Report, ReportKind};
 use crate::standard::Progress;
-use grep_searcher::{
-    BinaryDetection, FindAt, Match, SearchError, Searcher, SinkContext, SinkMatch,
-};
+use grep_searcher::{BinaryDetection, FindAt, Match, SearchError, Searcher};
 use std::alloc::{AllocError, Allocator, Global};
 
 // What is said of a binary byte, before its offset and what ends both messages.
@@ -43,51 +40,48 @@ impl Draft {
         }
     }
 
-    // Finds the parts of a report that match, if they are asked for.
-    pub(crate) fn find_parts<M: FindAt, A: Allocator + Copy>(
+    // Makes the text of a report, after the opening if it is the first.
+    pub(crate) fn compose<M: FindAt, A: Allocator + Copy>(
         &mut self,
-        config: &Config,
+        layout: &Layout<'_>,
+        progress: &Progress,
         searcher: &Searcher<A>,
         matcher: &M,
-        bytes: &[u8],
+        report: &Report<'_>,
     ) -> Result<(), SearchError>
-        ensures parts { OnOk result (self.new.parts.items
-            ≡ (if asks_for_parts config.now then reported_parts (M.first_at matcher.now)
-            searcher.now.settings (M.facts matcher.now).meaning bytes.now else [])) }
-        ensures ordered { OnOk result (AreInOrder 0 (length bytes.now) self.new.parts.items) }
-        ensures error { IfErr result (λ e. IsOutOfMemory e
-            ⊎ FailsAtReport (M.facts matcher.now) searcher.now.settings bytes.now e) }
+        requires fits { report.now.offset + length report.now.bytes.now < 2 ^ 64 }
+        ensures text { OnOk result (self.new.text.items ≡ composed_text layout.now progress.now
+            searcher.now.settings (M.facts matcher.now).meaning (M.first_at matcher.now)
+            report.now) }
+        ensures error { IfErr result (λ e. IsOutOfMemory e ⊎ FailsAtReport (M.facts matcher.now)
+            searcher.now.settings report.now.bytes.now e) }
     {
-        if !config.asks_for_parts() {
-            self.parts.clear();
-            return Ok(());
+        let has_parts = report.kind.has_parts(searcher.invert_match());
+        let is_asked = layout.config.asks_for_parts(has_parts);
+        match find_asked_parts(&mut self.parts, is_asked, searcher, matcher, report.bytes) {
+            Ok(()) => {}
+            Err(error) => return Err(error),
         }
-        find_reported_parts(&mut self.parts, searcher, matcher, bytes)
+        let is_across = searcher.multi_line_with_matcher(matcher);
+        self.draw(layout, progress, report, is_across)?;
+        Ok(())
     }
 
-    // Finds the parts of a line that isn't a match. It has none unless the lines without one are
-    // selected.
-    pub(crate) fn find_context_parts<M: FindAt, A: Allocator + Copy>(
+    // Makes the text of a report with the parts at hand, after the opening if it is the first.
+    fn draw(
         &mut self,
-        config: &Config,
-        searcher: &Searcher<A>,
-        matcher: &M,
-        line: &[u8],
-    ) -> Result<(), SearchError>
-        ensures parts { OnOk result (self.new.parts.items
-            ≡ (if searcher.now.settings.invert_match
-            then (if asks_for_parts config.now then reported_parts (M.first_at matcher.now)
-            searcher.now.settings (M.facts matcher.now).meaning line.now else [])
-            else [])) }
-        ensures ordered { OnOk result (AreInOrder 0 (length line.now) self.new.parts.items) }
-        ensures error { IfErr result (λ e. IsOutOfMemory e
-            ⊎ FailsAtReport (M.facts matcher.now) searcher.now.settings line.now e) }
+        layout: &Layout<'_>,
+        progress: &Progress,
+        report: &Report<'_>,
+        is_across: bool,
+    ) -> Result<(), AllocError>
+        requires fits { report.now.offset + length report.now.bytes.now < 2 ^ 64 }
+        requires ordered { AreInOrder 0 (length report.now.bytes.now) self.old.parts.items }
+        ensures text { OnOk result (self.new.text.items ≡ text_before layout.now progress.now
+            ++ drawn_text layout.now report.now self.old.parts.items is_across) }
     {
-        if searcher.invert_match() {
-            return self.find_parts(config, searcher, matcher, line);
-        }
-        self.parts.clear();
-        Ok(())
+        self.open(layout, progress)?;
+        self.push_report(layout, report, is_across)
     }
 
     // Begins a text, which is empty but for the opening before the first report of a search.
@@ -97,8 +91,7 @@ impl Draft {
         progress: &Progress,
     ) -> Result<(), AllocError>
         ensures parts { self.new.parts ≡ self.old.parts }
-        ensures text { OnOk result (self.new.text.items
-            ≡ (if progress.now.is_open then [] else opening_text layout.now progress.now.follows)) }
+        ensures text { OnOk result (self.new.text.items ≡ text_before layout.now progress.now) }
     {
         self.text.clear();
         if progress.is_open {
@@ -107,60 +100,45 @@ impl Draft {
         layout.push_opening(&mut self.text, progress.follows)
     }
 
-    // Pushes the text of a match: its parts, or its lines.
-    pub(crate) fn push_match(
+    // Pushes a report: its parts, or all of it.
+    fn push_report(
         &mut self,
         layout: &Layout<'_>,
-        found: &SinkMatch<'_>,
+        report: &Report<'_>,
         is_across: bool,
     ) -> Result<(), AllocError>
-        requires fits { found.now.offset + length (match_bytes found.now) < 2 ^ 64 }
-        requires ordered { AreInOrder 0 (length (match_bytes found.now)) self.old.parts.items }
+        requires fits { report.now.offset + length report.now.bytes.now < 2 ^ 64 }
+        requires ordered { AreInOrder 0 (length report.now.bytes.now) self.old.parts.items }
         ensures text { OnOk result (self.new.text.items ≡ self.old.text.items
-            ++ match_text layout.now is_across found.now.line_number found.now.offset
-            (match_bytes found.now) self.old.parts.items) }
+            ++ drawn_text layout.now report.now self.old.parts.items is_across) }
     {
-        let number = found.line_number();
-        let report = Report {
-            kind: LineKind::Match(0),
-            offset: found.absolute_byte_offset(),
-            bytes: found.bytes(),
-        };
         if !self.writes_parts(layout) {
-            let place = self.place(layout, number, &report);
-            let kind = LineKind::Match(self.parts.len());
-            return layout.push_lines(&mut self.text, kind, place, &self.parts, report.bytes);
+            return self.push_whole(layout, report);
         }
-        if is_across {
-            return layout.push_across(&mut self.text, &report, number, &self.parts);
+        if report.kind.is_split(is_across) {
+            return layout.push_across(&mut self.text, report, report.number, &self.parts);
         }
-        layout.push_parts(&mut self.text, &report, number, &self.parts)
+        layout.push_parts(&mut self.text, report, report.number, &self.parts)
     }
 
-    // Pushes the text of a line that isn't a match: its parts, or all of it.
-    pub(crate) fn push_context(
-        &mut self,
-        layout: &Layout<'_>,
-        line: &SinkContext<'_>,
-    ) -> Result<(), AllocError>
-        requires fits { line.now.offset + length line.now.bytes < 2 ^ 64 }
-        requires ordered { AreInOrder 0 (length line.now.bytes) self.old.parts.items }
+    // Pushes a report without its parts: the lines of a match, or the line that isn't one.
+    fn push_whole(&mut self, layout: &Layout<'_>, report: &Report<'_>) -> Result<(), AllocError>
+        requires fits { report.now.offset + length report.now.bytes.now < 2 ^ 64 }
+        requires ordered { AreInOrder 0 (length report.now.bytes.now) self.old.parts.items }
         ensures text { OnOk result (self.new.text.items ≡ self.old.text.items
-            ++ context_text layout.now line.now.line_number line.now.offset line.now.bytes
-            self.old.parts.items) }
+            ++ whole_text layout.now report.now self.old.parts.items report.now.kind) }
     {
-        let number = line.line_number();
-        let report = Report {
-            kind: LineKind::Context(0),
-            offset: line.absolute_byte_offset(),
-            bytes: line.bytes(),
-        };
-        if !self.writes_parts(layout) {
-            let place = self.place(layout, number, &report);
-            let kind = LineKind::Context(self.parts.len());
-            return layout.push_line(&mut self.text, kind, &place, &self.parts, report.bytes);
+        let place = self.place(layout, report);
+        let parts: &[Match] = &self.parts;
+        let kind = report.kind.line_kind(parts.len());
+        match report.kind {
+            ReportKind::Match => {
+                layout.push_lines(&mut self.text, kind, place, parts, report.bytes)
+            }
+            ReportKind::Context(_) => {
+                layout.push_line(&mut self.text, kind, &place, parts, report.bytes)
+            }
         }
-        layout.push_parts(&mut self.text, &report, number, &self.parts)
     }
 
     // Whether the parts of the report at hand are written in place of its lines.
@@ -171,21 +149,16 @@ impl Draft {
     }
 
     // The place of the report at hand, with the column of its first part if columns are written.
-    fn place(&self, layout: &Layout<'_>, number: Option<u64>, report: &Report<'_>) -> Place
+    fn place(&self, layout: &Layout<'_>, report: &Report<'_>) -> Place
         requires { AreInOrder 0 (length report.now.bytes.now) self.now.parts.items }
-        ensures { result ≡ record {
-          number = number;
-          column = column_of layout.now self.now.parts.items;
-          offset = report.now.offset;
-          start = 0;
-        } }
+        ensures { result ≡ report_place layout.now report.now self.now.parts.items }
     {
         let column = match self.parts.first() {
             Some(part) if layout.config.column => Some(part.start() as u64 + 1),
             _ => None,
         };
         Place {
-            number,
+            number: report.number,
             column,
             offset: report.offset,
             start: 0,
@@ -193,33 +166,50 @@ impl Draft {
     }
 
     // Makes a text of the line between two groups of lines.
-    pub(crate) fn compose_break(&mut self, terminator: u8) -> Result<(), AllocError>
+    pub(crate) fn compose_break(&mut self, terminator: u8) -> Result<(), SearchError>
         ensures text { OnOk result (self.new.text.items ≡ 45 ∷ 45 ∷ terminator ∷ []) }
+        ensures error { IfErr result (λ e. IsOutOfMemory e) }
     {
         self.text.clear();
-        self.text.extend_from_slice(&[b'-', b'-', terminator])
+        self.text.extend_from_slice(&[b'-', b'-', terminator])?;
+        Ok(())
     }
 
-    // Makes a text of the message about a binary byte.
+    // Makes a text of the message about a binary byte, if one was found.
     pub(crate) fn compose_message(
         &mut self,
         colors: &ColorSpecs,
         detection: BinaryDetection,
         path: Option<&str>,
-        offset: u64,
-    ) -> Result<(), AllocError>
+        offset: Option<u64>,
+    ) -> Result<(), SearchError>
         ensures text { OnOk result (self.new.text.items
-            ≡ binary_message (path_color colors.now) detection path.entry offset) }
+            ≡ message_text (path_color colors.now) detection path.entry offset) }
+        ensures error { IfErr result (λ e. IsOutOfMemory e) }
     {
         self.text.clear();
-        let color = colors.path();
-        match detection {
-            BinaryDetection::None => Ok(()),
-            BinaryDetection::Quit(_) => push_message(&mut self.text, color, path, STOPPED, offset),
-            BinaryDetection::Convert(_) => {
-                push_message(&mut self.text, color, path, MATCHES, offset)
-            }
+        if let Some(offset) = offset {
+            push_binary(&mut self.text, colors.path(), detection, path, offset)?;
         }
+        Ok(())
+    }
+}
+
+// Pushes the message about a binary byte at an offset.
+fn push_binary(
+    text: &mut Vec<u8>,
+    color: Option<&str>,
+    detection: BinaryDetection,
+    path: Option<&str>,
+    offset: u64,
+) -> Result<(), AllocError>
+    ensures { OnOk result (text.new.items ≡ text.old.items
+        ++ binary_message (color_of color.entry) detection path.entry offset) }
+{
+    match detection {
+        BinaryDetection::None => Ok(()),
+        BinaryDetection::Quit(_) => push_message(text, color, path, STOPPED, offset),
+        BinaryDetection::Convert(_) => push_message(text, color, path, MATCHES, offset),
     }
 }
 

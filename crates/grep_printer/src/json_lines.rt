@@ -6,6 +6,7 @@ ghost use Rattle.grep_printer.specs.JsonMessages.{summary_json};
 ghost use Rattle.grep_printer.specs.JsonPieces.{AreWithin, message_of, report_of};
 
 use crate::messages::{Piece, microseconds, push_pieces, push_stats, push_submatches};
+use crate::report::Report;
 use crate::stats::Stats;
 use grep_searcher::Match;
 use json::Writer;
@@ -17,24 +18,12 @@ use std::mem;
 pub(crate) enum Message<'m> {
     // A search of a path begins.
     Begin(Option<&'m str>),
-    // A report.
-    Report(Report<'m>),
+    // A report in a path, with the matches in it.
+    Report(Option<&'m str>, Report<'m>, &'m [Match]),
     // A search of a path ends, in which a binary byte was found at an offset, if one was.
     End(Option<&'m str>, Option<u64>, Stats),
     // All searches, which took so many nanoseconds in all.
     Summary(Stats, u64),
-}
-
-// What is reported: the type of its message, the path, its bytes, the number of its first line, its
-// offset, and the matches in it.
-#[derive(Clone, Copy)]
-pub(crate) struct Report<'m> {
-    pub(crate) kind: &'m str,
-    pub(crate) path: Option<&'m str>,
-    pub(crate) bytes: &'m [u8],
-    pub(crate) number: Option<u64>,
-    pub(crate) offset: u64,
-    pub(crate) ranges: &'m [Match],
 }
 
 // Adds a message in a line of its own.
@@ -59,7 +48,7 @@ fn push_message(out: &mut Writer, alloc: Global, message: Message<'_>) -> Result
 {
     match message {
         Message::Begin(path) => push_begin(out, alloc, path),
-        Message::Report(report) => push_report(out, alloc, &report),
+        Message::Report(path, report, ranges) => push_report(out, alloc, path, &report, ranges),
         Message::End(path, binary, stats) => push_end(out, alloc, path, binary, &stats),
         Message::Summary(stats, total) => push_summary(out, alloc, &stats, total),
     }
@@ -91,11 +80,17 @@ fn push_begin(out: &mut Writer, alloc: Global, path: Option<&str>) -> Result<(),
 
 // Pushes a report.
 #[tactic(auto, unfolding(crate::specs::JsonMessages::report_json))]
-fn push_report(out: &mut Writer, alloc: Global, report: &Report<'_>) -> Result<(), AllocError>
-    requires { All (λ range. range.1 ≤ length report.now.bytes.now) report.now.ranges.now }
+fn push_report<'m>(
+    out: &mut Writer,
+    alloc: Global,
+    path: Option<&'m str>,
+    report: &Report<'m>,
+    ranges: &[Match],
+) -> Result<(), AllocError>
+    requires { All (λ range. range.1 ≤ length report.now.bytes.now) ranges.now }
     ensures before { out.new.before ≡ out.old.before }
-    ensures tokens { OnOk result
-        (out.new.tokens ≡ out.old.tokens ++ json_tokens (report_of report.now)) }
+    ensures tokens { OnOk result (out.new.tokens
+        ≡ out.old.tokens ++ json_tokens (report_of path.entry report.now ranges.now)) }
 {
     push_pieces(
         out,
@@ -103,11 +98,11 @@ fn push_report(out: &mut Writer, alloc: Global, report: &Report<'_>) -> Result<(
         &[
             Piece::Open,
             Piece::Key("type"),
-            Piece::Text(report.kind),
+            Piece::Text(report.kind.name()),
             Piece::Key("data"),
             Piece::Open,
             Piece::Key("path"),
-            Piece::Path(report.path),
+            Piece::Path(path),
             Piece::Key("lines"),
             Piece::Bytes(report.bytes),
             Piece::Key("line_number"),
@@ -116,7 +111,7 @@ fn push_report(out: &mut Writer, alloc: Global, report: &Report<'_>) -> Result<(
             Piece::Key("submatches"),
         ],
     )?;
-    push_submatches(out, alloc, report.bytes, report.ranges)
+    push_submatches(out, alloc, report.bytes, ranges)
 }
 
 // Pushes the message that a search ends.

@@ -1,17 +1,18 @@
 //! The printer of JSON.
 ghost use Rattle.std.specs.Prelude.{◌≡◌, ◌||◌, MatchResult, if◌then◌else◌, is_ok, not, true, false};
-ghost use Rattle.grep_searcher.specs.SinkArguments.{context_call, match_call};
 ghost use Rattle.grep_output.specs.Outputs.{Writes, flushes};
 ghost use Rattle.grep_printer.specs.JsonMessages.{json_line, summary_json};
-ghost use Rattle.grep_printer.specs.JsonPieces.{AreWithin, message_of};
-ghost use Rattle.grep_printer.specs.JsonSteps.{FailsToWriteJson, FailsToWriteText, IsSameJson};
-ghost use Rattle.grep_printer.specs.JsonSteps.{IsComposingCall, IsJsonWritten, WritesText};
+ghost use Rattle.grep_printer.specs.JsonPieces.{AreWithin, after_report, message_of};
+ghost use Rattle.grep_printer.specs.JsonSteps.{FailsToWriteText, IsSameJson, PrintsJsonCall};
+ghost use Rattle.grep_printer.specs.JsonSteps.{WritesJsonMade, WritesText};
 ghost use Rattle.grep_printer.specs.JsonTexts.{end_text, is_reported, new_json_progress, stats_of};
 ghost use Rattle.grep_printer.specs.JsonTexts.{with_match, with_size};
+ghost use Rattle.grep_printer.specs.Reports.{call_of};
 ghost use Rattle.grep_printer.specs.StatsSums.{nanos_of};
 
-use crate::json_draft::{JsonDraft, Place};
+use crate::json_draft::JsonDraft;
 use crate::json_lines::Message;
+use crate::report::{Report, ReportKind};
 use crate::stats::{Stats, nanoseconds};
 use grep_lines::line_count;
 use grep_output::{Output, write_all};
@@ -147,9 +148,14 @@ impl<W: Output> Json<W> {
             (λ e. FailsToWriteText W.step self.old (json_line (message_of message.entry)) e
             self.new) }
     {
-        self.draft.compose(message)?;
-        self.write_text()?;
-        Ok(())
+        match self.draft.compose(message) {
+            Ok(()) => {}
+            Err(error) => return Err(error),
+        }
+        match self.write_text() {
+            Ok(()) => Ok(()),
+            Err(error) => Err(SearchError::Io(error)),
+        }
     }
 
     // Writes the text at hand.
@@ -202,11 +208,30 @@ impl JsonProgress {
     }
 
     // With so many bytes more.
-    fn add_text(&mut self, size: usize)
-        ensures { self.new ≡ with_size self.old size }
+    fn with_size(&self, size: usize) -> JsonProgress
+        ensures { result ≡ with_size self.now size }
     {
-        self.is_begun = true;
-        self.bytes_printed = self.bytes_printed.saturating_add(size as u64);
+        let mut progress = *self;
+        progress.is_begun = true;
+        progress.bytes_printed = progress.bytes_printed.saturating_add(size as u64);
+        progress
+    }
+
+    // With a report of so many bytes, in which the matcher matches so often.
+    fn after(
+        &self,
+        size: usize,
+        report: &Report<'_>,
+        matches: usize,
+        terminator: u8,
+    ) -> JsonProgress
+        ensures { result ≡ after_report self.now size report.now matches terminator }
+    {
+        let mut progress = self.with_size(size);
+        if let ReportKind::Match = report.kind {
+            progress.add_match(line_count(report.bytes, terminator), matches);
+        }
+        progress
     }
 
     // With a match of so many lines, in which the matcher matches so often.
@@ -286,69 +311,38 @@ impl<'s, M: FindAt, W: Output> JsonSink<'s, M, W> {
 }
 
 impl<'s, M: FindAt, W: Output> JsonSink<'s, M, W> {
-    // Makes the text of a match.
-    fn compose_match<A: Allocator + Copy>(
+    // Prints a report.
+    fn print<A: Allocator + Copy>(
         &mut self,
         searcher: &Searcher<A>,
-        found: &SinkMatch<'_>,
-    ) -> Result<(), SearchError>
-        ensures composing { IsComposingCall M.facts M.first_at self.old searcher.now.settings
-            (match_call found.now) result self.new }
+        report: &Report<'_>,
+    ) -> Result<bool, SearchError>
+        ensures { PrintsJsonCall M.facts M.first_at W.step self.old searcher.now.settings
+            (call_of report.now) result self.new }
     {
-        let bytes = found.bytes();
-        let draft = &mut self.printer.draft;
-        if let Err(error) = draft.find_submatches(searcher, &self.matcher, bytes) {
-            return Err(error);
-        }
-        let place = Place {
-            kind: "match",
-            number: found.line_number(),
-            offset: found.absolute_byte_offset(),
-        };
         let is_begun = self.progress.is_begun;
-        self.printer
-            .draft
-            .compose_report(is_begun, self.path, &place, bytes)?;
-        let matches = self.printer.draft.submatches.len();
-        let lines = line_count(bytes, searcher.line_terminator().as_byte());
-        self.progress.add_match(lines, matches);
-        Ok(())
+        let draft = &mut self.printer.draft;
+        let made = draft.compose_report(searcher, &self.matcher, self.path, is_begun, report);
+        let size = draft.text.len();
+        let matches = draft.submatches.len();
+        let terminator = searcher.line_terminator().as_byte();
+        let progress = self.progress.after(size, report, matches, terminator);
+        self.write(made, progress)
     }
 
-    // Makes the text of a line that isn't a match.
-    fn compose_context<A: Allocator + Copy>(
+    // Writes the text at hand if it was made, with what was reported then.
+    fn write(
         &mut self,
-        searcher: &Searcher<A>,
-        line: &SinkContext<'_>,
-    ) -> Result<(), SearchError>
-        ensures composing { IsComposingCall M.facts M.first_at self.old searcher.now.settings
-            (context_call line.now) result self.new }
+        made: Result<(), SearchError>,
+        progress: JsonProgress,
+    ) -> Result<bool, SearchError>
+        ensures { WritesJsonMade W.step self.old made progress result self.new }
     {
-        let bytes = line.bytes();
-        let draft = &mut self.printer.draft;
-        if let Err(error) = draft.find_context_submatches(searcher, &self.matcher, bytes) {
-            return Err(error);
+        match made {
+            Ok(()) => {}
+            Err(error) => return Err(error),
         }
-        let place = Place {
-            kind: "context",
-            number: line.line_number(),
-            offset: line.absolute_byte_offset(),
-        };
-        let is_begun = self.progress.is_begun;
-        self.printer
-            .draft
-            .compose_report(is_begun, self.path, &place, bytes)?;
-        Ok(())
-    }
-
-    // Writes the text at hand, and counts its bytes.
-    fn write(&mut self) -> Result<bool, SearchError>
-        ensures { MatchResult result
-            (λ goes. (goes ≡ true) × IsJsonWritten W.step self.old self.new)
-            (λ e. FailsToWriteJson W.step self.old e self.new) }
-    {
-        let size = self.printer.draft.text.len();
-        self.progress.add_text(size);
+        self.progress = progress;
         match self.printer.write_text() {
             Ok(()) => Ok(true),
             Err(error) => Err(SearchError::Io(error)),
@@ -369,8 +363,9 @@ impl<'s, M: FindAt, W: Output> Sink for JsonSink<'s, M, W> {
         if !self.printer.always_begin_end || self.progress.is_begun {
             return Ok(true);
         }
-        self.printer.draft.compose(Message::Begin(self.path))?;
-        self.write()
+        let made = self.printer.draft.compose(Message::Begin(self.path));
+        let progress = self.progress.with_size(self.printer.draft.text.len());
+        self.write(made, progress)
     }
 
     fn matched<A: Allocator + Copy>(
@@ -378,10 +373,7 @@ impl<'s, M: FindAt, W: Output> Sink for JsonSink<'s, M, W> {
         searcher: &Searcher<A>,
         found: &SinkMatch<'_>,
     ) -> Result<bool, SearchError> {
-        match self.compose_match(searcher, found) {
-            Ok(()) => self.write(),
-            Err(error) => Err(error),
-        }
+        self.print(searcher, &Report::of_match(found))
     }
 
     fn context<A: Allocator + Copy>(
@@ -389,10 +381,7 @@ impl<'s, M: FindAt, W: Output> Sink for JsonSink<'s, M, W> {
         searcher: &Searcher<A>,
         line: &SinkContext<'_>,
     ) -> Result<bool, SearchError> {
-        match self.compose_context(searcher, line) {
-            Ok(()) => self.write(),
-            Err(error) => Err(error),
-        }
+        self.print(searcher, &Report::of_context(line))
     }
 
     fn context_break<A: Allocator + Copy>(

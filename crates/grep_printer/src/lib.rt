@@ -16,6 +16,7 @@ mod json_printer;
 pub mod laws;
 mod messages;
 mod parts;
+mod report;
 mod reports;
 mod standard;
 mod stats;

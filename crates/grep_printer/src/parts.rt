@@ -1,29 +1,35 @@
 //! The parts of some bytes that match.
 ghost use Rattle.std.specs.Prelude.{◌≡◌, ◌⊎◌, ◌<◌, ◌^◌, ◌++◌, ◌∷◌, [], IfErr, IfOk, OnOk, length};
-ghost use Rattle.std.specs.Prelude.{if◌then◌else◌};
+ghost use Rattle.std.specs.Prelude.{if◌then◌else◌, true};
 ghost use Rattle.grep_matcher.specs.FindResults.{IsFrom};
 ghost use Rattle.grep_searcher.specs.SearchErrors.{IsOutOfMemory};
 ghost use Rattle.grep_printer.specs.MatchedParts.{AreInOrder, IsMessageOf, found_from};
 ghost use Rattle.grep_printer.specs.MatchedParts.{is_passed, parts_after, parts_in, position_after};
-ghost use Rattle.grep_printer.specs.ReportedParts.{FailsAtReport, asked_bytes, reported_parts};
+ghost use Rattle.grep_printer.specs.ReportedParts.{FailsAtReport, asked_bytes, asked_parts};
 
 use grep_lines::without_terminator;
 use grep_searcher::{FindAt, Match, SearchError, Searcher, SinkError};
 use std::alloc::{AllocError, Allocator, Global};
 
-// Finds the parts of the bytes of a report that match, in order.
-pub(crate) fn find_reported_parts<M: FindAt, A: Allocator + Copy>(
+// Finds the parts of the bytes of a report that match, in order, if they are asked for.
+pub(crate) fn find_asked_parts<M: FindAt, A: Allocator + Copy>(
     parts: &mut Vec<Match>,
+    is_asked: bool,
     searcher: &Searcher<A>,
     matcher: &M,
     bytes: &[u8],
 ) -> Result<(), SearchError>
-    ensures parts { OnOk result (parts.new.items ≡ reported_parts (M.first_at matcher.now)
-        searcher.now.settings (M.facts matcher.now).meaning bytes.now) }
+    ensures parts { OnOk result (parts.new.items
+        ≡ asked_parts is_asked (M.first_at matcher.now) searcher.now.settings
+        (M.facts matcher.now).meaning bytes.now) }
     ensures ordered { OnOk result (AreInOrder 0 (length bytes.now) parts.new.items) }
-    ensures error { IfErr result (λ e. IsOutOfMemory e
-        ⊎ FailsAtReport (M.facts matcher.now) searcher.now.settings bytes.now e) }
+    ensures error { IfErr result (λ e. IsOutOfMemory e ⊎ ((is_asked ≡ true)
+        × FailsAtReport (M.facts matcher.now) searcher.now.settings bytes.now e)) }
 {
+    if !is_asked {
+        parts.clear();
+        return Ok(());
+    }
     let asked = asked(searcher, matcher, bytes);
     find_parts(parts, matcher, asked, bytes.len())
 }

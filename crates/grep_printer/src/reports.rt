@@ -6,20 +6,14 @@ ghost use Rattle.grep_searcher.specs.Lines.{lines};
 ghost use Rattle.grep_printer.specs.MatchedParts.{AreInOrder};
 ghost use Rattle.grep_printer.specs.PartTexts.{across_text, clipped_text, part_place, part_text};
 ghost use Rattle.grep_printer.specs.PartTexts.{parts_text};
+ghost use Rattle.grep_printer.specs.Reports.{line_kind};
 
-use crate::fields::{Layout, LineKind, Place, next_number};
+use crate::fields::{Layout, Place, next_number};
 use crate::parts::parts_after;
+use crate::report::Report;
 use grep_lines::without_terminator;
 use grep_searcher::{LineIter, Match};
 use std::alloc::AllocError;
-
-// A report: what its lines belong to, its offset, and its bytes.
-#[derive(Clone, Copy)]
-pub(crate) struct Report<'r> {
-    pub(crate) kind: LineKind,
-    pub(crate) offset: u64,
-    pub(crate) bytes: &'r [u8],
-}
 
 impl<'p> Layout<'p> {
     // Pushes each part of a report in a line of its own.
@@ -33,7 +27,7 @@ impl<'p> Layout<'p> {
         requires fits { report.now.offset + length report.now.bytes.now < 2 ^ 64 }
         requires ordered { AreInOrder 0 (length report.now.bytes.now) parts.now }
         ensures { OnOk result (text.new.items ≡ text.old.items ++ parts_text self.now
-            report.now.kind report.now.offset report.now.bytes.now number parts.now) }
+            (line_kind report.now.kind 0) report.now.offset report.now.bytes.now number parts.now) }
     {
         let mut rest = parts;
         while let Some((part, later)) = rest.split_first() {
@@ -54,7 +48,7 @@ impl<'p> Layout<'p> {
         requires fits { report.now.offset + length report.now.bytes.now < 2 ^ 64 }
         requires ordered { AreInOrder 0 (length report.now.bytes.now) parts.now }
         ensures { OnOk result (text.new.items ≡ text.old.items ++ across_text self.now
-            report.now.kind report.now.offset report.now.bytes.now number 0
+            (line_kind report.now.kind 0) report.now.offset report.now.bytes.now number 0
             (lines (byte_of self.now.terminator) report.now.bytes.now) parts.now) }
     {
         let mut number = number;
@@ -83,7 +77,7 @@ impl<'p> Layout<'p> {
         requires within { range.now.1 ≤ length report.now.bytes.now }
         requires ordered { AreInOrder 0 (length report.now.bytes.now) parts.now }
         ensures { OnOk result (text.new.items ≡ text.old.items
-            ++ flat_map (clipped_text self.now report.now.kind report.now.offset
+            ++ flat_map (clipped_text self.now (line_kind report.now.kind 0) report.now.offset
             report.now.bytes.now number range.now) parts.now) }
     {
         let mut rest = parts;
@@ -110,7 +104,7 @@ impl<'p> Layout<'p> {
         requires part_within { part.now.1 ≤ length report.now.bytes.now }
         requires within { range.now.1 ≤ length report.now.bytes.now }
         ensures { OnOk result (text.new.items ≡ text.old.items
-            ++ clipped_text self.now report.now.kind report.now.offset report.now.bytes.now
+            ++ clipped_text self.now (line_kind report.now.kind 0) report.now.offset report.now.bytes.now
             number range.now part.now) }
     {
         let start = part.start().max(range.start());
@@ -121,7 +115,7 @@ impl<'p> Layout<'p> {
         let mut place = self.part_place(report, number, part);
         place.start = start;
         let bytes = &report.bytes[start..end];
-        self.push_line(text, report.kind, &place, &[*part], bytes)
+        self.push_line(text, report.kind.line_kind(0), &place, &[*part], bytes)
     }
 
     // Pushes a part in a line of its own.
@@ -135,18 +129,18 @@ impl<'p> Layout<'p> {
         requires fits { report.now.offset + length report.now.bytes.now < 2 ^ 64 }
         requires within { part.now.1 ≤ length report.now.bytes.now }
         ensures { OnOk result (text.new.items ≡ text.old.items ++ part_text self.now
-            report.now.kind report.now.offset report.now.bytes.now number part.now) }
+            (line_kind report.now.kind 0) report.now.offset report.now.bytes.now number part.now) }
     {
         let place = self.part_place(report, number, part);
         let bytes = &report.bytes[part.start()..part.end()];
-        self.push_line(text, report.kind, &place, &[*part], bytes)
+        self.push_line(text, report.kind.line_kind(0), &place, &[*part], bytes)
     }
 
     // The place of a part: the number of its line, and its own column and offset.
     fn part_place(&self, report: &Report<'_>, number: Option<u64>, part: &Match) -> Place
         requires fits { report.now.offset + length report.now.bytes.now < 2 ^ 64 }
         requires within { part.now.1 ≤ length report.now.bytes.now }
-        ensures { result ≡ part_place self.now report.now.kind report.now.offset
+        ensures { result ≡ part_place self.now (line_kind report.now.kind 0) report.now.offset
             report.now.bytes.now number part.now }
     {
         let start = part.start() as u64;

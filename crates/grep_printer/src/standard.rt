@@ -1,18 +1,16 @@
 //! The printer of lines.
-ghost use Rattle.std.specs.Prelude.{◌≡◌, ◌⊎◌, ◌+◌, ◌<◌, ◌^◌, ◌&&◌, ◌||◌, true, false};
-ghost use Rattle.std.specs.Prelude.{OnOk, is_ok, IfErr, MatchResult, length, not};
-ghost use Rattle.std.specs.Prelude.{if◌then◌else◌};
-ghost use Rattle.grep_report.specs.SinkReports.{match_bytes};
-ghost use Rattle.grep_searcher.specs.SearchErrors.{IsOutOfMemory};
-ghost use Rattle.grep_searcher.specs.SinkArguments.{context_call, match_call};
+ghost use Rattle.std.specs.Prelude.{◌≡◌, ◌+◌, ◌<◌, ◌^◌, ◌&&◌, ◌||◌, true, false, is_ok, length};
+ghost use Rattle.std.specs.Prelude.{if◌then◌else◌, not};
 ghost use Rattle.grep_output.specs.Outputs.{Writes, flushes};
-ghost use Rattle.grep_printer.specs.StandardSteps.{IsComposing, IsErrorAt, IsWritten};
-ghost use Rattle.grep_printer.specs.StandardSteps.{FailsToBeWritten, frame_of, report_of};
+ghost use Rattle.grep_printer.specs.Reports.{call_of};
+ghost use Rattle.grep_printer.specs.StandardSteps.{PrintsCall, WritesMade, frame_of};
 ghost use Rattle.grep_printer.specs.StandardTexts.{is_hidden, is_text, layout_of, new_progress};
+ghost use Rattle.grep_printer.specs.StandardTexts.{progress_after};
 
 use crate::config::Config;
 use crate::draft::Draft;
 use crate::fields::Layout;
+use crate::report::{Report, ReportKind};
 use grep_output::{Output, write_all};
 use grep_searcher::{FindAt, SearchError, Searcher, Sink, SinkContext, SinkFinish, SinkMatch};
 use std::alloc::{Allocator, Global};
@@ -156,6 +154,26 @@ impl Progress {
             binary: None,
         }
     }
+
+    // What was reported, with a report.
+    fn after(&self, report: &Report<'_>) -> Progress
+        ensures { result ≡ progress_after self.now (call_of report.now) }
+    {
+        match report.kind {
+            ReportKind::Match => Progress {
+                follows: self.follows,
+                has_match: true,
+                is_open: true,
+                binary: self.binary,
+            },
+            ReportKind::Context(_) => Progress {
+                follows: self.follows,
+                has_match: self.has_match,
+                is_open: true,
+                binary: self.binary,
+            },
+        }
+    }
 }
 
 /// The sink of one search, which writes each line that is reported.
@@ -194,62 +212,40 @@ impl<'s, M: FindAt, W: Output> StandardSink<'s, M, W> {
         self.progress.binary.is_some() && searcher.binary_detection().convert_byte().is_some()
     }
 
-    // Makes the text of a match.
-    fn compose_match<A: Allocator + Copy>(
+    // Prints a report, unless it is hidden.
+    fn print<A: Allocator + Copy>(
         &mut self,
         searcher: &Searcher<A>,
-        found: &SinkMatch<'_>,
-    ) -> Result<(), SearchError>
-        requires { found.now.offset + length (match_bytes found.now) < 2 ^ 64 }
-        ensures composing { IsComposing self.old self.new }
-        ensures text { OnOk result (self.new.printer.now.draft.text.items
-            ≡ report_of M.facts M.first_at self.old searcher.now.settings (match_call found.now)) }
-        ensures error { IfErr result (λ e. IsOutOfMemory e
-            ⊎ IsErrorAt M.facts self.old searcher.now.settings (match_bytes found.now) e) }
+        report: &Report<'_>,
+    ) -> Result<bool, SearchError>
+        requires { report.now.offset + length report.now.bytes.now < 2 ^ 64 }
+        ensures { PrintsCall M.facts M.first_at W.step self.old searcher.now.settings
+            (call_of report.now) result self.new }
     {
+        let progress = self.progress.after(report);
+        if self.is_hidden(searcher) {
+            self.progress = progress;
+            return Ok(false);
+        }
         let layout = self.layout(searcher);
         let draft = &mut self.printer.draft;
-        match draft.find_parts(&layout.config, searcher, &self.matcher, found.bytes()) {
+        let made = draft.compose(&layout, &self.progress, searcher, &self.matcher, report);
+        self.write(made, progress)
+    }
+
+    // Writes the text at hand if it was made, with what was reported then.
+    fn write(
+        &mut self,
+        made: Result<(), SearchError>,
+        progress: Progress,
+    ) -> Result<bool, SearchError>
+        ensures { WritesMade W.step self.old made progress result self.new }
+    {
+        match made {
             Ok(()) => {}
             Err(error) => return Err(error),
         }
-        self.printer.draft.open(&layout, &self.progress)?;
-        let is_across = searcher.multi_line_with_matcher(&self.matcher);
-        self.printer.draft.push_match(&layout, found, is_across)?;
-        Ok(())
-    }
-
-    // Makes the text of a line that isn't a match.
-    fn compose_context<A: Allocator + Copy>(
-        &mut self,
-        searcher: &Searcher<A>,
-        line: &SinkContext<'_>,
-    ) -> Result<(), SearchError>
-        requires { line.now.offset + length line.now.bytes < 2 ^ 64 }
-        ensures composing { IsComposing self.old self.new }
-        ensures text { OnOk result (self.new.printer.now.draft.text.items
-            ≡ report_of M.facts M.first_at self.old searcher.now.settings
-            (context_call line.now)) }
-        ensures error { IfErr result (λ e. IsOutOfMemory e
-            ⊎ IsErrorAt M.facts self.old searcher.now.settings line.now.bytes e) }
-    {
-        let layout = self.layout(searcher);
-        let draft = &mut self.printer.draft;
-        match draft.find_context_parts(&layout.config, searcher, &self.matcher, line.bytes()) {
-            Ok(()) => {}
-            Err(error) => return Err(error),
-        }
-        self.printer.draft.open(&layout, &self.progress)?;
-        self.printer.draft.push_context(&layout, line)?;
-        Ok(())
-    }
-
-    // Writes the text at hand.
-    fn write(&mut self) -> Result<bool, SearchError>
-        ensures { MatchResult result
-            (λ goes. (goes ≡ true) × IsWritten W.step self.old self.new)
-            (λ e. FailsToBeWritten W.step self.old e self.new) }
-    {
+        self.progress = progress;
         match self.printer.write_text() {
             Ok(()) => Ok(true),
             Err(error) => Err(SearchError::Io(error)),
@@ -275,19 +271,7 @@ impl<'s, M: FindAt, W: Output> Sink for StandardSink<'s, M, W> {
         searcher: &Searcher<A>,
         found: &SinkMatch<'_>,
     ) -> Result<bool, SearchError> {
-        if self.is_hidden(searcher) {
-            self.progress.has_match = true;
-            self.progress.is_open = true;
-            return Ok(false);
-        }
-        match self.compose_match(searcher, found) {
-            Ok(()) => {
-                self.progress.has_match = true;
-                self.progress.is_open = true;
-                self.write()
-            }
-            Err(error) => Err(error),
-        }
+        self.print(searcher, &Report::of_match(found))
     }
 
     fn context<A: Allocator + Copy>(
@@ -295,27 +279,16 @@ impl<'s, M: FindAt, W: Output> Sink for StandardSink<'s, M, W> {
         searcher: &Searcher<A>,
         line: &SinkContext<'_>,
     ) -> Result<bool, SearchError> {
-        if self.is_hidden(searcher) {
-            self.progress.is_open = true;
-            return Ok(false);
-        }
-        match self.compose_context(searcher, line) {
-            Ok(()) => {
-                self.progress.is_open = true;
-                self.write()
-            }
-            Err(error) => Err(error),
-        }
+        self.print(searcher, &Report::of_context(line))
     }
 
     fn context_break<A: Allocator + Copy>(
         &mut self,
         searcher: &Searcher<A>,
     ) -> Result<bool, SearchError> {
-        self.printer
-            .draft
-            .compose_break(searcher.line_terminator().as_byte())?;
-        self.write()
+        let terminator = searcher.line_terminator().as_byte();
+        let made = self.printer.draft.compose_break(terminator);
+        self.write(made, self.progress)
     }
 
     fn binary_data<A: Allocator + Copy>(
@@ -332,18 +305,18 @@ impl<'s, M: FindAt, W: Output> Sink for StandardSink<'s, M, W> {
         searcher: &Searcher<A>,
         finish: &SinkFinish,
     ) -> Result<(), SearchError> {
-        if !self.progress.has_match {
-            return Ok(());
-        }
-        let Some(offset) = finish.binary_byte_offset() else {
-            return Ok(());
+        let offset = if self.progress.has_match {
+            finish.binary_byte_offset()
+        } else {
+            None
         };
         let colors = self.printer.config.color_specs;
         let detection = *searcher.binary_detection();
-        self.printer
-            .draft
-            .compose_message(&colors, detection, self.path, offset)?;
-        self.write()?;
-        Ok(())
+        let draft = &mut self.printer.draft;
+        let made = draft.compose_message(&colors, detection, self.path, offset);
+        match self.write(made, self.progress) {
+            Ok(_) => Ok(()),
+            Err(error) => Err(error),
+        }
     }
 }

@@ -1,15 +1,13 @@
 //! The printer of summaries: counts, and paths.
-ghost use Rattle.std.specs.Prelude.{◌≡◌, ◌⊎◌, ◌++◌, ◌∷◌, ◌||◌, [], false, true, IfErr, OnOk};
-ghost use Rattle.std.specs.Prelude.{if◌then◌else◌, is_ok, length, not};
+ghost use Rattle.std.specs.Prelude.{◌≡◌, ◌++◌, ◌||◌, false, true, OnOk};
+ghost use Rattle.std.specs.Prelude.{if◌then◌else◌, is_ok, not};
 ghost use Rattle.grep_output.specs.Outputs.{Writes, flushes};
-ghost use Rattle.grep_searcher.specs.SearchErrors.{IsOutOfMemory};
-ghost use Rattle.grep_printer.specs.ReportedParts.{FailsAtReport, reported_parts};
 ghost use Rattle.grep_printer.specs.SummaryTexts;
-ghost use Rattle.grep_printer.specs.SummaryTexts.{count_line, counts_parts, finish_text};
+ghost use Rattle.grep_printer.specs.SummaryTexts.{count_line, finish_text};
 ghost use Rattle.grep_printer.specs.SummaryTexts.{has_found, no_counts, path_line, with_report};
 
 use crate::fields::{push_digits, push_path};
-use crate::parts::find_reported_parts;
+use crate::parts::find_asked_parts;
 use crate::summary_builder::{SummaryConfig, SummaryKind};
 use grep_output::{Output, write_all};
 use grep_searcher::{
@@ -244,28 +242,6 @@ impl<'s, M: FindAt, W: Output> SummarySink<'s, M, W> {
     }
 }
 
-// Finds the parts of a report that match, if they are counted.
-fn find_counted_parts<M: FindAt, A: Allocator + Copy>(
-    parts: &mut Vec<Match>,
-    kind: SummaryKind,
-    searcher: &Searcher<A>,
-    matcher: &M,
-    bytes: &[u8],
-) -> Result<(), SearchError>
-    ensures parts { OnOk result (parts.new.items
-        ≡ (if counts_parts kind then reported_parts (M.first_at matcher.now) searcher.now.settings
-        (M.facts matcher.now).meaning bytes.now else [])) }
-    ensures error { IfErr result (λ e. IsOutOfMemory e
-        ⊎ ((counts_parts kind ≡ true)
-        × FailsAtReport (M.facts matcher.now) searcher.now.settings bytes.now e)) }
-{
-    if !kind.counts_parts() {
-        parts.clear();
-        return Ok(());
-    }
-    find_reported_parts(parts, searcher, matcher, bytes)
-}
-
 impl<'s, M: FindAt, W: Output> Sink for SummarySink<'s, M, W> {
     type Error = SearchError;
 
@@ -286,7 +262,8 @@ impl<'s, M: FindAt, W: Output> Sink for SummarySink<'s, M, W> {
     ) -> Result<bool, SearchError> {
         let kind = self.printer.config.kind;
         let parts = &mut self.printer.parts;
-        match find_counted_parts(parts, kind, searcher, &self.matcher, found.bytes()) {
+        let is_asked = kind.counts_parts();
+        match find_asked_parts(parts, is_asked, searcher, &self.matcher, found.bytes()) {
             Ok(()) => {
                 let parts = self.printer.parts.len();
                 self.counts.add_report(parts);
