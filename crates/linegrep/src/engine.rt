@@ -27,7 +27,7 @@ pub trait Engine {
 pub struct PrintingEngine<'e, M, W> {
     rt: &'e HostRuntime,
     searcher: &'e mut Searcher,
-    matcher: &'e M,
+    matcher: M,
     printer: &'e mut Printer<W>,
     // What the searcher did at first about binary files.
     detection: BinaryDetection,
@@ -38,7 +38,7 @@ impl<'e, M, W> PrintingEngine<'e, M, W> {
     pub fn new(
         rt: &'e HostRuntime,
         searcher: &'e mut Searcher,
-        matcher: &'e M,
+        matcher: M,
         printer: &'e mut Printer<W>,
     ) -> PrintingEngine<'e, M, W> {
         let detection = *searcher.binary_detection();
@@ -52,7 +52,7 @@ impl<'e, M, W> PrintingEngine<'e, M, W> {
     }
 }
 
-impl<'e, M: FindAt, W: Output> Engine for PrintingEngine<'e, M, W> {
+impl<'e, M: FindAt + Copy, W: Output> Engine for PrintingEngine<'e, M, W> {
     fn search<H: Source>(&mut self, haystack: &mut H, path: Option<&str>) -> Searched {
         self.printer
             .search(self.rt, self.searcher, self.matcher, haystack, path)

@@ -29,63 +29,57 @@ impl Failure {
     /// Says what went wrong, and gives the status to exit with: 2, or 0 if help was asked for and
     /// could be written, or if nobody reads the output any more.
     pub fn report(&self, rt: &HostRuntime) -> ExitCode {
-        let reported = match self {
-            Failure::Usage(error) => error.print(rt),
+        match self {
+            Failure::Usage(error) => return report_usage(rt, error),
             Failure::NoPattern => say(rt, &NO_PATTERN),
             Failure::Pattern(text, error) => report_pattern(rt, text, error),
             Failure::Setting(message) => say(rt, message),
             Failure::Patterns(path, error) => report_cause(rt, path, error),
-            Failure::Output(error) => report_output(rt, error),
+            Failure::Output(error) => return report_output(rt, error),
             Failure::System(error) => report_system(rt, error),
-        };
-        match (self, reported) {
-            (Failure::Usage(error), Err(cause)) if !error.use_stderr() => report_help(rt, cause),
-            _ => ExitCode::from(self.status()),
         }
+        ExitCode::from(2)
     }
+}
 
-    fn status(&self) -> u8 {
-        match self {
-            Failure::Usage(error) if !error.use_stderr() => 0,
-            Failure::Output(error) if error.kind() == io::ErrorKind::BrokenPipe => 0,
-            _ => 2,
-        }
+// Says what is wrong with the arguments, or writes help, and gives the status.
+fn report_usage(rt: &HostRuntime, error: &clap::Error) -> ExitCode {
+    match error.print(rt) {
+        _ if error.use_stderr() => ExitCode::from(2),
+        Ok(()) => ExitCode::from(0),
+        Err(error) => report_output(rt, &error),
     }
 }
 
 // Says something on standard error.
-fn say<D: Display>(rt: &HostRuntime, text: &D) -> io::Result<()> {
-    eprintln!(rt; "linegrep: {text}")
+fn say<D: Display>(rt: &HostRuntime, text: &D) {
+    let _ = eprintln!(rt; "linegrep: {text}");
 }
 
 // Says what the system refuses, or that an argument is no text.
-fn report_system(rt: &HostRuntime, error: &io::Error) -> io::Result<()> {
+fn report_system(rt: &HostRuntime, error: &io::Error) {
     if error.kind() == io::ErrorKind::InvalidData {
-        say(rt, &"an argument isn't UTF-8")
+        say(rt, &"an argument isn't UTF-8");
     } else {
-        say(rt, error)
+        say(rt, error);
     }
 }
 
-// Says why help or the version can't be written, and gives the status.
-fn report_help(rt: &HostRuntime, error: io::Error) -> ExitCode {
-    let _ = report_output(rt, &error);
-    ExitCode::from(Failure::Output(error).status())
-}
-
-// Says why nothing more can be written, unless nobody reads it.
-fn report_output(rt: &HostRuntime, error: &io::Error) -> io::Result<()> {
+// Says why nothing more can be written, unless nobody reads it, and gives the status.
+fn report_output(rt: &HostRuntime, error: &io::Error) -> ExitCode {
     if error.kind() == io::ErrorKind::BrokenPipe {
-        return Ok(());
+        return ExitCode::from(0);
     }
-    report_cause(rt, "standard output", error)
+    report_cause(rt, "standard output", error);
+    ExitCode::from(2)
 }
 
 /// Says on standard error what can't be read or written, and why: the system's words, without the
 /// number of the error.
-pub fn report_cause<E: Display>(rt: &HostRuntime, name: &str, error: &E) -> io::Result<()> {
-    let cause = format!(in rt.alloc(); "{error}")?;
-    eprintln!(rt; "linegrep: {name}: {}", words_of(cause.as_str()))
+pub fn report_cause<E: Display>(rt: &HostRuntime, name: &str, error: &E) {
+    if let Ok(cause) = format!(in rt.alloc(); "{error}") {
+        let _ = eprintln!(rt; "linegrep: {name}: {}", words_of(cause.as_str()));
+    }
 }
 
 fn words_of(cause: &str) -> &str {
@@ -96,42 +90,40 @@ fn words_of(cause: &str) -> &str {
 }
 
 // Says why a pattern can't be compiled, with a mark below the place if there is one.
-fn report_pattern(rt: &HostRuntime, text: &str, error: &grep_regex::Error) -> io::Result<()> {
+fn report_pattern(rt: &HostRuntime, text: &str, error: &grep_regex::Error) {
     match error {
         grep_regex::Error::Syntax { pattern: _, error } => {
-            say(rt, &error.kind.message())?;
-            eprintln!(rt; "    {text}")?;
-            report_mark(rt, text, error.span.start)
+            say(rt, &error.kind.message());
+            let _ = eprintln!(rt; "    {text}");
+            report_mark(rt, text, error.span.start);
         }
         grep_regex::Error::NotAllowed(_) => {
-            eprintln!(rt; "linegrep: {error}, which needs -U")?;
-            report_text(rt, text)
+            let _ = eprintln!(rt; "linegrep: {error}, which needs -U");
+            report_text(rt, text);
         }
         other => {
-            say(rt, other)?;
-            report_text(rt, text)
+            say(rt, other);
+            report_text(rt, text);
         }
     }
 }
 
 // Writes the text of a pattern, unless it isn't known.
-fn report_text(rt: &HostRuntime, text: &str) -> io::Result<()> {
-    if text.is_empty() {
-        return Ok(());
+fn report_text(rt: &HostRuntime, text: &str) {
+    if !text.is_empty() {
+        let _ = eprintln!(rt; "    {text}");
     }
-    eprintln!(rt; "    {text}")
 }
 
 // Writes a mark below the character that begins at a position of a text, counted in bytes.
-fn report_mark(rt: &HostRuntime, text: &str, start: usize) -> io::Result<()> {
-    eprint!(rt; "    ")?;
+fn report_mark(rt: &HostRuntime, text: &str, start: usize) {
+    let _ = eprint!(rt; "    ");
     for (at, _) in text.char_indices() {
-        if at >= start {
-            break;
+        if at < start {
+            let _ = eprint!(rt; " ");
         }
-        eprint!(rt; " ")?;
     }
-    eprintln!(rt; "^")
+    let _ = eprintln!(rt; "^");
 }
 
 impl From<AllocError> for Failure {

@@ -124,11 +124,7 @@ fn wildcards(alloc: Global, glob: &str) -> Result<Wildcards, Error> {
 }
 
 fn letters(alloc: Global, text: &str) -> Result<Vec<char>, AllocError> {
-    let mut letters = Vec::new(alloc);
-    for letter in text.chars() {
-        letters.push(letter)?;
-    }
-    Ok(letters)
+    Ok(text.chars().collect(alloc)?)
 }
 
 // The failure of a glob, with its text.

@@ -32,9 +32,9 @@ impl<'h, F: Read, R: Source> Source for Haystack<'h, F, R> {
 
 /// Searches what a source gives. The contract of a searcher's call isn't passed on: the program
 /// needs none of it, and is proved sooner without it.
-pub fn search<M: Matcher, H: Source, S: Sink<Error = SearchError>>(
+pub fn search<M: Matcher + Copy, H: Source, S: Sink<Error = SearchError>>(
     searcher: &mut Searcher,
-    matcher: &M,
+    matcher: M,
     haystack: &mut H,
     sink: &mut S,
 ) -> Result<(), SearchError>

@@ -26,11 +26,11 @@ impl<W: Output> JsonRun<W> {
     }
 
     /// Searches a haystack, which messages name by a path.
-    pub fn search<M: FindAt, H: Source>(
+    pub fn search<M: FindAt + Copy, H: Source>(
         &mut self,
         rt: &HostRuntime,
         searcher: &mut Searcher,
-        matcher: &M,
+        matcher: M,
         haystack: &mut H,
         path: Option<&str>,
     ) -> Searched {

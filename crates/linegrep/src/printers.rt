@@ -27,11 +27,11 @@ pub struct Searched {
 
 impl<W: Output> Printer<W> {
     /// Searches a haystack, and writes what is found in it, with a path if there is one.
-    pub fn search<M: FindAt, H: Source>(
+    pub fn search<M: FindAt + Copy, H: Source>(
         &mut self,
         rt: &HostRuntime,
         searcher: &mut Searcher,
-        matcher: &M,
+        matcher: M,
         haystack: &mut H,
         path: Option<&str>,
     ) -> Searched {
@@ -66,10 +66,10 @@ impl<W: Output> Printer<W> {
 }
 
 // Searches a haystack, and writes the lines that match.
-fn print<M: FindAt, W: Output, H: Source>(
+fn print<M: FindAt + Copy, W: Output, H: Source>(
     printer: &mut Standard<W>,
     searcher: &mut Searcher,
-    matcher: &M,
+    matcher: M,
     haystack: &mut H,
     path: Option<&str>,
 ) -> Searched {
@@ -80,10 +80,10 @@ fn print<M: FindAt, W: Output, H: Source>(
 }
 
 // Searches a haystack, and writes a summary.
-fn sum_up<M: FindAt, W: Output, H: Source>(
+fn sum_up<M: FindAt + Copy, W: Output, H: Source>(
     printer: &mut Summary<W>,
     searcher: &mut Searcher,
-    matcher: &M,
+    matcher: M,
     haystack: &mut H,
     path: Option<&str>,
 ) -> Searched {

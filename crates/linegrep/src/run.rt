@@ -56,6 +56,8 @@ pub struct Run<'r, E, R> {
     flags: Flags,
     has_match: bool,
     has_error: bool,
+    // Why the run ends early, if it does: the writer's error, or one of being out of memory.
+    failure: Option<io::Error>,
 }
 
 impl<'r, E, R> Run<'r, E, R>
@@ -79,153 +81,147 @@ where
             flags,
             has_match: false,
             has_error: false,
+            failure: None,
         }
     }
 
     /// Searches the files at some paths, writes what is left, and gives the status.
     pub fn complete(&mut self, paths: &[String]) -> Result<ExitCode, Failure> {
-        match self.search_paths(paths) {
-            Ok(()) => self.finish(),
-            Err(error) if self.engine.has_failed() => Err(Failure::Output(error)),
-            Err(error) => Err(Failure::System(error)),
+        self.search_paths(paths);
+        match self.failure.take() {
+            None => self.finish(),
+            Some(error) if self.engine.has_failed() => Err(Failure::Output(error)),
+            Some(error) => Err(Failure::System(error)),
         }
     }
 
-    // Searches the files at some paths. An error is the writer's, or one of being out of memory.
-    fn search_paths(&mut self, paths: &[String]) -> io::Result<()> {
+    // Searches the files at some paths.
+    fn search_paths(&mut self, paths: &[String]) {
         if paths.is_empty() {
-            return self.search_default();
+            self.search_default();
         }
         for path in paths {
-            self.search_operand(path.as_str())?;
+            self.search_operand(path.as_str());
             if self.is_over() {
                 break;
             }
         }
-        Ok(())
     }
 
     // Searches what is searched without a path: the current folder, or the input.
-    fn search_default(&mut self) -> io::Result<()> {
+    fn search_default(&mut self) {
         if self.flags.is_recursive {
-            self.search_folder("")
+            self.search_folder("");
         } else {
-            self.search_input()
+            self.search_input();
         }
     }
 
     // Searches what an operand names: the input, a folder or a file.
-    fn search_operand(&mut self, path: &str) -> io::Result<()> {
+    fn search_operand(&mut self, path: &str) {
         if path == "-" {
-            self.search_input()
+            self.search_input();
         } else if self.flags.is_recursive && is_folder(self.rt, path) {
-            self.search_folder(path)
+            self.search_folder(path);
         } else {
-            self.search_path(path)
+            self.search_path(path);
         }
     }
 
     // Whether nothing that is found from now on makes a difference.
     fn is_over(&self) -> bool {
-        self.flags.is_quiet && self.has_match
+        self.failure.is_some() || self.flags.is_quiet && self.has_match
     }
 
     // Searches the files of a folder. The search of one that has a NUL ends there, unless files are
     // searched as text.
-    fn search_folder(&mut self, folder: &str) -> io::Result<()> {
+    fn search_folder(&mut self, folder: &str) {
         self.engine.set_quits(true);
-        let walked = self.walk(folder);
+        let mut walk = Walk::new(self.rt, self.flags.shows_hidden, folder);
+        self.visit_all(&mut walk);
         self.engine.set_quits(false);
-        walked
     }
 
     // Searches what a walk through a folder finds.
-    fn walk(&mut self, folder: &str) -> io::Result<()> {
-        match Walk::new(self.rt, self.flags.shows_hidden, folder) {
-            Ok(mut walk) => self.visit_all(&mut walk),
-            Err(error) => Err(error),
-        }
-    }
-
-    fn visit_all(&mut self, walk: &mut Walk<'r>) -> io::Result<()> {
+    fn visit_all(&mut self, walk: &mut Walk<'r>) {
         for _ in 0..u64::MAX {
             match walk.pop() {
-                Some(entry) => self.visit(walk, &entry)?,
+                Some(entry) => self.visit(walk, &entry),
                 None => break,
             }
             if self.is_over() {
-                break;
+                return;
             }
         }
-        Ok(())
+        if walk.is_out_of_memory() {
+            self.failure = Some(io::Error::from(io::ErrorKind::OutOfMemory));
+        }
     }
 
     // Searches a file, enters a folder, or says why something can't be read.
-    fn visit(&mut self, walk: &mut Walk<'r>, entry: &Entry) -> io::Result<()> {
+    fn visit(&mut self, walk: &mut Walk<'r>, entry: &Entry) {
         match entry {
             Entry::File(path) => self.search_path(path.as_str()),
             Entry::Folder(path) => walk.enter(self.globs, path.as_str()),
-            Entry::Unread(path, error) => {
-                self.report(path.as_str(), error);
-                Ok(())
-            }
+            Entry::Unread(path, error) => self.report(path.as_str(), error),
         }
     }
 
     // Searches the file at a path, or says why it can't be opened.
-    fn search_path(&mut self, path: &str) -> io::Result<()> {
+    fn search_path(&mut self, path: &str) {
         match File::open(self.rt, path) {
             Ok(mut file) => self.search_file(path, &mut file),
-            Err(error) => {
-                self.report(path, &error);
-                Ok(())
-            }
+            Err(error) => self.report(path, &error),
         }
     }
 
-    fn search_file(&mut self, path: &str, file: &mut File) -> io::Result<()> {
+    fn search_file(&mut self, path: &str, file: &mut File) {
         let mut haystack: Haystack<'_, File, R> = Haystack::File(file);
         let searched = self.engine.search(&mut haystack, self.flags.shown(path));
-        self.keep(path, searched)
+        self.keep(path, searched);
     }
 
     // Searches standard input.
-    fn search_input(&mut self) -> io::Result<()> {
+    fn search_input(&mut self) {
         let mut haystack: Haystack<'_, File, R> = Haystack::Reader(&mut *self.input);
         let searched = self.engine.search(&mut haystack, self.flags.shown(STDIN));
-        self.keep(STDIN, searched)
+        self.keep(STDIN, searched);
     }
 
     // Goes on after a search. An error of reading is reported; one of writing ends the run.
-    fn keep(&mut self, path: &str, searched: Searched) -> io::Result<()> {
+    fn keep(&mut self, path: &str, searched: Searched) {
         self.has_match = self.has_match || searched.has_match;
-        let Err(error) = searched.result else {
-            return Ok(());
-        };
-        if self.engine.has_failed() {
-            return Err(written_error(error));
+        match searched.result {
+            Ok(()) => {}
+            Err(error) if self.engine.has_failed() => self.failure = Some(written_error(error)),
+            Err(error) => self.report(path, &error),
         }
-        self.report(path, &error);
-        Ok(())
     }
 
     // Says what can't be read, and why.
     fn report<D: Display>(&mut self, path: &str, error: &D) {
         self.has_error = true;
         if !self.flags.is_silent {
-            let _ = report_cause(self.rt, path, error);
+            report_cause(self.rt, path, error);
         }
     }
 
     // Writes what is left, and gives the status.
     fn finish(&mut self) -> Result<ExitCode, Failure> {
-        if let Err(error) = self.engine.finish() {
-            return Err(Failure::Output(error));
+        match self.engine.finish() {
+            Ok(()) => Ok(ExitCode::from(self.status())),
+            Err(error) => Err(Failure::Output(error)),
         }
+    }
+
+    fn status(&self) -> u8 {
         if self.has_error && !self.is_over() {
-            return Ok(ExitCode::from(2));
+            2
+        } else if self.has_match {
+            0
+        } else {
+            1
         }
-        Ok(ExitCode::from(if self.has_match { 0 } else { 1 }))
     }
 }
 

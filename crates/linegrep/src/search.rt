@@ -58,13 +58,13 @@ where
 }
 
 // Searches with a matcher.
-fn search_matcher<M: FindAt, R: Source, W: Output>(
-    rt: &HostRuntime,
+fn search_matcher<'e, M: FindAt, R: Source, W: Output>(
+    rt: &'e HostRuntime,
     matches: &ArgMatches<'_>,
     paths: &[String],
-    matcher: &M,
-    searcher: &mut Searcher,
-    printer: &mut Printer<W>,
+    matcher: &'e M,
+    searcher: &'e mut Searcher,
+    printer: &'e mut Printer<W>,
     input: &mut R,
 ) -> Result<ExitCode, Failure> {
     let mut globs = Globs::read(rt.alloc(), matches)?;

@@ -20,10 +20,18 @@ impl From<AllocError> for Error {
 #[derive(Drop)]
 pub struct Wildcards {
     parts: Vec<Part>,
+}
+
+// The parts of a glob, as far as it is read.
+#[derive(Drop)]
+struct Reader {
+    parts: Vec<Part>,
     // The braces that are open where parts are added, the innermost last.
     braces: Vec<Brace>,
     // Whether a name begins there.
     begins_name: bool,
+    // What was wrong first.
+    error: Option<Error>,
 }
 
 // A part of a glob, and whether a match may have come to it.
@@ -73,14 +81,18 @@ struct Brace {
 impl Wildcards {
     /// Reads a glob: one of names in any folder, or of whole paths.
     pub fn new(alloc: Global, glob: &[char], is_of_names: bool) -> Result<Wildcards, Error> {
-        let mut wildcards = Wildcards {
+        let mut reader = Reader {
             parts: Vec::new(alloc),
             braces: Vec::new(alloc),
             begins_name: true,
+            error: None,
         };
-        match wildcards.add_all(glob, is_of_names) {
-            Ok(()) => Ok(wildcards),
-            Err(error) => Err(error),
+        reader.add_all(glob, is_of_names);
+        match reader.error {
+            None => Ok(Wildcards {
+                parts: reader.parts,
+            }),
+            Some(error) => Err(error),
         }
     }
 
@@ -93,122 +105,146 @@ impl Wildcards {
         }
         is_match
     }
+}
 
-    fn add_all(&mut self, glob: &[char], is_of_names: bool) -> Result<(), Error> {
+impl Reader {
+    // Adds the parts of a glob. What is wrong first is kept, and nothing is added after it.
+    fn add_all(&mut self, glob: &[char], is_of_names: bool) {
         let mut left = glob;
         if is_of_names {
-            left = self.add(Kind::Folders, glob)?;
+            left = self.add(Kind::Folders, glob);
         }
         for _ in glob {
-            left = self.add_first(left)?;
+            left = self.add_first(left);
         }
-        if self.braces.is_empty() {
-            Ok(())
-        } else {
-            Err(Error::Malformed("a brace isn't closed"))
+        if !self.braces.is_empty() {
+            self.refuse("a brace isn't closed");
         }
     }
 
     // Adds what a glob begins with, and gives what follows it.
-    fn add_first<'g>(&mut self, glob: &'g [char]) -> Result<&'g [char], Error> {
-        match glob {
-            ['*', '*', '/', rest @ ..] if self.begins_name => self.add(Kind::Folders, rest),
-            ['*', '*'] if self.begins_name => self.add(Kind::Many(Letters::All), &[]),
-            ['*', rest @ ..] => self.add(Kind::Many(Letters::NotSlash), rest),
-            ['?', rest @ ..] => self.add(Kind::One(Letters::NotSlash), rest),
-            ['[', '!' | '^', rest @ ..] => self.add_class(rest, true),
-            ['[', rest @ ..] => self.add_class(rest, false),
-            ['\\', letter, rest @ ..] => self.add(Kind::One(Letters::Only(*letter)), rest),
-            ['\\'] => Err(Error::Malformed("it ends in a backslash")),
-            _ => self.add_choice(glob),
+    fn add_first<'g>(&mut self, glob: &'g [char]) -> &'g [char] {
+        let [first, rest @ ..] = glob else {
+            return glob;
+        };
+        match *first {
+            '*' => self.add_star(rest),
+            '?' => self.add(Kind::One(Letters::NotSlash), rest),
+            '[' => self.add_class(rest),
+            '\\' => self.add_escaped(rest),
+            '{' => self.open(rest),
+            '}' => self.close(rest),
+            ',' if !self.braces.is_empty() => self.add_comma(rest),
+            letter => self.add(Kind::One(Letters::Only(letter)), rest),
         }
     }
 
-    // Adds a part of choices in braces, or a letter.
-    fn add_choice<'g>(&mut self, glob: &'g [char]) -> Result<&'g [char], Error> {
-        match glob {
-            ['{', rest @ ..] => self.open(rest),
-            ['}', rest @ ..] => self.close(rest),
-            [',', rest @ ..] if !self.braces.is_empty() => self.add_comma(rest),
-            [letter, rest @ ..] => self.add(Kind::One(Letters::Only(*letter)), rest),
-            [] => Ok(glob),
+    // Adds what begins with a star, which is left out: where a name begins two stand for folders.
+    fn add_star<'g>(&mut self, rest: &'g [char]) -> &'g [char] {
+        match rest {
+            ['*', '/', after @ ..] if self.begins_name => self.add(Kind::Folders, after),
+            ['*'] if self.begins_name => self.add(Kind::Many(Letters::All), &[]),
+            _ => self.add(Kind::Many(Letters::NotSlash), rest),
         }
     }
 
-    fn open<'g>(&mut self, rest: &'g [char]) -> Result<&'g [char], Error> {
+    // Adds the letter after a backslash.
+    fn add_escaped<'g>(&mut self, rest: &'g [char]) -> &'g [char] {
+        match rest {
+            [letter, after @ ..] => self.add(Kind::One(Letters::Only(*letter)), after),
+            [] => self.refuse("it ends in a backslash"),
+        }
+    }
+
+    fn open<'g>(&mut self, rest: &'g [char]) -> &'g [char] {
         let open = self.parts.len();
         match self.braces.push(Brace { open, comma: None }) {
             Ok(()) => self.add(Kind::Open, rest),
-            Err(_) => Err(Error::OutOfMemory),
+            Err(_) => self.fail(Error::OutOfMemory),
         }
     }
 
     // Adds a comma between choices in the innermost brace.
-    fn add_comma<'g>(&mut self, rest: &'g [char]) -> Result<&'g [char], Error> {
+    fn add_comma<'g>(&mut self, rest: &'g [char]) -> &'g [char] {
         let at = self.parts.len();
         let Some(brace) = self.braces.last_mut() else {
-            return Ok(rest);
+            return rest;
         };
         let before = *brace;
         brace.comma = Some(at);
         self.add(Kind::Comma(before), rest)
     }
 
-    fn close<'g>(&mut self, rest: &'g [char]) -> Result<&'g [char], Error> {
+    fn close<'g>(&mut self, rest: &'g [char]) -> &'g [char] {
         match self.braces.pop() {
             Some(brace) => self.add(Kind::Close(brace), rest),
-            None => Err(Error::Malformed("a brace isn't opened")),
+            None => self.refuse("a brace isn't opened"),
         }
     }
 
-    // Adds a class, of which the opening bracket is left out, and gives what follows it. A bracket
-    // that comes first is a member.
-    fn add_class<'g>(&mut self, class: &'g [char], is_negated: bool) -> Result<&'g [char], Error> {
-        let mut left = self.add_member(class)?;
+    // Adds a class, of which the opening bracket is left out.
+    fn add_class<'g>(&mut self, class: &'g [char]) -> &'g [char] {
+        match class {
+            ['!' | '^', members @ ..] => self.add_members(members, true),
+            _ => self.add_members(class, false),
+        }
+    }
+
+    // Adds the members of a class, and gives what follows it. A bracket that comes first is a member.
+    fn add_members<'g>(&mut self, class: &'g [char], is_negated: bool) -> &'g [char] {
+        let mut left = self.add_member(class);
         for _ in class {
             left = match left {
                 [']', rest @ ..] => {
                     return self.add(Kind::One(Letters::Class { is_negated }), rest);
                 }
-                _ => self.add_member(left)?,
+                _ => self.add_member(left),
             };
         }
-        Err(Error::Malformed("a bracket isn't closed"))
+        self.refuse("a bracket isn't closed")
     }
 
     // Adds what the members of a class begin with: a letter, or two with a dash between them, which
     // make a range.
-    fn add_member<'g>(&mut self, left: &'g [char]) -> Result<&'g [char], Error> {
+    fn add_member<'g>(&mut self, left: &'g [char]) -> &'g [char] {
         match left {
             [first, '-', last, rest @ ..] if *last != ']' => self.add_range(*first, *last, rest),
             [letter, rest @ ..] => self.add(Kind::Range(*letter, *letter), rest),
-            [] => Err(Error::Malformed("a bracket isn't closed")),
+            [] => self.refuse("a bracket isn't closed"),
         }
     }
 
-    fn add_range<'g>(
-        &mut self,
-        first: char,
-        last: char,
-        rest: &'g [char],
-    ) -> Result<&'g [char], Error> {
+    fn add_range<'g>(&mut self, first: char, last: char, rest: &'g [char]) -> &'g [char] {
         if first > last {
-            return Err(Error::Malformed("a range ends before it begins"));
+            return self.refuse("a range ends before it begins");
         }
         self.add(Kind::Range(first, last), rest)
     }
 
     // Adds a part, and gives what follows it.
-    fn add<'g>(&mut self, kind: Kind, rest: &'g [char]) -> Result<&'g [char], Error> {
+    fn add<'g>(&mut self, kind: Kind, rest: &'g [char]) -> &'g [char] {
         self.begins_name = matches!(kind, Kind::Folders | Kind::One(Letters::Only('/')));
         let part = Part {
             kind,
             is_reached: false,
         };
         match self.parts.push(part) {
-            Ok(()) => Ok(rest),
-            Err(_) => Err(Error::OutOfMemory),
+            Ok(()) => rest,
+            Err(_) => self.fail(Error::OutOfMemory),
         }
+    }
+
+    // Keeps that the glob isn't well formed, and gives that nothing follows.
+    fn refuse(&mut self, cause: &'static str) -> &'static [char] {
+        self.fail(Error::Malformed(cause))
+    }
+
+    // Keeps an error, if it is the first, and gives that nothing follows.
+    fn fail(&mut self, error: Error) -> &'static [char] {
+        if self.error.is_none() {
+            self.error = Some(error);
+        }
+        &[]
     }
 }
 
