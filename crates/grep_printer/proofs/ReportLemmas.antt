@@ -23,13 +23,7 @@ module _ (frame : Frame) (progress : Progress) where
   goes_on-report Match number offset bytes = refl
   goes_on-report (Context kind) number offset bytes = refl
 
-  -- one that is hidden has no text
-  pub call_text-hidden : (kind : ReportKind) (number : Option ℕ) (offset : ℕ) (bytes : List ℕ)
-      → is_hidden frame progress ≡ true → call_text frame progress (reporting_call kind number offset bytes) ≡ []
-  call_text-hidden Match number offset bytes hidden = rw hidden refl
-  call_text-hidden (Context kind) number offset bytes hidden = rw hidden refl
-
-  -- any other has the text that is made of it
+  -- one that isn't hidden has the text that is made of it
   pub call_text-shown : (report : Report) → is_hidden frame progress ≡ false
       → composed_text (layout_of frame) progress frame.settings frame.meaning frame.first_at report
       ≡ call_text frame progress (call_of report)

@@ -1,20 +1,21 @@
 -- What a standard printer does at a call whose text is made, and then written.
-use Rattle.std.proofs.Common.{◌≡◌, ◌⊎◌, ◌∙◌, ℕ, Bool, true, false, not, List, Option, Result, Ok, Err, ◌||◌, ap, inl, inr, subst, sym}
-use Rattle.std.proofs.lemmas.Result.{on_ok_weaker}
+use Rattle.std.proofs.Common.{◌≡◌, ◌⊎◌, ◌∙◌, ℕ, Bool, true, false, not, List, Option, Result, Ok, Err, ◌||◌, ap, inl, inr, refl, subst, sym}
+use Rattle.std.proofs.lemmas.Result.{IfErr-weaker, on_ok_weaker}
 use Rattle.std.specs.Global.{Global}
-use Rattle.std.specs.Prelude.{IfErr, OnOk}
+use Rattle.std.specs.Prelude.{[], IfErr, IfOk, None, OnOk, if◌then◌else◌}
 use Rattle.grep_output.specs.Outputs.{FailsToWrite, OutputCall, WritesAll}
 use Rattle.grep_matcher.specs.Meanings.{MatcherFacts}
-use Rattle.grep_searcher.specs.Plans.{Call, reported_bytes, Settings}
+use Rattle.grep_searcher.specs.Plans.{Call, finish_result, finishes, reported_bytes, Settings}
 use Rattle.grep_searcher.specs.SearchErrors.{IsOutOfMemory}
 use Rattle.grep_searcher.specs.declared.SearchError.{SearchError}
 use Rattle.grep_printer.proofs.ReportLemmas.{call_text-shown, goes_on-report, reported_bytes-report}
 use Rattle.grep_printer.specs.ReportedParts.{FailsAtReport}
 use Rattle.grep_printer.specs.Reports.{call_of, composed_text}
+use Rattle.grep_printer.specs.ColoredTexts.{path_color}
 use Rattle.grep_printer.specs.declared.fields.Layout.{Layout}
 use Rattle.grep_printer.specs.declared.report.Report.{Report}
 use Rattle.grep_printer.specs.StandardSteps.{IsComposing, IsErrorAt, IsSameSink, PrintsCall, WritesMade, frame_of, text_of}
-use Rattle.grep_printer.specs.StandardTexts.{goes_on, is_hidden, is_text, layout_of, progress_after}
+use Rattle.grep_printer.specs.StandardTexts.{goes_on, is_hidden, is_text, layout_of, message_text, progress_after}
 use Rattle.grep_printer.specs.declared.standard.Progress.{Progress}
 use Rattle.grep_printer.specs.declared.standard.StandardSink.{StandardSink}
 
@@ -105,3 +106,36 @@ module _ {M W F : Type 0} (facts : M → MatcherFacts F) (first_at : M → List 
       after
       (goes_on-report frame old.progress report.kind report.number report.offset report.bytes.now ∙ ap not shown)
       written
+
+-- the search goes on after what is written
+pub written-goes : {M W : Type 0} (write_step : W → OutputCall → W → Type 0) (old : StandardSink M W)
+    (made : Result (Unit {0}) (SearchError Global)) (progress : Progress) (result : Result Bool (SearchError Global))
+    (new : StandardSink M W) → WritesMade write_step old made progress result new → IfOk result (λ goes. goes ≡ true)
+written-goes write_step old made progress (Ok goes) new (going, is, written) = going
+written-goes write_step old made progress (Err e) new failed = tt
+
+module _ {M W F : Type 0} (facts : M → MatcherFacts F) (first_at : M → List ℕ → ℕ → Option (ℕ × ℕ))
+    (write_step : W → OutputCall → W → Type 0) where
+  -- the end of a search, with the message about a binary byte if it found a match
+  pub finish-made : (old mid new : StandardSink M W) (settings : Settings) (count : ℕ) (binary offset : Option ℕ)
+      (made : Result (Unit {0}) (SearchError Global)) (result : Result Bool (SearchError Global))
+      (end : Result (Unit {0}) (SearchError Global))
+      → IsComposing old mid → offset ≡ (if old.progress.has_match then binary else None)
+      → OnOk made (mid.printer.now.draft.text.items ≡ message_text (path_color old.printer.now.config.color_specs)
+      settings.binary_detection old.path offset)
+      → IfErr made (λ e. IsOutOfMemory e)
+      → WritesMade write_step mid made old.progress result new → finish_result end ≡ result
+      → PrintsCall facts first_at write_step old settings (finishes count binary) (finish_result end) new
+  finish-made old mid new settings count binary offset made result end composing told text error written ended =
+      subst (λ r. PrintsCall facts first_at write_step old settings (finishes count binary) r new) (sym ended)
+      (prints-made facts first_at write_step old mid new settings (finishes count binary) made old.progress result
+      composing (on_ok_weaker made (λ is. is ∙ (ap message told ∙ chosen old.progress.has_match)) text)
+      (IfErr-weaker made (λ e. IsOutOfMemory e) (λ e. IsOutOfMemory e ⊎ IsErrorAt facts old settings [] e)
+      (λ e memory. inl memory) error) refl refl written)
+    where
+      message : Option ℕ → List ℕ
+      message = message_text (path_color old.printer.now.config.color_specs) settings.binary_detection old.path
+
+      chosen : (b : Bool) → message (if b then binary else None) ≡ (if b then message binary else [])
+      chosen true = refl
+      chosen false = refl

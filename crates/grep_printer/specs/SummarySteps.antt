@@ -12,6 +12,7 @@ use Rattle.grep_printer.specs.ReportedParts.{FailsAtReport}
 use Rattle.grep_printer.specs.SummaryTexts.{SummaryFrame, counts_after, counts_parts, summary_text}
 use Rattle.grep_printer.specs.SummaryTexts.{summed_of, sums_on}
 use Rattle.grep_printer.specs.TextFailures.{IsCutShort}
+use Rattle.grep_printer.specs.declared.summary.Summary.{Summary}
 use Rattle.grep_printer.specs.declared.summary.SummarySink.{SummarySink}
 
 -- the matcher, the path and the settings of a sink stay, and so does the printer that it refers to
@@ -20,6 +21,37 @@ pub record IsSameSummary {M W : Type 0} (old new : SummarySink M W) : Type 0 whe
   pub matcher : new.matcher ≡ old.matcher
   pub path : new.path ≡ old.path
   pub config : new.printer.now.config ≡ old.printer.now.config
+
+module _ {W : Type 0} (write_step : W → OutputCall → W → Type 0) where
+  -- the text at hand was written
+  pub record IsSummaryWritten (old new : Summary W) : Type 0 where
+    pub config : new.config ≡ old.config
+    pub written : WritesAll write_step old.writer old.text.items new.writer
+    pub has_failed : new.has_failed ≡ old.has_failed
+
+  -- the writer failed after some first bytes of it
+  pub record FailsToWriteText (old : Summary W) (e : SearchError Global) (new : Summary W)
+      : Type 0 where
+    pub config : new.config ≡ old.config
+    pub error : Error
+    pub is_io : e ≡ Io error
+    pub failed : FailsToWrite write_step old.writer old.text.items error new.writer
+    pub has_failed : new.has_failed ≡ true
+
+  -- there was no memory for it, and the writer had no call
+  pub record LacksMemory (old : Summary W) (e : SearchError Global) (new : Summary W)
+      : Type 0 where
+    pub config : new.config ≡ old.config
+    pub unwritten : new.writer ≡ old.writer
+    pub has_failed : new.has_failed ≡ old.has_failed
+    pub memory : IsOutOfMemory e
+
+  -- the text at hand is written if it was made, and nothing is if it wasn't
+  abbrev pub WritesSummaryMade : {E : Type 0} → Summary W → Result (Unit {0}) E
+      → Result (Unit {0}) (SearchError Global) → Summary W → Type 0
+  WritesSummaryMade old made (Ok u) new = (made ≡ Ok tt) × IsSummaryWritten old new
+  WritesSummaryMade old made (Err e) new =
+      ((made ≡ Ok tt) × FailsToWriteText old e new) ⊎ LacksMemory old e new
 
 module _ {M W F : Type 0} (facts : M → MatcherFacts F)
     (first_at : M → List ℕ → ℕ → Option (ℕ × ℕ)) where

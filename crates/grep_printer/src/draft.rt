@@ -179,12 +179,12 @@ impl Draft {
     pub(crate) fn compose_message(
         &mut self,
         colors: &ColorSpecs,
-        detection: BinaryDetection,
+        detection: &BinaryDetection,
         path: Option<&str>,
         offset: Option<u64>,
     ) -> Result<(), SearchError>
         ensures text { OnOk result (self.new.text.items
-            ≡ message_text (path_color colors.now) detection path.entry offset) }
+            ≡ message_text (path_color colors.now) detection.now path.entry offset) }
         ensures error { IfErr result (λ e. IsOutOfMemory e) }
     {
         self.text.clear();
@@ -199,12 +199,12 @@ impl Draft {
 fn push_binary(
     text: &mut Vec<u8>,
     color: Option<&str>,
-    detection: BinaryDetection,
+    detection: &BinaryDetection,
     path: Option<&str>,
     offset: u64,
 ) -> Result<(), AllocError>
     ensures { OnOk result (text.new.items ≡ text.old.items
-        ++ binary_message (color_of color.entry) detection path.entry offset) }
+        ++ binary_message (color_of color.entry) detection.now path.entry offset) }
 {
     match detection {
         BinaryDetection::None => Ok(()),

@@ -55,7 +55,6 @@ fn push_message(out: &mut Writer, alloc: Global, message: Message<'_>) -> Result
 }
 
 // Pushes the message that a search begins.
-#[tactic(auto, unfolding(crate::specs::JsonMessages::begin_json))]
 fn push_begin(out: &mut Writer, alloc: Global, path: Option<&str>) -> Result<(), AllocError>
     ensures before { out.new.before ≡ out.old.before }
     ensures tokens { OnOk result
@@ -79,7 +78,6 @@ fn push_begin(out: &mut Writer, alloc: Global, path: Option<&str>) -> Result<(),
 }
 
 // Pushes a report.
-#[tactic(auto, unfolding(crate::specs::JsonMessages::report_json))]
 fn push_report<'m>(
     out: &mut Writer,
     alloc: Global,
@@ -115,7 +113,6 @@ fn push_report<'m>(
 }
 
 // Pushes the message that a search ends.
-#[tactic(auto, unfolding(crate::specs::JsonMessages::end_json))]
 fn push_end(
     out: &mut Writer,
     alloc: Global,
@@ -146,7 +143,6 @@ fn push_end(
 }
 
 // Pushes the message about all searches.
-#[tactic(auto, unfolding(crate::specs::JsonMessages::summary_json, crate::specs::JsonMessages::time_json))]
 fn push_summary(
     out: &mut Writer,
     alloc: Global,

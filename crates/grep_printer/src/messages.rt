@@ -208,7 +208,6 @@ fn seconds_text(alloc: Global, micros: u64) -> Result<String, AllocError>
 }
 
 // Pushes counts as the last member of a message, and ends it.
-#[tactic(auto, unfolding(crate::specs::JsonMessages::stats_json, crate::specs::JsonMessages::time_json))]
 pub(crate) fn push_stats(out: &mut Writer, alloc: Global, stats: &Stats) -> Result<(), AllocError>
     ensures before { out.new.before ≡ out.old.before }
     ensures tokens { OnOk result (out.new.tokens ≡ out.old.tokens

@@ -1,11 +1,12 @@
 //! Reports.
-ghost use Rattle.std.specs.Prelude.{◌≡◌};
+ghost use Rattle.std.specs.Prelude.{◌≡◌, true, IfOk};
 ghost use Rattle.grep_report.specs.SinkReports.{match_bytes};
+ghost use Rattle.grep_searcher.specs.Plans.{finish_result};
 ghost use Rattle.grep_searcher.specs.SinkArguments.{context_call, match_call};
 ghost use Rattle.grep_printer.specs.Reports.{call_of, has_parts, is_split, line_kind, type_of};
 
 use crate::fields::LineKind;
-use grep_searcher::{SinkContext, SinkContextKind, SinkMatch};
+use grep_searcher::{SearchError, SinkContext, SinkContextKind, SinkMatch};
 
 // Whether a report is a match, or why it is reported.
 #[derive(Clone, Copy)]
@@ -94,5 +95,16 @@ impl<'r> Report<'r> {
             offset: line.absolute_byte_offset(),
             bytes: line.bytes(),
         }
+    }
+}
+
+// What the end of a search comes to, by a call that goes on if it succeeds.
+pub(crate) fn ended(called: Result<bool, SearchError>) -> Result<(), SearchError>
+    requires { IfOk called (λ goes. goes ≡ true) }
+    ensures { finish_result result ≡ called }
+{
+    match called {
+        Ok(_) => Ok(()),
+        Err(error) => Err(error),
     }
 }

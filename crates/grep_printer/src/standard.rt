@@ -1,5 +1,6 @@
 //! The printer of lines.
-ghost use Rattle.std.specs.Prelude.{◌≡◌, ◌+◌, ◌<◌, ◌^◌, ◌&&◌, ◌||◌, true, false, is_ok, length};
+ghost use Rattle.std.specs.Prelude.{◌≡◌, ◌+◌, ◌<◌, ◌^◌, ◌&&◌, ◌||◌, true, false, None, is_ok};
+ghost use Rattle.std.specs.Prelude.{length};
 ghost use Rattle.std.specs.Prelude.{if◌then◌else◌, not};
 ghost use Rattle.grep_output.specs.Outputs.{Writes, flushes};
 ghost use Rattle.grep_printer.specs.Reports.{call_of};
@@ -10,7 +11,7 @@ ghost use Rattle.grep_printer.specs.StandardTexts.{progress_after};
 use crate::config::Config;
 use crate::draft::Draft;
 use crate::fields::Layout;
-use crate::report::{Report, ReportKind};
+use crate::report::{Report, ReportKind, ended};
 use grep_output::{Output, write_all};
 use grep_searcher::{FindAt, SearchError, Searcher, Sink, SinkContext, SinkFinish, SinkMatch};
 use std::alloc::{Allocator, Global};
@@ -153,6 +154,17 @@ impl Progress {
             is_open: false,
             binary: None,
         }
+    }
+
+    // The offset of a binary byte that is told at the end of a search: only if it found a match.
+    fn told_offset(&self, finish: &SinkFinish) -> Option<u64>
+        ensures { result
+            ≡ (if self.now.has_match then finish.now.binary_byte_offset else None) }
+    {
+        if self.has_match {
+            return finish.binary_byte_offset();
+        }
+        None
     }
 
     // What was reported, with a report.
@@ -305,18 +317,11 @@ impl<'s, M: FindAt, W: Output> Sink for StandardSink<'s, M, W> {
         searcher: &Searcher<A>,
         finish: &SinkFinish,
     ) -> Result<(), SearchError> {
-        let offset = if self.progress.has_match {
-            finish.binary_byte_offset()
-        } else {
-            None
-        };
+        let offset = self.progress.told_offset(finish);
         let colors = self.printer.config.color_specs;
-        let detection = *searcher.binary_detection();
+        let detection = searcher.binary_detection();
         let draft = &mut self.printer.draft;
         let made = draft.compose_message(&colors, detection, self.path, offset);
-        match self.write(made, self.progress) {
-            Ok(_) => Ok(()),
-            Err(error) => Err(error),
-        }
+        ended(self.write(made, self.progress))
     }
 }

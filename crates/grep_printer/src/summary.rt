@@ -1,7 +1,8 @@
 //! The printer of summaries: counts, and paths.
 ghost use Rattle.std.specs.Prelude.{◌≡◌, ◌++◌, ◌||◌, false, true, OnOk};
-ghost use Rattle.std.specs.Prelude.{if◌then◌else◌, is_ok, not};
-ghost use Rattle.grep_output.specs.Outputs.{Writes, flushes};
+ghost use Rattle.std.specs.Prelude.{is_ok, not};
+ghost use Rattle.grep_output.specs.Outputs.{flushes};
+ghost use Rattle.grep_printer.specs.SummarySteps.{WritesSummaryMade};
 ghost use Rattle.grep_printer.specs.SummaryTexts;
 ghost use Rattle.grep_printer.specs.SummaryTexts.{count_line, finish_text};
 ghost use Rattle.grep_printer.specs.SummaryTexts.{has_found, no_counts, path_line, with_report};
@@ -173,18 +174,19 @@ impl<W: Output> Summary<W> {
         flushed
     }
 
-    // Writes the text at hand.
-    fn write_text(&mut self) -> io::Result<()>
-        ensures written { Writes W.step self.old.writer self.old.text.items result self.new.writer }
-        ensures config { self.new.config ≡ self.old.config }
-        ensures has_failed { self.new.has_failed
-            ≡ (if is_ok result then self.old.has_failed else true) }
+    // Writes the text at hand if it was made.
+    fn write(&mut self, made: Result<(), AllocError>) -> Result<(), SearchError>
+        ensures { WritesSummaryMade W.step self.old made result self.new }
     {
+        match made {
+            Ok(()) => {}
+            Err(error) => return Err(SearchError::from(error)),
+        }
         match write_all(&mut self.writer, &self.text) {
             Ok(()) => Ok(()),
             Err(error) => {
                 self.has_failed = true;
-                Err(error)
+                Err(SearchError::Io(error))
             }
         }
     }
@@ -306,11 +308,8 @@ impl<'s, M: FindAt, W: Output> Sink for SummarySink<'s, M, W> {
             return Ok(());
         }
         let terminator = searcher.line_terminator().as_byte();
-        self.printer.compose(self.path, terminator, &self.counts)?;
-        match self.printer.write_text() {
-            Ok(()) => Ok(()),
-            Err(error) => Err(SearchError::Io(error)),
-        }
+        let made = self.printer.compose(self.path, terminator, &self.counts);
+        self.printer.write(made)
     }
 }
 
