@@ -78,7 +78,7 @@ module _ {S E : Type 0} (step : Steps S E) (settings : Settings) (meaning : Mean
     pub idle : reports_nothing settings ≡ true → IsIdle gone buffer first now
 
   -- a walk went to the end of what a buffer shows, which are whole lines, and the buffer moved past
-  -- some of them
+  -- some of them, and may have become larger
   pub record HasMovedOn (old : BufferState) (w : Walk) (now : S) (new : BufferState) (w' : Walk)
       (now' : S) : Type 0 where
     pub count : ℕ
@@ -86,7 +86,12 @@ module _ {S E : Type 0} (step : Steps S E) (settings : Settings) (meaning : Mean
     pub some : start_in old w < length old.shown
     pub at : w'.offset ≡ old.offset + length old.shown
     pub below : w'.offset < 2 ^ 64
-    pub moved : new ≡ record old { shown = drop count old.shown; offset = old.offset + count }
+    pub moved : new ≡ record old {
+      shown = drop count old.shown;
+      offset = old.offset + count;
+      size = new.size;
+      free = new.free;
+    }
     pub closed : IsClosed (byte_of settings.line_terminator) old.shown
     pub few : length (lines (byte_of settings.line_terminator) (drop count old.shown))
         ≤ settings.before_context

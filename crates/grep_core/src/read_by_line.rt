@@ -333,6 +333,7 @@ impl<'c, A: Allocator + Copy, T> Search<'c, A, T> {
         }
         let count = self.config.first_kept(window, walk);
         lines.consume(count);
+        lines.widen();
         Ok(true)
     }
 }

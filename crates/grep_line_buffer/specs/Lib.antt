@@ -4,3 +4,4 @@ pub mod Contents
 pub mod Detections
 pub mod Fills
 pub mod Room
+pub mod Widening

@@ -1,5 +1,5 @@
--- How a full vector grows, and why it can't. The contracts of private functions cite these
--- definitions; no public contract does.
+-- How a full vector grows, and why it can't. Of these definitions public contracts cite `next_size`
+-- alone.
 use Rattle.std.specs.Prelude.{◌≡◌, ◌≢◌, ◌⊎◌, ℕ, ◌*◌, ◌<◌, ◌≤◌, max, min, Option, Some, None}
 use Rattle.grep_line_buffer.specs.declared.fill_error.FillError.{FillError}
 use Rattle.grep_line_buffer.specs.declared.fill_error.FillError.TheVariants.{Read, HeapLimit}

@@ -15,6 +15,7 @@ ghost use Rattle.grep_line_buffer.specs.BufferStates.{BufferState, empty_buffer,
 ghost use Rattle.grep_line_buffer.specs.BufferStates.{IsWithin, IsSameBuffer, GrowsIfFull};
 ghost use Rattle.grep_line_buffer.specs.BufferStates.{ShowsLine, IsFilled, HasNoLine, KeepsStream};
 ghost use Rattle.grep_line_buffer.specs.BufferStates.{is_cut};
+ghost use Rattle.grep_line_buffer.specs.Widening.{Widens};
 ghost use Rattle.grep_line_buffer.specs.Detections.{byte_offset, first_of, is_quit};
 ghost use Rattle.grep_line_buffer.specs.Fills.{IfRead, UnlessRead, IsAtLimit, FillFails, Fills};
 ghost use Rattle.grep_line_buffer.specs.Fills.{FailsToFill, HasWaitedForLine};
@@ -31,6 +32,12 @@ use memchr::{memchr, memrchr};
 use std::alloc::{AllocError, Allocator};
 use std::io;
 use std::marker::Model;
+
+// The size in bytes from which a buffer isn't made larger for a long input alone.
+const WIDE: usize = 128 * 1024;
+
+// How many times a buffer's size an input is long before the buffer is made larger for it.
+const LONG: u64 = 16;
 
 /// A buffer over a reader's decoded bytes, which shows whole lines of them.
 ///
@@ -175,6 +182,22 @@ impl<A: Allocator> LineBuffer<A> {
     {
         self.start += count;
         self.offset += count as u64;
+    }
+
+    /// Makes a full buffer of less than 131,072 bytes twice as large, or as large as its limit, if at
+    /// least 16 times its size of the input is before what it shows: a long input is read a little
+    /// faster by larger parts. If there is no memory for it, the buffer stays as it is.
+    pub fn widen(&mut self)
+        ensures widens { Widens self.old self.new }
+        ensures same { self.new ≡ record self.old { size = self.new.size; free = self.new.free } }
+        ensures larger { self.old.size ≤ self.new.size }
+        ensures within { IsWithin self.new.limit self.new.size }
+    {
+        let size = self.bytes.len();
+        if self.end < size || size >= WIDE || self.offset / LONG < size as u64 {
+            return;
+        }
+        let _ = enlarge(&mut self.bytes, 1, self.limit);
     }
 
     /// Reads up to the end of a line, and returns whether any byte is shown then.

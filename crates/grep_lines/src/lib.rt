@@ -7,6 +7,7 @@ mod counts;
 pub mod laws;
 mod line_iter;
 mod line_step;
+mod marks;
 mod preceding_lines;
 mod replace;
 mod strip;

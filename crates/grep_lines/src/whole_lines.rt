@@ -4,6 +4,7 @@ ghost use Rattle.grep_matcher.specs.Lines.{line_start};
 ghost use Rattle.grep_lines.specs.Blocks.{block_start, block_end, lines_before};
 ghost use Rattle.grep_lines.specs.FirstLine.{IsLastStart};
 
+use crate::marks::{WIDTH, bits_below, highest, marks};
 use grep_matcher::Match;
 use memchr::{memchr, memrchr};
 
@@ -34,8 +35,8 @@ pub fn locate(bytes: &[u8], terminator: u8, found: Match) -> Match
 ///
 /// It starts right after the last terminator before the position, or at 0, and ends right after the
 /// first terminator at the position or later, or at the end of the bytes: as `locate` has it of an
-/// empty match. At the end of bytes that end in the terminator it is empty. It takes one search for
-/// a terminator if it is the first line and has one.
+/// empty match. At the end of bytes that end in the terminator it is empty. In a first line, less
+/// than 64 bytes from its start, it takes one search for a terminator.
 #[inline]
 pub fn line_of(bytes: &[u8], terminator: u8, position: usize) -> Match
     requires { position ≤ length bytes.now }
@@ -47,14 +48,35 @@ pub fn line_of(bytes: &[u8], terminator: u8, position: usize) -> Match
     ensures ends { position ≤ result.1 }
     ensures within { result.1 ≤ length bytes.now }
 {
-    match memchr(terminator, bytes) {
-        Some(at) if at >= position => Match::new(0, at + 1),
-        _ => locate(bytes, terminator, Match::zero(position)),
+    if position < WIDTH {
+        match memchr(terminator, bytes) {
+            Some(at) if at >= position => return Match::new(0, at + 1),
+            _ => {}
+        }
     }
+    locate(bytes, terminator, Match::zero(position))
 }
 
-// The last line start up to a position.
+// The last line start up to a position. Most lines start less than 64 bytes before it, which takes
+// one comparison of vectors.
+#[inline]
 pub(crate) fn last_start(bytes: &[u8], position: usize, terminator: u8) -> usize
+    requires { position ≤ length bytes.now }
+    ensures { IsLastStart terminator bytes.now position result }
+{
+    let from = position.saturating_sub(WIDTH - 1);
+    if bytes.len() - from < WIDTH {
+        return far_start(bytes, position, terminator);
+    }
+    let near = bits_below(marks(bytes, from, terminator), position - from);
+    if near == 0 {
+        return far_start(bytes, from, terminator);
+    }
+    from + highest(near) + 1
+}
+
+// The last line start up to a position, by a search back from there.
+fn far_start(bytes: &[u8], position: usize, terminator: u8) -> usize
     requires { position ≤ length bytes.now }
     ensures { IsLastStart terminator bytes.now position result }
 {

@@ -135,10 +135,12 @@ module _ (literal hay : List ℕ) where
       (some.0 - (later - start)) = record {
         low = omega arith;
         high = omega (arith, inner.fits);
-        before = λ j from below occurs. some.1.0.before (later - start + j) (omega arith) (omega arith) (outer j occurs);
+        before = λ j from below occurs.
+            some.1.0.before (later - start + j) (omega arith) (omega arith) (outer j occurs);
       } in
       let begins : later + (some.0 - (later - start)) ≡ start + some.0 = omega arith in
-      let ends : later + (some.0 - (later - start) + length literal) ≡ start + (some.0 + length literal) = omega arith in
+      let ends : later + (some.0 - (later - start) + length literal) ≡ start + (some.0 + length literal)
+      = omega arith in
       let pair : ℕ → ℕ → Option (ℕ × ℕ) = λ a b. Some (a, b) in
       first-some later (some.0 - (later - start)) (first, inner)
       ∙ (ap₂ pair begins ends ∙ sym (first-some start some.0 some.1)))

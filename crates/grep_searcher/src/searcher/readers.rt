@@ -24,7 +24,8 @@ impl<A: Allocator + Copy> Searcher<A> {
     /// a false, the limit or a stop ends it without another read (at a limit of 0 it may be read
     /// once under binary detection), and so does an unterminated last line. A buffer shows whole
     /// lines; between two reads it keeps at most as many of them as are reported before a match. It
-    /// has 65,536 bytes at first, or the heap limit if that is lower, and grows to the heap limit.
+    /// has 65,536 bytes at first, or the heap limit if that is lower. For a longer line it grows to
+    /// the heap limit, and after the first mebibyte of an input, if there is memory, to 131,072.
     ///
     /// A search that is refused reads nothing and makes no call. An error of reading comes after
     /// the reports of the lines before it, and nothing follows. It is made of

@@ -189,9 +189,35 @@ fn has_free_part(alloc: Global) -> bool {
     }
 }
 
+// Whether a buffer of 4 asks for 8 bytes once it has gone past 64, and not before.
+fn asks_for_more(filled: &mut Filled) -> bool {
+    let mut reader = Bytes {
+        bytes: b"",
+        asked: 0,
+    };
+    for _ in 0..16 {
+        reader.bytes = b"abc\n";
+        reader.asked = 0;
+        if !asks(filled, &mut reader, 4321) || !filled.shows(b"abc\n", None) {
+            return false;
+        }
+        filled.buffer.widen();
+    }
+    reader.bytes = b"abcdefg\n";
+    reader.asked = 0;
+    asks(filled, &mut reader, 87_654_321) && filled.shows(b"abcdefg\n", None)
+}
+
+fn is_widened(alloc: Global) -> bool {
+    match Filled::new(alloc, 4, None) {
+        Ok(mut filled) => asks_for_more(&mut filled),
+        Err(_) => false,
+    }
+}
+
 #[test]
 fn free_part(rt: HostRuntime) {
-    assert!(rt; has_free_part(rt.alloc()));
+    assert!(rt; has_free_part(rt.alloc()) && is_widened(rt.alloc()));
 }
 
 // An input, a detection, the bytes that are shown at once, and the offset of the first binary byte.

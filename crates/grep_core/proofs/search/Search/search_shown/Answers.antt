@@ -1,6 +1,7 @@
 use Rattle.std.proofs.Common.{rules, ◌≡◌, ◌∙◌, ◌-◌, ap, sym, subst, arith, length, true}
 use Rattle.std.proofs.lemmas.Result.{err_from_is_err_and}
 use Rattle.grep_definitions.specs.Searches.{IsClosed}
+use Rattle.grep_line_buffer.specs.BufferStates.{BufferState}
 use Rattle.grep_matcher.specs.Lines.{byte_of}
 use Rattle.grep_core.proofs.RollingLemmas as rolls
 use Rattle.grep_definitions.specs.Plans.{all_true}
@@ -80,7 +81,8 @@ returns-clause-goes_on g c = λ lawful _.
       );
       at = omega (arith, searched.moved goes, same, c.absolute_byte_offset.ensures, c.requires.low);
       below = omega (arith, searched.moved goes, same, shown.offset, c.absolute_byte_offset.ensures, c.requires.low);
-      moved = c.consume.ensures;
+      moved = c.widen.ensures.same ∙ ap (λ (b : BufferState). record b { size = c.widen.new.self.size; free = c.widen.new.self.free })
+          c.consume.ensures;
       closed = closed;
       few = first.few;
       next = rolls.next-rolled c.args.lines.now shown.value
