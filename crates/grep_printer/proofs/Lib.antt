@@ -6,6 +6,7 @@ pub mod FoundPartLemmas
 pub mod PartTextLemmas
 pub mod PlanCountLemmas
 pub mod PrintedRunLemmas
+pub mod PushLemmas
 pub mod ReadBackLemmas
 pub mod ReportLemmas
 pub mod ReportToldLemmas

@@ -35,15 +35,15 @@ module _ {M W F : Type 0} (facts : M → MatcherFacts F) (first_at : M → List 
   pub prints-made : (old mid new : StandardSink M W) (settings : Settings) (call : Call)
       (made : Result (Unit {0}) (SearchError Global)) (progress : Progress) (result : Result Bool (SearchError Global))
       → IsComposing old mid
-      → OnOk made (mid.printer.now.draft.text.items ≡ text_of facts first_at old settings call)
+      → OnOk made (mid.printer.now.draft.text.bytes.items ≡ text_of facts first_at old settings call)
       → IfErr made (λ e. IsOutOfMemory e ⊎ IsErrorAt facts old settings (reported_bytes call) e)
       → progress ≡ progress_after old.progress call
       → goes_on (frame_of facts first_at old settings) old.progress call ≡ true
       → WritesMade write_step mid made progress result new
       → PrintsCall facts first_at write_step old settings call result new
   prints-made old mid new settings call made progress (Ok goes) composing text error after on (going, is, written) =
-      let text_is : mid.printer.now.draft.text.items ≡ text_of facts first_at old settings call =
-      subst (λ m. OnOk m (mid.printer.now.draft.text.items ≡ text_of facts first_at old settings call)) is text in
+      let text_is : mid.printer.now.draft.text.bytes.items ≡ text_of facts first_at old settings call =
+      subst (λ m. OnOk m (mid.printer.now.draft.text.bytes.items ≡ text_of facts first_at old settings call)) is text in
       record {
         same = same-more old mid new composing.same written.same;
         goes_on = going ∙ sym on;
@@ -52,13 +52,13 @@ module _ {M W F : Type 0} (facts : M → MatcherFacts F) (first_at : M → List 
             written.written);
         progress = written.progress ∙ after;
         has_written = written.has_written
-            ∙ (ap (λ b. b || is_text mid.printer.now.draft.text.items) composing.has_written
+            ∙ (ap (λ b. b || is_text mid.printer.now.draft.text.bytes.items) composing.has_written
             ∙ ap (λ t. old.printer.now.has_written || is_text t) text_is);
         has_failed = written.has_failed ∙ composing.has_failed;
       }
   prints-made old mid new settings call made progress (Err e) composing text error after on (inl (is, failed)) =
-      let text_is : mid.printer.now.draft.text.items ≡ text_of facts first_at old settings call =
-      subst (λ m. OnOk m (mid.printer.now.draft.text.items ≡ text_of facts first_at old settings call)) is text in
+      let text_is : mid.printer.now.draft.text.bytes.items ≡ text_of facts first_at old settings call =
+      subst (λ m. OnOk m (mid.printer.now.draft.text.bytes.items ≡ text_of facts first_at old settings call)) is text in
       record {
         same = same-more old mid new composing.same failed.same;
         cause = inl (record {
@@ -88,7 +88,7 @@ module _ {M W F : Type 0} (facts : M → MatcherFacts F) (first_at : M → List 
   pub prints-report : (old mid new : StandardSink M W) (settings : Settings) (report : Report) (layout : Layout)
       (made : Result (Unit {0}) (SearchError Global)) (progress : Progress) (result : Result Bool (SearchError Global))
       → IsComposing old mid → layout ≡ layout_of (frame_of facts first_at old settings)
-      → OnOk made (mid.printer.now.draft.text.items ≡ composed_text layout old.progress settings
+      → OnOk made (mid.printer.now.draft.text.bytes.items ≡ composed_text layout old.progress settings
       (facts old.matcher).meaning (first_at old.matcher) report)
       → IfErr made (λ e. IsOutOfMemory e ⊎ FailsAtReport (facts old.matcher) settings report.bytes.now e)
       → progress ≡ progress_after old.progress (call_of report)
@@ -121,7 +121,7 @@ module _ {M W F : Type 0} (facts : M → MatcherFacts F) (first_at : M → List 
       (made : Result (Unit {0}) (SearchError Global)) (result : Result Bool (SearchError Global))
       (end : Result (Unit {0}) (SearchError Global))
       → IsComposing old mid → offset ≡ (if old.progress.has_match then binary else None)
-      → OnOk made (mid.printer.now.draft.text.items ≡ message_text (path_color old.printer.now.config.color_specs)
+      → OnOk made (mid.printer.now.draft.text.bytes.items ≡ message_text (path_color old.printer.now.config.color_specs)
       settings.binary_detection old.path offset)
       → IfErr made (λ e. IsOutOfMemory e)
       → WritesMade write_step mid made old.progress result new → finish_result end ≡ result

@@ -9,6 +9,7 @@ pub mod LineTexts
 pub mod MatchedParts
 pub mod PartTexts
 pub mod PlanCounts
+pub mod Pushes
 pub mod ReportedParts
 pub mod Reports
 pub mod StandardSteps

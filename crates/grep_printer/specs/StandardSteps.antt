@@ -34,11 +34,11 @@ pub record IsComposing {M W : Type 0} (old new : StandardSink M W) : Type 0 wher
 pub record IsWritten {M W : Type 0} (write_step : W → OutputCall → W → Type 0)
     (old : StandardSink M W) (told : Progress) (new : StandardSink M W) : Type 0 where
   pub same : IsSameSink old new
-  pub written : WritesAll write_step old.printer.now.writer old.printer.now.draft.text.items
+  pub written : WritesAll write_step old.printer.now.writer old.printer.now.draft.text.bytes.items
       new.printer.now.writer
   pub progress : new.progress ≡ told
   pub has_written : new.printer.now.has_written
-      ≡ (old.printer.now.has_written || is_text old.printer.now.draft.text.items)
+      ≡ (old.printer.now.has_written || is_text old.printer.now.draft.text.bytes.items)
   pub has_failed : new.printer.now.has_failed ≡ old.printer.now.has_failed
 
 -- the writer failed after some first bytes of it
@@ -48,7 +48,7 @@ pub record FailsToBeWritten {M W : Type 0} (write_step : W → OutputCall → W 
   pub same : IsSameSink old new
   pub error : Error
   pub is_io : e ≡ Io error
-  pub failed : FailsToWrite write_step old.printer.now.writer old.printer.now.draft.text.items error
+  pub failed : FailsToWrite write_step old.printer.now.writer old.printer.now.draft.text.bytes.items error
       new.printer.now.writer
   pub progress : new.progress ≡ told
   pub has_written : new.printer.now.has_written ≡ old.printer.now.has_written

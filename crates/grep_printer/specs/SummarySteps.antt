@@ -26,7 +26,7 @@ module _ {W : Type 0} (write_step : W → OutputCall → W → Type 0) where
   -- the text at hand was written
   pub record IsSummaryWritten (old new : Summary W) : Type 0 where
     pub config : new.config ≡ old.config
-    pub written : WritesAll write_step old.writer old.text.items new.writer
+    pub written : WritesAll write_step old.writer old.text.bytes.items new.writer
     pub has_failed : new.has_failed ≡ old.has_failed
 
   -- the writer failed after some first bytes of it
@@ -35,7 +35,7 @@ module _ {W : Type 0} (write_step : W → OutputCall → W → Type 0) where
     pub config : new.config ≡ old.config
     pub error : Error
     pub is_io : e ≡ Io error
-    pub failed : FailsToWrite write_step old.writer old.text.items error new.writer
+    pub failed : FailsToWrite write_step old.writer old.text.bytes.items error new.writer
     pub has_failed : new.has_failed ≡ true
 
   -- there was no memory for it, and the writer had no call

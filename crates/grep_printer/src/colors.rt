@@ -5,9 +5,10 @@ ghost use Rattle.grep_printer.specs.ColoredTexts.{color_of, colored, column_colo
 ghost use Rattle.grep_printer.specs.ColoredTexts.{line_color, matched_color, painted_from};
 ghost use Rattle.grep_printer.specs.ColoredTexts.{path_color, switch_text};
 ghost use Rattle.grep_printer.specs.MatchedParts.{AreInOrder};
+ghost use Rattle.grep_printer.specs.Pushes.{Adds};
 
+use crate::text::Text;
 use grep_searcher::Match;
-use std::alloc::AllocError;
 
 // The escape after which a terminal shows a text without colours.
 const RESET: &[u8] = b"\x1b[0m";
@@ -66,36 +67,32 @@ impl ColorSpecs {
 }
 
 // Pushes a text, in a colour if there is one.
-pub(crate) fn push_colored(
-    text: &mut Vec<u8>,
-    color: Option<&str>,
-    bytes: &[u8],
-) -> Result<(), AllocError>
-    ensures { OnOk result (text.new.items ≡ text.old.items ++ colored (color_of color.entry) bytes.now) }
+pub(crate) fn push_colored(text: &mut Text, color: Option<&str>, bytes: &[u8])
+    ensures { Adds text.old text.new (colored (color_of color.entry) bytes.now) }
 {
     match color {
         Some(color) => {
-            text.extend_from_slice(color.as_bytes())?;
-            text.extend_from_slice(bytes)?;
-            text.extend_from_slice(RESET)
+            text.push(color.as_bytes());
+            text.push(bytes);
+            text.push(RESET)
         }
-        None => text.extend_from_slice(bytes),
+        None => text.push(bytes),
     }
 }
 
 // Pushes a line, the first byte of which is at a position of its report, with the bytes in some
 // parts coloured that come before an end.
 pub(crate) fn push_painted(
-    text: &mut Vec<u8>,
+    text: &mut Text,
     color: &str,
     parts: &[Match],
     range: &Match,
     line: &[u8],
-) -> Result<(), AllocError>
+)
     requires fits { range.now.0 + length line.now < 2 ^ 64 }
     requires within { range.now.1 ≤ range.now.0 + length line.now }
     requires ordered { AreInOrder 0 (2 ^ 64) parts.now }
-    ensures { OnOk result (text.new.items ≡ text.old.items ++ painted_from color.now
+    ensures { Adds text.old text.new (painted_from color.now
         (is_matched parts.now range.now.1) false range.now.0 line.now) }
 {
     let end = range.end();
@@ -111,8 +108,8 @@ pub(crate) fn push_painted(
         let (gap, after) = left.split_at(start - position);
         position = part.end().min(end).max(start);
         let (found, after) = after.split_at(position - start);
-        is_colored = push_run(text, color, is_colored, false, gap)?;
-        is_colored = push_run(text, color, is_colored, true, found)?;
+        is_colored = push_run(text, color, is_colored, false, gap);
+        is_colored = push_run(text, color, is_colored, true, found);
         left = after;
         rest = later;
     }
@@ -120,42 +117,34 @@ pub(crate) fn push_painted(
 }
 
 // Pushes the bytes after the last part of a line, by whether the byte before them is coloured.
-fn push_rest(text: &mut Vec<u8>, color: &str, before: bool, bytes: &[u8]) -> Result<(), AllocError>
-    ensures { OnOk result (text.new.items
-        ≡ (text.old.items ++ switch_text color.now before false) ++ bytes.now) }
+fn push_rest(text: &mut Text, color: &str, before: bool, bytes: &[u8])
+    ensures { Adds text.old text.new (switch_text color.now before false ++ bytes.now) }
 {
-    push_switch(text, color, before, false)?;
-    text.extend_from_slice(bytes)
+    push_switch(text, color, before, false);
+    text.push(bytes)
 }
 
 // Pushes bytes that are all coloured, or none of which is, and returns whether the last byte that
 // was pushed is.
-fn push_run(
-    text: &mut Vec<u8>,
-    color: &str,
-    before: bool,
-    is_colored: bool,
-    bytes: &[u8],
-) -> Result<bool, AllocError>
-    ensures after { IfOk result (λ after. after ≡ after_run before is_colored bytes.now) }
-    ensures text { OnOk result
-        (text.new.items ≡ text.old.items ++ run_text color.now before is_colored bytes.now) }
+fn push_run(text: &mut Text, color: &str, before: bool, is_colored: bool, bytes: &[u8]) -> bool
+    ensures after { result ≡ after_run before is_colored bytes.now }
+    ensures text { Adds text.old text.new (run_text color.now before is_colored bytes.now) }
 {
     if bytes.is_empty() {
-        return Ok(before);
+        return before;
     }
-    push_switch(text, color, before, is_colored)?;
-    text.extend_from_slice(bytes)?;
-    Ok(is_colored)
+    push_switch(text, color, before, is_colored);
+    text.push(bytes);
+    is_colored
 }
 
 // Pushes what comes between two bytes, by whether the one before is coloured, and the one after.
-fn push_switch(text: &mut Vec<u8>, color: &str, before: bool, after: bool) -> Result<(), AllocError>
-    ensures { OnOk result (text.new.items ≡ text.old.items ++ switch_text color.now before after) }
+fn push_switch(text: &mut Text, color: &str, before: bool, after: bool)
+    ensures { Adds text.old text.new (switch_text color.now before after) }
 {
     match (before, after) {
-        (false, true) => text.extend_from_slice(color.as_bytes()),
-        (true, false) => text.extend_from_slice(RESET),
-        _ => Ok(()),
+        (false, true) => text.push(color.as_bytes()),
+        (true, false) => text.push(RESET),
+        _ => {},
     }
 }

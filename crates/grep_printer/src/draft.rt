@@ -5,6 +5,7 @@ ghost use Rattle.grep_searcher.specs.SearchErrors.{IsOutOfMemory};
 ghost use Rattle.grep_printer.specs.ColoredTexts.{color_of, path_color};
 ghost use Rattle.grep_printer.specs.MatchedParts.{AreInOrder};
 ghost use Rattle.grep_printer.specs.PartTexts.{writes_parts};
+ghost use Rattle.grep_printer.specs.Pushes.{Adds, Holds};
 ghost use Rattle.grep_printer.specs.ReportedParts.{FailsAtReport};
 ghost use Rattle.grep_printer.specs.Reports.{composed_text, drawn_text, report_place, text_before};
 ghost use Rattle.grep_printer.specs.Reports.{whole_text};
@@ -15,8 +16,9 @@ use crate::fields::{Layout, Place, push_digits};
 use crate::parts::find_asked_parts;
 use crate::report::{Report, ReportKind};
 use crate::standard::Progress;
+use crate::text::Text;
 use grep_searcher::{BinaryDetection, FindAt, Match, SearchError, Searcher};
-use std::alloc::{AllocError, Allocator, Global};
+use std::alloc::{Allocator, Global};
 
 // What is said of a binary byte, before its offset and what ends both messages.
 const STOPPED: &str =
@@ -27,7 +29,7 @@ const MATCHES: &str = "binary file matches (found \"\\0\" byte around offset ";
 // The text of the call at hand, and the parts of its report that match, if they are asked for.
 #[derive(Drop)]
 pub(crate) struct Draft {
-    pub(crate) text: Vec<u8>,
+    pub(crate) text: Text,
     pub(crate) parts: Vec<Match>,
 }
 
@@ -35,7 +37,7 @@ impl Draft {
     // No text, and no parts.
     pub(crate) fn new(alloc: Global) -> Draft {
         Draft {
-            text: Vec::new(alloc),
+            text: Text::new(alloc),
             parts: Vec::new(alloc),
         }
     }
@@ -50,7 +52,7 @@ impl Draft {
         report: &Report<'_>,
     ) -> Result<(), SearchError>
         requires fits { report.now.offset + length report.now.bytes.now < 2 ^ 64 }
-        ensures text { OnOk result (self.new.text.items ≡ composed_text layout.now progress.now
+        ensures text { OnOk result (self.new.text.bytes.items ≡ composed_text layout.now progress.now
             searcher.now.settings (M.facts matcher.now).meaning (M.first_at matcher.now)
             report.now) }
         ensures error { IfErr result (λ e. IsOutOfMemory e ⊎ FailsAtReport (M.facts matcher.now)
@@ -63,7 +65,8 @@ impl Draft {
             Err(error) => return Err(error),
         }
         let is_across = searcher.multi_line_with_matcher(matcher);
-        self.draw(layout, progress, report, is_across)?;
+        self.draw(layout, progress, report, is_across);
+        self.text.made()?;
         Ok(())
     }
 
@@ -74,59 +77,52 @@ impl Draft {
         progress: &Progress,
         report: &Report<'_>,
         is_across: bool,
-    ) -> Result<(), AllocError>
+    )
         requires fits { report.now.offset + length report.now.bytes.now < 2 ^ 64 }
         requires ordered { AreInOrder 0 (length report.now.bytes.now) self.old.parts.items }
-        ensures text { OnOk result (self.new.text.items ≡ text_before layout.now progress.now
+        ensures text { Holds self.new.text (text_before layout.now progress.now
             ++ drawn_text layout.now report.now self.old.parts.items is_across) }
     {
-        self.open(layout, progress)?;
+        self.open(layout, progress);
         self.push_report(layout, report, is_across)
     }
 
     // Begins a text, which is empty but for the opening before the first report of a search.
-    pub(crate) fn open(
-        &mut self,
-        layout: &Layout<'_>,
-        progress: &Progress,
-    ) -> Result<(), AllocError>
+    pub(crate) fn open(&mut self, layout: &Layout<'_>, progress: &Progress)
         ensures parts { self.new.parts ≡ self.old.parts }
-        ensures text { OnOk result (self.new.text.items ≡ text_before layout.now progress.now) }
+        ensures text { Holds self.new.text (text_before layout.now progress.now) }
     {
         self.text.clear();
         if progress.is_open {
-            return Ok(());
+            return;
         }
         layout.push_opening(&mut self.text, progress.follows)
     }
 
     // Pushes a report: its parts, or all of it.
-    fn push_report(
-        &mut self,
-        layout: &Layout<'_>,
-        report: &Report<'_>,
-        is_across: bool,
-    ) -> Result<(), AllocError>
+    fn push_report(&mut self, layout: &Layout<'_>, report: &Report<'_>, is_across: bool)
         requires fits { report.now.offset + length report.now.bytes.now < 2 ^ 64 }
         requires ordered { AreInOrder 0 (length report.now.bytes.now) self.old.parts.items }
-        ensures text { OnOk result (self.new.text.items ≡ self.old.text.items
-            ++ drawn_text layout.now report.now self.old.parts.items is_across) }
+        ensures text { Adds self.old.text self.new.text
+            (drawn_text layout.now report.now self.old.parts.items is_across) }
     {
         if !self.writes_parts(layout) {
-            return self.push_whole(layout, report);
+            self.push_whole(layout, report);
+            return;
         }
         if report.kind.is_split(is_across) {
-            return layout.push_across(&mut self.text, report, report.number, &self.parts);
+            layout.push_across(&mut self.text, report, report.number, &self.parts);
+            return;
         }
         layout.push_parts(&mut self.text, report, report.number, &self.parts)
     }
 
     // Pushes a report without its parts: the lines of a match, or the line that isn't one.
-    fn push_whole(&mut self, layout: &Layout<'_>, report: &Report<'_>) -> Result<(), AllocError>
+    fn push_whole(&mut self, layout: &Layout<'_>, report: &Report<'_>)
         requires fits { report.now.offset + length report.now.bytes.now < 2 ^ 64 }
         requires ordered { AreInOrder 0 (length report.now.bytes.now) self.old.parts.items }
-        ensures text { OnOk result (self.new.text.items ≡ self.old.text.items
-            ++ whole_text layout.now report.now self.old.parts.items report.now.kind) }
+        ensures text { Adds self.old.text self.new.text
+            (whole_text layout.now report.now self.old.parts.items report.now.kind) }
     {
         let place = self.place(layout, report);
         let parts: &[Match] = &self.parts;
@@ -167,11 +163,12 @@ impl Draft {
 
     // Makes a text of the line between two groups of lines.
     pub(crate) fn compose_break(&mut self, terminator: u8) -> Result<(), SearchError>
-        ensures text { OnOk result (self.new.text.items ≡ 45 ∷ 45 ∷ terminator ∷ []) }
+        ensures text { OnOk result (self.new.text.bytes.items ≡ 45 ∷ 45 ∷ terminator ∷ []) }
         ensures error { IfErr result (λ e. IsOutOfMemory e) }
     {
         self.text.clear();
-        self.text.extend_from_slice(&[b'-', b'-', terminator])?;
+        self.text.push(&[b'-', b'-', terminator]);
+        self.text.made()?;
         Ok(())
     }
 
@@ -183,31 +180,32 @@ impl Draft {
         path: Option<&str>,
         offset: Option<u64>,
     ) -> Result<(), SearchError>
-        ensures text { OnOk result (self.new.text.items
+        ensures text { OnOk result (self.new.text.bytes.items
             ≡ message_text (path_color colors.now) detection.now path.entry offset) }
         ensures error { IfErr result (λ e. IsOutOfMemory e) }
     {
         self.text.clear();
         if let Some(offset) = offset {
-            push_binary(&mut self.text, colors.path(), detection, path, offset)?;
+            push_binary(&mut self.text, colors.path(), detection, path, offset);
         }
+        self.text.made()?;
         Ok(())
     }
 }
 
 // Pushes the message about a binary byte at an offset.
 fn push_binary(
-    text: &mut Vec<u8>,
+    text: &mut Text,
     color: Option<&str>,
     detection: &BinaryDetection,
     path: Option<&str>,
     offset: u64,
-) -> Result<(), AllocError>
-    ensures { OnOk result (text.new.items ≡ text.old.items
-        ++ binary_message (color_of color.entry) detection.now path.entry offset) }
+)
+    ensures { Adds text.old text.new (binary_message (color_of color.entry) detection.now
+        path.entry offset) }
 {
     match detection {
-        BinaryDetection::None => Ok(()),
+        BinaryDetection::None => {}
         BinaryDetection::Quit(_) => push_message(text, color, path, STOPPED, offset),
         BinaryDetection::Convert(_) => push_message(text, color, path, MATCHES, offset),
     }
@@ -215,36 +213,30 @@ fn push_binary(
 
 // Pushes a message about a binary byte at an offset, after the path if there is one.
 fn push_message(
-    text: &mut Vec<u8>,
+    text: &mut Text,
     color: Option<&str>,
     path: Option<&str>,
     message: &str,
     offset: u64,
-) -> Result<(), AllocError>
-    ensures { OnOk result (text.new.items
-        ≡ text.old.items ++ (path_prefix (color_of color.entry) path.entry
-        ++ (message.now ++ (decimal offset ++ codes ")\n")))) }
+)
+    ensures { Adds text.old text.new (path_prefix (color_of color.entry) path.entry
+        ++ (message.now ++ (decimal offset ++ codes ")\n"))) }
 {
-    push_prefix(text, color, path)?;
-    text.extend_from_slice(message.as_bytes())?;
-    push_digits(text, offset, b')')?;
-    text.extend_from_slice(b"\n")
+    push_prefix(text, color, path);
+    text.push(message.as_bytes());
+    push_digits(text, offset, b')');
+    text.push(b"\n")
 }
 
 // Pushes a path before a message, in a colour if there is one, if there is a path.
-fn push_prefix(
-    text: &mut Vec<u8>,
-    color: Option<&str>,
-    path: Option<&str>,
-) -> Result<(), AllocError>
-    ensures { OnOk result
-        (text.new.items ≡ text.old.items ++ path_prefix (color_of color.entry) path.entry) }
+fn push_prefix(text: &mut Text, color: Option<&str>, path: Option<&str>)
+    ensures { Adds text.old text.new (path_prefix (color_of color.entry) path.entry) }
 {
     match path {
         Some(path) => {
-            push_colored(text, color, path.as_bytes())?;
-            text.extend_from_slice(b": ")
+            push_colored(text, color, path.as_bytes());
+            text.push(b": ")
         }
-        None => Ok(()),
+        None => {}
     }
 }

@@ -10,14 +10,15 @@ ghost use Rattle.grep_printer.specs.LineTexts.{next_number, number_field, openin
 ghost use Rattle.grep_printer.specs.LineTexts.{painted_line, path_field, place_after};
 ghost use Rattle.grep_printer.specs.LineTexts.{separator_text};
 ghost use Rattle.grep_printer.specs.MatchedParts.{AreInOrder};
+ghost use Rattle.grep_printer.specs.Pushes.{Adds};
 
 use crate::colors::{push_colored, push_painted};
 use crate::config::{Config, SearchSeparator};
 use crate::parts::parts_after;
+use crate::text::Text;
 use grep_lines::without_terminator;
 use grep_searcher::{LineIter, LineTerminator, Match};
 use itoa::write_digits;
-use std::alloc::AllocError;
 
 // Where a line is: its number, the column of the first match, its offset, and the position of its
 // first byte in the report.
@@ -61,19 +62,14 @@ pub(crate) struct Layout<'p> {
 
 impl<'p> Layout<'p> {
     // Pushes what is written before the first report of a search.
-    pub(crate) fn push_opening(
-        &self,
-        text: &mut Vec<u8>,
-        has_written: bool,
-    ) -> Result<(), AllocError>
-        ensures { OnOk result
-            (text.new.items ≡ text.old.items ++ opening_text self.now has_written) }
+    pub(crate) fn push_opening(&self, text: &mut Text, has_written: bool)
+        ensures { Adds text.old text.new (opening_text self.now has_written) }
     {
         if has_written {
-            push_separator(text, self.config.separator, self.terminator.as_byte())?;
+            push_separator(text, self.config.separator, self.terminator.as_byte());
         }
         if !self.config.heading {
-            return Ok(());
+            return;
         }
         let mark = self
             .config
@@ -85,105 +81,88 @@ impl<'p> Layout<'p> {
     // Pushes the lines of a match, the first of which is at a place, with its parts in colour.
     pub(crate) fn push_lines(
         &self,
-        text: &mut Vec<u8>,
+        text: &mut Text,
         kind: LineKind,
         place: Place,
         parts: &[Match],
         bytes: &[u8],
-    ) -> Result<(), AllocError>
+    )
         requires fits { place.offset + length bytes.now < 2 ^ 64 }
         requires starts { place.start ≤ place.offset }
         requires ordered { AreInOrder 0 (2 ^ 64) parts.now }
-        ensures { OnOk result (text.new.items ≡ text.old.items
-            ++ lines_text self.now kind place parts.now
+        ensures { Adds text.old text.new (lines_text self.now kind place parts.now
             (lines (byte_of self.now.terminator) bytes.now)) }
     {
         let mut place = place;
         let mut rest = parts;
         for line in LineIter::new(self.terminator.as_byte(), bytes) {
             rest = parts_after(rest, place.start);
-            self.push_line(text, kind, &place, rest, line)?;
+            self.push_line(text, kind, &place, rest, line);
             place = place_after(&place, line);
         }
-        Ok(())
     }
 
     // Pushes a line after its fields, or a notice if it is too long.
     pub(crate) fn push_line(
         &self,
-        text: &mut Vec<u8>,
+        text: &mut Text,
         kind: LineKind,
         place: &Place,
         parts: &[Match],
         line: &[u8],
-    ) -> Result<(), AllocError>
+    )
         requires fits { place.now.start + length line.now < 2 ^ 64 }
         requires ordered { AreInOrder 0 (2 ^ 64) parts.now }
-        ensures { OnOk result (text.new.items
-            ≡ text.old.items ++ line_text self.now kind place.now parts.now line.now) }
+        ensures { Adds text.old text.new (line_text self.now kind place.now parts.now line.now) }
     {
-        self.push_fields(text, kind.mark(), place)?;
+        self.push_fields(text, kind.mark(), place);
         if is_long(self.config.max_columns, line) {
-            push_notice(text, kind)?;
-            return text.extend_from_slice(&[self.terminator.as_byte()]);
+            push_notice(text, kind);
+            text.push(&[self.terminator.as_byte()]);
+            return;
         }
-        self.push_bytes(text, place.start, parts, line)?;
+        self.push_bytes(text, place.start, parts, line);
         push_missing_end(text, self.terminator.as_byte(), line)
     }
 
     // Pushes the bytes of a line, the first of which is at a position of the report.
-    fn push_bytes(
-        &self,
-        text: &mut Vec<u8>,
-        start: usize,
-        parts: &[Match],
-        line: &[u8],
-    ) -> Result<(), AllocError>
+    fn push_bytes(&self, text: &mut Text, start: usize, parts: &[Match], line: &[u8])
         requires fits { start + length line.now < 2 ^ 64 }
         requires ordered { AreInOrder 0 (2 ^ 64) parts.now }
-        ensures { OnOk result (text.new.items
-            ≡ text.old.items ++ painted_line self.now parts.now start line.now) }
+        ensures { Adds text.old text.new (painted_line self.now parts.now start line.now) }
     {
         match self.config.color_specs.matched() {
             Some(color) => {
                 let end = start + without_terminator(line, self.terminator).len();
                 push_painted(text, color, parts, &Match::new(start, end), line)
             }
-            None => text.extend_from_slice(line),
+            None => text.push(line),
         }
     }
 
     // Pushes the fields before a line.
-    fn push_fields(&self, text: &mut Vec<u8>, mark: u8, place: &Place) -> Result<(), AllocError>
-        ensures { OnOk result
-            (text.new.items ≡ text.old.items ++ fields self.now mark place.now) }
+    fn push_fields(&self, text: &mut Text, mark: u8, place: &Place)
+        ensures { Adds text.old text.new (fields self.now mark place.now) }
     {
         let colors = &self.config.color_specs;
         if !self.config.heading {
             let mark = self.config.path_terminator.unwrap_or(mark);
-            push_path(text, colors.path(), self.path, mark)?;
+            push_path(text, colors.path(), self.path, mark);
         }
-        push_number(text, colors.line(), place.number, mark)?;
-        push_number(text, colors.column(), place.column, mark)?;
+        push_number(text, colors.line(), place.number, mark);
+        push_number(text, colors.column(), place.column, mark);
         if self.config.byte_offset {
-            push_number(text, colors.column(), Some(place.offset), mark)?;
+            push_number(text, colors.column(), Some(place.offset), mark);
         }
-        Ok(())
     }
 }
 
 // Pushes a number, in a colour if there is one, and a mark, if there is a number.
-fn push_number(
-    text: &mut Vec<u8>,
-    color: Option<&str>,
-    number: Option<u64>,
-    mark: u8,
-) -> Result<(), AllocError>
-    ensures { OnOk result
-        (text.new.items ≡ text.old.items ++ number_field (color_of color.entry) mark number) }
+fn push_number(text: &mut Text, color: Option<&str>, number: Option<u64>, mark: u8)
+    ensures { Adds text.old text.new (number_field (color_of color.entry) mark number) }
 {
     let Some(number) = number else {
-        return Ok(());
+        return;
     };
     match color {
         Some(color) => push_colored_digits(text, color, number, mark),
@@ -192,59 +171,47 @@ fn push_number(
 }
 
 // Pushes a number in a colour, and a mark.
-fn push_colored_digits(
-    text: &mut Vec<u8>,
-    color: &str,
-    number: u64,
-    mark: u8,
-) -> Result<(), AllocError>
-    ensures { OnOk result (text.new.items
-        ≡ text.old.items ++ (colored (Some color.now) (decimal number) ++ mark ∷ [])) }
+fn push_colored_digits(text: &mut Text, color: &str, number: u64, mark: u8)
+    ensures { Adds text.old text.new (colored (Some color.now) (decimal number) ++ mark ∷ []) }
 {
     // A number of 64 bits has 20 digits at most.
     let mut digits = [0; 20];
     let start = write_digits(number, &mut digits, 20);
-    push_colored(text, Some(color), &digits[start..])?;
-    text.extend_from_slice(&[mark])
+    push_colored(text, Some(color), &digits[start..]);
+    text.push(&[mark])
 }
 
 // Pushes a number and a mark.
-pub(crate) fn push_digits(text: &mut Vec<u8>, number: u64, mark: u8) -> Result<(), AllocError>
-    ensures { OnOk result (text.new.items ≡ text.old.items ++ (decimal number ++ mark ∷ [])) }
+pub(crate) fn push_digits(text: &mut Text, number: u64, mark: u8)
+    ensures { Adds text.old text.new (decimal number ++ mark ∷ []) }
 {
     // A number of 64 bits has 20 digits at most.
     let mut digits = [mark; 21];
     let start = write_digits(number, &mut digits, 20);
-    text.extend_from_slice(&digits[start..])
+    text.push(&digits[start..])
 }
 
 // Pushes a path, in a colour if there is one, and a byte, if there is a path.
-pub(crate) fn push_path(
-    text: &mut Vec<u8>,
-    color: Option<&str>,
-    path: Option<&str>,
-    mark: u8,
-) -> Result<(), AllocError>
-    ensures { OnOk result
-        (text.new.items ≡ text.old.items ++ path_field (color_of color.entry) mark path.entry) }
+pub(crate) fn push_path(text: &mut Text, color: Option<&str>, path: Option<&str>, mark: u8)
+    ensures { Adds text.old text.new (path_field (color_of color.entry) mark path.entry) }
 {
     match path {
         Some(path) => {
-            push_colored(text, color, path.as_bytes())?;
-            text.extend_from_slice(&[mark])
+            push_colored(text, color, path.as_bytes());
+            text.push(&[mark])
         }
-        None => Ok(()),
+        None => {}
     }
 }
 
 // Pushes the terminator of a line, if it isn't at its end.
-fn push_missing_end(text: &mut Vec<u8>, terminator: u8, line: &[u8]) -> Result<(), AllocError>
-    ensures { OnOk result (text.new.items ≡ text.old.items ++ missing_end terminator line.now) }
+fn push_missing_end(text: &mut Text, terminator: u8, line: &[u8])
+    ensures { Adds text.old text.new (missing_end terminator line.now) }
 {
     if line.ends_with(&[terminator]) {
-        return Ok(());
+        return;
     }
-    text.extend_from_slice(&[terminator])
+    text.push(&[terminator])
 }
 
 // Whether a line has more bytes than are written.
@@ -258,39 +225,34 @@ fn is_long(most: Option<u64>, line: &[u8]) -> bool
 }
 
 // Pushes what is written in place of a line that is too long.
-fn push_notice(text: &mut Vec<u8>, kind: LineKind) -> Result<(), AllocError>
-    ensures { OnOk result (text.new.items ≡ text.old.items ++ notice kind) }
+fn push_notice(text: &mut Text, kind: LineKind)
+    ensures { Adds text.old text.new (notice kind) }
 {
     match kind {
-        LineKind::Match(0) => text.extend_from_slice(b"[Omitted long matching line]"),
-        LineKind::Context(0) => text.extend_from_slice(b"[Omitted long context line]"),
+        LineKind::Match(0) => text.push(b"[Omitted long matching line]"),
+        LineKind::Context(0) => text.push(b"[Omitted long context line]"),
         LineKind::Match(count) => push_count(text, count),
         LineKind::Context(count) => push_count(text, count),
     }
 }
 
 // Pushes how many parts match of a report with a line that is too long.
-fn push_count(text: &mut Vec<u8>, count: usize) -> Result<(), AllocError>
-    ensures { OnOk result (text.new.items ≡ text.old.items ++ counted_notice count) }
+fn push_count(text: &mut Text, count: usize)
+    ensures { Adds text.old text.new (counted_notice count) }
 {
-    text.extend_from_slice(b"[Omitted long line with ")?;
-    push_digits(text, count as u64, b' ')?;
-    text.extend_from_slice(b"matches]")
+    text.push(b"[Omitted long line with ");
+    push_digits(text, count as u64, b' ');
+    text.push(b"matches]")
 }
 
 // Pushes what is written between two searches.
-fn push_separator(
-    text: &mut Vec<u8>,
-    separator: SearchSeparator,
-    terminator: u8,
-) -> Result<(), AllocError>
-    ensures { OnOk result
-        (text.new.items ≡ text.old.items ++ separator_text separator terminator) }
+fn push_separator(text: &mut Text, separator: SearchSeparator, terminator: u8)
+    ensures { Adds text.old text.new (separator_text separator terminator) }
 {
     match separator {
-        SearchSeparator::Nothing => Ok(()),
-        SearchSeparator::Blank => text.extend_from_slice(&[terminator]),
-        SearchSeparator::Dashes => text.extend_from_slice(&[b'-', b'-', terminator]),
+        SearchSeparator::Nothing => {}
+        SearchSeparator::Blank => text.push(&[terminator]),
+        SearchSeparator::Dashes => text.push(&[b'-', b'-', terminator]),
     }
 }
 

@@ -22,6 +22,7 @@ mod standard;
 mod stats;
 mod summary;
 mod summary_builder;
+mod text;
 
 pub use colors::ColorSpecs;
 pub use config::{SearchSeparator, StandardBuilder};

@@ -4,6 +4,7 @@ ghost use Rattle.std.specs.List.{flat_map};
 ghost use Rattle.grep_matcher.specs.Lines.{byte_of};
 ghost use Rattle.grep_searcher.specs.Lines.{lines};
 ghost use Rattle.grep_printer.specs.MatchedParts.{AreInOrder};
+ghost use Rattle.grep_printer.specs.Pushes.{Adds};
 ghost use Rattle.grep_printer.specs.PartTexts.{across_text, clipped_text, part_place, part_text};
 ghost use Rattle.grep_printer.specs.PartTexts.{parts_text};
 ghost use Rattle.grep_printer.specs.Reports.{line_kind};
@@ -11,44 +12,43 @@ ghost use Rattle.grep_printer.specs.Reports.{line_kind};
 use crate::fields::{Layout, Place, next_number};
 use crate::parts::parts_after;
 use crate::report::Report;
+use crate::text::Text;
 use grep_lines::without_terminator;
 use grep_searcher::{LineIter, Match};
-use std::alloc::AllocError;
 
 impl<'p> Layout<'p> {
     // Pushes each part of a report in a line of its own.
     pub(crate) fn push_parts(
         &self,
-        text: &mut Vec<u8>,
+        text: &mut Text,
         report: &Report<'_>,
         number: Option<u64>,
         parts: &[Match],
-    ) -> Result<(), AllocError>
+    )
         requires fits { report.now.offset + length report.now.bytes.now < 2 ^ 64 }
         requires ordered { AreInOrder 0 (length report.now.bytes.now) parts.now }
-        ensures { OnOk result (text.new.items ≡ text.old.items ++ parts_text self.now
-            (line_kind report.now.kind 0) report.now.offset report.now.bytes.now number parts.now) }
+        ensures { Adds text.old text.new (parts_text self.now (line_kind report.now.kind 0)
+            report.now.offset report.now.bytes.now number parts.now) }
     {
         let mut rest = parts;
         while let Some((part, later)) = rest.split_first() {
-            self.push_part(text, report, number, part)?;
+            self.push_part(text, report, number, part);
             rest = later;
         }
-        Ok(())
     }
 
     // Pushes what the parts have in each line of a report, without its terminator.
     pub(crate) fn push_across(
         &self,
-        text: &mut Vec<u8>,
+        text: &mut Text,
         report: &Report<'_>,
         number: Option<u64>,
         parts: &[Match],
-    ) -> Result<(), AllocError>
+    )
         requires fits { report.now.offset + length report.now.bytes.now < 2 ^ 64 }
         requires ordered { AreInOrder 0 (length report.now.bytes.now) parts.now }
-        ensures { OnOk result (text.new.items ≡ text.old.items ++ across_text self.now
-            (line_kind report.now.kind 0) report.now.offset report.now.bytes.now number 0
+        ensures { Adds text.old text.new (across_text self.now (line_kind report.now.kind 0)
+            report.now.offset report.now.bytes.now number 0
             (lines (byte_of self.now.terminator) report.now.bytes.now) parts.now) }
     {
         let mut number = number;
@@ -57,60 +57,57 @@ impl<'p> Layout<'p> {
         for line in LineIter::new(self.terminator.as_byte(), report.bytes) {
             rest = parts_after(rest, start);
             let end = start + without_terminator(line, self.terminator).len();
-            self.push_clipped(text, report, number, &Match::new(start, end), rest)?;
+            self.push_clipped(text, report, number, &Match::new(start, end), rest);
             number = next_number(number);
             start += line.len();
         }
-        Ok(())
     }
 
     // Pushes what the parts have in a range of the bytes.
     fn push_clipped(
         &self,
-        text: &mut Vec<u8>,
+        text: &mut Text,
         report: &Report<'_>,
         number: Option<u64>,
         range: &Match,
         parts: &[Match],
-    ) -> Result<(), AllocError>
+    )
         requires fits { report.now.offset + length report.now.bytes.now < 2 ^ 64 }
         requires within { range.now.1 ≤ length report.now.bytes.now }
         requires ordered { AreInOrder 0 (length report.now.bytes.now) parts.now }
-        ensures { OnOk result (text.new.items ≡ text.old.items
-            ++ flat_map (clipped_text self.now (line_kind report.now.kind 0) report.now.offset
-            report.now.bytes.now number range.now) parts.now) }
+        ensures { Adds text.old text.new (flat_map (clipped_text self.now
+            (line_kind report.now.kind 0) report.now.offset report.now.bytes.now number range.now)
+            parts.now) }
     {
         let mut rest = parts;
         while let Some((part, later)) = rest.split_first() {
             if part.start() >= range.end() {
                 break;
             }
-            self.push_part_in(text, report, number, range, part)?;
+            self.push_part_in(text, report, number, range, part);
             rest = later;
         }
-        Ok(())
     }
 
     // Pushes what a part has in a range of the bytes, if it has any of them.
     fn push_part_in(
         &self,
-        text: &mut Vec<u8>,
+        text: &mut Text,
         report: &Report<'_>,
         number: Option<u64>,
         range: &Match,
         part: &Match,
-    ) -> Result<(), AllocError>
+    )
         requires fits { report.now.offset + length report.now.bytes.now < 2 ^ 64 }
         requires part_within { part.now.1 ≤ length report.now.bytes.now }
         requires within { range.now.1 ≤ length report.now.bytes.now }
-        ensures { OnOk result (text.new.items ≡ text.old.items
-            ++ clipped_text self.now (line_kind report.now.kind 0) report.now.offset report.now.bytes.now
-            number range.now part.now) }
+        ensures { Adds text.old text.new (clipped_text self.now (line_kind report.now.kind 0)
+            report.now.offset report.now.bytes.now number range.now part.now) }
     {
         let start = part.start().max(range.start());
         let end = part.end().min(range.end());
         if start >= end {
-            return Ok(());
+            return;
         }
         let mut place = self.part_place(report, number, part);
         place.start = start;
@@ -119,17 +116,11 @@ impl<'p> Layout<'p> {
     }
 
     // Pushes a part in a line of its own.
-    fn push_part(
-        &self,
-        text: &mut Vec<u8>,
-        report: &Report<'_>,
-        number: Option<u64>,
-        part: &Match,
-    ) -> Result<(), AllocError>
+    fn push_part(&self, text: &mut Text, report: &Report<'_>, number: Option<u64>, part: &Match)
         requires fits { report.now.offset + length report.now.bytes.now < 2 ^ 64 }
         requires within { part.now.1 ≤ length report.now.bytes.now }
-        ensures { OnOk result (text.new.items ≡ text.old.items ++ part_text self.now
-            (line_kind report.now.kind 0) report.now.offset report.now.bytes.now number part.now) }
+        ensures { Adds text.old text.new (part_text self.now (line_kind report.now.kind 0)
+            report.now.offset report.now.bytes.now number part.now) }
     {
         let place = self.part_place(report, number, part);
         let bytes = &report.bytes[part.start()..part.end()];

@@ -112,17 +112,18 @@ impl<W: Output> Standard<W> {
 
     // Writes the text at hand.
     fn write_text(&mut self) -> io::Result<()>
-        ensures written { Writes W.step self.old.writer self.old.draft.text.items result self.new.writer }
-        ensures text { self.new.draft.text.items ≡ self.old.draft.text.items }
+        ensures written { Writes W.step self.old.writer self.old.draft.text.bytes.items result
+            self.new.writer }
+        ensures text { self.new.draft.text.bytes.items ≡ self.old.draft.text.bytes.items }
         ensures config { self.new.config ≡ self.old.config }
         ensures has_written { self.new.has_written
-            ≡ (self.old.has_written || (is_ok result && is_text self.old.draft.text.items)) }
+            ≡ (self.old.has_written || (is_ok result && is_text self.old.draft.text.bytes.items)) }
         ensures has_failed { self.new.has_failed
             ≡ (if is_ok result then self.old.has_failed else true) }
     {
-        match write_all(&mut self.writer, &self.draft.text) {
+        match write_all(&mut self.writer, &self.draft.text.bytes) {
             Ok(()) => {
-                self.has_written = self.has_written || !self.draft.text.is_empty();
+                self.has_written = self.has_written || !self.draft.text.bytes.is_empty();
                 Ok(())
             }
             Err(error) => {

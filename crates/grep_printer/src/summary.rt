@@ -2,6 +2,7 @@
 ghost use Rattle.std.specs.Prelude.{◌≡◌, ◌++◌, ◌||◌, false, true, OnOk};
 ghost use Rattle.std.specs.Prelude.{is_ok, not};
 ghost use Rattle.grep_output.specs.Outputs.{flushes};
+ghost use Rattle.grep_printer.specs.Pushes.{Adds};
 ghost use Rattle.grep_printer.specs.SummarySteps.{WritesSummaryMade};
 ghost use Rattle.grep_printer.specs.SummaryTexts;
 ghost use Rattle.grep_printer.specs.SummaryTexts.{count_line, finish_text};
@@ -10,6 +11,7 @@ ghost use Rattle.grep_printer.specs.SummaryTexts.{has_found, no_counts, path_lin
 use crate::fields::{push_digits, push_path};
 use crate::parts::find_asked_parts;
 use crate::summary_builder::{SummaryConfig, SummaryKind};
+use crate::text::Text;
 use grep_output::{Output, write_all};
 use grep_searcher::{
     FindAt, Match, SearchError, Searcher, Sink, SinkContext, SinkFinish, SinkMatch,
@@ -23,7 +25,7 @@ use std::io;
 pub struct Summary<W> {
     writer: W,
     // The text at hand.
-    text: Vec<u8>,
+    text: Text,
     // The parts of the report at hand that match, if they are counted.
     parts: Vec<Match>,
     config: SummaryConfig,
@@ -39,7 +41,7 @@ impl<W> Summary<W> {
     {
         Summary {
             writer,
-            text: Vec::new(alloc),
+            text: Text::new(alloc),
             parts: Vec::new(alloc),
             config,
             has_failed: false,
@@ -98,7 +100,7 @@ impl<W> Summary<W> {
         ensures writer { self.new.writer ≡ self.old.writer }
         ensures config { self.new.config ≡ self.old.config }
         ensures has_failed { self.new.has_failed ≡ self.old.has_failed }
-        ensures text { OnOk result (self.new.text.items ≡ finish_text self.old.config.kind
+        ensures text { OnOk result (self.new.text.bytes.items ≡ finish_text self.old.config.kind
             self.old.config path.entry terminator counts.now) }
     {
         self.text.clear();
@@ -127,36 +129,30 @@ impl<W> Summary<W> {
             SummaryKind::PathWithoutMatch if counts.match_count == 0 => {
                 push_path_line(&mut self.text, &self.config, path, terminator)
             }
-            _ => Ok(()),
+            _ => {}
         }
+        self.text.made()
     }
 }
 
 // Pushes a count after a path, in a line of its own.
 fn push_count_line(
-    text: &mut Vec<u8>,
+    text: &mut Text,
     config: &SummaryConfig,
     path: Option<&str>,
     terminator: u8,
     count: u64,
-) -> Result<(), AllocError>
-    ensures { OnOk result (text.new.items
-        ≡ text.old.items ++ count_line config.now path.entry terminator count) }
+)
+    ensures { Adds text.old text.new (count_line config.now path.entry terminator count) }
 {
     let mark = config.path_terminator.unwrap_or(b':');
-    push_path(text, config.color_specs.path(), path, mark)?;
+    push_path(text, config.color_specs.path(), path, mark);
     push_digits(text, count, terminator)
 }
 
 // Pushes a path in a line of its own.
-fn push_path_line(
-    text: &mut Vec<u8>,
-    config: &SummaryConfig,
-    path: Option<&str>,
-    terminator: u8,
-) -> Result<(), AllocError>
-    ensures { OnOk result (text.new.items
-        ≡ text.old.items ++ path_line config.now path.entry terminator) }
+fn push_path_line(text: &mut Text, config: &SummaryConfig, path: Option<&str>, terminator: u8)
+    ensures { Adds text.old text.new (path_line config.now path.entry terminator) }
 {
     let mark = config.path_terminator.unwrap_or(terminator);
     push_path(text, config.color_specs.path(), path, mark)
@@ -182,7 +178,7 @@ impl<W: Output> Summary<W> {
             Ok(()) => {}
             Err(error) => return Err(SearchError::from(error)),
         }
-        match write_all(&mut self.writer, &self.text) {
+        match write_all(&mut self.writer, &self.text.bytes) {
             Ok(()) => Ok(()),
             Err(error) => {
                 self.has_failed = true;

@@ -2,13 +2,14 @@ use Rattle.std.proofs.Common.{◌++◌}
 use Rattle.grep_matcher.specs.Lines.{byte_of}
 use Rattle.grep_searcher.specs.Lines.{lines}
 use Rattle.grep_printer.proofs.PartTextLemmas.{IsCrossing}
+use Rattle.grep_printer.proofs.PushLemmas.{HasPushed}
 use Rattle.grep_printer.specs.PartTexts.{across_text}
 use Rattle.grep_printer.specs.Reports.{line_kind}
 use Rattle.grep_printer.proofs.fields.Layout.push_across.Given as goal
 
 abbrev pub invariant-loop-line : goal.invariant-loop-line
 invariant-loop-line l =
-    IsCrossing l.fn.self (line_kind l.fn.report.kind 0) l.fn.report.offset l.fn.report.bytes.now
-    (l.fn.text.items ++ across_text l.fn.self (line_kind l.fn.report.kind 0) l.fn.report.offset l.fn.report.bytes.now l.fn.number 0
+    HasPushed l.fn.text l.text (λ text. IsCrossing l.fn.self (line_kind l.fn.report.kind 0) l.fn.report.offset l.fn.report.bytes.now
+    (l.fn.text.bytes.items ++ across_text l.fn.self (line_kind l.fn.report.kind 0) l.fn.report.offset l.fn.report.bytes.now l.fn.number 0
     (lines (byte_of l.fn.self.terminator) l.fn.report.bytes.now) l.fn.parts)
-    l.text.items l.number l.start l.line-iterator l.rest
+    text l.number l.start l.line-iterator l.rest)

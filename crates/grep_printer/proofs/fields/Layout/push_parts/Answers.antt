@@ -1,12 +1,21 @@
-use Rattle.std.proofs.Common.{length}
-use Rattle.grep_printer.proofs.PartTextLemmas.{writing-more}
+use Rattle.std.proofs.Common.{length, refl, ◌++◌}
+use Rattle.grep_printer.proofs.PartTextLemmas.{IsWriting, writing-more}
+use Rattle.grep_printer.proofs.PushLemmas.{pushed-more}
 use Rattle.grep_printer.specs.PartTexts.{part_text}
 use Rattle.grep_printer.specs.Reports.{line_kind}
 use Rattle.grep_printer.proofs.fields.Layout.push_parts.Goals as goal
 
 pub loop-part-preserved : goal.loop-part-preserved
 loop-part-preserved c =
-    writing-more (part_text c.args.self.now (line_kind c.args.report.now.kind 0) c.args.report.now.offset
-    c.args.report.now.bytes.now c.args.number) (length c.args.report.now.bytes.now) c.args.text.now.items
-    c.args.parts.now c.loop-part.text.items c.loop-part.rest.now c.in-Some.part.now c.in-Some.later.now
-    c.push_part.new.text.items c.loop-part.invariant c.in-Some.ensures.cases.0 c.in_ok-push_part.ensures
+    let high = length c.args.report.now.bytes.now in
+    let texts = part_text c.args.self.now (line_kind c.args.report.now.kind 0) c.args.report.now.offset
+    c.args.report.now.bytes.now c.args.number in
+    let start = c.args.text.now.bytes.items in
+    let pushed = c.loop-part.invariant in
+    let part = c.in-Some.part.now in
+    pushed-more c.args.text.now c.loop-part.text c.push_part.new.text
+    (λ text. IsWriting texts high start c.args.parts.now text c.loop-part.rest.now)
+    (λ text. IsWriting texts high start c.args.parts.now text c.in-Some.later.now) (texts part) pushed
+    c.push_part.ensures
+    (writing-more texts high start c.args.parts.now pushed.bytes c.loop-part.rest.now part c.in-Some.later.now
+    (pushed.bytes ++ texts part) pushed.is c.in-Some.ensures.cases.0 refl)

@@ -32,7 +32,7 @@ returns-clause-step g c =
       has_failed = refl;
     })
     c.told_offset-offset.ensures
-    (subst (λ detection. OnOk c.compose_message-made.result (draft.text.items
+    (subst (λ detection. OnOk c.compose_message-made.result (draft.text.bytes.items
     ≡ message_text (path_color printer.config.color_specs) detection old.path c.told_offset-offset.result))
     c.binary_detection-detection.ensures c.compose_message-made.ensures.text)
     c.compose_message-made.ensures.error c.write.ensures c.ended.ensures

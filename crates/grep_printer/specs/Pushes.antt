@@ -1,0 +1,12 @@
+-- What a push to a text comes to.
+use Rattle.std.specs.Prelude.{◌≡◌, ◌++◌, ℕ, List, false}
+use Rattle.grep_printer.specs.declared.text.Text.{Text}
+
+-- If memory was there, a text has some bytes more at its end.
+abbrev pub Adds : Text → Text → List ℕ → Type 0
+Adds old new bytes =
+    new.has_failed ≡ false → (old.has_failed ≡ false) × (new.bytes.items ≡ old.bytes.items ++ bytes)
+
+-- If memory was there, a text has these bytes.
+abbrev pub Holds : Text → List ℕ → Type 0
+Holds text bytes = text.has_failed ≡ false → text.bytes.items ≡ bytes

@@ -1,0 +1,50 @@
+//! Texts.
+ghost use Rattle.std.specs.Prelude.{◌≡◌, [], false, OnOk};
+ghost use Rattle.grep_printer.specs.Pushes.{Adds};
+
+use std::alloc::{AllocError, Global};
+
+// A text that is made piece by piece. When memory is out it has failed, and nothing more is pushed.
+#[derive(Drop)]
+pub(crate) struct Text {
+    pub(crate) bytes: Vec<u8>,
+    pub(crate) has_failed: bool,
+}
+
+impl Text {
+    // No text.
+    pub(crate) fn new(alloc: Global) -> Text {
+        Text {
+            bytes: Vec::new(alloc),
+            has_failed: false,
+        }
+    }
+
+    // Begins a text, which is empty.
+    pub(crate) fn clear(&mut self)
+        ensures has_failed { self.new.has_failed ≡ false }
+        ensures bytes { self.new.bytes.items ≡ [] }
+    {
+        self.has_failed = false;
+        self.bytes.clear();
+    }
+
+    // Pushes bytes.
+    pub(crate) fn push(&mut self, bytes: &[u8])
+        ensures { Adds self.old self.new bytes.now }
+    {
+        if !self.has_failed {
+            self.has_failed = self.bytes.extend_from_slice(bytes).is_err();
+        }
+    }
+
+    // Whether the text was made.
+    pub(crate) fn made(&self) -> Result<(), AllocError>
+        ensures { OnOk result (self.now.has_failed ≡ false) }
+    {
+        if self.has_failed {
+            return Err(AllocError);
+        }
+        Ok(())
+    }
+}
