@@ -75,7 +75,7 @@ module _ (frame : JsonFrame) (progress : JsonProgress) where
 -- a text is made, and what was reported with it
 pub record IsMade (made wanted : List ℕ) (progress reported : JsonProgress) : Type 0 where
   pub text : made ≡ wanted
-  pub told : progress ≡ reported
+  pub reports : progress ≡ reported
 
 module _ {M W F : Type 0} (facts : M → MatcherFacts F) (first_at : M → List ℕ → ℕ → Option (ℕ × ℕ))
     (write_step : W → OutputCall → W → Type 0) where
@@ -99,7 +99,7 @@ module _ {M W F : Type 0} (facts : M → MatcherFacts F) (first_at : M → List 
             new.printer.now.writer) composing.writer
             (subst (λ t. WritesAll write_step mid.printer.now.writer t new.printer.now.writer) all.text
             written.written);
-        progress = written.progress ∙ all.told;
+        progress = written.progress ∙ all.reports;
         has_failed = written.has_failed ∙ composing.has_failed;
       }
   json-made old mid new settings call made progress (Err e) composing text error (inl (is, failed)) =
@@ -114,7 +114,7 @@ module _ {M W F : Type 0} (facts : M → MatcherFacts F) (first_at : M → List 
               new.printer.now.writer) composing.writer
               (subst (λ t. FailsToWrite write_step mid.printer.now.writer t failed.error new.printer.now.writer)
               all.text failed.failed);
-          progress = failed.progress ∙ all.told;
+          progress = failed.progress ∙ all.reports;
           has_failed = failed.has_failed;
         });
       }
@@ -159,7 +159,7 @@ module _ {M W F : Type 0} (facts : M → MatcherFacts F) (first_at : M → List 
       ∙ json_text-report frame old.progress report) in
       record {
         text = whole;
-        told = after ∙ (ap (λ (t : List ℕ). after_report old.progress (length t) report (length submatches) terminator)
+        reports = after ∙ (ap (λ (t : List ℕ). after_report old.progress (length t) report (length submatches) terminator)
             whole ∙ (ap (λ (ps : List (ℕ × ℕ)). after_report old.progress
             (length (json_text frame old.progress (call_of report))) report (length ps) terminator) same
             ∙ json_progress-report frame old.progress report));

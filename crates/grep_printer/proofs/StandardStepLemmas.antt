@@ -126,10 +126,10 @@ module _ {M W F : Type 0} (facts : M → MatcherFacts F) (first_at : M → List 
       → IfErr made (λ e. IsOutOfMemory e)
       → WritesMade write_step mid made old.progress result new → finish_result end ≡ result
       → PrintsCall facts first_at write_step old settings (finishes count binary) (finish_result end) new
-  finish-made old mid new settings count binary offset made result end composing told text error written ended =
+  finish-made old mid new settings count binary offset made result end composing reported text error written ended =
       subst (λ r. PrintsCall facts first_at write_step old settings (finishes count binary) r new) (sym ended)
       (prints-made facts first_at write_step old mid new settings (finishes count binary) made old.progress result
-      composing (on_ok_weaker made (λ is. is ∙ (ap message told ∙ chosen old.progress.has_match)) text)
+      composing (on_ok_weaker made (λ is. is ∙ (ap message reported ∙ chosen old.progress.has_match)) text)
       (IfErr-weaker made (λ e. IsOutOfMemory e) (λ e. IsOutOfMemory e ⊎ IsErrorAt facts old settings [] e)
       (λ e memory. inl memory) error) refl refl written)
     where

@@ -32,23 +32,23 @@ pub record IsComposingJson {M W : Type 0} (old new : JsonSink M W) : Type 0 wher
 
 -- the text at hand was written, and this is what was reported then
 pub record IsJsonWritten {M W : Type 0} (write_step : W → OutputCall → W → Type 0)
-    (old : JsonSink M W) (told : JsonProgress) (new : JsonSink M W) : Type 0 where
+    (old : JsonSink M W) (reported : JsonProgress) (new : JsonSink M W) : Type 0 where
   pub same : IsSameJson old new
   pub written : WritesAll write_step old.printer.now.writer old.printer.now.draft.text.items
       new.printer.now.writer
-  pub progress : new.progress ≡ told
+  pub progress : new.progress ≡ reported
   pub has_failed : new.printer.now.has_failed ≡ old.printer.now.has_failed
 
 -- the writer failed after some first bytes of it
 pub record FailsToWriteJson {M W : Type 0} (write_step : W → OutputCall → W → Type 0)
-    (old : JsonSink M W) (told : JsonProgress) (e : SearchError Global) (new : JsonSink M W)
+    (old : JsonSink M W) (reported : JsonProgress) (e : SearchError Global) (new : JsonSink M W)
     : Type 0 where
   pub same : IsSameJson old new
   pub error : Error
   pub is_io : e ≡ Io error
   pub failed : FailsToWrite write_step old.printer.now.writer old.printer.now.draft.text.items error
       new.printer.now.writer
-  pub progress : new.progress ≡ told
+  pub progress : new.progress ≡ reported
   pub has_failed : new.printer.now.has_failed ≡ true
 
 -- the text at hand is written if it was made, and nothing is if it wasn't

@@ -32,25 +32,25 @@ pub record IsComposing {M W : Type 0} (old new : StandardSink M W) : Type 0 wher
 
 -- the text at hand was written, and this is what was reported then
 pub record IsWritten {M W : Type 0} (write_step : W → OutputCall → W → Type 0)
-    (old : StandardSink M W) (told : Progress) (new : StandardSink M W) : Type 0 where
+    (old : StandardSink M W) (reported : Progress) (new : StandardSink M W) : Type 0 where
   pub same : IsSameSink old new
   pub written : WritesAll write_step old.printer.now.writer old.printer.now.draft.text.bytes.items
       new.printer.now.writer
-  pub progress : new.progress ≡ told
+  pub progress : new.progress ≡ reported
   pub has_written : new.printer.now.has_written
       ≡ (old.printer.now.has_written || is_text old.printer.now.draft.text.bytes.items)
   pub has_failed : new.printer.now.has_failed ≡ old.printer.now.has_failed
 
 -- the writer failed after some first bytes of it
 pub record FailsToBeWritten {M W : Type 0} (write_step : W → OutputCall → W → Type 0)
-    (old : StandardSink M W) (told : Progress) (e : SearchError Global)
+    (old : StandardSink M W) (reported : Progress) (e : SearchError Global)
     (new : StandardSink M W) : Type 0 where
   pub same : IsSameSink old new
   pub error : Error
   pub is_io : e ≡ Io error
   pub failed : FailsToWrite write_step old.printer.now.writer old.printer.now.draft.text.bytes.items error
       new.printer.now.writer
-  pub progress : new.progress ≡ told
+  pub progress : new.progress ≡ reported
   pub has_written : new.printer.now.has_written ≡ old.printer.now.has_written
   pub has_failed : new.printer.now.has_failed ≡ true
 

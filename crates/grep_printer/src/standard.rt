@@ -157,8 +157,8 @@ impl Progress {
         }
     }
 
-    // The offset of a binary byte that is told at the end of a search: only if it found a match.
-    fn told_offset(&self, finish: &SinkFinish) -> Option<u64>
+    // The offset of a binary byte that is reported at the end of a search: only if it found a match.
+    fn reported_offset(&self, finish: &SinkFinish) -> Option<u64>
         ensures { result
             ≡ (if self.now.has_match then finish.now.binary_byte_offset else None) }
     {
@@ -318,7 +318,7 @@ impl<'s, M: FindAt, W: Output> Sink for StandardSink<'s, M, W> {
         searcher: &Searcher<A>,
         finish: &SinkFinish,
     ) -> Result<(), SearchError> {
-        let offset = self.progress.told_offset(finish);
+        let offset = self.progress.reported_offset(finish);
         let colors = self.printer.config.color_specs;
         let detection = searcher.binary_detection();
         let draft = &mut self.printer.draft;

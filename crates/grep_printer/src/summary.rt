@@ -1,7 +1,8 @@
 //! The printer of summaries: counts, and paths.
-ghost use Rattle.std.specs.Prelude.{◌≡◌, ◌++◌, ◌||◌, false, true, OnOk};
+ghost use Rattle.std.specs.Prelude.{◌≡◌, ◌++◌, ◌||◌, false, true, IfErr, OnOk};
 ghost use Rattle.std.specs.Prelude.{is_ok, not};
 ghost use Rattle.grep_output.specs.Outputs.{flushes};
+ghost use Rattle.grep_searcher.specs.SearchErrors.{IsOutOfMemory};
 ghost use Rattle.grep_printer.specs.Pushes.{Adds};
 ghost use Rattle.grep_printer.specs.SummarySteps.{WritesSummaryMade};
 ghost use Rattle.grep_printer.specs.SummaryTexts;
@@ -16,7 +17,7 @@ use grep_output::{Output, write_all};
 use grep_searcher::{
     FindAt, Match, SearchError, Searcher, Sink, SinkContext, SinkFinish, SinkMatch,
 };
-use std::alloc::{AllocError, Allocator, Global};
+use std::alloc::{Allocator, Global};
 use std::io;
 
 /// A printer of summaries: it writes one line for a search, or none. `sink` gives the sink of one
@@ -96,12 +97,13 @@ impl<W> Summary<W> {
         path: Option<&str>,
         terminator: u8,
         counts: &Counts,
-    ) -> Result<(), AllocError>
+    ) -> Result<(), SearchError>
         ensures writer { self.new.writer ≡ self.old.writer }
         ensures config { self.new.config ≡ self.old.config }
         ensures has_failed { self.new.has_failed ≡ self.old.has_failed }
         ensures text { OnOk result (self.new.text.bytes.items ≡ finish_text self.old.config.kind
             self.old.config path.entry terminator counts.now) }
+        ensures error { IfErr result (λ e. IsOutOfMemory e) }
     {
         self.text.clear();
         match self.config.kind {
@@ -171,12 +173,13 @@ impl<W: Output> Summary<W> {
     }
 
     // Writes the text at hand if it was made.
-    fn write(&mut self, made: Result<(), AllocError>) -> Result<(), SearchError>
+    fn write(&mut self, made: Result<(), SearchError>) -> Result<(), SearchError>
+        requires { IfErr made (λ e. IsOutOfMemory e) }
         ensures { WritesSummaryMade W.step self.old made result self.new }
     {
         match made {
             Ok(()) => {}
-            Err(error) => return Err(SearchError::from(error)),
+            Err(error) => return Err(error),
         }
         match write_all(&mut self.writer, &self.text.bytes) {
             Ok(()) => Ok(()),

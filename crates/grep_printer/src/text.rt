@@ -1,7 +1,9 @@
 //! Texts.
-ghost use Rattle.std.specs.Prelude.{◌≡◌, [], false, OnOk};
+ghost use Rattle.std.specs.Prelude.{◌≡◌, [], false, IfErr, OnOk};
+ghost use Rattle.grep_searcher.specs.SearchErrors.{IsOutOfMemory};
 ghost use Rattle.grep_printer.specs.Pushes.{Adds};
 
+use grep_searcher::SearchError;
 use std::alloc::{AllocError, Global};
 
 // A text that is made piece by piece. When memory is out it has failed, and nothing more is pushed.
@@ -39,11 +41,12 @@ impl Text {
     }
 
     // Whether the text was made.
-    pub(crate) fn made(&self) -> Result<(), AllocError>
-        ensures { OnOk result (self.now.has_failed ≡ false) }
+    pub(crate) fn made(&self) -> Result<(), SearchError>
+        ensures text { OnOk result (self.now.has_failed ≡ false) }
+        ensures error { IfErr result (λ e. IsOutOfMemory e) }
     {
         if self.has_failed {
-            return Err(AllocError);
+            return Err(SearchError::from(AllocError));
         }
         Ok(())
     }

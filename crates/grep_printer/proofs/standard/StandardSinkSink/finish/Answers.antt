@@ -22,7 +22,7 @@ returns-clause-step g c =
     let finish = c.args.finish.now in
     finish-made g.M.Matcher.facts g.M.FindAt.first_at g.W.Output.step old
     (record old { printer = record old.printer { now = record printer { draft = draft } } }) c.write.new.self
-    c.args.searcher.now.settings finish.byte_count finish.binary_byte_offset c.told_offset-offset.result
+    c.args.searcher.now.settings finish.byte_count finish.binary_byte_offset c.reported_offset-offset.result
     c.compose_message-made.result c.write.result c.ended.result
     (record {
       same = record { printer = refl; matcher = refl; path = refl; config = refl };
@@ -31,8 +31,8 @@ returns-clause-step g c =
       has_written = refl;
       has_failed = refl;
     })
-    c.told_offset-offset.ensures
+    c.reported_offset-offset.ensures
     (subst (λ detection. OnOk c.compose_message-made.result (draft.text.bytes.items
-    ≡ message_text (path_color printer.config.color_specs) detection old.path c.told_offset-offset.result))
+    ≡ message_text (path_color printer.config.color_specs) detection old.path c.reported_offset-offset.result))
     c.binary_detection-detection.ensures c.compose_message-made.ensures.text)
     c.compose_message-made.ensures.error c.write.ensures c.ended.ensures
