@@ -312,14 +312,6 @@ const ROWS: &[Row] = &[
     },
 ];
 
-// Counts and paths, which aren't written as messages in JSON.
-const OTHER_OUTPUTS: &[&str] = &[
-    "count",
-    "count-matches",
-    "files-with-matches",
-    "files-without-match",
-];
-
 /// The command line of the program. The only error is being out of memory.
 pub fn command<'a>(alloc: Global) -> Result<Command<'a>, AllocError> {
     match json(alloc) {
@@ -376,18 +368,19 @@ fn operands<'a>(alloc: Global) -> Arg<'a> {
         .help("A pattern, unless -e or -f has one, and the paths of files")
 }
 
+// Counts and paths aren't written as messages in JSON.
 fn json<'a>(alloc: Global) -> Result<Arg<'a>, AllocError> {
-    let mut json = Arg::new(alloc, "json")
+    let others = [
+        "count",
+        "count-matches",
+        "files-with-matches",
+        "files-without-match",
+    ];
+    Arg::new(alloc, "json")
         .long("json")
         .action(ArgAction::SetTrue)
-        .help("Write messages in JSON");
-    for other in OTHER_OUTPUTS {
-        match json.conflicts_with(*other) {
-            Ok(next) => json = next,
-            Err(error) => return Err(error),
-        }
-    }
-    Ok(json)
+        .help("Write messages in JSON")
+        .conflicts_with_all(&others)
 }
 
 impl Row {
