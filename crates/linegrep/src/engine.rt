@@ -1,19 +1,14 @@
-//! A searcher, a matcher, a printer and the input, which search as one.
-use crate::haystacks::Haystack;
+//! A searcher, a matcher and a printer, which search as one.
 use crate::printers::{Printer, Searched};
 use grep_output::Output;
 use grep_searcher::{BinaryDetection, FindAt, SearchError, Searcher, Source};
-use std::fs::File;
 use std::io;
 
-/// What searches files and the input, and writes what is found. A run over files is generic in it,
-/// and so is proved without what a searcher, a printer and the input consist of.
+/// What searches haystacks, and writes what is found. A run over files is generic in it, and so
+/// is proved without what a searcher and a printer consist of.
 pub trait Engine {
-    /// Searches a file, and writes what is found in it, with a path if there is one.
-    fn search_file(&mut self, file: &mut File, path: Option<&str>) -> Searched;
-
-    /// Searches the input, and writes what is found in it, with a name if there is one.
-    fn search_input(&mut self, name: Option<&str>) -> Searched;
+    /// Searches a haystack, and writes what is found in it, with a path if there is one.
+    fn search<H: Source>(&mut self, haystack: &mut H, path: Option<&str>) -> Searched;
 
     /// From now on the search of a binary file ends where that shows, or goes on as it did at
     /// first.
@@ -27,50 +22,40 @@ pub trait Engine {
     fn finish(&mut self) -> io::Result<()>;
 }
 
-/// The engine of a searcher, a matcher, a printer and the input.
+/// The engine of a searcher, a matcher and a printer.
 #[derive(Drop)]
-pub struct PrintingEngine<'e, M, R, W> {
+pub struct PrintingEngine<'e, M, W> {
     rt: &'e HostRuntime,
     searcher: &'e mut Searcher,
     matcher: M,
     printer: &'e mut Printer<W>,
-    input: &'e mut R,
     // What the searcher did at first about binary files.
     detection: BinaryDetection,
 }
 
-impl<'e, M, R, W> PrintingEngine<'e, M, R, W> {
+impl<'e, M, W> PrintingEngine<'e, M, W> {
     /// An engine, by whose clock messages say how long a search took.
     pub fn new(
         rt: &'e HostRuntime,
         searcher: &'e mut Searcher,
         matcher: M,
         printer: &'e mut Printer<W>,
-        input: &'e mut R,
-    ) -> PrintingEngine<'e, M, R, W> {
+    ) -> PrintingEngine<'e, M, W> {
         let detection = *searcher.binary_detection();
         PrintingEngine {
             rt,
             searcher,
             matcher,
             printer,
-            input,
             detection,
         }
     }
 }
 
-impl<'e, M: FindAt + Copy, R: Source, W: Output> Engine for PrintingEngine<'e, M, R, W> {
-    fn search_file(&mut self, file: &mut File, path: Option<&str>) -> Searched {
-        let mut haystack: Haystack<'_, File, R> = Haystack::File(file);
+impl<'e, M: FindAt + Copy, W: Output> Engine for PrintingEngine<'e, M, W> {
+    fn search<H: Source>(&mut self, haystack: &mut H, path: Option<&str>) -> Searched {
         self.printer
-            .search(self.rt, self.searcher, self.matcher, &mut haystack, path)
-    }
-
-    fn search_input(&mut self, name: Option<&str>) -> Searched {
-        let mut haystack: Haystack<'_, File, R> = Haystack::Reader(&mut *self.input);
-        self.printer
-            .search(self.rt, self.searcher, self.matcher, &mut haystack, name)
+            .search(self.rt, self.searcher, self.matcher, haystack, path)
     }
 
     fn set_quits(&mut self, quits: bool) {

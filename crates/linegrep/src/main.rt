@@ -19,7 +19,7 @@ mod wildcards;
 use crate::command::command;
 use crate::failures::Failure;
 use crate::options::{build_printer, searcher};
-use crate::patterns::read_patterns;
+use crate::patterns::Operands;
 use crate::search::search_all;
 use clap::ArgMatches;
 use grep_output::{Output, Writing};
@@ -58,30 +58,30 @@ fn parse<'w>(alloc: Global, words: &'w [String]) -> Result<ArgMatches<'w>, clap:
 
 // Searches what parsed arguments name.
 fn search_parsed(rt: &HostRuntime, matches: &ArgMatches<'_>) -> Result<ExitCode, Failure> {
-    let patterns = read_patterns(rt, matches)?;
-    search_patterns(rt, matches, &patterns)
+    let operands = Operands::read(rt, matches)?;
+    search_operands(rt, matches, &operands)
 }
 
-// Searches for patterns. A terminal gets each text at once.
-fn search_patterns(
+// Searches what the operands name. A terminal gets each text at once.
+fn search_operands(
     rt: &HostRuntime,
     matches: &ArgMatches<'_>,
-    patterns: &[String],
+    operands: &Operands,
 ) -> Result<ExitCode, Failure> {
     let stdout = rt.stdout();
     let is_terminal = stdout.is_terminal();
     let room = if is_terminal { 0 } else { ROOM };
     match BufWriter::with_capacity(rt.alloc(), room, stdout) {
-        Ok(writer) => search_to(rt, matches, patterns, is_terminal, Writing::new(writer)),
+        Ok(writer) => search_to(rt, matches, operands, is_terminal, Writing::new(writer)),
         Err(error) => Err(Failure::System(error)),
     }
 }
 
-// Searches for patterns, and writes what is found to `writer`.
+// Searches what the operands name, and writes what is found to `writer`.
 fn search_to<W: Output + Drop>(
     rt: &HostRuntime,
     matches: &ArgMatches<'_>,
-    patterns: &[String],
+    operands: &Operands,
     is_terminal: bool,
     writer: W,
 ) -> Result<ExitCode, Failure> {
@@ -91,7 +91,7 @@ fn search_to<W: Output + Drop>(
     search_all(
         rt,
         matches,
-        patterns,
+        operands,
         &mut searcher,
         &mut printer,
         &mut input,

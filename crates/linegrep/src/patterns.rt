@@ -1,4 +1,4 @@
-//! The patterns that are searched for.
+//! The patterns that are searched for, and the paths.
 use crate::failures::Failure;
 use crate::options::line_terminator;
 use clap::ArgMatches;
@@ -7,53 +7,57 @@ use grep_searcher::LineTerminator;
 use std::alloc::{AllocError, Global};
 use std::{fs, io};
 
-/// Reads the texts of the patterns: those of `-e`, then those of the files of `-f`, which have one
-/// in each line, or if neither is used the first operand. A failure is that there is no pattern,
-/// that a file can't be read, or that there is no memory.
-pub fn read_patterns(rt: &HostRuntime, matches: &ArgMatches<'_>) -> Result<Vec<String>, Failure> {
-    let mut patterns = Vec::new(rt.alloc());
-    match add_patterns(rt, matches, &mut patterns) {
-        Ok(()) => Ok(patterns),
-        Err(failure) => Err(failure),
-    }
+/// The patterns and the paths that the arguments name.
+#[derive(Drop)]
+pub struct Operands {
+    /// The texts of the patterns: those of `-e`, then those of the files of `-f`, or if neither is
+    /// used the first operand.
+    pub patterns: Vec<String>,
+    /// The other operands.
+    pub paths: Vec<String>,
 }
 
-/// How many operands are patterns: the first, unless options name the patterns.
-pub fn pattern_operands(matches: &ArgMatches<'_>) -> usize {
-    if has_options(matches) { 0 } else { 1 }
-}
-
-// Whether options name the patterns.
-fn has_options(matches: &ArgMatches<'_>) -> bool {
-    matches.contains_id("regexp") || matches.contains_id("file")
-}
-
-// Adds the texts of the patterns.
-fn add_patterns(
-    rt: &HostRuntime,
-    matches: &ArgMatches<'_>,
-    patterns: &mut Vec<String>,
-) -> Result<(), Failure> {
-    if has_options(matches) {
-        let given = matches.get_strs("regexp").unwrap_or(&[]);
-        add_texts(rt.alloc(), patterns, given)?;
-        return add_files(rt, patterns, matches.get_strs("file").unwrap_or(&[]));
-    }
-    match matches.get_str("operands") {
-        Some(pattern) => Ok(add_text(rt.alloc(), patterns, pattern)?),
-        None => Err(Failure::NoPattern),
-    }
-}
-
-// Adds the lines of files.
-fn add_files(rt: &HostRuntime, texts: &mut Vec<String>, files: &[&str]) -> Result<(), Failure> {
-    for file in files {
-        match fs::read_to_string(rt, *file) {
-            Ok(text) => add_lines(rt.alloc(), texts, text.as_str())?,
-            Err(error) => return Err(unread(rt.alloc(), file, error)),
+impl Operands {
+    /// Reads them from parsed arguments, and from the files of patterns, which have one in each
+    /// line. A failure is that there is no pattern, that a file can't be read, or that there is no
+    /// memory.
+    pub fn read(rt: &HostRuntime, matches: &ArgMatches<'_>) -> Result<Operands, Failure> {
+        let mut operands = Operands {
+            patterns: Vec::new(rt.alloc()),
+            paths: Vec::new(rt.alloc()),
+        };
+        match operands.add_all(rt, matches) {
+            Ok(()) => Ok(operands),
+            Err(failure) => Err(failure),
         }
     }
-    Ok(())
+
+    fn add_all(&mut self, rt: &HostRuntime, matches: &ArgMatches<'_>) -> Result<(), Failure> {
+        let patterns = matches.get_strs("regexp").unwrap_or(&[]);
+        let files = matches.get_strs("file").unwrap_or(&[]);
+        let operands = matches.get_strs("operands").unwrap_or(&[]);
+        if !(patterns.is_empty() && files.is_empty()) {
+            add_texts(rt.alloc(), &mut self.patterns, patterns)?;
+            add_texts(rt.alloc(), &mut self.paths, operands)?;
+            return self.add_files(rt, files);
+        }
+        let [pattern, paths @ ..] = operands else {
+            return Err(Failure::NoPattern);
+        };
+        add_text(rt.alloc(), &mut self.patterns, pattern)?;
+        Ok(add_texts(rt.alloc(), &mut self.paths, paths)?)
+    }
+
+    // Adds the lines of files to the patterns.
+    fn add_files(&mut self, rt: &HostRuntime, files: &[&str]) -> Result<(), Failure> {
+        for file in files {
+            match fs::read_to_string(rt, *file) {
+                Ok(text) => add_lines(rt.alloc(), &mut self.patterns, text.as_str())?,
+                Err(error) => return Err(unread(rt.alloc(), file, error)),
+            }
+        }
+        Ok(())
+    }
 }
 
 fn add_lines(alloc: Global, texts: &mut Vec<String>, text: &str) -> Result<(), AllocError> {
@@ -145,19 +149,14 @@ fn has_capital(pattern: &str) -> bool {
 
 // The failure of patterns, with the text of the one that is wrong, or none if that isn't known.
 fn refused(alloc: Global, error: Error, texts: &[&str]) -> Failure {
-    match String::from_str(alloc, wrong_text(&error, texts)) {
+    let index = match &error {
+        Error::Syntax { pattern, error: _ } => *pattern,
+        _ if texts.len() == 1 => 0,
+        _ => texts.len(),
+    };
+    let text = texts.get(index).copied().unwrap_or("");
+    match String::from_str(alloc, text) {
         Ok(text) => Failure::Pattern(text, error),
         Err(error) => Failure::from(error),
-    }
-}
-
-// The text of the pattern that is wrong, or an empty one if it isn't known.
-fn wrong_text<'t>(error: &Error, texts: &[&'t str]) -> &'t str {
-    match error {
-        Error::Syntax { pattern, error: _ } => texts.get(*pattern).copied().unwrap_or(""),
-        _ => match texts {
-            [text] => *text,
-            _ => "",
-        },
     }
 }

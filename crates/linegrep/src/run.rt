@@ -1,11 +1,13 @@
 //! A run over files.
 use crate::engine::{Engine, written_error};
 use crate::failures::{Failure, report_cause};
+use crate::globs::Globs;
+use crate::haystacks::Haystack;
 use crate::options::shows_paths;
 use crate::printers::Searched;
 use crate::walk::{Entry, Walk};
 use clap::ArgMatches;
-use grep_searcher::SearchError;
+use grep_searcher::Source;
 use std::fmt::Display;
 use std::fs::File;
 use std::process::ExitCode;
@@ -18,6 +20,7 @@ const STDIN: &str = "<stdin>";
 #[derive(Clone, Copy)]
 pub struct Flags {
     is_recursive: bool,
+    shows_hidden: bool,
     shows_paths: bool,
     is_silent: bool,
     is_quiet: bool,
@@ -25,11 +28,12 @@ pub struct Flags {
 
 impl Flags {
     /// What parsed arguments say of a run over the files at some paths.
-    pub fn new(rt: &HostRuntime, matches: &ArgMatches<'_>, paths: &[&str]) -> Flags {
+    pub fn new(rt: &HostRuntime, matches: &ArgMatches<'_>, paths: &[String]) -> Flags {
         let is_recursive = matches.get_flag("recursive");
         let names_folder = is_recursive && names_folder(rt, paths);
         Flags {
             is_recursive,
+            shows_hidden: matches.get_flag("hidden"),
             shows_paths: shows_paths(matches, names_folder || paths.len() > 1),
             is_silent: matches.get_flag("no-messages"),
             is_quiet: matches.get_flag("quiet"),
@@ -44,10 +48,11 @@ impl Flags {
 
 /// A run over files: what it searches with, and what came of those that it has searched.
 #[derive(Drop)]
-pub struct Run<'r, 'w, E> {
+pub struct Run<'r, E, R> {
     rt: &'r HostRuntime,
     engine: &'r mut E,
-    walk: &'r mut Walk<'w>,
+    globs: &'r mut Globs,
+    input: &'r mut R,
     flags: Flags,
     has_match: bool,
     has_error: bool,
@@ -55,18 +60,24 @@ pub struct Run<'r, 'w, E> {
     failure: Option<io::Error>,
 }
 
-impl<'r, 'w, E: Engine> Run<'r, 'w, E> {
+impl<'r, E, R> Run<'r, E, R>
+where
+    E: Engine,
+    R: Source,
+{
     /// A run that has searched nothing yet.
     pub fn new(
         rt: &'r HostRuntime,
         engine: &'r mut E,
-        walk: &'r mut Walk<'w>,
+        globs: &'r mut Globs,
+        input: &'r mut R,
         flags: Flags,
-    ) -> Run<'r, 'w, E> {
+    ) -> Run<'r, E, R> {
         Run {
             rt,
             engine,
-            walk,
+            globs,
+            input,
             flags,
             has_match: false,
             has_error: false,
@@ -75,30 +86,22 @@ impl<'r, 'w, E: Engine> Run<'r, 'w, E> {
     }
 
     /// Searches the files at some paths, writes what is left, and gives the status.
-    pub fn complete(&mut self, paths: &[&str]) -> Result<ExitCode, Failure> {
+    pub fn complete(&mut self, paths: &[String]) -> Result<ExitCode, Failure> {
         self.search_paths(paths);
         match self.failure.take() {
             None => self.finish(),
-            Some(error) => Err(self.failure_of(error)),
-        }
-    }
-
-    // The failure of a run that an error ends.
-    fn failure_of(&self, error: io::Error) -> Failure {
-        if self.engine.has_failed() {
-            Failure::Output(error)
-        } else {
-            Failure::System(error)
+            Some(error) if self.engine.has_failed() => Err(Failure::Output(error)),
+            Some(error) => Err(Failure::System(error)),
         }
     }
 
     // Searches the files at some paths.
-    fn search_paths(&mut self, paths: &[&str]) {
+    fn search_paths(&mut self, paths: &[String]) {
         if paths.is_empty() {
             self.search_default();
         }
         for path in paths {
-            self.search_operand(path);
+            self.search_operand(path.as_str());
             if self.is_over() {
                 break;
             }
@@ -134,32 +137,32 @@ impl<'r, 'w, E: Engine> Run<'r, 'w, E> {
     // searched as text.
     fn search_folder(&mut self, folder: &str) {
         self.engine.set_quits(true);
-        self.walk.start(folder);
-        self.visit_all();
+        let mut walk = Walk::new(self.rt, self.flags.shows_hidden, folder);
+        self.visit_all(&mut walk);
         self.engine.set_quits(false);
     }
 
     // Searches what a walk through a folder finds.
-    fn visit_all(&mut self) {
+    fn visit_all(&mut self, walk: &mut Walk<'r>) {
         for _ in 0..u64::MAX {
-            match self.walk.pop() {
-                Some(entry) => self.visit(&entry),
+            match walk.pop() {
+                Some(entry) => self.visit(walk, &entry),
                 None => break,
             }
             if self.is_over() {
                 return;
             }
         }
-        if self.walk.is_out_of_memory() {
+        if walk.is_out_of_memory() {
             self.failure = Some(io::Error::from(io::ErrorKind::OutOfMemory));
         }
     }
 
     // Searches a file, enters a folder, or says why something can't be read.
-    fn visit(&mut self, entry: &Entry) {
+    fn visit(&mut self, walk: &mut Walk<'r>, entry: &Entry) {
         match entry {
             Entry::File(path) => self.search_path(path.as_str()),
-            Entry::Folder(path) => self.walk.enter(path.as_str()),
+            Entry::Folder(path) => walk.enter(self.globs, path.as_str()),
             Entry::Unread(path, error) => self.report(path.as_str(), error),
         }
     }
@@ -173,30 +176,25 @@ impl<'r, 'w, E: Engine> Run<'r, 'w, E> {
     }
 
     fn search_file(&mut self, path: &str, file: &mut File) {
-        let searched = self.engine.search_file(file, self.flags.shown(path));
+        let mut haystack: Haystack<'_, File, R> = Haystack::File(file);
+        let searched = self.engine.search(&mut haystack, self.flags.shown(path));
         self.keep(path, searched);
     }
 
     // Searches standard input.
     fn search_input(&mut self) {
-        let searched = self.engine.search_input(self.flags.shown(STDIN));
+        let mut haystack: Haystack<'_, File, R> = Haystack::Reader(&mut *self.input);
+        let searched = self.engine.search(&mut haystack, self.flags.shown(STDIN));
         self.keep(STDIN, searched);
     }
 
-    // Goes on after a search.
+    // Goes on after a search. An error of reading is reported; one of writing ends the run.
     fn keep(&mut self, path: &str, searched: Searched) {
         self.has_match = self.has_match || searched.has_match;
-        if let Err(error) = searched.result {
-            self.keep_error(path, error);
-        }
-    }
-
-    // Goes on after an error. One of reading is reported; one of writing ends the run.
-    fn keep_error(&mut self, path: &str, error: SearchError) {
-        if self.engine.has_failed() {
-            self.failure = Some(written_error(error));
-        } else {
-            self.report(path, &error);
+        match searched.result {
+            Ok(()) => {}
+            Err(error) if self.engine.has_failed() => self.failure = Some(written_error(error)),
+            Err(error) => self.report(path, &error),
         }
     }
 
@@ -228,9 +226,9 @@ impl<'r, 'w, E: Engine> Run<'r, 'w, E> {
 }
 
 // Whether there is a folder at one of the paths, or no path at all.
-fn names_folder(rt: &HostRuntime, paths: &[&str]) -> bool {
+fn names_folder(rt: &HostRuntime, paths: &[String]) -> bool {
     for path in paths {
-        if *path != "-" && is_folder(rt, path) {
+        if path.as_str() != "-" && is_folder(rt, path.as_str()) {
             return true;
         }
     }

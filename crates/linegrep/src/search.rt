@@ -4,10 +4,9 @@ ghost use Rattle.grep_regex.specs.Views.{IsNamed};
 use crate::engine::{Engine, PrintingEngine};
 use crate::failures::Failure;
 use crate::globs::Globs;
-use crate::patterns::{compile, pattern_operands};
+use crate::patterns::{Operands, compile};
 use crate::printers::Printer;
 use crate::run::{Flags, Run};
-use crate::walk::Walk;
 use clap::ArgMatches;
 use grep_output::Output;
 use grep_regex::{Naming, Regex};
@@ -22,19 +21,28 @@ use std::process::ExitCode;
 pub fn search_all<R: Source, W: Output>(
     rt: &HostRuntime,
     matches: &ArgMatches<'_>,
-    patterns: &[String],
+    operands: &Operands,
     searcher: &mut Searcher,
     printer: &mut Printer<W>,
     input: &mut R,
 ) -> Result<ExitCode, Failure> {
-    let regex = compile(rt.alloc(), matches, patterns)?;
-    search_named::<Brand, R, W>(rt, matches, &regex, searcher, printer, input)
+    let regex = compile(rt.alloc(), matches, &operands.patterns)?;
+    search_named::<Brand, R, W>(
+        rt,
+        matches,
+        &operands.paths,
+        &regex,
+        searcher,
+        printer,
+        input,
+    )
 }
 
 // Searches for a compiled expression, which `N` names: no call of its matcher compares texts.
 fn search_named<N: Naming, R: Source, W: Output>(
     rt: &HostRuntime,
     matches: &ArgMatches<'_>,
+    paths: &[String],
     regex: &Regex,
     searcher: &mut Searcher,
     printer: &mut Printer<W>,
@@ -44,7 +52,7 @@ where
     requires { IsNamed N.options N.patterns regex.now }
 {
     match regex.named_matcher::<N>(rt.alloc()) {
-        Ok(matcher) => search_matcher(rt, matches, &matcher, searcher, printer, input),
+        Ok(matcher) => search_matcher(rt, matches, paths, &matcher, searcher, printer, input),
         Err(error) => Err(Failure::from(error)),
     }
 }
@@ -53,26 +61,26 @@ where
 fn search_matcher<'e, M: FindAt, R: Source, W: Output>(
     rt: &'e HostRuntime,
     matches: &ArgMatches<'_>,
+    paths: &[String],
     matcher: &'e M,
     searcher: &'e mut Searcher,
     printer: &'e mut Printer<W>,
-    input: &'e mut R,
+    input: &mut R,
 ) -> Result<ExitCode, Failure> {
     let mut globs = Globs::read(rt.alloc(), matches)?;
-    let mut engine = PrintingEngine::new(rt, searcher, matcher, printer, input);
-    search_chosen(rt, matches, &mut globs, &mut engine)
+    let mut engine = PrintingEngine::new(rt, searcher, matcher, printer);
+    search_chosen(rt, matches, paths, &mut globs, &mut engine, input)
 }
 
 // Searches what globs choose.
-fn search_chosen<'c, E: Engine>(
-    rt: &'c HostRuntime,
+fn search_chosen<E: Engine, R: Source>(
+    rt: &HostRuntime,
     matches: &ArgMatches<'_>,
-    globs: &'c mut Globs,
+    paths: &[String],
+    globs: &mut Globs,
     engine: &mut E,
+    input: &mut R,
 ) -> Result<ExitCode, Failure> {
-    let operands = matches.get_strs("operands").unwrap_or(&[]);
-    let paths = operands.get(pattern_operands(matches)..).unwrap_or(&[]);
     let flags = Flags::new(rt, matches, paths);
-    let mut walk = Walk::new(rt, matches.get_flag("hidden"), globs);
-    Run::new(rt, engine, &mut walk, flags).complete(paths)
+    Run::new(rt, engine, globs, input, flags).complete(paths)
 }

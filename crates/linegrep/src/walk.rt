@@ -15,37 +15,33 @@ pub enum Entry {
     Unread(String, io::Error),
 }
 
-/// A walk through folders and the folders in them, in the order of their names, which finds the
-/// regular files that globs choose. Links aren't followed. It ends early if it is out of memory.
+/// A walk through a folder and the folders in it, in the order of their names, which finds the
+/// regular files that are chosen. Links aren't followed. It ends early if it is out of memory.
 #[derive(Drop)]
 pub struct Walk<'r> {
     rt: &'r HostRuntime,
     shows_hidden: bool,
-    globs: &'r mut Globs,
     // What is still to be visited, the next last.
     pending: Vec<Entry>,
     is_out_of_memory: bool,
 }
 
 impl<'r> Walk<'r> {
-    /// A walk that has no folder yet. Hidden files and folders, whose names begin with a dot, are
-    /// found only if `shows_hidden` is set or a glob asks for them.
-    pub fn new(rt: &'r HostRuntime, shows_hidden: bool, globs: &'r mut Globs) -> Walk<'r> {
-        Walk {
+    /// A walk through the folder at a path, or through the current one if the path is empty. Hidden
+    /// files and folders, whose names begin with a dot, are found only if `shows_hidden` is set or
+    /// a glob asks for them.
+    pub fn new(rt: &'r HostRuntime, shows_hidden: bool, folder: &str) -> Walk<'r> {
+        let mut walk = Walk {
             rt,
             shows_hidden,
-            globs,
             pending: Vec::new(rt.alloc()),
             is_out_of_memory: false,
+        };
+        match String::from_str(rt.alloc(), folder) {
+            Ok(path) => walk.push(Entry::Folder(path)),
+            Err(_) => walk.is_out_of_memory = true,
         }
-    }
-
-    /// Goes on with the folder at a path, or with the current one if the path is empty.
-    pub fn start(&mut self, folder: &str) {
-        match String::from_str(self.rt.alloc(), folder) {
-            Ok(path) => self.push(Entry::Folder(path)),
-            Err(_) => self.is_out_of_memory = true,
-        }
+        walk
     }
 
     /// The next to be visited, or `None` at the end.
@@ -63,9 +59,9 @@ impl<'r> Walk<'r> {
     }
 
     /// Adds what a folder holds and the globs choose, or that the folder can't be read.
-    pub fn enter(&mut self, folder: &str) {
+    pub fn enter(&mut self, globs: &mut Globs, folder: &str) {
         match fs::read_dir(self.rt, name_of(folder)) {
-            Ok(entries) => self.push_entries(folder, entries),
+            Ok(entries) => self.push_entries(globs, folder, entries),
             Err(error) if error.kind() == io::ErrorKind::OutOfMemory => {
                 self.is_out_of_memory = true;
             }
@@ -74,41 +70,36 @@ impl<'r> Walk<'r> {
     }
 
     // Adds what a folder holds, the last name first.
-    fn push_entries(&mut self, folder: &str, entries: ReadDir) {
+    fn push_entries(&mut self, globs: &mut Globs, folder: &str, entries: ReadDir) {
         let start = self.pending.len();
         for entry in entries {
-            self.push_entry(folder, entry);
+            self.push_entry(globs, folder, entry);
         }
-        self.sort(start);
-    }
-
-    // Sorts what is pending from a place on, the last name first.
-    fn sort(&mut self, start: usize) {
         if let Some(found) = self.pending.as_mut_slice().get_mut(start..) {
             found.sort_unstable_by(|a, b| b.path().cmp(a.path()));
         }
     }
 
     // Adds an entry of a folder, if it is one to visit, or why it can't be read.
-    fn push_entry(&mut self, folder: &str, entry: io::Result<DirEntry>) {
+    fn push_entry(&mut self, globs: &mut Globs, folder: &str, entry: io::Result<DirEntry>) {
         match entry {
-            Ok(entry) => self.push_name(folder, entry.file_name()),
+            Ok(entry) => self.push_name(globs, folder, entry.file_name()),
             Err(error) => self.push_unread(folder, error),
         }
     }
 
     // Adds what has a name in a folder, if it is to be visited. What can't be looked at is left out
     // like a file.
-    fn push_name(&mut self, folder: &str, name: &str) {
+    fn push_name(&mut self, globs: &mut Globs, folder: &str, name: &str) {
         match self.join(folder, name) {
-            Ok(path) => self.push_chosen(path, name),
+            Ok(path) => self.push_chosen(globs, path, name),
             Err(_) => self.is_out_of_memory = true,
         }
     }
 
-    fn push_chosen(&mut self, path: String, name: &str) {
+    fn push_chosen(&mut self, globs: &mut Globs, path: String, name: &str) {
         match self.entry(path) {
-            Some(entry) if self.is_chosen(&entry, name) => self.push(entry),
+            Some(entry) if self.is_chosen(globs, &entry, name) => self.push(entry),
             _ => {}
         }
     }
@@ -136,11 +127,8 @@ impl<'r> Walk<'r> {
         }
     }
 
-    fn is_chosen(&mut self, entry: &Entry, name: &str) -> bool {
-        match self
-            .globs
-            .choice(entry.path(), matches!(entry, Entry::Folder(_)))
-        {
+    fn is_chosen(&self, globs: &mut Globs, entry: &Entry, name: &str) -> bool {
+        match globs.choice(entry.path(), matches!(entry, Entry::Folder(_))) {
             Choice::Chosen => true,
             Choice::LeftOut => false,
             Choice::Unmatched => self.shows_hidden || !name.starts_with('.'),
@@ -149,9 +137,12 @@ impl<'r> Walk<'r> {
 
     // The path of a name in a folder.
     fn join(&self, folder: &str, name: &str) -> Result<String, AllocError> {
-        let is_prefix = folder.is_empty() || folder.ends_with('/');
-        let slash = if is_prefix { "" } else { "/" };
-        format!(in self.rt.alloc(); "{folder}{slash}{name}")
+        let mut path = String::from_str(self.rt.alloc(), folder)?;
+        if !folder.is_empty() && !folder.ends_with('/') {
+            path.push('/')?;
+        }
+        path.push_str(name)?;
+        Ok(path)
     }
 }
 
