@@ -66,7 +66,7 @@ impl Draft {
         }
         let is_across = searcher.multi_line_with_matcher(matcher);
         self.draw(layout, progress, report, is_across);
-        self.text.made()
+        self.text.check()
     }
 
     // Makes the text of a report with the parts at hand, after the opening if it is the first.
@@ -167,7 +167,7 @@ impl Draft {
     {
         self.text.clear();
         self.text.push(&[b'-', b'-', terminator]);
-        self.text.made()
+        self.text.check()
     }
 
     // Makes a text of the message about a binary byte, if one was found.
@@ -186,7 +186,7 @@ impl Draft {
         if let Some(offset) = offset {
             push_binary(&mut self.text, colors.path(), detection, path, offset);
         }
-        self.text.made()
+        self.text.check()
     }
 }
 

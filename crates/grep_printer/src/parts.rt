@@ -30,13 +30,13 @@ pub(crate) fn find_asked_parts<M: FindAt, A: Allocator + Copy>(
         parts.clear();
         return Ok(());
     }
-    let asked = asked(searcher, matcher, bytes);
+    let asked = asked_bytes(searcher, matcher, bytes);
     find_parts(parts, matcher, asked, bytes.len())
 }
 
 // The bytes of a report about which the matcher is asked: a line without its terminator, or all of
 // it in a search across lines.
-fn asked<'b, M: FindAt, A: Allocator + Copy>(
+fn asked_bytes<'b, M: FindAt, A: Allocator + Copy>(
     searcher: &Searcher<A>,
     matcher: &M,
     bytes: &'b [u8],

@@ -99,7 +99,7 @@ impl<'r> Report<'r> {
 }
 
 // What the end of a search comes to, by a call that goes on if it succeeds.
-pub(crate) fn ended(called: Result<bool, SearchError>) -> Result<(), SearchError>
+pub(crate) fn finish_of(called: Result<bool, SearchError>) -> Result<(), SearchError>
     requires { IfOk called (λ goes. goes ≡ true) }
     ensures { finish_result result ≡ called }
 {

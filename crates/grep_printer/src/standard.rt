@@ -11,7 +11,7 @@ ghost use Rattle.grep_printer.specs.StandardTexts.{progress_after};
 use crate::config::Config;
 use crate::draft::Draft;
 use crate::fields::Layout;
-use crate::report::{Report, ReportKind, ended};
+use crate::report::{Report, ReportKind, finish_of};
 use grep_output::{Output, write_all};
 use grep_searcher::{FindAt, SearchError, Searcher, Sink, SinkContext, SinkFinish, SinkMatch};
 use std::alloc::{Allocator, Global};
@@ -323,6 +323,6 @@ impl<'s, M: FindAt, W: Output> Sink for StandardSink<'s, M, W> {
         let detection = searcher.binary_detection();
         let draft = &mut self.printer.draft;
         let made = draft.compose_message(&colors, detection, self.path, offset);
-        ended(self.write(made, self.progress))
+        finish_of(self.write(made, self.progress))
     }
 }

@@ -133,7 +133,7 @@ impl<W> Summary<W> {
             }
             _ => {}
         }
-        self.text.made()
+        self.text.check()
     }
 }
 

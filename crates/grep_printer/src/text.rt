@@ -1,4 +1,4 @@
-//! Texts.
+//! The text of one call, to which a printer pushes piece by piece.
 ghost use Rattle.std.specs.Prelude.{◌≡◌, [], false, IfErr, OnOk};
 ghost use Rattle.grep_searcher.specs.SearchErrors.{IsOutOfMemory};
 ghost use Rattle.grep_printer.specs.Pushes.{Adds};
@@ -6,7 +6,7 @@ ghost use Rattle.grep_printer.specs.Pushes.{Adds};
 use grep_searcher::SearchError;
 use std::alloc::{AllocError, Global};
 
-// A text that is made piece by piece. When memory is out it has failed, and nothing more is pushed.
+// A text that is made piece by piece. Once memory was out it has failed, and takes nothing more.
 #[derive(Drop)]
 pub(crate) struct Text {
     pub(crate) bytes: Vec<u8>,
@@ -40,8 +40,8 @@ impl Text {
         }
     }
 
-    // Whether the text was made.
-    pub(crate) fn made(&self) -> Result<(), SearchError>
+    // Fails if memory was out.
+    pub(crate) fn check(&self) -> Result<(), SearchError>
         ensures text { OnOk result (self.now.has_failed ≡ false) }
         ensures error { IfErr result (λ e. IsOutOfMemory e) }
     {

@@ -11,10 +11,10 @@ use Rattle.grep_printer.proofs.parts.find_asked_parts.Goals as goal
 pub returns-clause-ordered : goal.returns-clause-ordered
 returns-clause-ordered g c =
     let meaning = (g.M.Matcher.facts c.args.matcher.now).meaning in
-    let within : length c.asked-asked.result.now ≤ length c.args.bytes.now =
-    subst (λ (asked : List ℕ). length asked ≤ length c.args.bytes.now) (sym c.asked-asked.ensures)
+    let within : length c.asked_bytes-asked.result.now ≤ length c.args.bytes.now =
+    subst (λ (asked : List ℕ). length asked ≤ length c.args.bytes.now) (sym c.asked_bytes-asked.ensures)
     (asked-within c.args.searcher.now.settings meaning c.args.bytes.now) in
-    on_ok_weaker c.find_parts.result (ordered-within c.find_parts.new.parts.items 0 (length c.asked-asked.result.now)
+    on_ok_weaker c.find_parts.result (ordered-within c.find_parts.new.parts.items 0 (length c.asked_bytes-asked.result.now)
     (length c.args.bytes.now) within) c.find_parts.ensures.ordered
 
 pub returns-clause-error : goal.returns-clause-error
@@ -26,4 +26,4 @@ returns-clause-error g c =
     (λ e. IsOutOfMemory e ⊎ ((c.args.is_asked ≡ true) × IsMessageOf fails asked e))
     (λ e cause. elim cause [ inl memory ↦ inl memory | inr refused ↦ inr (is, refused) ])
     (subst (λ (asked : List ℕ). IfErr c.find_parts.result (λ e. IsOutOfMemory e ⊎ IsMessageOf fails asked e))
-    c.asked-asked.ensures c.find_parts.ensures.error)
+    c.asked_bytes-asked.ensures c.find_parts.ensures.error)
