@@ -1,5 +1,5 @@
 -- What a loop has pushed to a text, whether memory was there or not.
-use Rattle.std.proofs.Common.{◌≡◌, ◌∙◌, ◌++◌, ap, false, refl, ℕ, List}
+use Rattle.std.proofs.Common.{◌≡◌, ◌∙◌, ◌++◌, ap, false, ℕ, List}
 use Rattle.grep_printer.specs.Pushes.{Adds}
 use Rattle.grep_printer.specs.declared.text.Text.{Text}
 
@@ -8,10 +8,6 @@ pub record HasPushed (old now : Text) (Is : List ℕ → Type 0) : Type 0 where
   pub bytes : List ℕ
   pub is : Is bytes
   pub made : now.has_failed ≡ false → (old.has_failed ≡ false) × (now.bytes.items ≡ bytes)
-
--- at first they are the bytes of the text
-pub pushed-none : (old : Text) (Is : List ℕ → Type 0) → Is old.bytes.items → HasPushed old old Is
-pushed-none old Is is = record { bytes = old.bytes.items; is = is; made = λ made. (made, refl) }
 
 -- a push adds its own to them
 pub pushed-more : (old now new : Text) (Is Then : List ℕ → Type 0) (more : List ℕ)
