@@ -35,7 +35,7 @@ use Rattle.grep_definitions.specs.Searches.{
   searched_bytes,
   Taken,
 }
-use Rattle.grep_definitions.specs.DecodedInputs.{IsDecodedSoFar, passes_after, passes_unchanged}
+use Rattle.grep_definitions.specs.DecodedInputs.{IsDecodedFront, passes_after, passes_unchanged}
 use Rattle.grep_line_buffer.proofs.DetectionLemmas.{length-detected, uncut-none}
 use Rattle.grep_line_buffer.specs.BufferStates.{
   BufferState,
@@ -165,7 +165,7 @@ module _ {R : Type 0} {remaining : R → Option (List ℕ)} {step : R → ReadRe
 
     -- what was decoded when the reader failed
     pub decoded-so_far : d.has_ended ≡ false → d.ready ≡ [] → IsWaiting d.mode d.held
-        → IsDecodedSoFar settings reads.pieces given
+        → IsDecodedFront settings reads.pieces given
     unfolding searched_bytes encoding_of
     decoded-so_far unended ready waits = record {
       begins = λ bytes input.

@@ -132,8 +132,7 @@ module _ {S E : Type 0} (step : Steps S E) (settings : Settings) (meaning : Mean
 
     -- A reader's input of which so much was taken, and these lines were seen, at least so many
     -- bytes. Each input begins with what was given; if no binary byte was found, the lines that
-    -- were
-    -- seen hold none.
+    -- were seen hold none.
     pub record HasSeen (reader : R) (given : List ℕ) (found : Option ℕ) (low : ℕ)
         (reader' : R) : Type 0 where
       pub taken : Taken remaining read_step reader reader'

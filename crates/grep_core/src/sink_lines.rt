@@ -4,7 +4,8 @@ ghost use Rattle.std.specs.Prelude.{◌≡◌, ◌≤◌, ◌<◌, ◌+◌, ◌-
 ghost use Rattle.std.specs.Prelude.{slice_range};
 ghost use Rattle.grep_definitions.specs.CallOrder.{HasCalled};
 ghost use Rattle.grep_definitions.specs.Plans.{context, AreMade, NeverFails};
-ghost use Rattle.grep_definitions.specs.LineTurns.{number_of, is_gap, break_turns, after_turns};
+ghost use Rattle.grep_definitions.specs.LineTurns.{is_gap, break_turns, after_turns};
+ghost use Rattle.grep_definitions.specs.SearchLaws.{number_of};
 ghost use Rattle.grep_definitions.specs.LineTurns.{before_turns, pending_turns, match_turns};
 ghost use Rattle.grep_definitions.specs.SinkRuns.{outcome_of};
 ghost use Rattle.grep_walk.specs.Walks.{chooses, counts_lines, trails, line_turns, line_end};

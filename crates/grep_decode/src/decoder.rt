@@ -45,7 +45,8 @@ impl<A: Allocator> Model for Decoder<A> {
 
 impl<A: Allocator> Decoder<A> {
     /// A decoder that keeps at most `capacity` bytes of its reader, which the caller ensures to be
-    /// at least 8. It is as one that was started with no label and without sniffing.
+    /// at least 8. It is as one that was started with no label and without sniffing. The only error
+    /// is being out of memory.
     pub fn new(alloc: A, capacity: usize) -> Result<Decoder<A>, AllocError>
         requires { 8 ≤ capacity }
         ensures { IfOk result (λ d. d ≡ started capacity None false) }

@@ -62,7 +62,7 @@ use Rattle.grep_report.specs.declared.sink_context.SinkContextKind.TheVariants.{
 use Rattle.grep_definitions.specs.LineSearch.{line_count, line, number, start}
 use Rattle.grep_definitions.specs.AcrossLines
 use Rattle.grep_definitions.specs.AcrossLines.{is_selected, continues_unit, turns_at}
-use Rattle.grep_definitions.specs.SearchLaws.{AreInOrder, report_calls}
+use Rattle.grep_definitions.specs.SearchLaws.{AreReportsInOrder, report_calls}
 use Rattle.grep_definitions.proofs.BoolLemmas.{both_true, and-both, or-cases, or-first, or-second}
 use Rattle.grep_definitions.proofs.BelowLemmas.{some_below-some, count_below-none, count_below-once, count_below-either}
 use Rattle.grep_definitions.proofs.RunLemmas.{begins_run, begins_run-either, is_inside-run}
@@ -230,7 +230,7 @@ module _ (k : Settings) (meaning : Meaning) (bytes : List ℕ) where
       })
 
   -- the reports ascend
-  pub in_order-across : AreInOrder (report_calls (AcrossLines.turns k meaning bytes))
+  pub in_order-across : AreReportsInOrder (report_calls (AcrossLines.turns k meaning bytes))
   in_order-across = in_order-joined T at n (line_start-ascends (byte_of k.line_terminator) bytes)
       reported-line
 

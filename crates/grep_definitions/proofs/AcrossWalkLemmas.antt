@@ -47,7 +47,8 @@ use Rattle.std.specs.Prelude.{nat_lt, nat_le, slice_range}
 use Rattle.grep_matcher.specs.Meanings.{Meaning}
 use Rattle.grep_report.specs.declared.sink_context.SinkContextKind.TheVariants.{Before, After, Other}
 use Rattle.grep_definitions.specs.LineSearch.{line_count, line, start, number}
-use Rattle.grep_definitions.specs.LineTurns.{before_turns, pending_turns, match_turns, context_turns, is_gap, number_of}
+use Rattle.grep_definitions.specs.LineTurns.{before_turns, pending_turns, match_turns, context_turns, is_gap}
+use Rattle.grep_definitions.specs.SearchLaws.{number_of}
 use Rattle.grep_definitions.specs.Selections.{IsNear, no_line}
 use Rattle.grep_definitions.specs.AcrossLines
 use Rattle.grep_definitions.specs.AcrossLines.{is_selected, continues_unit, turns_at}

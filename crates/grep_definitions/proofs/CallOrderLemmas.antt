@@ -79,7 +79,8 @@ use Rattle.grep_definitions.specs.Plans.{
   is_binary_data,
   planned,
 }
-use Rattle.grep_definitions.specs.LineTurns.{before_turns, broken_turns, is_gap, match_turns, number_of, one_turn}
+use Rattle.grep_definitions.specs.LineTurns.{before_turns, broken_turns, is_gap, match_turns, one_turn}
+use Rattle.grep_definitions.specs.SearchLaws.{number_of}
 use Rattle.grep_definitions.specs.SinkRuns.{outcome_of, with_binary}
 use Rattle.grep_definitions.proofs.SinkRunLemmas.{AreMade-append, AreMade-one, made-binary, outcome_with}
 

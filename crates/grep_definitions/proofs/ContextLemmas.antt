@@ -35,7 +35,8 @@ use Rattle.grep_definitions.proofs.LineSliceLemmas.{slice-line}
 use Rattle.grep_definitions.specs.LineSearch
 use Rattle.grep_definitions.specs.LineSearch.{turns_at}
 use Rattle.grep_definitions.specs.LineWalks.{IsNear}
-use Rattle.grep_definitions.specs.LineTurns.{after_turns, before_turns, match_turns, context_turns, is_gap, number_of}
+use Rattle.grep_definitions.specs.LineTurns.{after_turns, before_turns, match_turns, context_turns, is_gap}
+use Rattle.grep_definitions.specs.SearchLaws.{number_of}
 use Rattle.grep_definitions.proofs.SelectionLemmas
 
 module _ (k : Settings) (meaning : Meaning) (bytes : List ℕ) where

@@ -37,7 +37,7 @@ use Rattle.grep_definitions.specs.Plans.{
   Settings,
 }
 use Rattle.grep_lines.proofs.LineStepLemmas.{IsStep-line, lines-numbered}
-use Rattle.grep_definitions.specs.LineTurns.{number_of}
+use Rattle.grep_definitions.specs.SearchLaws.{number_of}
 
 module _ (k : Settings) (bytes : List ℕ) where
   -- the bytes of a line, also past the last one

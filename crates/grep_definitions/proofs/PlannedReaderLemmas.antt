@@ -71,13 +71,13 @@ use Rattle.grep_definitions.specs.Searches.{
   HasOpenLine,
   IsBelowLimit,
   CutsShort,
-  IsComeSoFar,
+  IsDecodedSoFar,
   encoding_of,
   encoding_after,
   Taken,
   IsCut,
 }
-use Rattle.grep_definitions.specs.DecodedInputs.{IsDecodedSoFar, passes_after, passes_unchanged}
+use Rattle.grep_definitions.specs.DecodedInputs.{IsDecodedFront, passes_after, passes_unchanged}
 use Rattle.grep_decode.specs.Decoded.{found_mark}
 use Rattle.grep_decode.specs.declared.label.Label.{Label}
 use Rattle.grep_decode.specs.declared.label.Label.TheVariants.{Utf8, Utf16Le, Utf16Be}
@@ -113,8 +113,8 @@ pub end-is : (k : Settings) (meaning : Meaning) (bytes : List ℕ)
     → search_turn_count k meaning bytes ≡ (selection_in k meaning bytes (is_across k meaning)).end
 end-is k meaning bytes = end-in k meaning bytes (is_across k meaning)
 
-pub so-far : {k : Settings} {pieces : List (List ℕ)} {came : List ℕ} → IsDecodedSoFar k pieces came
-    → IsComeSoFar k pieces came
+pub so-far : {k : Settings} {pieces : List (List ℕ)} {came : List ℕ} → IsDecodedFront k pieces came
+    → IsDecodedSoFar k pieces came
 so-far decoded = record { none = decoded.none; all = decoded.all }
 
 passes-after : (mark label : Option Label) → encoding_after mark label ≡ None → passes_after mark label ≡ true

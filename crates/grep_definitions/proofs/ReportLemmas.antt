@@ -39,7 +39,7 @@ use Rattle.std.proofs.lemmas.List.{map-append}
 use Rattle.std.proofs.lemmas.List.Elements.{All-nil, All-cons, All-weaker, filter-append}
 use Rattle.std.proofs.lemmas.List.Kept.{AllPairs-cons}
 use Rattle.std.specs.Prelude.{All, map, filter}
-use Rattle.grep_definitions.specs.SearchLaws.{reported_to, AreInOrder, is_report, report_calls}
+use Rattle.grep_definitions.specs.SearchLaws.{reported_to, AreReportsInOrder, is_report, report_calls}
 
 -- the reports of some calls, and then those of the later calls
 report_calls-append : (front back : List Planned) → report_calls (front ++ back) ≡ report_calls front ++ report_calls
@@ -50,7 +50,7 @@ report_calls-append front back =
 
 -- some reports, of which the first isn't before a bound
 pub record InOrderFrom (low : ℕ) (reports : List Call) : Type 0 where
-  pub in_order : AreInOrder reports
+  pub in_order : AreReportsInOrder reports
   pub after : All (λ report. low ≤ reported_from report) reports
 
 in_order-none : (low : ℕ) → InOrderFrom low []
@@ -130,6 +130,6 @@ module _ (f : ℕ → List Planned) (start : ℕ → ℕ) where
         (each i (omega arith))))
         (cases_lt i q))
 
-    pub in_order-joined : AreInOrder (report_calls (joined_from f 0 n))
+    pub in_order-joined : AreReportsInOrder (report_calls (joined_from f 0 n))
     in_order-joined = (in_order-from n 0 0 (omega arith) (omega arith)
         (λ j low below. absurd (omega arith))).in_order

@@ -60,7 +60,7 @@ use Rattle.grep_matcher.specs.Lines.{byte_of}
 use Rattle.grep_matcher.specs.Meanings.{Meaning}
 use Rattle.grep_report.specs.declared.sink_context.SinkContextKind.TheVariants.{Before, After, Other}
 use Rattle.grep_definitions.proofs.LineSliceLemmas.{line-report, slice-line}
-use Rattle.grep_definitions.specs.SearchLaws.{AreInOrder, is_match, is_matched, report_calls}
+use Rattle.grep_definitions.specs.SearchLaws.{AreReportsInOrder, is_match, is_matched, report_calls}
 use Rattle.grep_definitions.specs.LineSearch
 use Rattle.grep_definitions.specs.LineSearch.{turns_at}
 use Rattle.grep_definitions.proofs.BelowLemmas.{
@@ -288,7 +288,7 @@ module _ (k : Settings) (meaning : Meaning) (bytes : List ℕ) where
       go (Some (in_context c)) is = inr (one _ is refl refl)
 
   -- the reports ascend
-  pub in_order-by_line : AreInOrder (report_calls (LineSearch.turns k meaning bytes))
+  pub in_order-by_line : AreReportsInOrder (report_calls (LineSearch.turns k meaning bytes))
   in_order-by_line = in_order-joined T start (LineSearch.turn_count k meaning bytes)
       (λ i below. line_start-ascends (byte_of k.line_terminator) bytes i (omega (arith, turn_count-le)))
       (λ i below. reported-line i (omega (arith, turn_count-le)))

@@ -50,16 +50,8 @@ use Rattle.grep_matcher.specs.Meanings.{Meaning}
 use Rattle.grep_report.specs.declared.sink_context.SinkContextKind.TheVariants.{Before, After, Other}
 use Rattle.grep_definitions.specs.LineSearch
 use Rattle.grep_definitions.specs.LineSearch.{turns_at, through}
-use Rattle.grep_definitions.specs.LineTurns.{
-  one_turn,
-  broken_turns,
-  pending_turns,
-  match_turns,
-  listed_turns,
-  listed_number,
-  number_of,
-  is_gap,
-}
+use Rattle.grep_definitions.specs.LineTurns.{one_turn, broken_turns, pending_turns, match_turns, listed_turns, listed_number, is_gap}
+use Rattle.grep_definitions.specs.SearchLaws.{number_of}
 use Rattle.grep_definitions.proofs.BelowLemmas.{some_below-some, some_below-find, first_below-of, first_below-none}
 use Rattle.grep_matcher.proofs.LineStartLemmas.{line_start-le}
 use Rattle.grep_definitions.specs.LineWalks.{IsNear}

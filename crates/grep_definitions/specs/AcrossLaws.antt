@@ -11,7 +11,7 @@ use Rattle.grep_definitions.specs.Plans.{planned, joined_from, line_count, line,
 use Rattle.grep_definitions.specs.Plans.{calls_at, reports_plan, is_selected, is_trailing}
 use Rattle.grep_definitions.specs.Plans.{reports_end, is_touched_selected, touched_lines, touches}
 use Rattle.grep_definitions.specs.Plans.{matches_from, all_matches, Settings}
-use Rattle.grep_definitions.specs.SearchLaws.{AreInOrder, calls_of, is_match, line_plan}
+use Rattle.grep_definitions.specs.SearchLaws.{AreReportsInOrder, calls_of, is_match, line_plan}
 use Rattle.grep_definitions.specs.SearchLaws.{report_calls}
 
 -- the plan of a search across lines
@@ -73,7 +73,7 @@ InversionComplements =
 abbrev pub ReportsAscend : Type 0
 ReportsAscend =
     (settings : Settings) (meaning : Meaning) (bytes : List ℕ)
-    → AreInOrder (report_calls (across_plan settings meaning bytes).calls)
+    → AreReportsInOrder (report_calls (across_plan settings meaning bytes).calls)
 
 -- a line that isn't selected and is in reach of an earlier selected line is reported as the line
 -- after it, even if it is also before a later one

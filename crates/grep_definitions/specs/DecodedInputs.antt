@@ -23,7 +23,7 @@ passes_unchanged settings input =
     passes_after (found_mark settings.encoding settings.bom_sniffing input) settings.encoding
 
 -- what is decoded of an input of which these pieces came, whatever else would come
-pub record IsDecodedSoFar (settings : Settings) (pieces : List (List ℕ)) (came : List ℕ)
+pub record IsDecodedFront (settings : Settings) (pieces : List (List ℕ)) (came : List ℕ)
     : Type 0 where
   pub begins : (bytes : List ℕ) → IsInput settings false pieces bytes
       → (after : List ℕ) × (bytes ≡ came ++ after)

@@ -6,12 +6,9 @@ use Rattle.std.specs.Prelude.{ℕ, ◌+◌, ◌-◌, Bool, ◌&&◌, ◌==◌, i
 use Rattle.std.specs.Prelude.{[], ◌∷◌, take, slice_index_or, count_by, Option, Some, None, is_some}
 use Rattle.grep_matcher.specs.Lines.{byte_of, lines, line_start, strip}
 use Rattle.grep_matcher.specs.Meanings.{Meaning}
+use Rattle.grep_definitions.specs.SearchLaws.{number_of}
 use Rattle.grep_report.specs.declared.sink_context.SinkContextKind.{SinkContextKind}
 use Rattle.grep_report.specs.declared.sink_context.SinkContextKind.TheVariants.{Before, After}
-
--- the number of line i
-abbrev pub number_of : Settings → ℕ → Option ℕ
-number_of settings i = if settings.line_number then Some (i + 1) else None
 
 -- whether the bytes of a line match without their terminator
 abbrev pub matches_line : Settings → Meaning → List ℕ → Bool

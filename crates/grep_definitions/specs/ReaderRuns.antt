@@ -13,7 +13,7 @@ use Rattle.grep_matcher.specs.Meanings.{Meaning, MatcherFacts}
 use Rattle.grep_definitions.specs.Searches.{before_quit, view_of, IsInput, GoesOnAfter, HasOpenLine}
 use Rattle.grep_definitions.specs.Searches.{IsFront, CutsShort, CutsContents, IsBelowLimit}
 use Rattle.grep_definitions.specs.Searches.{reads_lines, Taken}
-use Rattle.grep_definitions.specs.DecodedInputs.{IsDecodedSoFar, passes_unchanged}
+use Rattle.grep_definitions.specs.DecodedInputs.{IsDecodedFront, passes_unchanged}
 use Rattle.grep_report.specs.ErrorMakers.{ErrorMakers}
 use Rattle.grep_definitions.specs.ContentsSearches.{IsFaultIn, HasReportedIn, IsQuitFault}
 use Rattle.grep_definitions.specs.ContentsSearches.{IsRunUntil}
@@ -53,7 +53,7 @@ module _ {R : Type 0} (remaining : R → Option (List ℕ))
         → taken.ended ≡ false → read_step mid (Err error) reader'
         → ((bytes : List ℕ) → IsInput state.settings taken.ended taken.pieces bytes
         → GoesOnAfter state.settings meaning (view bytes) seen)
-        → (came : List ℕ) → IsDecodedSoFar state.settings taken.pieces came
+        → (came : List ℕ) → IsDecodedFront state.settings taken.pieces came
         → HasOpenLine state.settings (view came) seen
         → IsUnreadIn across view state meaning reader (Some seen) error reader'
     -- across lines all is read before `begin`: there was no room for it, or the reader's last call
@@ -66,7 +66,7 @@ module _ {R : Type 0} (remaining : R → Option (List ℕ))
     of_failed_read : {error : Error} {reader' : R} → across ≡ true
         → (mid : R) (taken : Taken remaining read_step reader mid)
         → taken.ended ≡ false → read_step mid (Err error) reader'
-        → (came : List ℕ) → IsDecodedSoFar state.settings taken.pieces came
+        → (came : List ℕ) → IsDecodedFront state.settings taken.pieces came
         → IsBelowLimit state.settings came
         → IsUnreadIn across view state meaning reader None error reader'
     -- there were no buffers, and no memory for them

@@ -75,8 +75,8 @@ abbrev pub reported_to : Call → ℕ
 reported_to call = reported_from call + length (reported_bytes call)
 
 -- each of some reports has a byte, and ends by the offset of each later one
-abbrev pub AreInOrder : List Call → Type 0
-AreInOrder reports =
+abbrev pub AreReportsInOrder : List Call → Type 0
+AreReportsInOrder reports =
     All (λ report. 0 < length (reported_bytes report)) reports
     × AllPairs (λ report later. reported_to report ≤ reported_from later) reports
 
@@ -89,7 +89,7 @@ line_plan settings meaning bytes =
 abbrev pub ReportsAscend : Type 0
 ReportsAscend =
     (settings : Settings) (meaning : Meaning) (bytes : List ℕ)
-    → AreInOrder (report_calls (line_plan settings meaning bytes).calls)
+    → AreReportsInOrder (report_calls (line_plan settings meaning bytes).calls)
 
 -- a line that may be reported, isn't selected and is in reach of an earlier selected line is
 -- reported as the line after it, even if it is also before a later one, and as a match if it is

@@ -178,7 +178,7 @@ IsInput settings ended pieces bytes = (more : List ℕ) × (ended ≡ true → m
 -- What is decoded of an input of which these pieces came, whatever else would come: nothing while a
 -- mark is looked for in fewer than three bytes; else all but the last bytes that came if they wait,
 -- and the text goes on with theirs and what follows. Of bytes that pass unchanged it is all.
-pub record IsComeSoFar (settings : Settings) (pieces : List (List ℕ)) (came : List ℕ) : Type 0 where
+pub record IsDecodedSoFar (settings : Settings) (pieces : List (List ℕ)) (came : List ℕ) : Type 0 where
   pub none : looks_for_mark settings ≡ true → length (concat pieces) < 3 → came ≡ []
   pub all : (looks_for_mark settings ≡ true → 3 ≤ length (concat pieces))
       → (front waiting : List ℕ) × (concat pieces ≡ front ++ waiting)
@@ -410,7 +410,7 @@ module _ {R : Type 0} (remaining : R → Option (List ℕ))
     pub piece : List ℕ
     pub last : read_step mid (Ok piece) new
     pub came : List ℕ
-    pub so_far : IsComeSoFar settings before.pieces came
+    pub so_far : IsDecodedSoFar settings before.pieces came
     pub open_line : HasOpenLine settings (view_of settings came) []
 
   module _ (state : SearcherState) (meaning : Meaning) (old mid new : R) (taken : Taken old mid)
@@ -435,14 +435,14 @@ module _ {R : Type 0} (remaining : R → Option (List ℕ))
           (view_of state.settings bytes)) seen error) → IsCut true error
       -- all lines that came whole were seen
       of_reader : {error : Error} → StopsInLines → HasFailed error
-          → (came : List ℕ) → IsComeSoFar state.settings taken.pieces came
+          → (came : List ℕ) → IsDecodedSoFar state.settings taken.pieces came
           → HasOpenLine state.settings (view_of state.settings came) seen → IsCut true error
       -- across lines all is read before `begin`
       of_contents : {error : Error} → is_across state.settings meaning ≡ true → mid ≡ new
           → ((bytes : List ℕ) → IsInputOf taken state.settings bytes
           → CutsContents state.settings bytes error) → IsCut false error
       of_failed_read : {error : Error} → is_across state.settings meaning ≡ true → HasFailed error
-          → (came : List ℕ) → IsComeSoFar state.settings taken.pieces came
+          → (came : List ℕ) → IsDecodedSoFar state.settings taken.pieces came
           → IsBelowLimit state.settings came → IsCut false error
       -- there were no buffers, and no memory for them
       of_buffers : {error : Error} → state.has_buffers ≡ false → error_kind error ≡ OutOfMemory

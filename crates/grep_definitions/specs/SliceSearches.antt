@@ -42,7 +42,7 @@ module _ {S E F : Type 0} (step : Steps S E) (errors : ErrorMakers F E) (matcher
   abbrev pub IsSliceSearched : S → Result (Unit {0}) E → S → Type 0
   IsSliceSearched = IsSliceSearchedIf (is_searched_unchanged state.settings input)
 
--- why a slice wasn't searched to its end: it has to be decoded, and wasn't to its end
+-- why a slice wasn't searched to its end: it has to be decoded, and not all of it was
 abbrev pub IsUndecoded : SearcherState → Meaning → List ℕ → Bool → List ℕ → Error → Type 0
 IsUndecoded state meaning input begun seen error =
     (is_searched_unchanged state.settings input ≡ false) × (rest : List ℕ)

@@ -184,9 +184,9 @@ impl<A: Allocator> LineBuffer<A> {
         self.offset += count as u64;
     }
 
-    /// Makes a full buffer of less than 131,072 bytes twice as large, or as large as its limit, if at
-    /// least 16 times its size of the input is before what it shows: a long input is read a little
-    /// faster by larger parts. If there is no memory for it, the buffer stays as it is.
+    /// Makes a full buffer of less than 131,072 bytes twice as large, or as large as its limit, if
+    /// the input before what it shows is at least 16 times its size: reading a long input in larger
+    /// parts is a little faster. If there is no memory for it, the buffer stays as it is.
     pub fn widen(&mut self)
         ensures widens { Widens self.old self.new }
         ensures same { self.new ≡ record self.old { size = self.new.size; free = self.new.free } }

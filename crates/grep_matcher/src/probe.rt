@@ -1,6 +1,6 @@
 //! A search for a literal by its rarest byte, if that is rare in text, or by three of its bytes, if
-//! all are frequent. `memchr` searches for a short literal by two: where one of them is rare the
-//! other is loaded in vain, and where both are frequent so many positions are candidates that
+//! all are frequent. `memchr` searches for a short literal by two: where one of them is rare
+//! loading the other is wasted, and where both are frequent so many positions are candidates that
 //! looking at those costs more than a third byte.
 ghost use Rattle.std.specs.Prelude.{◌≡◌, ◌≤◌, ◌<◌, ◌+◌, ◌^◌, ℕ, List, length, slice_index};
 ghost use Rattle.std.specs.Prelude.{IsTrue, IfSome};
@@ -205,7 +205,7 @@ trait Bytes {
 
     ghost literal: { Self → List ℕ };
 
-    // For each position from one on, 255 if the bytes stand where the literal would have them.
+    // For each position from one on, 255 if the bytes are where the literal would have them.
     fn marks(&self, position: usize) -> u8x32
         requires { position + WIDTH + length (literal self.now) ≤ length (haystack self.now) + 1 }
         ensures { Covers (OccursAt (haystack self.now) (literal self.now)) position result };

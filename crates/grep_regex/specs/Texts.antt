@@ -1,4 +1,4 @@
--- Texts that stand one after another.
+-- Texts that are kept one after another.
 use Rattle.std.specs.Prelude.{ℕ, List, [], ◌∷◌, take, drop}
 
 -- the texts with these lengths that the bytes begin with

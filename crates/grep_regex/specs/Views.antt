@@ -38,7 +38,7 @@ regex_first_at r = first_match_at (regex_options r) (regex_patterns r)
 abbrev pub regex_first : Regex → List ℕ → Option (ℕ × ℕ)
 regex_first r haystack = regex_first_at r haystack 0
 
--- the first match is told, or as early as that is known only whether there is one
+-- what is found is the first match; under `earliest` it is some exactly if there is a match
 abbrev pub IsTold : Bool → Option (ℕ × ℕ) → Option (ℕ × ℕ) → Type 0
 IsTold false first found = found ≡ first
 IsTold true first found = is_some found ≡ is_some first

@@ -90,9 +90,9 @@ impl RegexMatcherBuilder {
 
     /// Compiles patterns, of which the first that works matches at a position. Of none there is no
     /// match. An error is `InvalidLineTerminator` if the line terminator isn't ASCII, `Syntax` if a
-    /// text is no pattern or nested too deep, `NotAllowed` if a pattern needs a byte of the line
-    /// terminator, `TooBig` if the compiled patterns are larger than the limit or have too many
-    /// groups, and `Memory` if there is none for them.
+    /// text isn't a pattern or is nested too deep, `NotAllowed` if a pattern needs a byte of the
+    /// line terminator, `TooBig` if the compiled patterns are larger than the limit or have too
+    /// many groups, and `Memory` if there is none for them.
     pub fn build_many(&self, alloc: Global, patterns: &[&str]) -> Result<Regex, Error>
         ensures options { IfOk result (λ regex. regex_options regex ≡ self.now) }
         ensures patterns { IfOk result

@@ -50,7 +50,7 @@ impl<'r> Engine<'r> {
         }
     }
 
-    // The first match from a position on; if `earliest`, the position if there is a match.
+    // The first match from a position on; if `earliest`, any position if there is a match.
     pub(crate) fn find_at(
         &mut self,
         haystack: &[u8],

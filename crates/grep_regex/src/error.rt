@@ -10,7 +10,7 @@ use thiserror::Error;
 /// Why patterns can't be compiled.
 #[derive(Debug, Drop, Error)]
 pub enum Error {
-    /// A text is no pattern, or nested too deep.
+    /// A text isn't a pattern, or is nested too deep.
     #[error("pattern {pattern}: {error}")]
     Syntax {
         /// Which of the patterns, from 0.

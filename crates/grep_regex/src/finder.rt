@@ -15,8 +15,8 @@ pub(crate) trait Finder {
     // What is known of an expression for which it is asked.
     ghost is_known: { Regex → Type 0 };
 
-    // The first match from a position on; if `earliest`, any place if there is a match, which is
-    // known sooner. It is `None` if this is for another expression.
+    // The first match from a position on; if `earliest`, any position if there is a match, which
+    // is known sooner. It is `None` if this is for another expression.
     fn find_for(
         &mut self,
         regex: &Regex,
@@ -31,8 +31,8 @@ pub(crate) trait Finder {
         ensures within { IfSome result (IsFrom start haystack.now) };
 }
 
-// The first match from a position on, or if `earliest` any place if there is a match. It is found by
-// what is in the cell if that is for this expression, and otherwise by a new engine.
+// The first match from a position on, or if `earliest` any position if there is a match. It is
+// found by what is in the cell if that is for this expression, and otherwise by a new engine.
 pub(crate) fn find_by<F: Finder>(
     alloc: Global,
     regex: &Regex,

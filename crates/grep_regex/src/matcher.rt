@@ -44,7 +44,7 @@ impl Regex {
 impl RegexMatcher<'_> {
     ghost use Rattle.grep_regex.specs.Views.{matcher_regex};
 
-    // The first match from a position on; if `earliest`, any place if there is a match.
+    // The first match from a position on; if `earliest`, any position if there is a match.
     fn find_by(
         &self,
         haystack: &[u8],

@@ -91,7 +91,7 @@ impl Regex {
 impl<N: Naming> NamedMatcher<'_, N> {
     ghost use Rattle.grep_regex.specs.NamedViews.{named_regex};
 
-    // The first match from a position on; if `earliest`, any place if there is a match.
+    // The first match from a position on; if `earliest`, any position if there is a match.
     fn find_by(
         &self,
         haystack: &[u8],

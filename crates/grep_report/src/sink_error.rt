@@ -114,8 +114,8 @@ impl<A: Allocator> From<AllocError> for SearchError<A> {
     }
 }
 
-/// Out of memory for a value, as one that is pushed, as an `io::Error` of the kind `OutOfMemory`. The
-/// value is dropped.
+/// Out of memory for a value, such as one that was pushed: an `io::Error` of the kind
+/// `OutOfMemory`. The value is dropped.
 impl<T: Drop, A: Allocator> From<AllocFailed<T>> for SearchError<A> {
     ghost use Rattle.grep_report.specs.SearchErrors.{IsOutOfMemory};
 

@@ -18,7 +18,7 @@ pub record IsFaultless {F : Type 0} (matcher : MatcherFacts F) (settings : Setti
   pub lawful : IsLawful matcher settings
   pub allowed : refusal_of settings matcher.meaning ≡ None
 
--- a slice has to be decoded, and wasn't to its end: the error is of the cause of that
+-- a slice has to be decoded, and not all of it was: the error is made of the cause of that
 abbrev pub IsDecodingError : {A : Type 0} → SearcherState → Meaning → List ℕ → SearchError A
     → Type 0
 IsDecodingError state meaning input e =
@@ -28,7 +28,7 @@ IsDecodingError state meaning input e =
 module _ {S E F : Type 0} (step : Steps S E) (errors : ErrorMakers F E)
     (matcher : MatcherFacts F) where
   -- without binary detection an error of a search of a slice is that of a step of the sink, or the
-  -- slice has to be decoded and wasn't to its end
+  -- slice has to be decoded and not all of it was
   abbrev pub SlicesFail : Type 0
   SlicesFail =
       (state : SearcherState) (input : List ℕ) (old : S) (e : E) (new : S)

@@ -245,7 +245,7 @@ where
 
 /// Without binary detection, if the matcher never fails and is lawful, and the search isn't
 /// refused, an error that a search of a slice ended in is that of a step of the sink, or the slice
-/// has to be decoded and wasn't to its end.
+/// has to be decoded, and not all of it was.
 pub fn searches_fail<A: Allocator + Copy, M: Matcher, S: Sink>()
 where
     S::Error: SinkError<A>,
@@ -263,9 +263,9 @@ where
         R.remaining R.step }
 {}
 
-/// Under these conditions an error of a search of a slice is that of a step of the sink, or it is made
-/// of why the slice, which has to be decoded, wasn't to its end. Pass the sink, since a closure's type
-/// has no name.
+/// Under these conditions an error of a search of a slice is that of a step of the sink, or it is
+/// made of the reason why the slice, which has to be decoded, wasn't decoded to its end. Pass the
+/// sink, since a closure's type has no name.
 pub fn slices_fail<A: Allocator + Copy, M: Matcher, S: Sink>(_: &S)
 where
     S::Error: SinkError<A>,

@@ -11,7 +11,8 @@ use Rattle.grep_lines.specs.Positions.{IsLine, IsLineStart}
 use Rattle.grep_report.specs.declared.sink_context.SinkContextKind.TheVariants.{After, Other}
 use Rattle.grep_definitions.specs.Plans.{is_free, count_below, Settings, Planned, selects_free, has_room}
 use Rattle.grep_definitions.specs.AcrossLines.{is_selected}
-use Rattle.grep_definitions.specs.LineTurns.{context_turns, match_turns, number_of, pending_turns}
+use Rattle.grep_definitions.specs.LineTurns.{context_turns, match_turns, pending_turns}
+use Rattle.grep_definitions.specs.SearchLaws.{number_of}
 use Rattle.grep_definitions.proofs.BelowLemmas.{count_below-le, room-le}
 use Rattle.grep_walk.specs.declared.walk.Walk.{Walk}
 use Rattle.grep_walk.specs.AcrossWalks.{IsAcross, IsLimited, turns_before, after_lines}

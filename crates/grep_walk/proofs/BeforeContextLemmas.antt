@@ -7,7 +7,8 @@ use Rattle.grep_matcher.specs.Lines.{byte_of, lines, line_start}
 use Rattle.grep_lines.specs.Positions.{IsLine, IsLineStart}
 use Rattle.grep_definitions.specs.Plans.{Settings, Planned, Steps, Outcome, all_true, AreMade}
 use Rattle.grep_definitions.specs.Plans.{joined_from}
-use Rattle.grep_definitions.specs.LineTurns.{before_turns, listed_turns, pending_turns, listed_number, number_of}
+use Rattle.grep_definitions.specs.LineTurns.{before_turns, listed_turns, pending_turns, listed_number}
+use Rattle.grep_definitions.specs.SearchLaws.{number_of}
 use Rattle.grep_definitions.proofs.BelowLemmas.{joined_from-add, joined_from-more, joined_from-none}
 use Rattle.grep_definitions.proofs.LineSliceLemmas.{number-line}
 use Rattle.grep_definitions.proofs.SinkRunLemmas.{AreMade-append, AreMade-ended}

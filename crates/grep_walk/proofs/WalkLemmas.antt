@@ -18,7 +18,7 @@ use Rattle.grep_definitions.specs.Searches.{reports_nothing}
 use Rattle.grep_definitions.specs.LineSearch.{through, turns_at, turns, turns_through, byte_count}
 use Rattle.grep_definitions.specs.LineSearch
 use Rattle.grep_definitions.specs.LineTurns.{after_turns, context_turns, match_turns, pending_turns, matches_line}
-use Rattle.grep_definitions.specs.LineTurns.{number_of}
+use Rattle.grep_definitions.specs.SearchLaws.{number_of}
 use Rattle.grep_report.specs.ErrorMakers.{ErrorMakers}
 use Rattle.grep_definitions.specs.ContentsSearches.{IsLineFault, of_sink, of_matcher}
 use Rattle.grep_definitions.specs.LineWalks.{IsNear, IsOpen}

@@ -1,6 +1,5 @@
 -- How a walk over the lines of some bytes ends in an error. No contract of grep_searcher cites
--- these
--- definitions.
+-- these definitions.
 use Rattle.std.specs.Prelude.{◌≡◌, ℕ, List, ◌++◌}
 use Rattle.grep_definitions.specs.LineSearch.{turns}
 use Rattle.grep_definitions.specs.Questions.{IsAskedByLine}

@@ -10,7 +10,8 @@ use Rattle.grep_definitions.specs.Plans.{Settings, Planned, Outcome, all_true, s
 use Rattle.grep_definitions.specs.Plans.{Steps, AreMade, counted, has_room, hits_if, stops_next}
 use Rattle.grep_definitions.specs.LineSearch.{turns_before}
 use Rattle.grep_definitions.specs.LineWalks.{IsNear, IsOpen}
-use Rattle.grep_definitions.specs.LineTurns.{number_of, matches_line, pending_turns, match_turns}
+use Rattle.grep_definitions.specs.LineTurns.{matches_line, pending_turns, match_turns}
+use Rattle.grep_definitions.specs.SearchLaws.{number_of}
 use Rattle.grep_definitions.specs.LineTurns.{after_turns, context_turns}
 use Rattle.grep_walk.specs.declared.walk.Verdict.{Verdict}
 use Rattle.grep_walk.specs.declared.walk.Verdict.TheVariants.{Chosen, Trailing, Missed}

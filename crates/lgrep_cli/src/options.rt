@@ -15,7 +15,7 @@ use thiserror::Error;
 pub const USAGE: &str =
     "usage: lgrep [-v] [-A N] [-B N] [-m N] [-U] [--passthru] [-c] LITERAL [PATH]";
 
-/// What a search is asked for.
+/// What a search is to do.
 #[derive(Debug, Drop)]
 pub struct Options {
     /// Whether the lines without the literal are selected, instead of those with it.

@@ -1,4 +1,4 @@
-//! Whether a value is written as some text. No memory for the text is no.
+//! Whether a value is written as some text. The answer is no if there is no memory for the text.
 use grep_report::{ConfigError, SearchError, SinkError};
 use std::alloc::Global;
 use std::fmt::{Debug, Display};
@@ -19,7 +19,7 @@ pub(crate) fn displays<T: Display>(alloc: Global, value: &T, form: &str) -> bool
     }
 }
 
-/// Whether this is how an error is displayed that is of no use then.
+/// Whether this is how an error is displayed, which is dropped.
 pub(crate) fn tells<E: Display + Drop>(alloc: Global, error: E, text: &str) -> bool {
     displays(alloc, &error, text)
 }

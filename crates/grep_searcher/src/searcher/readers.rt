@@ -24,18 +24,20 @@ impl<A: Allocator + Copy> Searcher<A> {
     /// a false, the limit or a stop ends it without another read (at a limit of 0 it may be read
     /// once under binary detection), and so does an unterminated last line. A buffer shows whole
     /// lines; between two reads it keeps at most as many of them as are reported before a match. It
-    /// has 65,536 bytes at first, or the heap limit if that is lower. For a longer line it grows to
-    /// the heap limit, and after the first mebibyte of an input, if there is memory, to 131,072.
+    /// has 65,536 bytes at first, or the heap limit if that is lower. It grows for a line that is
+    /// longer, and after the first mebibyte of an input, if there is memory, to 131,072 bytes; but
+    /// never over the heap limit.
     ///
     /// A search that is refused reads nothing and makes no call. An error of reading comes after
     /// the reports of the lines before it, and nothing follows. It is made of
     /// - the reader's error, unchanged; an interrupted read isn't tried again;
-    /// - one of kind `Other`, if the heap limit is reached: a line that is longer than the limit, or as long and
-    ///   unterminated, or with the lines that are kept before it as long as the limit;
+    /// - one of kind `Other`, if the heap limit is reached: a line that is longer than the limit,
+    ///   or as long and unterminated, or with the lines that are kept before it as long as the
+    ///   limit;
     /// - one of kind `InvalidData`, if the decoded bytes are more than 2^64 - 1;
-    /// - one of kind `OutOfMemory`, if the buffer has to grow and can't, which it never does under a heap limit of
-    ///   at most 65,536; or if the searcher has no buffers, as a clone that was made in a sink, and there is no
-    ///   memory for them: then the sink had no call.
+    /// - one of kind `OutOfMemory`, if the buffer has to grow and can't, which it never does under
+    ///   a heap limit of at most 65,536; or if the searcher has no buffers, as a clone that was
+    ///   made in a sink, and there is no memory for them: then the sink had no call.
     ///
     /// Under binary detection a search by line calls `binary_data` with the offset of the first
     /// binary byte once the buffer has it, before the lines that were read with it are searched.

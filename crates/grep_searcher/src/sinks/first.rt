@@ -27,7 +27,7 @@ impl<A: Allocator + Copy> Model for First<A> {
 }
 
 impl<A: Allocator + Copy> First<A> {
-    /// A handler that keeps `limit` matches, and takes memory from `alloc`.
+    /// A handler that keeps at most `limit` matches, and takes memory from `alloc`.
     pub fn new(alloc: A, limit: usize) -> First<A>
         ensures { result ≡ record { limit = limit; kept = [] } }
     {

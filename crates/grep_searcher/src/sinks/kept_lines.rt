@@ -6,7 +6,7 @@ use grep_report::SinkContextKind;
 use std::alloc::{Allocator, Global};
 use std::marker::Model;
 
-/// As what lines are reported.
+/// What reported lines are: a match, or a line that isn't one.
 #[derive(Clone, Copy, PartialEq, Eq, Debug)]
 pub enum ReportKind {
     /// They are a match.
@@ -40,7 +40,7 @@ impl<A: Allocator> KeptLines<A> {
         KeptLines { kind, lines }
     }
 
-    /// As what the lines were reported.
+    /// What the lines were reported as.
     pub fn kind(&self) -> ReportKind
         ensures { result ≡ self.now.0 }
     {
@@ -61,8 +61,8 @@ impl<A: Allocator> KeptLines<A> {
         self.lines.absolute_byte_offset()
     }
 
-    /// The bytes: whole lines with their terminators, except that the input's last line may lack its
-    /// own.
+    /// The bytes: whole lines with their terminators, except that the input's last line may lack
+    /// its own.
     pub fn bytes(&self) -> &[u8]
         ensures { result.now ≡ self.now.1.bytes }
     {
