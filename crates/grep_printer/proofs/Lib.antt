@@ -3,14 +3,17 @@ pub mod JsonBytesLemmas
 pub mod JsonRunLemmas
 pub mod JsonStepLemmas
 pub mod FoundPartLemmas
+pub mod LineFeedLemmas
 pub mod PartTextLemmas
 pub mod PlanCountLemmas
+pub mod PlanWordLemmas
 pub mod PrintedRunLemmas
 pub mod PushLemmas
 pub mod ReadBackLemmas
 pub mod ReportLemmas
 pub mod ReportToldLemmas
 pub mod RunFoldLemmas
+pub mod SearchMessageLemmas
 pub mod SomeTextLemmas
 pub mod StandardStepLemmas
 pub mod SuccessiveLemmas

@@ -13,6 +13,7 @@ use Rattle.json.proofs.Printed.Trees.{document-print}
 use Rattle.json.specs.Json.{Json}
 use Rattle.json.specs.Print.{print}
 use Rattle.json.specs.Tree.{HasNumbers, ItemsHaveNumbers, depth, items_depth, json_tokens}
+use Rattle.grep_printer.proofs.LineFeedLemmas.{printed-lacks}
 use Rattle.grep_printer.specs.JsonLaws.{AreWords, IsLineOf, IsReport, IsWordRange, MessagesAreReadBack, Reported}
 use Rattle.grep_printer.specs.JsonLaws.{message_of}
 use Rattle.grep_printer.specs.JsonMessages.{base64_json, begin_json, bytes_json, end_json, json_line, optional_json}
@@ -174,6 +175,7 @@ unfolding json_line
 line-read j writable = record {
   text = print (json_tokens j);
   ended = refl;
+  unbroken = printed-lacks j writable.numbers;
   read = document-print j writable.numbers writable.shallow;
 }
 

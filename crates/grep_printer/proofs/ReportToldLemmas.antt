@@ -1,5 +1,5 @@
 -- What the message of a report tells of it.
-use Rattle.std.proofs.Common.{◌≡◌, ◌∙◌, ℕ, ◌<◌, ◌^◌, List, [], ◌∷◌, Bool, true, false, Option, None, Some, ap}
+use Rattle.std.proofs.Common.{◌≡◌, ◌≢◌, ◌∙◌, ℕ, ◌<◌, ◌^◌, List, [], ◌∷◌, Bool, true, false, Option, None, Some, ap}
 use Rattle.std.proofs.Common.{ap₂, arith, length, refl, sym}
 use Rattle.std.proofs.lemmas.Fmt.{decimal_injective}
 use Rattle.std.proofs.lemmas.List.Elements.{All-head, All-tail}
@@ -10,9 +10,9 @@ use Rattle.std.specs.Str.{is_utf8}
 use Rattle.base64.proofs.EngineFacts.{decode_of-encode_of}
 use Rattle.base64.specs.Engines.{standard}
 use Rattle.base64.specs.GeneralPurpose.{IsBytes, decode_of, encode_of}
-use Rattle.grep_printer.specs.JsonLaws.{IsWordRange, MessagesTell}
+use Rattle.grep_printer.specs.JsonLaws.{BeginsTell, IsWordRange, MessagesTell, Reported, message_of}
 use Rattle.grep_printer.specs.JsonLaws.{path_text}
-use Rattle.grep_printer.specs.JsonMessages.{base64_json, bytes_json, optional_json, path_json, report_json}
+use Rattle.grep_printer.specs.JsonMessages.{base64_json, begin_json, bytes_json, optional_json, path_json, report_json}
 use Rattle.grep_printer.specs.JsonMessages.{submatch_items, submatch_json, text_json}
 
 path-told : (a b : Option (Bor (List ℕ))) → path_json a ≡ path_json b → path_text a ≡ path_text b
@@ -86,3 +86,16 @@ messages-tell a b first later same =
       offset = decimal_injective a.offset b.offset first.offset later.offset offset;
       ranges = ranges-told a.bytes b.bytes a.ranges b.ranges first.ranges later.ranges ranges;
     }
+
+-- the message that begins a search has no bytes
+pub begin-other : (path : Option (Bor (List ℕ))) (report : Reported) → begin_json path ≢ message_of report
+unfolding begin_json report_json
+begin-other path report same = absurd cc
+
+-- all of it
+pub begins-tell : BeginsTell
+unfolding begin_json
+begins-tell = record {
+  path = λ a b same. let path : path_json a ≡ path_json b = cc in path-told a b path;
+  other = begin-other;
+}

@@ -2,8 +2,9 @@
 use Rattle.std.proofs.Common.{◌≡◌, ℕ, zero, suc, ◌+◌, ◌≤◌, List, [], ◌∷◌, length, Option, Some, None, Bool}
 use Rattle.std.proofs.Common.{true, false, arith, ap, sym, ◌∙◌, refl, subst}
 use Rattle.std.proofs.lemmas.Bool.Decides.{nat_tests}
+use Rattle.std.proofs.lemmas.List.Elements.{All-cons, All-nil}
 use Rattle.std.specs.Option.{option_and_then, option_map_or}
-use Rattle.std.specs.Prelude.{if◌then◌else◌, nat_le, nat_lt}
+use Rattle.std.specs.Prelude.{All, if◌then◌else◌, nat_le, nat_lt}
 use Rattle.grep_matcher.specs.FindResults.{IsFrom}
 use Rattle.grep_printer.proofs.FoundPartLemmas.{after-later, from-found}
 use Rattle.grep_printer.specs.MatchedParts.{AreSuccessive, below, found_from, is_passed}
@@ -137,7 +138,41 @@ module _ (first_at : ℕ → Option (ℕ × ℕ)) (size limit : ℕ) (finds : Fi
           (parts_from first_at size limit count (position_after found) (Some found.1)) is
           (later found (omega (arith, after, enough))))
 
--- all of them
+  -- each of the parts lies in the bytes
+  with-lies : (passed : Bool) (found : ℕ × ℕ) (later : List (ℕ × ℕ)) → (found.0 ≤ found.1) × (found.1 ≤ size)
+      → All (λ part. (part.0 ≤ part.1) × (part.1 ≤ size)) later
+      → All (λ part. (part.0 ≤ part.1) × (part.1 ≤ size)) (if passed then later else found ∷ later)
+  with-lies true found later here lie = lie
+  with-lies false found later here lie = All-cons (λ part. (part.0 ≤ part.1) × (part.1 ≤ size)) found later here lie
+
+  from-lie : (count position : ℕ) (end : Option ℕ)
+      → All (λ part. (part.0 ≤ part.1) × (part.1 ≤ size)) (parts_from first_at size limit count position end)
+  from-lie zero position end = All-nil (λ part. (part.0 ≤ part.1) × (part.1 ≤ size))
+  from-lie (suc count) position end =
+      go (found_from first_at size limit position) refl (λ after before. from-lie count after before)
+    where
+      go : (first : Option (ℕ × ℕ)) → found_from first_at size limit position ≡ first
+          → ((after : ℕ) (before : Option ℕ)
+          → All (λ part. (part.0 ≤ part.1) × (part.1 ≤ size)) (parts_from first_at size limit count after before))
+          → All (λ part. (part.0 ≤ part.1) × (part.1 ≤ size)) (option_map_or
+          (λ found. with_part end found (parts_from first_at size limit count (position_after found) (Some found.1)))
+          first [])
+      go None none later = All-nil (λ part. (part.0 ≤ part.1) × (part.1 ≤ size))
+      go (Some found) is later =
+          let lies = found-lies position found is in
+          with-lies (is_passed end found) found
+          (parts_from first_at size limit count (position_after found) (Some found.1)) (lies.1, lies.2)
+          (later (position_after found) (Some found.1))
+
+-- the parts of some bytes lie in them
+pub parts-lie : (bytes : List ℕ) (limit : ℕ) (first_at : ℕ → Option (ℕ × ℕ))
+    → ((start : ℕ) → start ≤ length bytes → IsFrom start bytes (first_at start))
+    → All (λ part. (part.0 ≤ part.1) × (part.1 ≤ length bytes)) (parts_in first_at (length bytes) limit)
+unfolding parts_in
+parts-lie bytes limit first_at within =
+    from-lie first_at (length bytes) limit (finds-from bytes first_at within) (length bytes + 1) 0 None
+
+-- and are successive
 pub parts-are-successive : (bytes : List ℕ) (limit : ℕ) (first_at : ℕ → Option (ℕ × ℕ))
     → ((start : ℕ) → start ≤ length bytes → IsFrom start bytes (first_at start))
     → AreSuccessive first_at (length bytes) limit 0 None (parts_in first_at (length bytes) limit)

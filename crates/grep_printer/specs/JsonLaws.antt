@@ -1,5 +1,5 @@
 -- What a reader of JSON makes of the messages of a printer.
-use Rattle.std.specs.Prelude.{◌≡◌, ℕ, ◌<◌, ◌^◌, All, List, [], ◌∷◌, ◌++◌, Option, None, Some}
+use Rattle.std.specs.Prelude.{◌≡◌, ◌≢◌, ℕ, ◌<◌, ◌^◌, All, List, [], ◌∷◌, ◌++◌, Option, None, Some}
 use Rattle.std.specs.Borrow.{Bor}
 use Rattle.std.specs.Option.{IfSome}
 use Rattle.base64.specs.GeneralPurpose.{IsBytes}
@@ -8,10 +8,11 @@ use Rattle.grep_printer.specs.JsonMessages.{begin_json, end_json, json_line, rep
 use Rattle.grep_printer.specs.JsonMessages.{summary_json}
 use Rattle.grep_printer.specs.declared.stats.Stats.{Stats}
 
--- a line is a text, which is read as a message, and a line feed
+-- a line is a text without a line feed, which is read as a message, and a line feed
 pub record IsLineOf (message : Json) (line : List ℕ) : Type 0 where
   pub text : List ℕ
   pub ended : line ≡ text ++ 10 ∷ []
+  pub unbroken : All (λ b. b ≢ 10) text
   pub read : document text ≡ Some message
 
 -- each count is a number of 64 bits
@@ -79,3 +80,10 @@ pub record MessagesAreReadBack : Type 0 where
 abbrev pub MessagesTell : Type 0
 MessagesTell =
     (a b : Reported) → IsReport a → IsReport b → message_of a ≡ message_of b → IsSameReport a b
+
+-- the message that begins a search tells its path, and is that of no report
+pub record BeginsTell : Type 0 where
+  pub path : (a b : Option (Bor (List ℕ))) → begin_json a ≡ begin_json b
+      → path_text a ≡ path_text b
+  pub other : (path : Option (Bor (List ℕ))) (report : Reported)
+      → begin_json path ≢ message_of report

@@ -12,6 +12,7 @@ pub mod PlanCounts
 pub mod Pushes
 pub mod ReportedParts
 pub mod Reports
+pub mod SearchMessages
 pub mod StandardSteps
 pub mod StandardTexts
 pub mod StatsSums

@@ -1,8 +1,10 @@
 //! What the printers make of a search: each law is the contract of a function that does nothing.
-ghost use Rattle.grep_printer.specs.JsonLaws.{MessagesAreReadBack, MessagesTell};
+ghost use Rattle.grep_printer.specs.JsonLaws.{BeginsTell, MessagesAreReadBack, MessagesTell};
 ghost use Rattle.grep_printer.specs.JsonSteps.{RunsFailToPrintJson, RunsPrintJson};
 ghost use Rattle.grep_printer.specs.MatchedParts.{PartsAreSuccessive};
 ghost use Rattle.grep_printer.specs.PlanCounts.{JsonCounts, SummariesCount};
+ghost use Rattle.grep_printer.specs.SearchMessages.{PlansHaveWords, SearchesAreReadBack};
+ghost use Rattle.grep_printer.specs.SearchMessages.{SearchesTell};
 ghost use Rattle.grep_printer.specs.StandardSteps.{RunsFailToPrint, RunsPrint};
 ghost use Rattle.grep_printer.specs.SummarySteps.{RunsFailToSumUp, RunsSumUp};
 
@@ -39,12 +41,25 @@ pub fn runs_print_json<M: FindAt, W: Output>()
     ensures error { RunsFailToPrintJson M.facts M.first_at W.step }
 {}
 
-/// The line of a message is a text, which any reader of JSON reads as this message, and a line
-/// feed. The message of a report tells its type, path, bytes, number and offset, and the matches in
-/// it: no other report has it.
+/// The line of a message is a text without a line feed, which any reader of JSON reads as this
+/// message, and a line feed. The message of a report tells its type, path, bytes, number and
+/// offset, and the matches in it: no other report has it. One that begins a search tells its path,
+/// and is that of no report.
 pub fn messages_are_read_back()
     ensures read { MessagesAreReadBack }
     ensures tell { MessagesTell }
+    ensures begin { BeginsTell }
+{}
+
+/// The text of a whole search, split after each line feed, has a line for each of the messages of
+/// its calls, in order, which is read as this message: for `begin`, if it is due and wasn't written
+/// before, and for each match and each context line. So the text tells all of its reports: no
+/// search that reports anything else has it. What the calls report are numbers of 64 bits, and
+/// bytes, as it is for the plan of a search of bytes, fewer than the greatest such number.
+pub fn searches_are_read_back<M: FindAt>()
+    ensures read { SearchesAreReadBack M.first_at }
+    ensures tell { SearchesTell M.first_at }
+    ensures words { PlansHaveWords }
 {}
 
 /// What a `Json` counts in a search, and a `Summary` that counts all matches of one, in terms of

@@ -1,0 +1,134 @@
+-- What the calls of a plan report are numbers of 64 bits and bytes, if the searched bytes are so few.
+use Rattle.std.proofs.Common.{◌∙◌, ℕ, zero, suc, ◌+◌, ◌-◌, ◌<◌, ◌≤◌, ◌^◌, ◌==◌, List, [], ◌∷◌}
+use Rattle.std.proofs.Common.{Bool, true, false, Option, None, Some, arith, count_by, drop, inl, inr, length, length-drop, subst, sym, take}
+use Rattle.std.proofs.lemmas.Bool.{cases_lt}
+use Rattle.std.proofs.lemmas.List.{get_or-drop, get_or-take, get_or_past, length-take}
+use Rattle.std.proofs.lemmas.List.Elements.{All-append, All-cons, All-map, All-nil}
+use Rattle.std.proofs.lemmas.List.Sums.{count_by-le-length}
+use Rattle.std.specs.Option.{IfSome}
+use Rattle.std.specs.Prelude.{All, ◌&&◌, if◌then◌else◌, nat_lt, slice_range}
+use Rattle.base64.specs.GeneralPurpose.{IsBytes}
+use Rattle.grep_lines.proofs.LineStepLemmas.{IsStep-line}
+use Rattle.grep_matcher.proofs.LineStartLemmas.{line_start-within}
+use Rattle.grep_matcher.specs.Lines.{byte_of, lines}
+use Rattle.grep_searcher.specs.Plans.{Kind, Planned, Selection, Settings, begins, breaks, breaks_before, calls_at}
+use Rattle.grep_searcher.specs.Plans.{count_at, in_context, is_across, joined_from, kind, line, matched, matches}
+use Rattle.grep_searcher.specs.Plans.{number, planned, report, report_end, reports_plan, selection_in, start}
+use Rattle.grep_searcher.specs.SearchLaws.{calls_of}
+use Rattle.grep_printer.specs.SearchMessages.{HasWords, PlansHaveWords}
+
+-- a part of some bytes
+slice-bytes : (bytes : List ℕ) (from to : ℕ) → IsBytes bytes → IsBytes (slice_range bytes from to)
+slice-bytes bytes from to are i = elim (cases_lt i (to - from)) [
+  | inl below ↦
+      subst (λ b. b < 256) (sym (get_or-take (to - from) (drop from bytes) i 0 below ∙ get_or-drop from bytes i 0))
+      (are (from + i))
+  | inr past ↦
+      let size = length-take (to - from) (drop from bytes) in
+      let none = get_or_past (take (to - from) (drop from bytes)) i 0 (omega (arith, size, past)) in
+      subst (λ b. b < 256) (sym none) (omega arith)
+]
+
+slice-short : (bytes : List ℕ) (from to : ℕ) → length (slice_range bytes from to) ≤ length bytes
+slice-short bytes from to = omega (arith, length-take (to - from) (drop from bytes), length-drop from bytes)
+
+-- what holds of all that is joined
+All-joined : {X : Type 0} (P : X → Type 0) (f : ℕ → List X) → ((i : ℕ) → All P (f i)) → (n i : ℕ)
+    → All P (joined_from f i n)
+All-joined P f each zero i = All-nil P
+All-joined P f each (suc n) i = All-append P (f i) (joined_from f (i + 1) n) (each i) (All-joined P f each n (i + 1))
+
+module _ (settings : Settings) (bytes : List ℕ) (are : IsBytes bytes) (short : length bytes < 2 ^ 64 - 1) where
+  abbrev Has : Planned → Type 0
+  Has call = HasWords call.call
+
+  -- a call without a report
+  empty-words : (count : ℕ) → Has (planned breaks count)
+  empty-words count =
+      record { number = tt; offset = omega arith; size = omega arith; bytes = λ i. omega arith }
+
+  number-word : (i : ℕ) → IfSome (number settings bytes i) (λ n. n < 2 ^ 64)
+  number-word i = go settings.line_number
+    where
+      go : (numbered : Bool) → IfSome (if numbered
+          then Some (count_by (λ b. b == byte_of settings.line_terminator) (take (start settings bytes i) bytes) + 1)
+          else None) (λ n. n < 2 ^ 64)
+      go true =
+          let front = take (start settings bytes i) bytes in
+          let few = count_by-le-length (λ b. b == byte_of settings.line_terminator) front in
+          omega (arith, few, length-take (start settings bytes i) bytes, short)
+      go false = tt
+
+  start-word : (i : ℕ) → start settings bytes i < 2 ^ 64
+  start-word i = omega (arith, line_start-within (byte_of settings.line_terminator) bytes i, short)
+
+  line-words : (i : ℕ) → (length (line settings bytes i) < 2 ^ 64) × IsBytes (line settings bytes i)
+  line-words i =
+      let t = byte_of settings.line_terminator in
+      let all : List (List ℕ) = lines t bytes in
+      elim (cases_lt i (length all)) [
+        | inl inside ↦
+            let from = start settings bytes i in
+            let to = start settings bytes (i + 1) in
+            subst (λ bs. (length bs < 2 ^ 64) × IsBytes bs) (sym (IsStep-line t bytes i inside).line)
+            (omega (arith, slice-short bytes from to, short), slice-bytes bytes from to are)
+        | inr past ↦
+            subst (λ bs. (length bs < 2 ^ 64) × IsBytes bs) (sym (get_or_past all i [] past))
+            (omega arith, λ k. omega arith)
+      ]
+
+  module _ (selection : Selection) where
+    match-words : (i count : ℕ) → Has (planned (matches (number settings bytes i) (start settings bytes i)
+        (slice_range bytes (start settings bytes i)
+        (start settings bytes (report_end settings bytes selection i)))) count)
+    match-words i count =
+        let from = start settings bytes i in
+        let to = start settings bytes (report_end settings bytes selection i) in record {
+          number = number-word i;
+          offset = start-word i;
+          size = omega (arith, slice-short bytes from to, short);
+          bytes = slice-bytes bytes from to are;
+        }
+
+    report-words : (i : ℕ) (how : Option Kind) → All Has (report settings bytes selection i how)
+    report-words i None = All-nil Has
+    report-words i (Some matched) = go (selection.joined && nat_lt 0 i && selection.selected (i - 1))
+      where
+        go : (later : Bool) → All Has (if later then [] else planned
+            (matches (number settings bytes i) (start settings bytes i) (slice_range bytes (start settings bytes i)
+            (start settings bytes (report_end settings bytes selection i))))
+            (count_at settings bytes selection i (Some matched)) ∷ [])
+        go true = All-nil Has
+        go false = All-cons Has _ [] (match-words i (count_at settings bytes selection i (Some matched))) (All-nil Has)
+    report-words i (Some (in_context c)) =
+        let part = line-words i in
+        All-cons Has _ [] (record {
+          number = number-word i;
+          offset = start-word i;
+          size = part.0;
+          bytes = part.1;
+        }) (All-nil Has)
+
+    calls-words : (i : ℕ) → All Has (calls_at settings bytes selection i)
+    calls-words i = go (breaks_before settings bytes selection i)
+      where
+        go : (broken : Bool) → All Has (if broken
+            then planned breaks (count_at settings bytes selection i (kind settings bytes selection i))
+            ∷ report settings bytes selection i (kind settings bytes selection i)
+            else report settings bytes selection i (kind settings bytes selection i))
+        go true =
+            All-cons Has (planned breaks (count_at settings bytes selection i (kind settings bytes selection i)))
+            (report settings bytes selection i (kind settings bytes selection i))
+            (empty-words (count_at settings bytes selection i (kind settings bytes selection i)))
+            (report-words i (kind settings bytes selection i))
+        go false = report-words i (kind settings bytes selection i)
+
+    plan-words : All HasWords (calls_of (reports_plan settings bytes selection).calls)
+    plan-words = All-map HasWords (λ call. call.call) (reports_plan settings bytes selection).calls
+        (All-cons Has (planned begins 0) _
+        (record { number = tt; offset = omega arith; size = omega arith; bytes = λ i. omega arith })
+        (All-joined Has (calls_at settings bytes selection) calls-words selection.end 0))
+
+pub plans-have-words : PlansHaveWords
+plans-have-words settings meaning bytes are short =
+    plan-words settings bytes are short (selection_in settings meaning bytes (is_across settings meaning))
