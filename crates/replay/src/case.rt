@@ -161,6 +161,8 @@ pub(crate) struct Options {
     pub(crate) expression: RegexMatcherBuilder,
     // Whether it declares a line terminator.
     ends_lines: bool,
+    // Whether the input is decoded by a label.
+    is_labelled: bool,
 }
 
 /// A search that is to be made.
@@ -209,6 +211,35 @@ impl Case {
             slice::from_ref(&options.way.place)
         } else {
             PLACES
+        }
+    }
+
+    /// The byte of ASCII that a search of a reader converts, by line. None if a read fails or if a
+    /// call fails or returns false, since `binary_data` is a call too, and none if the input may be
+    /// UTF-16.
+    pub(crate) fn converted_byte(&self, searcher: &Searcher) -> Option<u8> {
+        let byte = searcher.binary_detection().convert_byte()?;
+        let is_read = matches!(self.options.way.place.mode, Mode::Reader)
+            && self.detects_by_line(searcher)
+            && !self.options.has_fault();
+        if is_read && byte.is_ascii() && !self.may_be_utf16() {
+            Some(byte)
+        } else {
+            None
+        }
+    }
+
+    // Whether the input has a label or begins as a mark of UTF-16 does.
+    fn may_be_utf16(&self) -> bool {
+        self.options.is_labelled || matches!(self.input.first(), Some(0xFE | 0xFF))
+    }
+
+    /// Replaces each such byte of the input.
+    pub(crate) fn replace(&mut self, byte: u8, new: u8) {
+        for some in self.input.iter_mut() {
+            if *some == byte {
+                *some = new;
+            }
         }
     }
 
@@ -346,7 +377,13 @@ impl Options {
             settings: SearcherBuilder::new(),
             expression: RegexMatcherBuilder::new(),
             ends_lines: false,
+            is_labelled: false,
         }
+    }
+
+    // Whether a read fails, or a call fails or returns false.
+    fn has_fault(&self) -> bool {
+        self.error_at.is_some() || self.false_at.is_some() || self.fail_at.is_some()
     }
 
     // Sets the option of a field.
@@ -393,6 +430,7 @@ impl Options {
     }
 
     fn encode(&mut self, encoding: Option<Encoding>) {
+        self.is_labelled = encoding.is_some();
         self.settings.encoding(encoding);
     }
 }

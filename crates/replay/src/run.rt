@@ -2,7 +2,7 @@
 use crate::case::{Case, CaseError, Mode, Pattern, Place, Way};
 use grep_matcher::{LiteralMatcher, Matcher, Plain};
 use grep_regex::Regex;
-use grep_searcher::{ConfigError, SearchError, Searcher, SinkError};
+use grep_searcher::{BinaryDetection, ConfigError, SearchError, Searcher, SinkError};
 use grep_testing::{
     AtEnd, CandidatesOnly, ConfirmsEnd, Either, Empty, Failing, Naming, Pieces, RECORDER_MESSAGE,
     Recorder,
@@ -14,7 +14,7 @@ use std::{io, str};
 /// be run, and a search that fails, are reported in what is written. An error is that of the write
 /// to `output`.
 pub(crate) fn replay<W: io::Write>(alloc: Global, line: &[u8], output: &mut W) -> io::Result<()> {
-    let case = match Case::parse(alloc, line) {
+    let mut case = match Case::parse(alloc, line) {
         Ok(case) => case,
         Err(error) => return writeln!(output, "{}", case_fault(error)),
     };
@@ -22,16 +22,17 @@ pub(crate) fn replay<W: io::Write>(alloc: Global, line: &[u8], output: &mut W) -
         return write_forms(alloc, &case, output);
     }
     match build(alloc, &case) {
-        Ok(mut searcher) => write_calls(alloc, &mut searcher, &case, output),
+        Ok(mut searcher) => write_calls(alloc, &mut searcher, &mut case, output),
         Err(error) => writeln!(output, "{}", search_fault(&SearchError::Config(error))),
     }
 }
 
-// Writes the calls of a case and how it ended, and whether the same search differs elsewhere.
+// Writes the calls of a case and how it ended, and whether the same search differs elsewhere, or
+// that of the converted input.
 fn write_calls<W: io::Write>(
     alloc: Global,
     searcher: &mut Searcher,
-    case: &Case,
+    case: &mut Case,
     output: &mut W,
 ) -> io::Result<()> {
     let mut recorder = Recorder::new(alloc, case.options.false_at, case.options.fail_at);
@@ -43,7 +44,52 @@ fn write_calls<W: io::Write>(
             write!(output, ";differs")?;
         }
     }
+    if !agrees_converted(alloc, searcher, case, calls, end) {
+        write!(output, ";differs")?;
+    }
     writeln!(output)
+}
+
+// Whether the search of a case that converts a byte as it reads makes the calls of the search of
+// the converted input, and ends so.
+fn agrees_converted(
+    alloc: Global,
+    searcher: &mut Searcher,
+    case: &mut Case,
+    calls: &str,
+    end: &str,
+) -> bool {
+    let Some(byte) = case.converted_byte(searcher) else {
+        return true;
+    };
+    case.replace(byte, searcher.line_terminator().as_byte());
+    searcher.set_binary_detection(BinaryDetection::none());
+    let mut recorder = Recorder::new(alloc, None, None);
+    let ended = search(alloc, searcher, case, case.options.way, &mut recorder);
+    end_of(ended) == end && are_of_view(calls, recorder.text())
+}
+
+// Whether calls that tell of a binary byte are the others of the converted input: all the same but
+// for `binary_data` and the offset in `finish`.
+fn are_of_view(calls: &str, others: &str) -> bool {
+    let mut others = others.split(';');
+    for call in calls.split(';') {
+        if !call.starts_with("binary ") && !is_same(call, others.next()) {
+            return false;
+        }
+    }
+    others.next().is_none()
+}
+
+// Whether a call is the other but for the offset in `finish`.
+fn is_same(call: &str, other: Option<&str>) -> bool {
+    let Some(other) = other else {
+        return false;
+    };
+    match (call.rsplit_once(' '), other.rsplit_once(' ')) {
+        (Some((count, _)), Some((other, "-"))) if count.starts_with("finish ") => count == other,
+        _ => call == other,
+    }
 }
 
 // Whether the search of a case makes the same calls at a place and ends so, plain or not. Under
