@@ -224,6 +224,7 @@ fn free_part(rt: HostRuntime) {
 type DetectionRow = (&'static [u8], Detection, &'static [u8], Option<u64>);
 
 const DETECTION_ROWS: &[DetectionRow] = &[
+    (b"", Detection::None, b"", None),
     (
         b"homer\nli\0sa\nmaggie\n",
         Detection::Quit(0),

@@ -1,8 +1,8 @@
 //! Searches of files, and of paths.
 use crate::paths::temporary_path;
-use grep_matcher::LiteralMatcher;
+use grep_matcher::{LineTerminator, LiteralMatcher, Matcher};
 use grep_searcher::{ConfigError, SearchError, Searcher, SearcherBuilder};
-use grep_testing::{Pieces, Recorder};
+use grep_testing::{Naming, Pieces, Recorder};
 use std::alloc::Global;
 use std::fs::File;
 use std::io::{ErrorKind, Read};
@@ -23,13 +23,23 @@ fn search_path(
     searcher.search_path(rt, LiteralMatcher::borrowed(b"a"), path, recorder)
 }
 
+// Searches a file.
+fn search_file<M: Matcher + Drop, F: Read>(
+    searcher: &mut Searcher,
+    matcher: M,
+    file: &mut F,
+    recorder: &mut Recorder,
+) -> Result<(), SearchError> {
+    searcher.search_file(matcher, file, recorder)
+}
+
 // Searches a file for the literal `a`.
-fn search_file<F: Read>(
+fn search_file_for_a<F: Read>(
     searcher: &mut Searcher,
     file: &mut F,
     recorder: &mut Recorder,
 ) -> Result<(), SearchError> {
-    searcher.search_file(LiteralMatcher::borrowed(b"a"), file, recorder)
+    search_file(searcher, LiteralMatcher::borrowed(b"a"), file, recorder)
 }
 
 // Whether a search of a path makes the calls.
@@ -44,7 +54,7 @@ fn finds_by_path(rt: &HostRuntime, searcher: &mut Searcher, path: Path<'_>) -> b
 // Whether a search of a file makes these calls.
 fn makes_calls<F: Read>(alloc: Global, searcher: &mut Searcher, file: &mut F, calls: &str) -> bool {
     let mut recorder = Recorder::new(alloc, None, None);
-    match search_file(searcher, file, &mut recorder) {
+    match search_file_for_a(searcher, file, &mut recorder) {
         Ok(()) => recorder.text() == calls,
         Err(_) => false,
     }
@@ -91,15 +101,18 @@ fn files(rt: HostRuntime) {
     assert!(rt; finds_in_files(&rt));
 }
 
-// How a search of a path ends whose searcher refuses each search.
+// How a search ends that is refused.
 #[derive(Clone, Copy)]
 enum End {
     // the file can't be opened, by this error of the system
     Unopened(Option<i32>),
     Refused,
+    // the matcher names another terminator
+    Mismatched,
     Otherwise,
 }
 
+// The end of a search of a path whose searcher refuses each search.
 fn end_of(rt: &HostRuntime, path: Path<'_>) -> End {
     match SearcherBuilder::new().heap_limit(Some(0)).build(rt.alloc()) {
         Ok(mut searcher) => end_by(rt, &mut searcher, path),
@@ -122,6 +135,7 @@ fn how_ended(ended: Result<(), SearchError>) -> End {
     match ended {
         Err(SearchError::Io(error)) => End::Unopened(error.raw_os_error()),
         Err(SearchError::Config(ConfigError::SearchUnavailable)) => End::Refused,
+        Err(SearchError::Config(ConfigError::MismatchedLineTerminators { .. })) => End::Mismatched,
         _ => End::Otherwise,
     }
 }
@@ -156,6 +170,31 @@ fn opens_files_first(rt: &HostRuntime) -> bool {
 #[test]
 fn opens_before_anything_else(rt: HostRuntime) {
     assert!(rt; opens_files_first(&rt));
+}
+
+// Whether a search of a file is refused across lines too, whose matcher names another terminator,
+// before any call and any read.
+fn is_mismatched(alloc: Global) -> bool {
+    match SearcherBuilder::new().multi_line(true).build(alloc) {
+        Ok(mut searcher) => is_mismatched_by(alloc, &mut searcher),
+        Err(_) => false,
+    }
+}
+
+fn is_mismatched_by(alloc: Global, searcher: &mut Searcher) -> bool {
+    let mut file = Pieces::new(b"a\n", 0, None);
+    let mut recorder = Recorder::new(alloc, None, None);
+    let matcher = Naming {
+        matcher: LiteralMatcher::borrowed(b"a"),
+        terminator: LineTerminator::byte(b'z'),
+    };
+    let end = how_ended(search_file(searcher, matcher, &mut file, &mut recorder));
+    matches!(end, End::Mismatched) && file.reads() == 0 && recorder.text().is_empty()
+}
+
+#[test]
+fn refuses_another_terminator(rt: HostRuntime) {
+    assert!(rt; is_mismatched(rt.alloc()));
 }
 
 // A searcher that reads no byte ahead to look for a mark.
@@ -196,7 +235,7 @@ fn is_cut(alloc: Global, kind: ErrorKind) -> bool {
 fn is_cut_by(alloc: Global, searcher: &mut Searcher, kind: ErrorKind) -> bool {
     let mut file = Pieces::new(b"a\n", 0, Some((2, io::Error::from(kind))));
     let mut recorder = Recorder::new(alloc, None, None);
-    let ended = search_file(searcher, &mut file, &mut recorder);
+    let ended = search_file_for_a(searcher, &mut file, &mut recorder);
     is_error(ended, kind) && file.reads() == 2 && recorder.text() == "begin;match 1 0 610a;"
 }
 
