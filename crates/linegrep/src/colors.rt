@@ -1,13 +1,12 @@
 //! Whether what is written has colours.
-use clap::ArgMatches;
 use grep_printer::ColorSpecs;
 use std::env;
 use std::env::VarError;
 
-/// The colours that the arguments ask for. If they leave it open, a terminal gets colours, unless
-/// the environment asks for none.
-pub fn color_specs(rt: &HostRuntime, matches: &ArgMatches<'_>, is_terminal: bool) -> ColorSpecs {
-    let is_colored = match matches.get_str("color") {
+/// The colours for a choice of the options. If it is open, a terminal gets colours, unless the
+/// environment asks for none.
+pub fn color_specs(rt: &HostRuntime, choice: Option<&str>, is_terminal: bool) -> ColorSpecs {
+    let is_colored = match choice {
         Some("always") => true,
         Some("never") => false,
         _ => is_terminal && has_colors(rt) && allows_colors(rt),

@@ -17,8 +17,8 @@ pub trait Engine {
     /// Whether the writer failed.
     fn has_failed(&self) -> bool;
 
-    /// Writes what all searches have come to, if that is asked for, and what the writer keeps. An
-    /// error is the writer's.
+    /// Writes the totals of all searches, if they are asked for, and flushes the writer. An error
+    /// is the writer's.
     fn finish(&mut self) -> io::Result<()>;
 }
 

@@ -1,4 +1,4 @@
-//! Why the program ends before it has searched all.
+//! Why the program ends before it has searched everything.
 use std::alloc::{AllocError, AllocFailed};
 use std::fmt::Display;
 use std::io;
@@ -6,7 +6,7 @@ use std::process::ExitCode;
 
 const NO_PATTERN: &str = "there is no pattern\n\nFor more information, try 'linegrep --help'.";
 
-/// Why the program ends before it has searched all.
+/// Why the program ends before it has searched everything.
 #[derive(Drop)]
 pub enum Failure {
     /// The arguments are wrong, or ask for help or the version.
@@ -117,13 +117,8 @@ fn report_text(rt: &HostRuntime, text: &str) {
 
 // Writes a mark below the character that begins at a position of a text, counted in bytes.
 fn report_mark(rt: &HostRuntime, text: &str, start: usize) {
-    let _ = eprint!(rt; "    ");
-    for (at, _) in text.char_indices() {
-        if at < start {
-            let _ = eprint!(rt; " ");
-        }
-    }
-    let _ = eprintln!(rt; "^");
+    let before = text.get(..start).unwrap_or(text).chars().count();
+    let _ = eprintln!(rt; "    {:>1$}", '^', before + 1);
 }
 
 impl From<AllocError> for Failure {

@@ -1,9 +1,7 @@
 //! Globs, which choose among the files of folders.
 use crate::failures::Failure;
 use crate::wildcards::{Error, Wildcards};
-use clap::ArgMatches;
 use std::alloc::{AllocError, Global};
-use std::fmt::Display;
 
 /// What globs say of a file or a folder.
 #[derive(Clone, Copy)]
@@ -34,14 +32,14 @@ struct Glob {
 }
 
 impl Globs {
-    /// Reads the globs of `-g` from parsed arguments; an empty one is left out. A failure is that
+    /// Reads globs, of which an empty one is left out. A failure is that
     /// of a glob that isn't well formed, or of being out of memory.
-    pub fn read(alloc: Global, matches: &ArgMatches<'_>) -> Result<Globs, Failure> {
+    pub fn read(alloc: Global, texts: &[&str]) -> Result<Globs, Failure> {
         let mut globs = Globs {
             globs: Vec::new(alloc),
             are_exclusions: true,
         };
-        match globs.add_all(alloc, matches.get_strs("glob").unwrap_or(&[])) {
+        match globs.add_all(alloc, texts) {
             Ok(()) => Ok(globs),
             Err(failure) => Err(failure),
         }
@@ -49,30 +47,39 @@ impl Globs {
 
     fn add_all(&mut self, alloc: Global, texts: &[&str]) -> Result<(), Failure> {
         for text in texts {
-            if !text.is_empty() {
-                self.add(compile(alloc, text)?)?;
+            if let Err(error) = self.add(alloc, text) {
+                return Err(failure(alloc, text, error));
             }
         }
         Ok(())
     }
 
-    fn add(&mut self, glob: Glob) -> Result<(), Failure> {
-        self.are_exclusions = self.are_exclusions && glob.is_exclusion;
-        match self.globs.push(glob) {
-            Ok(()) => Ok(()),
-            Err(error) => Err(Failure::from(error)),
+    // Adds the glob of a text, unless the text is empty.
+    fn add(&mut self, alloc: Global, text: &str) -> Result<(), Error> {
+        if text.is_empty() {
+            return Ok(());
         }
+        let glob = compile(alloc, text)?;
+        self.are_exclusions = self.are_exclusions && glob.is_exclusion;
+        self.globs.push(glob)?;
+        Ok(())
     }
 
     /// What the globs say of the file or the folder at a path: the last that matches it decides. If
     /// none does, a file is left out if there is a glob that asks for files.
     pub fn choice(&mut self, path: &str, is_folder: bool) -> Choice {
         let path = path.strip_prefix("./").unwrap_or(path);
-        for glob in self.globs.iter_mut().rev() {
+        let mut choice = self.default_choice(is_folder);
+        for glob in self.globs.iter_mut() {
             if glob.is_match(path, is_folder) {
-                return glob.choice();
+                choice = glob.choice();
             }
         }
+        choice
+    }
+
+    // What they say of what none of them matches.
+    fn default_choice(&self, is_folder: bool) -> Choice {
         if self.are_exclusions || is_folder {
             Choice::Unmatched
         } else {
@@ -98,7 +105,7 @@ impl Glob {
 
 // Compiles the text of a glob: an exclamation mark at its start leaves paths out, a slash at its
 // end means folders alone, and without any other slash it is about names in any folder.
-fn compile(alloc: Global, text: &str) -> Result<Glob, Failure> {
+fn compile(alloc: Global, text: &str) -> Result<Glob, Error> {
     let (is_exclusion, glob) = match text.strip_prefix('!') {
         Some(glob) => (true, glob),
         None => (false, text),
@@ -107,15 +114,11 @@ fn compile(alloc: Global, text: &str) -> Result<Glob, Failure> {
         Some(glob) => (true, glob),
         None => (false, glob),
     };
-    match wildcards(alloc, glob) {
-        Ok(wildcards) => Ok(Glob {
-            wildcards,
-            is_exclusion,
-            names_folders,
-        }),
-        Err(Error::Malformed(cause)) => Err(failure(alloc, text, &cause)),
-        Err(Error::OutOfMemory) => Err(Failure::from(AllocError)),
-    }
+    Ok(Glob {
+        wildcards: wildcards(alloc, glob)?,
+        is_exclusion,
+        names_folders,
+    })
 }
 
 fn wildcards(alloc: Global, glob: &str) -> Result<Wildcards, Error> {
@@ -127,8 +130,11 @@ fn letters(alloc: Global, text: &str) -> Result<Vec<char>, AllocError> {
     Ok(text.chars().collect(alloc)?)
 }
 
-// The failure of a glob, with its text.
-fn failure<C: Display>(alloc: Global, text: &str, cause: &C) -> Failure {
+// The failure of a glob with a text.
+fn failure(alloc: Global, text: &str, error: Error) -> Failure {
+    let Error::Malformed(cause) = error else {
+        return Failure::from(AllocError);
+    };
     match format!(in alloc; "the glob {text}: {cause}") {
         Ok(message) => Failure::Setting(message),
         Err(error) => Failure::from(error),

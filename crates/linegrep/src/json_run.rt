@@ -6,7 +6,7 @@ use grep_printer::{Json, JsonSink, Stats};
 use grep_searcher::{FindAt, SearchError, Searcher, Source};
 use std::time::{Duration, Instant};
 
-/// A printer of JSON, with what all searches have come to so far, and when the run began. Where the
+/// A printer of JSON, with the totals of the searches so far, and when the run began. Where the
 /// clock fails a time is 0.
 #[derive(Drop)]
 pub struct JsonRun<W> {
@@ -42,7 +42,8 @@ impl<W: Output> JsonRun<W> {
         self.keep(has_match, ended)
     }
 
-    /// Writes what all searches have come to, and what the writer keeps.
+    /// Writes the totals of all searches, and flushes the writer. An error is the writer's, or one
+    /// of being out of memory.
     pub fn finish(&mut self, rt: &HostRuntime) -> Result<(), SearchError> {
         self.printer
             .write_summary(&self.stats, elapsed(rt, self.start))?;
@@ -57,7 +58,7 @@ impl<W: Output> JsonRun<W> {
         self.printer.has_failed()
     }
 
-    // Adds what a search has come to, unless it failed.
+    // Adds the counts of a search, unless it failed.
     fn keep(&mut self, has_match: bool, ended: Result<Stats, SearchError>) -> Searched {
         let result = match ended {
             Ok(stats) => {
@@ -70,7 +71,7 @@ impl<W: Output> JsonRun<W> {
     }
 }
 
-// Writes that a search has ended, unless it failed, and gives what it has come to.
+// Writes that a search has ended, unless it failed, and gives its counts.
 fn end<M: FindAt, W: Output>(
     rt: &HostRuntime,
     sink: &mut JsonSink<'_, M, W>,

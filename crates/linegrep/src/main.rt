@@ -13,17 +13,20 @@ mod patterns;
 mod printers;
 mod run;
 mod search;
+mod settings;
 mod walk;
 mod wildcards;
 
 use crate::command::command;
 use crate::failures::Failure;
-use crate::options::{build_printer, searcher};
+use crate::options::Options;
 use crate::patterns::Operands;
+use crate::printers::Printer;
 use crate::search::search_all;
+use crate::settings::{build_printer, build_searcher};
 use clap::ArgMatches;
 use grep_output::{Output, Writing};
-use grep_searcher::Reading;
+use grep_searcher::{Reading, Searcher};
 use std::alloc::Global;
 use std::env;
 use std::io::{BufWriter, IsTerminal};
@@ -59,20 +62,20 @@ fn parse<'w>(alloc: Global, words: &'w [String]) -> Result<ArgMatches<'w>, clap:
 // Searches what parsed arguments name.
 fn search_parsed(rt: &HostRuntime, matches: &ArgMatches<'_>) -> Result<ExitCode, Failure> {
     let operands = Operands::read(rt, matches)?;
-    search_operands(rt, matches, &operands)
+    search_operands(rt, &Options::read(matches), &operands)
 }
 
 // Searches what the operands name. A terminal gets each text at once.
 fn search_operands(
     rt: &HostRuntime,
-    matches: &ArgMatches<'_>,
+    options: &Options<'_, '_>,
     operands: &Operands,
 ) -> Result<ExitCode, Failure> {
     let stdout = rt.stdout();
     let is_terminal = stdout.is_terminal();
     let room = if is_terminal { 0 } else { ROOM };
     match BufWriter::with_capacity(rt.alloc(), room, stdout) {
-        Ok(writer) => search_to(rt, matches, operands, is_terminal, Writing::new(writer)),
+        Ok(writer) => search_to(rt, options, operands, is_terminal, Writing::new(writer)),
         Err(error) => Err(Failure::System(error)),
     }
 }
@@ -80,20 +83,24 @@ fn search_operands(
 // Searches what the operands name, and writes what is found to `writer`.
 fn search_to<W: Output + Drop>(
     rt: &HostRuntime,
-    matches: &ArgMatches<'_>,
+    options: &Options<'_, '_>,
     operands: &Operands,
     is_terminal: bool,
     writer: W,
 ) -> Result<ExitCode, Failure> {
-    let mut searcher = searcher(rt.alloc(), matches, is_terminal)?;
-    let mut printer = build_printer(rt, matches, is_terminal, writer);
+    let mut printer = build_printer(rt, options, is_terminal, writer);
+    let mut searcher = build_searcher(rt.alloc(), options, is_terminal)?;
+    search_with(rt, options, operands, &mut searcher, &mut printer)
+}
+
+// Searches what the operands name with a searcher, and writes what is found by a printer.
+fn search_with<W: Output>(
+    rt: &HostRuntime,
+    options: &Options<'_, '_>,
+    operands: &Operands,
+    searcher: &mut Searcher,
+    printer: &mut Printer<W>,
+) -> Result<ExitCode, Failure> {
     let mut input = Reading::new(rt.stdin());
-    search_all(
-        rt,
-        matches,
-        operands,
-        &mut searcher,
-        &mut printer,
-        &mut input,
-    )
+    search_all(rt, options, operands, searcher, printer, &mut input)
 }

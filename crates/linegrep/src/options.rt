@@ -1,259 +1,264 @@
-//! What the arguments ask for.
-use crate::colors::color_specs;
-use crate::failures::Failure;
-use crate::json_run::JsonRun;
-use crate::printers::Printer;
+//! The options of the command line.
+use crate::command::{Kind, ROWS, Row};
 use clap::ArgMatches;
-use grep_output::Output;
-use grep_printer::{
-    ColorSpecs, JsonBuilder, SearchSeparator, StandardBuilder, SummaryBuilder, SummaryKind,
-};
-use grep_searcher::{
-    BinaryDetection, ConfigError, Encoding, LineTerminator, Searcher, SearcherBuilder,
-};
-use std::alloc::Global;
+use grep_printer::SummaryKind;
+use grep_searcher::{BinaryDetection, LineTerminator};
 
-/// The searcher that the arguments ask for. Lines are numbered for a terminal, if nothing else is
-/// asked for. A failure is one of a setting, or of being out of memory.
-pub fn searcher(
-    alloc: Global,
-    matches: &ArgMatches<'_>,
-    is_terminal: bool,
-) -> Result<Searcher, Failure> {
-    match encoding(alloc, matches) {
-        Ok(encoding) => build_searcher(alloc, matches, is_terminal, encoding),
-        Err(error) => Err(refused(alloc, error)),
+/// An option without a value.
+#[derive(Clone, Copy)]
+pub enum Flag {
+    FixedStrings,
+    IgnoreCase,
+    SmartCase,
+    WordRegexp,
+    LineRegexp,
+    InvertMatch,
+    Multiline,
+    LineNumber,
+    NoLineNumber,
+    WithFilename,
+    NoFilename,
+    ByteOffset,
+    Column,
+    OnlyMatching,
+    Null,
+    Passthru,
+    Text,
+    NullData,
+    Crlf,
+    NoMessages,
+    Recursive,
+    Hidden,
+    Count,
+    CountMatches,
+    FilesWithMatches,
+    FilesWithoutMatch,
+    Quiet,
+    Heading,
+    NoHeading,
+    Json,
+}
+
+// Two flags, by name, of which the last that is given decides.
+struct Opposites {
+    first: (&'static str, Flag),
+    second: (&'static str, Flag),
+}
+
+const OPPOSITES: &[Opposites] = &[
+    Opposites {
+        first: ("ignore-case", Flag::IgnoreCase),
+        second: ("smart-case", Flag::SmartCase),
+    },
+    Opposites {
+        first: ("line-number", Flag::LineNumber),
+        second: ("no-line-number", Flag::NoLineNumber),
+    },
+    Opposites {
+        first: ("with-filename", Flag::WithFilename),
+        second: ("no-filename", Flag::NoFilename),
+    },
+    Opposites {
+        first: ("heading", Flag::Heading),
+        second: ("no-heading", Flag::NoHeading),
+    },
+];
+
+// The flags that are given.
+#[derive(Clone, Copy)]
+struct Flags {
+    // A bit for each.
+    bits: u64,
+}
+
+impl Flags {
+    // Reads them from parsed arguments. Of two opposites the last is given.
+    fn read(matches: &ArgMatches<'_>) -> Flags {
+        let mut flags = Flags { bits: 0 };
+        flags.add(matches, ROWS);
+        flags.set(Flag::Json, matches.get_flag("json"));
+        flags.settle(matches, OPPOSITES);
+        flags
+    }
+
+    // Adds the flags of a table that are given.
+    fn add(&mut self, matches: &ArgMatches<'_>, rows: &[Row]) {
+        for row in rows {
+            if let Kind::Flag(flag) = row.kind {
+                self.set(flag, matches.get_flag(row.name));
+            }
+        }
+    }
+
+    // Leaves of opposites that are given only the last.
+    fn settle(&mut self, matches: &ArgMatches<'_>, opposites: &[Opposites]) {
+        for Opposites { first, second } in opposites {
+            if self.has(first.1) && self.has(second.1) {
+                let is_first = last_index(matches, first.0) > last_index(matches, second.0);
+                self.set(first.1, is_first);
+                self.set(second.1, !is_first);
+            }
+        }
+    }
+
+    fn set(&mut self, flag: Flag, is_given: bool) {
+        if is_given {
+            self.bits = self.bits | bit_of(flag);
+        } else {
+            self.bits = self.bits & !bit_of(flag);
+        }
+    }
+
+    fn has(self, flag: Flag) -> bool {
+        self.bits & bit_of(flag) != 0
     }
 }
 
-fn build_searcher(
-    alloc: Global,
-    matches: &ArgMatches<'_>,
-    is_terminal: bool,
-    encoding: Option<Encoding>,
-) -> Result<Searcher, Failure> {
-    let mut builder = SearcherBuilder::new();
-    builder
-        .encoding(encoding)
-        .line_number(shows_numbers(matches, is_terminal));
-    select(&mut builder, matches);
-    surround(&mut builder, matches);
-    match builder.build(alloc) {
-        Ok(searcher) => Ok(searcher),
-        Err(error) => Err(refused(alloc, error)),
-    }
+fn bit_of(flag: Flag) -> u64 {
+    1u64.wrapping_shl(flag as u32)
 }
 
-// Sets which lines a search selects.
-fn select(builder: &mut SearcherBuilder, matches: &ArgMatches<'_>) {
-    builder
-        .line_terminator(line_terminator(matches))
-        .invert_match(matches.get_flag("invert-match"))
-        .multi_line(matches.get_flag("multiline"))
-        .max_matches(matches.get_one::<u64>("max-count"))
-        .binary_detection(binary_detection(matches));
-}
-
-// Sets which other lines a search reports.
-fn surround(builder: &mut SearcherBuilder, matches: &ArgMatches<'_>) {
-    builder
-        .after_context(context(matches, "after-context"))
-        .before_context(context(matches, "before-context"))
-        .passthru(matches.get_flag("passthru"));
-}
-
-/// The printer that the arguments ask for, which writes to `writer`. A terminal gets headings, and
-/// colours.
-pub fn build_printer<W: Output>(
-    rt: &HostRuntime,
-    matches: &ArgMatches<'_>,
-    is_terminal: bool,
-    writer: W,
-) -> Printer<W> {
-    let colors = color_specs(rt, matches, is_terminal);
-    if let Some(kind) = summary_kind(matches) {
-        Printer::Summary(summary(matches, kind, colors).build(rt.alloc(), writer))
-    } else if matches.get_flag("json") {
-        let printer = JsonBuilder::new().build(rt.alloc(), writer);
-        Printer::Json(JsonRun::new(rt, printer))
-    } else {
-        Printer::Lines(lines(matches, is_terminal, colors).build(rt.alloc(), writer))
-    }
-}
-
-// How a summary is written.
-fn summary(matches: &ArgMatches<'_>, kind: SummaryKind, colors: ColorSpecs) -> SummaryBuilder {
-    let mut builder = SummaryBuilder::new();
-    builder
-        .kind(kind)
-        .path_terminator(path_terminator(matches))
-        .color_specs(colors);
-    builder
-}
-
-// How lines are written.
-fn lines(matches: &ArgMatches<'_>, is_terminal: bool, colors: ColorSpecs) -> StandardBuilder {
-    let heading = shows_headings(matches, is_terminal);
-    let mut builder = StandardBuilder::new();
-    builder
-        .heading(heading)
-        .separator_search(separator(matches, heading))
-        .path_terminator(path_terminator(matches))
-        .color_specs(colors);
-    show(&mut builder, matches);
-    builder
-}
-
-// Sets what is written of a line.
-fn show(builder: &mut StandardBuilder, matches: &ArgMatches<'_>) {
-    builder
-        .column(matches.get_flag("column"))
-        .byte_offset(matches.get_flag("byte-offset"))
-        .only_matching(matches.get_flag("only-matching"))
-        .max_columns(max_columns(matches));
-}
-
-/// The kind of the summary that the arguments ask for, if they ask for one.
-pub fn summary_kind(matches: &ArgMatches<'_>) -> Option<SummaryKind> {
-    if matches.get_flag("quiet") {
-        Some(SummaryKind::Quiet)
-    } else if counts_matches(matches) {
-        Some(SummaryKind::CountMatches)
-    } else if matches.get_flag("count") || matches.get_flag("count-matches") {
-        Some(SummaryKind::Count)
-    } else if matches.get_flag("files-with-matches") {
-        Some(SummaryKind::PathWithMatch)
-    } else if matches.get_flag("files-without-match") {
-        Some(SummaryKind::PathWithoutMatch)
-    } else {
-        None
-    }
-}
-
-// Whether single matches are counted, and not lines. An inverted count is one of lines, but for the
-// options `-c` and `-o`.
-fn counts_matches(matches: &ArgMatches<'_>) -> bool {
-    if matches.get_flag("count-matches") {
-        !matches.get_flag("invert-match")
-    } else {
-        matches.get_flag("count") && matches.get_flag("only-matching")
-    }
-}
-
-/// Whether paths are written: if they are asked for, or if several files may be searched.
-pub fn shows_paths(matches: &ArgMatches<'_>, searches_several: bool) -> bool {
-    let writes_paths = matches!(
-        summary_kind(matches),
-        Some(SummaryKind::PathWithMatch | SummaryKind::PathWithoutMatch)
-    );
-    if writes_paths || matches.get_flag("json") {
-        return true;
-    }
-    !decides(matches, "no-filename", "with-filename")
-        && (matches.get_flag("with-filename") || searches_several)
-}
-
-// Whether a flag is given, and not before another one that says the opposite.
-fn decides(matches: &ArgMatches<'_>, name: &str, opposite: &str) -> bool {
-    if !(matches.get_flag(name) && matches.get_flag(opposite)) {
-        return matches.get_flag(name);
-    }
-    last_place(matches, name) > last_place(matches, opposite)
-}
-
-/// What ends a line.
-pub fn line_terminator(matches: &ArgMatches<'_>) -> LineTerminator {
-    if matches.get_flag("null-data") {
-        LineTerminator::byte(0)
-    } else if matches.get_flag("crlf") {
-        LineTerminator::crlf()
-    } else {
-        LineTerminator::byte(b'\n')
-    }
-}
-
-fn shows_numbers(matches: &ArgMatches<'_>, is_terminal: bool) -> bool {
-    !decides(matches, "no-line-number", "line-number")
-        && (matches.get_flag("line-number")
-            || matches.get_flag("column")
-            || matches.get_flag("json")
-            || is_terminal)
-}
-
-// The last place of a flag among the words.
-fn last_place(matches: &ArgMatches<'_>, name: &str) -> usize {
+// Where a flag is last among the words.
+fn last_index(matches: &ArgMatches<'_>, name: &str) -> usize {
     match matches.indices_of(name) {
-        Some(places) => places.last().copied().unwrap_or(0),
+        Some(indices) => indices.last().copied().unwrap_or(0),
         None => 0,
     }
 }
 
-// How many lines of context: by the option itself, or else by the one for both sides. A summary
-// has none, so that its counts end at the limit.
-fn context(matches: &ArgMatches<'_>, name: &str) -> usize {
-    if summary_kind(matches).is_some() {
-        return 0;
+/// What the options ask for, but for patterns.
+#[derive(Clone, Copy)]
+pub struct Options<'m, 'w> {
+    flags: Flags,
+    /// After how many matched lines of a file its search stops.
+    pub max_count: Option<u64>,
+    /// How many bytes a line has at most that is written; 0 is no limit.
+    pub max_columns: Option<u64>,
+    after_context: Option<u64>,
+    before_context: Option<u64>,
+    context: Option<u64>,
+    /// When there are colours.
+    pub color: Option<&'w str>,
+    /// The label of the files' encoding.
+    pub encoding: Option<&'w str>,
+    /// The globs, which choose among the files of folders.
+    pub globs: Option<&'m [&'w str]>,
+}
+
+impl<'m, 'w> Options<'m, 'w> {
+    /// The options of parsed arguments.
+    pub fn read(matches: &'m ArgMatches<'w>) -> Options<'m, 'w> {
+        Options {
+            flags: Flags::read(matches),
+            max_count: matches.get_one::<u64>("max-count"),
+            max_columns: matches.get_one::<u64>("max-columns"),
+            after_context: matches.get_one::<u64>("after-context"),
+            before_context: matches.get_one::<u64>("before-context"),
+            context: matches.get_one::<u64>("context"),
+            color: matches.get_str("color"),
+            encoding: matches.get_str("encoding"),
+            globs: matches.get_strs("glob"),
+        }
     }
-    let number = matches.get_one::<u64>(name);
-    let both = matches.get_one::<u64>("context");
-    number.or(both).unwrap_or(0) as usize
-}
 
-fn encoding(alloc: Global, matches: &ArgMatches<'_>) -> Result<Option<Encoding>, ConfigError> {
-    match matches.get_str("encoding") {
-        None | Some("auto") => Ok(None),
-        Some(label) => match Encoding::new(alloc, label) {
-            Ok(encoding) => Ok(Some(encoding)),
-            Err(error) => Err(error),
-        },
+    /// Whether a flag is given, and not its opposite after it.
+    pub fn has(&self, flag: Flag) -> bool {
+        self.flags.has(flag)
     }
-}
 
-// A file with a NUL is binary, unless it is to be searched as text.
-fn binary_detection(matches: &ArgMatches<'_>) -> BinaryDetection {
-    if matches.get_flag("text") || matches.get_flag("null-data") {
-        BinaryDetection::none()
-    } else {
-        BinaryDetection::convert(0)
+    /// The kind of the summary that is asked for, if one is.
+    pub fn summary_kind(&self) -> Option<SummaryKind> {
+        if self.has(Flag::Quiet) {
+            Some(SummaryKind::Quiet)
+        } else if self.counts_matches() {
+            Some(SummaryKind::CountMatches)
+        } else if self.has(Flag::Count) || self.has(Flag::CountMatches) {
+            Some(SummaryKind::Count)
+        } else if self.has(Flag::FilesWithMatches) {
+            Some(SummaryKind::PathWithMatch)
+        } else if self.has(Flag::FilesWithoutMatch) {
+            Some(SummaryKind::PathWithoutMatch)
+        } else {
+            None
+        }
     }
-}
 
-// How many bytes a line has at most that is written. 0 is no limit.
-fn max_columns(matches: &ArgMatches<'_>) -> Option<u64> {
-    match matches.get_one::<u64>("max-columns") {
-        Some(0) => None,
-        most => most,
+    // Whether single matches are counted, and not lines. An inverted count is one of lines, but for
+    // the options `-c` and `-o`.
+    fn counts_matches(&self) -> bool {
+        if self.has(Flag::CountMatches) {
+            !self.has(Flag::InvertMatch)
+        } else {
+            self.has(Flag::Count) && self.has(Flag::OnlyMatching)
+        }
     }
-}
 
-fn path_terminator(matches: &ArgMatches<'_>) -> Option<u8> {
-    if matches.get_flag("null") {
-        Some(0)
-    } else {
-        None
+    /// Whether paths are written: if they are asked for, or if several files may be searched.
+    pub fn shows_paths(&self, searches_several: bool) -> bool {
+        if self.has(Flag::Json) || self.is_summary_of_paths() {
+            return true;
+        }
+        !self.has(Flag::NoFilename) && (self.has(Flag::WithFilename) || searches_several)
     }
-}
 
-fn shows_headings(matches: &ArgMatches<'_>, is_terminal: bool) -> bool {
-    !decides(matches, "no-heading", "heading") && (matches.get_flag("heading") || is_terminal)
-}
-
-// Headings are set apart by an empty line. Without them groups of lines of two files are set apart
-// as those of one are.
-fn separator(matches: &ArgMatches<'_>, heading: bool) -> SearchSeparator {
-    if heading {
-        SearchSeparator::Blank
-    } else if context(matches, "after-context") > 0 || context(matches, "before-context") > 0 {
-        SearchSeparator::Dashes
-    } else {
-        SearchSeparator::Nothing
+    fn is_summary_of_paths(&self) -> bool {
+        matches!(
+            self.summary_kind(),
+            Some(SummaryKind::PathWithMatch | SummaryKind::PathWithoutMatch)
+        )
     }
-}
 
-// The failure of a setting that can't be used.
-fn refused(alloc: Global, error: ConfigError) -> Failure {
-    match format!(in alloc; "{error}") {
-        Ok(message) => Failure::Setting(message),
-        Err(error) => Failure::from(error),
+    /// Whether lines are numbered. For a terminal they are, if nothing else is asked for.
+    pub fn shows_numbers(&self, is_terminal: bool) -> bool {
+        !self.has(Flag::NoLineNumber)
+            && (self.has(Flag::LineNumber)
+                || self.has(Flag::Column)
+                || self.has(Flag::Json)
+                || is_terminal)
+    }
+
+    /// Whether a path is written once, above the lines of its file. For a terminal it is, if
+    /// nothing else is asked for.
+    pub fn shows_headings(&self, is_terminal: bool) -> bool {
+        !self.has(Flag::NoHeading) && (self.has(Flag::Heading) || is_terminal)
+    }
+
+    /// What ends a line.
+    pub fn line_terminator(&self) -> LineTerminator {
+        if self.has(Flag::NullData) {
+            LineTerminator::byte(0)
+        } else if self.has(Flag::Crlf) {
+            LineTerminator::crlf()
+        } else {
+            LineTerminator::byte(b'\n')
+        }
+    }
+
+    /// How many lines of context are after a match.
+    pub fn after_context(&self) -> usize {
+        self.context_of(self.after_context)
+    }
+
+    /// How many lines of context are before a match.
+    pub fn before_context(&self) -> usize {
+        self.context_of(self.before_context)
+    }
+
+    // How many lines of context are on a side: by its own option, or else by the one for both. A
+    // summary has none, so that its counts end at the limit.
+    fn context_of(&self, own: Option<u64>) -> usize {
+        if self.summary_kind().is_some() {
+            return 0;
+        }
+        own.or(self.context).unwrap_or(0) as usize
+    }
+
+    /// What is done about a file with a NUL, which is binary unless it is to be searched as text.
+    pub fn binary_detection(&self) -> BinaryDetection {
+        if self.has(Flag::Text) || self.has(Flag::NullData) {
+            BinaryDetection::none()
+        } else {
+            BinaryDetection::convert(0)
+        }
     }
 }

@@ -1,6 +1,6 @@
 //! The patterns that are searched for, and the paths.
 use crate::failures::Failure;
-use crate::options::line_terminator;
+use crate::options::{Flag, Options};
 use clap::ArgMatches;
 use grep_regex::{Error, Regex, RegexMatcherBuilder};
 use grep_searcher::LineTerminator;
@@ -51,13 +51,18 @@ impl Operands {
     // Adds the lines of files to the patterns.
     fn add_files(&mut self, rt: &HostRuntime, files: &[&str]) -> Result<(), Failure> {
         for file in files {
-            match fs::read_to_string(rt, *file) {
+            match fs::read_to_string(rt, path_of(file)) {
                 Ok(text) => add_lines(rt.alloc(), &mut self.patterns, text.as_str())?,
                 Err(error) => return Err(unread(rt.alloc(), file, error)),
             }
         }
         Ok(())
     }
+}
+
+// The path of a file of patterns, of which `-` is standard input.
+fn path_of(file: &str) -> &str {
+    if file == "-" { "/dev/stdin" } else { file }
 }
 
 fn add_lines(alloc: Global, texts: &mut Vec<String>, text: &str) -> Result<(), AllocError> {
@@ -87,33 +92,33 @@ fn unread(alloc: Global, path: &str, error: io::Error) -> Failure {
     }
 }
 
-/// Compiles patterns as the arguments say. A failure is that of a pattern, or of being out of
+/// Compiles patterns as the options say. A failure is that of a pattern, or of being out of
 /// memory.
 pub fn compile(
     alloc: Global,
-    matches: &ArgMatches<'_>,
+    options: &Options<'_, '_>,
     patterns: &[String],
 ) -> Result<Regex, Failure> {
     let mut texts = Vec::new(alloc);
     for pattern in patterns {
         texts.push(pattern.as_str())?;
     }
-    match builder(matches, patterns).build_many(alloc, &texts) {
+    match builder(options, patterns).build_many(alloc, &texts) {
         Ok(regex) => Ok(regex),
         Err(error) => Err(refused(alloc, error, &texts)),
     }
 }
 
 // How the patterns are compiled. Where a match may run over lines no terminator is declared.
-fn builder(matches: &ArgMatches<'_>, patterns: &[String]) -> RegexMatcherBuilder {
+fn builder(options: &Options<'_, '_>, patterns: &[String]) -> RegexMatcherBuilder {
     let mut builder = RegexMatcherBuilder::new();
     builder
         .multi_line(true)
-        .case_insensitive(ignores_case(matches, patterns))
-        .fixed_strings(matches.get_flag("fixed-strings"))
-        .word(matches.get_flag("word-regexp"))
-        .whole_line(matches.get_flag("line-regexp"));
-    match line_terminator(matches) {
+        .case_insensitive(ignores_case(options, patterns))
+        .fixed_strings(options.has(Flag::FixedStrings))
+        .word(options.has(Flag::WordRegexp))
+        .whole_line(options.has(Flag::LineRegexp));
+    match options.line_terminator() {
         LineTerminator::Crlf => {
             builder.crlf(true);
         }
@@ -121,18 +126,18 @@ fn builder(matches: &ArgMatches<'_>, patterns: &[String]) -> RegexMatcherBuilder
             builder.line_terminator(Some(byte));
         }
     }
-    if matches.get_flag("multiline") {
+    if options.has(Flag::Multiline) {
         builder.line_terminator(None);
     }
     builder
 }
 
 // Whether letters match in either case.
-fn ignores_case(matches: &ArgMatches<'_>, patterns: &[String]) -> bool {
-    if matches.get_flag("ignore-case") {
+fn ignores_case(options: &Options<'_, '_>, patterns: &[String]) -> bool {
+    if options.has(Flag::IgnoreCase) {
         return true;
     }
-    matches.get_flag("smart-case") && !patterns.iter().any(|text| has_capital(text.as_str()))
+    options.has(Flag::SmartCase) && !patterns.iter().any(|text| has_capital(text.as_str()))
 }
 
 // Whether a pattern has a capital letter, but for the letters of escapes.

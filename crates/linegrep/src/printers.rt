@@ -51,7 +51,8 @@ impl<W: Output> Printer<W> {
         }
     }
 
-    /// Writes what all searches have come to, if that is asked for, and what the writer keeps.
+    /// Writes the totals of all searches, if they are asked for, and flushes the writer. An error
+    /// is the writer's, or one of being out of memory.
     pub fn finish(&mut self, rt: &HostRuntime) -> Result<(), SearchError> {
         let flushed = match self {
             Printer::Lines(printer) => printer.flush(),

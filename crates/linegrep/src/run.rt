@@ -3,10 +3,9 @@ use crate::engine::{Engine, written_error};
 use crate::failures::{Failure, report_cause};
 use crate::globs::Globs;
 use crate::haystacks::Haystack;
-use crate::options::shows_paths;
+use crate::options::{Flag, Options};
 use crate::printers::Searched;
 use crate::walk::{Entry, Walk};
-use clap::ArgMatches;
 use grep_searcher::Source;
 use std::fmt::Display;
 use std::fs::File;
@@ -16,9 +15,9 @@ use std::{fs, io};
 // The name of standard input.
 const STDIN: &str = "<stdin>";
 
-/// What the arguments say of a run.
+/// What the options say of a run.
 #[derive(Clone, Copy)]
-pub struct Flags {
+pub struct Scope {
     is_recursive: bool,
     shows_hidden: bool,
     shows_paths: bool,
@@ -26,17 +25,17 @@ pub struct Flags {
     is_quiet: bool,
 }
 
-impl Flags {
-    /// What parsed arguments say of a run over the files at some paths.
-    pub fn new(rt: &HostRuntime, matches: &ArgMatches<'_>, paths: &[String]) -> Flags {
-        let is_recursive = matches.get_flag("recursive");
+impl Scope {
+    /// What the options say of a run over the files at some paths.
+    pub fn new(rt: &HostRuntime, options: &Options<'_, '_>, paths: &[String]) -> Scope {
+        let is_recursive = options.has(Flag::Recursive);
         let names_folder = is_recursive && names_folder(rt, paths);
-        Flags {
+        Scope {
             is_recursive,
-            shows_hidden: matches.get_flag("hidden"),
-            shows_paths: shows_paths(matches, names_folder || paths.len() > 1),
-            is_silent: matches.get_flag("no-messages"),
-            is_quiet: matches.get_flag("quiet"),
+            shows_hidden: options.has(Flag::Hidden),
+            shows_paths: options.shows_paths(names_folder || paths.len() > 1),
+            is_silent: options.has(Flag::NoMessages),
+            is_quiet: options.has(Flag::Quiet),
         }
     }
 
@@ -53,7 +52,7 @@ pub struct Run<'r, E, R> {
     engine: &'r mut E,
     globs: &'r mut Globs,
     input: &'r mut R,
-    flags: Flags,
+    scope: Scope,
     has_match: bool,
     has_error: bool,
     // Why the run ends early, if it does: the writer's error, or one of being out of memory.
@@ -71,14 +70,14 @@ where
         engine: &'r mut E,
         globs: &'r mut Globs,
         input: &'r mut R,
-        flags: Flags,
+        scope: Scope,
     ) -> Run<'r, E, R> {
         Run {
             rt,
             engine,
             globs,
             input,
-            flags,
+            scope,
             has_match: false,
             has_error: false,
             failure: None,
@@ -110,7 +109,7 @@ where
 
     // Searches what is searched without a path: the current folder, or the input.
     fn search_default(&mut self) {
-        if self.flags.is_recursive {
+        if self.scope.is_recursive {
             self.search_folder("");
         } else {
             self.search_input();
@@ -121,23 +120,23 @@ where
     fn search_operand(&mut self, path: &str) {
         if path == "-" {
             self.search_input();
-        } else if self.flags.is_recursive && is_folder(self.rt, path) {
+        } else if self.scope.is_recursive && is_folder(self.rt, path) {
             self.search_folder(path);
         } else {
             self.search_path(path);
         }
     }
 
-    // Whether nothing that is found from now on makes a difference.
+    // Whether what is found after this makes no difference.
     fn is_over(&self) -> bool {
-        self.failure.is_some() || self.flags.is_quiet && self.has_match
+        self.failure.is_some() || self.scope.is_quiet && self.has_match
     }
 
     // Searches the files of a folder. The search of one that has a NUL ends there, unless files are
     // searched as text.
     fn search_folder(&mut self, folder: &str) {
         self.engine.set_quits(true);
-        let mut walk = Walk::new(self.rt, self.flags.shows_hidden, folder);
+        let mut walk = Walk::new(self.rt, self.scope.shows_hidden, folder);
         self.visit_all(&mut walk);
         self.engine.set_quits(false);
     }
@@ -177,14 +176,14 @@ where
 
     fn search_file(&mut self, path: &str, file: &mut File) {
         let mut haystack: Haystack<'_, File, R> = Haystack::File(file);
-        let searched = self.engine.search(&mut haystack, self.flags.shown(path));
+        let searched = self.engine.search(&mut haystack, self.scope.shown(path));
         self.keep(path, searched);
     }
 
     // Searches standard input.
     fn search_input(&mut self) {
         let mut haystack: Haystack<'_, File, R> = Haystack::Reader(&mut *self.input);
-        let searched = self.engine.search(&mut haystack, self.flags.shown(STDIN));
+        let searched = self.engine.search(&mut haystack, self.scope.shown(STDIN));
         self.keep(STDIN, searched);
     }
 
@@ -201,7 +200,7 @@ where
     // Says what can't be read, and why.
     fn report<D: Display>(&mut self, path: &str, error: &D) {
         self.has_error = true;
-        if !self.flags.is_silent {
+        if !self.scope.is_silent {
             report_cause(self.rt, path, error);
         }
     }

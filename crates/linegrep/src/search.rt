@@ -4,10 +4,10 @@ ghost use Rattle.grep_regex.specs.Views.{IsNamed};
 use crate::engine::{Engine, PrintingEngine};
 use crate::failures::Failure;
 use crate::globs::Globs;
+use crate::options::Options;
 use crate::patterns::{Operands, compile};
 use crate::printers::Printer;
-use crate::run::{Flags, Run};
-use clap::ArgMatches;
+use crate::run::{Run, Scope};
 use grep_output::Output;
 use grep_regex::{Naming, Regex};
 use grep_searcher::{FindAt, Searcher, Source};
@@ -20,16 +20,16 @@ use std::process::ExitCode;
 /// says. If nothing is to be written, the first match ends it with 0.
 pub fn search_all<R: Source, W: Output>(
     rt: &HostRuntime,
-    matches: &ArgMatches<'_>,
+    options: &Options<'_, '_>,
     operands: &Operands,
     searcher: &mut Searcher,
     printer: &mut Printer<W>,
     input: &mut R,
 ) -> Result<ExitCode, Failure> {
-    let regex = compile(rt.alloc(), matches, &operands.patterns)?;
+    let regex = compile(rt.alloc(), options, &operands.patterns)?;
     search_named::<Brand, R, W>(
         rt,
-        matches,
+        options,
         &operands.paths,
         &regex,
         searcher,
@@ -41,7 +41,7 @@ pub fn search_all<R: Source, W: Output>(
 // Searches for a compiled expression, which `N` names: no call of its matcher compares texts.
 fn search_named<N: Naming, R: Source, W: Output>(
     rt: &HostRuntime,
-    matches: &ArgMatches<'_>,
+    options: &Options<'_, '_>,
     paths: &[String],
     regex: &Regex,
     searcher: &mut Searcher,
@@ -52,7 +52,7 @@ where
     requires { IsNamed N.options N.patterns regex.now }
 {
     match regex.named_matcher::<N>(rt.alloc()) {
-        Ok(matcher) => search_matcher(rt, matches, paths, &matcher, searcher, printer, input),
+        Ok(matcher) => search_matcher(rt, options, paths, &matcher, searcher, printer, input),
         Err(error) => Err(Failure::from(error)),
     }
 }
@@ -60,27 +60,27 @@ where
 // Searches with a matcher.
 fn search_matcher<'e, M: FindAt, R: Source, W: Output>(
     rt: &'e HostRuntime,
-    matches: &ArgMatches<'_>,
+    options: &Options<'_, '_>,
     paths: &[String],
     matcher: &'e M,
     searcher: &'e mut Searcher,
     printer: &'e mut Printer<W>,
     input: &mut R,
 ) -> Result<ExitCode, Failure> {
-    let mut globs = Globs::read(rt.alloc(), matches)?;
+    let mut globs = Globs::read(rt.alloc(), options.globs.unwrap_or(&[]))?;
     let mut engine = PrintingEngine::new(rt, searcher, matcher, printer);
-    search_chosen(rt, matches, paths, &mut globs, &mut engine, input)
+    let scope = Scope::new(rt, options, paths);
+    search_chosen(rt, scope, paths, &mut globs, &mut engine, input)
 }
 
 // Searches what globs choose.
 fn search_chosen<E: Engine, R: Source>(
     rt: &HostRuntime,
-    matches: &ArgMatches<'_>,
+    scope: Scope,
     paths: &[String],
     globs: &mut Globs,
     engine: &mut E,
     input: &mut R,
 ) -> Result<ExitCode, Failure> {
-    let flags = Flags::new(rt, matches, paths);
-    Run::new(rt, engine, globs, input, flags).complete(paths)
+    Run::new(rt, engine, globs, input, scope).complete(paths)
 }

@@ -1,5 +1,5 @@
 //! The wildcards of a glob, which match paths.
-use std::alloc::{AllocError, Global};
+use std::alloc::{AllocError, AllocFailed, Global};
 
 /// Why a glob isn't read.
 #[derive(Clone, Copy)]
@@ -12,6 +12,12 @@ pub enum Error {
 
 impl From<AllocError> for Error {
     fn from(_: AllocError) -> Error {
+        Error::OutOfMemory
+    }
+}
+
+impl<T: Drop> From<AllocFailed<T>> for Error {
+    fn from(_: AllocFailed<T>) -> Error {
         Error::OutOfMemory
     }
 }

@@ -1,0 +1,155 @@
+//! The searcher and the printer that the options ask for.
+use crate::colors::color_specs;
+use crate::failures::Failure;
+use crate::json_run::JsonRun;
+use crate::options::{Flag, Options};
+use crate::printers::Printer;
+use grep_output::Output;
+use grep_printer::{
+    ColorSpecs, JsonBuilder, SearchSeparator, StandardBuilder, SummaryBuilder, SummaryKind,
+};
+use grep_searcher::{ConfigError, Encoding, Searcher, SearcherBuilder};
+use std::alloc::Global;
+
+/// The searcher that the options ask for. Lines are numbered for a terminal, if nothing else is
+/// asked for. A failure is one of a setting, or of being out of memory.
+pub fn build_searcher(
+    alloc: Global,
+    options: &Options<'_, '_>,
+    is_terminal: bool,
+) -> Result<Searcher, Failure> {
+    match try_searcher(alloc, options, is_terminal) {
+        Ok(searcher) => Ok(searcher),
+        Err(error) => Err(refused(alloc, error)),
+    }
+}
+
+fn try_searcher(
+    alloc: Global,
+    options: &Options<'_, '_>,
+    is_terminal: bool,
+) -> Result<Searcher, ConfigError> {
+    let encoding = encoding(alloc, options.encoding)?;
+    let mut builder = SearcherBuilder::new();
+    builder
+        .encoding(encoding)
+        .line_number(options.shows_numbers(is_terminal));
+    select(&mut builder, options);
+    surround(&mut builder, options);
+    builder.build(alloc)
+}
+
+// Sets which lines a search selects.
+fn select(builder: &mut SearcherBuilder, options: &Options<'_, '_>) {
+    builder
+        .line_terminator(options.line_terminator())
+        .invert_match(options.has(Flag::InvertMatch))
+        .multi_line(options.has(Flag::Multiline))
+        .max_matches(options.max_count)
+        .binary_detection(options.binary_detection());
+}
+
+// Sets which other lines a search reports.
+fn surround(builder: &mut SearcherBuilder, options: &Options<'_, '_>) {
+    builder
+        .after_context(options.after_context())
+        .before_context(options.before_context())
+        .passthru(options.has(Flag::Passthru));
+}
+
+fn encoding(alloc: Global, label: Option<&str>) -> Result<Option<Encoding>, ConfigError> {
+    match label {
+        None | Some("auto") => Ok(None),
+        Some(label) => match Encoding::new(alloc, label) {
+            Ok(encoding) => Ok(Some(encoding)),
+            Err(error) => Err(error),
+        },
+    }
+}
+
+// The failure of a setting that can't be used.
+fn refused(alloc: Global, error: ConfigError) -> Failure {
+    match format!(in alloc; "{error}") {
+        Ok(message) => Failure::Setting(message),
+        Err(error) => Failure::from(error),
+    }
+}
+
+/// The printer that the options ask for, which writes to `writer`. A terminal gets headings, and
+/// colours.
+pub fn build_printer<W: Output>(
+    rt: &HostRuntime,
+    options: &Options<'_, '_>,
+    is_terminal: bool,
+    writer: W,
+) -> Printer<W> {
+    let colors = color_specs(rt, options.color, is_terminal);
+    if let Some(kind) = options.summary_kind() {
+        Printer::Summary(summary(options, kind, colors).build(rt.alloc(), writer))
+    } else if options.has(Flag::Json) {
+        let printer = JsonBuilder::new().build(rt.alloc(), writer);
+        Printer::Json(JsonRun::new(rt, printer))
+    } else {
+        Printer::Lines(lines(options, is_terminal, colors).build(rt.alloc(), writer))
+    }
+}
+
+// How a summary is written.
+fn summary(options: &Options<'_, '_>, kind: SummaryKind, colors: ColorSpecs) -> SummaryBuilder {
+    let mut builder = SummaryBuilder::new();
+    builder
+        .kind(kind)
+        .path_terminator(path_terminator(options))
+        .color_specs(colors);
+    builder
+}
+
+// How lines are written.
+fn lines(options: &Options<'_, '_>, is_terminal: bool, colors: ColorSpecs) -> StandardBuilder {
+    let heading = options.shows_headings(is_terminal);
+    let mut builder = StandardBuilder::new();
+    builder
+        .heading(heading)
+        .separator_search(separator(options, heading))
+        .path_terminator(path_terminator(options))
+        .color_specs(colors);
+    show(&mut builder, options);
+    builder
+}
+
+// Sets what is written of a line.
+fn show(builder: &mut StandardBuilder, options: &Options<'_, '_>) {
+    builder
+        .column(options.has(Flag::Column))
+        .byte_offset(options.has(Flag::ByteOffset))
+        .only_matching(options.has(Flag::OnlyMatching))
+        .max_columns(max_columns(options));
+}
+
+// How many bytes a line has at most that is written. 0 is no limit.
+fn max_columns(options: &Options<'_, '_>) -> Option<u64> {
+    match options.max_columns {
+        Some(0) => None,
+        most => most,
+    }
+}
+
+fn path_terminator(options: &Options<'_, '_>) -> Option<u8> {
+    if options.has(Flag::Null) {
+        Some(0)
+    } else {
+        None
+    }
+}
+
+// Headings are set apart by an empty line. Without them groups of lines of two files are set apart
+// as those of one are.
+fn separator(options: &Options<'_, '_>, heading: bool) -> SearchSeparator {
+    if heading {
+        SearchSeparator::Blank
+    } else if options.after_context() > 0 || options.before_context() > 0 {
+        SearchSeparator::Dashes
+    } else {
+        SearchSeparator::Nothing
+    }
+}
