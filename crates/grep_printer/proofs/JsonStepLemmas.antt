@@ -84,13 +84,13 @@ module _ {M W F : Type 0} (facts : M → MatcherFacts F) (first_at : M → List 
       (made : Result (Unit {0}) (SearchError Global)) (progress : JsonProgress)
       (result : Result Bool (SearchError Global))
       → IsComposingJson old mid
-      → OnOk made (IsMade mid.printer.now.draft.text.items (json_text_of facts first_at old settings call) progress
+      → OnOk made (IsMade mid.printer.now.draft.text.bytes.items (json_text_of facts first_at old settings call) progress
       (json_progress (json_frame facts first_at old settings) old.progress call))
       → IfErr made (λ e. IsOutOfMemory e ⊎ IsJsonError facts old settings (reported_bytes call) e)
       → WritesJsonMade write_step mid made progress result new
       → PrintsJsonCall facts first_at write_step old settings call result new
   json-made old mid new settings call made progress (Ok goes) composing text error (going, is, written) =
-      let all = subst (λ m. OnOk m (IsMade mid.printer.now.draft.text.items (json_text_of facts first_at old settings call)
+      let all = subst (λ m. OnOk m (IsMade mid.printer.now.draft.text.bytes.items (json_text_of facts first_at old settings call)
       progress (json_progress (json_frame facts first_at old settings) old.progress call))) is text in
       record {
         same = same-json old mid new composing.same written.same;
@@ -103,7 +103,7 @@ module _ {M W F : Type 0} (facts : M → MatcherFacts F) (first_at : M → List 
         has_failed = written.has_failed ∙ composing.has_failed;
       }
   json-made old mid new settings call made progress (Err e) composing text error (inl (is, failed)) =
-      let all = subst (λ m. OnOk m (IsMade mid.printer.now.draft.text.items (json_text_of facts first_at old settings call)
+      let all = subst (λ m. OnOk m (IsMade mid.printer.now.draft.text.bytes.items (json_text_of facts first_at old settings call)
       progress (json_progress (json_frame facts first_at old settings) old.progress call))) is text in
       record {
         same = same-json old mid new composing.same failed.same;
@@ -137,11 +137,11 @@ module _ {M W F : Type 0} (facts : M → MatcherFacts F) (first_at : M → List 
       → OnOk made (mid.printer.now.draft.submatches.items
       ≡ asked_parts (has_parts report.kind settings.invert_match) (first_at old.matcher) settings
       (facts old.matcher).meaning report.bytes.now)
-      → OnOk made (mid.printer.now.draft.text.items
+      → OnOk made (mid.printer.now.draft.text.bytes.items
       ≡ opening_line old.path old.progress.is_begun
       ++ json_line (report_of old.path report mid.printer.now.draft.submatches.items))
       → IfErr made (λ e. IsOutOfMemory e ⊎ FailsAtReport (facts old.matcher) settings report.bytes.now e)
-      → progress ≡ after_report old.progress (length mid.printer.now.draft.text.items) report
+      → progress ≡ after_report old.progress (length mid.printer.now.draft.text.bytes.items) report
       (length mid.printer.now.draft.submatches.items) (byte_of settings.line_terminator)
       → WritesJsonMade write_step mid made progress result new
       → PrintsJsonCall facts first_at write_step old settings (call_of report) result new
@@ -149,7 +149,7 @@ module _ {M W F : Type 0} (facts : M → MatcherFacts F) (first_at : M → List 
       let frame = json_frame facts first_at old settings in
       let parts = matches_in frame old.progress report.kind report.bytes.now in
       let terminator = byte_of settings.line_terminator in
-      let items = mid.printer.now.draft.text.items in
+      let items = mid.printer.now.draft.text.bytes.items in
       let submatches = mid.printer.now.draft.submatches.items in
       json-made old mid new settings (call_of report) made progress result composing
       (both-ok made (λ (same : submatches ≡ parts)

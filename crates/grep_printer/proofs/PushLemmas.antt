@@ -1,6 +1,8 @@
 -- What a loop has pushed to a text, whether memory was there or not.
-use Rattle.std.proofs.Common.{◌≡◌, ◌∙◌, ◌++◌, ap, false, ℕ, List}
-use Rattle.grep_printer.specs.Pushes.{Adds}
+use Rattle.std.proofs.Common.{◌≡◌, ◌∙◌, ◌++◌, ap, append_assoc, false, ℕ, List}
+use Rattle.json.specs.Token.{Token}
+use Rattle.grep_printer.specs.Pushes.{Adds, AddsTokens}
+use Rattle.grep_printer.specs.declared.json_text.JsonText.{JsonText}
 use Rattle.grep_printer.specs.declared.text.Text.{Text}
 
 -- some bytes have this property, and if memory was there, the text has them
@@ -50,3 +52,15 @@ pushed-last old now new Is last all pushed adds same = λ made.
     let before = adds made in
     let first = pushed.made before.0 in
     (first.0, before.1 ∙ (ap (λ (t : List ℕ). t ++ last) first.1 ∙ same))
+
+-- two pushes of tokens in turn
+pub tokens-two : (old between new : JsonText) (first second : List Token)
+    → AddsTokens old between first → AddsTokens between new second → AddsTokens old new (first ++ second)
+tokens-two old between new first second one two = λ made.
+    let last = two made in
+    let before = one last.0 in (
+      before.0,
+      last.1 ∙ before.1,
+      last.2 ∙ (ap (λ (t : List Token). t ++ second) before.2
+          ∙ append_assoc old.out.tokens first second),
+    )

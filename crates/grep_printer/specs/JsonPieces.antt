@@ -1,11 +1,11 @@
 -- The messages of a printer of JSON and their pieces, as the code has them.
-use Rattle.std.specs.Prelude.{ℕ, ◌≤◌, All, List, [], ◌∷◌, ◌++◌, decimal, length, Option}
+use Rattle.std.specs.Prelude.{ℕ, ◌≤◌, All, List, [], ◌∷◌, ◌++◌, codes, decimal, length, Option}
 use Rattle.std.specs.Borrow.{Bor}
 use Rattle.json.specs.Json.{Json}
 use Rattle.json.specs.Token.{Token}
 use Rattle.json.specs.Tree.{json_tokens}
-use Rattle.grep_printer.specs.JsonMessages.{begin_json, bytes_json, end_json, optional_json}
-use Rattle.grep_printer.specs.JsonMessages.{path_json, report_json, seconds_text, summary_json}
+use Rattle.grep_printer.specs.JsonMessages.{begin_json, end_json, optional_json}
+use Rattle.grep_printer.specs.JsonMessages.{path_json, report_json, summary_json}
 use Rattle.grep_searcher.specs.Lines.{lines}
 use Rattle.grep_printer.specs.JsonTexts.{with_match, with_size}
 use Rattle.grep_printer.specs.Reports.{type_of}
@@ -16,28 +16,32 @@ use Rattle.grep_printer.specs.declared.json_printer.JsonProgress.{JsonProgress}
 use Rattle.grep_printer.specs.declared.report.Report.{Report}
 use Rattle.grep_printer.specs.declared.report.ReportKind.{ReportKind}
 use Rattle.grep_printer.specs.declared.report.ReportKind.TheVariants.{Match, Context}
-use Rattle.grep_printer.specs.declared.messages.Piece.{Piece}
-use Rattle.grep_printer.specs.declared.messages.Piece.TheVariants.{Open, Close, CloseArray, Key}
-use Rattle.grep_printer.specs.declared.messages.Piece.TheVariants.{Text, Bytes, Seconds, Optional}
-use Rattle.grep_printer.specs.declared.messages.Piece.TheVariants.{Path, Count}
+use Rattle.grep_printer.specs.declared.json_text.Piece.{Piece}
+use Rattle.grep_printer.specs.declared.json_text.Piece.TheVariants.{Open, Close, OpenArray}
+use Rattle.grep_printer.specs.declared.json_text.Piece.TheVariants.{CloseArray, Key, Text, Optional}
+use Rattle.grep_printer.specs.declared.json_text.Piece.TheVariants.{Count}
 
 -- the tokens of a piece
 abbrev pub piece_tokens : Piece → List Token
 piece_tokens Open = Token.begin_object ∷ []
 piece_tokens Close = Token.end_object ∷ []
+piece_tokens OpenArray = Token.begin_array ∷ []
 piece_tokens CloseArray = Token.end_array ∷ []
 piece_tokens (Key name) = Token.key name.now ∷ []
 piece_tokens (Text text) = Token.string text.now ∷ []
-piece_tokens (Bytes bytes) = json_tokens (bytes_json bytes.now)
-piece_tokens (Seconds micros) = Token.string (seconds_text micros) ∷ []
 piece_tokens (Optional number) = json_tokens (optional_json number)
-piece_tokens (Path path) = json_tokens (path_json path)
 piece_tokens (Count name count) = Token.key name.now ∷ Token.number (decimal count) ∷ []
 
 -- the tokens of some pieces
 abbrev pub pieces_tokens : List Piece → List Token
 pieces_tokens [] = []
 pieces_tokens (piece ∷ later) = piece_tokens piece ++ pieces_tokens later
+
+-- the first members of a message of a type about a path
+abbrev pub head_tokens : List ℕ → Option (Bor (List ℕ)) → List Token
+head_tokens type path =
+    Token.begin_object ∷ Token.key (codes "type") ∷ Token.string type ∷ Token.key (codes "data")
+    ∷ Token.begin_object ∷ Token.key (codes "path") ∷ json_tokens (path_json path)
 
 -- the end of a message
 abbrev pub last_tokens : List Token

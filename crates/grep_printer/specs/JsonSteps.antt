@@ -34,7 +34,7 @@ pub record IsComposingJson {M W : Type 0} (old new : JsonSink M W) : Type 0 wher
 pub record IsJsonWritten {M W : Type 0} (write_step : W → OutputCall → W → Type 0)
     (old : JsonSink M W) (reported : JsonProgress) (new : JsonSink M W) : Type 0 where
   pub same : IsSameJson old new
-  pub written : WritesAll write_step old.printer.now.writer old.printer.now.draft.text.items
+  pub written : WritesAll write_step old.printer.now.writer old.printer.now.draft.text.bytes.items
       new.printer.now.writer
   pub progress : new.progress ≡ reported
   pub has_failed : new.printer.now.has_failed ≡ old.printer.now.has_failed
@@ -46,7 +46,7 @@ pub record FailsToWriteJson {M W : Type 0} (write_step : W → OutputCall → W 
   pub same : IsSameJson old new
   pub error : Error
   pub is_io : e ≡ Io error
-  pub failed : FailsToWrite write_step old.printer.now.writer old.printer.now.draft.text.items error
+  pub failed : FailsToWrite write_step old.printer.now.writer old.printer.now.draft.text.bytes.items error
       new.printer.now.writer
   pub progress : new.progress ≡ reported
   pub has_failed : new.printer.now.has_failed ≡ true

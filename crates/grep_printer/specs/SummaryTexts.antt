@@ -51,22 +51,29 @@ abbrev pub path_line : SummaryConfig → Option (Bor (List ℕ)) → ℕ → Lis
 path_line config path terminator =
     path_field (path_color config.color_specs) (unwrap_or config.path_terminator terminator) path
 
+-- whether a search found what it is for, by how many matches were reported
+abbrev pub has_found : SummaryKind → ℕ → Bool
+has_found Count count = nat_lt 0 count
+has_found CountMatches count = nat_lt 0 count
+has_found PathWithMatch count = nat_lt 0 count
+has_found PathWithoutMatch count = count == 0
+has_found Quiet count = nat_lt 0 count
+
+-- what is written of a search that found it, by what counts
+abbrev pub found_line : SummaryKind → SummaryConfig → Option (Bor (List ℕ)) → ℕ → Counts → List ℕ
+found_line Count config path terminator counts =
+    count_line config path terminator counts.match_count
+found_line CountMatches config path terminator counts =
+    count_line config path terminator counts.part_count
+found_line PathWithMatch config path terminator counts = path_line config path terminator
+found_line PathWithoutMatch config path terminator counts = path_line config path terminator
+found_line Quiet config path terminator counts = []
+
 -- what is written when a search has ended, by what counts
 abbrev pub finish_text : SummaryKind → SummaryConfig → Option (Bor (List ℕ)) → ℕ → Counts
     → List ℕ
-finish_text Count config path terminator counts =
-    if nat_lt 0 counts.match_count
-    then count_line config path terminator counts.match_count
-    else []
-finish_text CountMatches config path terminator counts =
-    if nat_lt 0 counts.match_count
-    then count_line config path terminator counts.part_count
-    else []
-finish_text PathWithMatch config path terminator counts =
-    if nat_lt 0 counts.match_count then path_line config path terminator else []
-finish_text PathWithoutMatch config path terminator counts =
-    if counts.match_count == 0 then path_line config path terminator else []
-finish_text Quiet config path terminator counts = []
+finish_text kind config path terminator counts =
+    if has_found kind counts.match_count then found_line kind config path terminator counts else []
 
 -- what the text of a search depends on: the settings of the printer, the path, those of the search,
 -- what the matcher means, and which matches it finds from a position on
@@ -94,14 +101,6 @@ summary_text frame counts (finishes bytes binary) =
     then []
     else finish_text frame.config.kind frame.config frame.path
     (byte_of frame.settings.line_terminator) counts
-
--- whether a search found what it is for, by how many matches were reported
-abbrev pub has_found : SummaryKind → ℕ → Bool
-has_found Count count = nat_lt 0 count
-has_found CountMatches count = nat_lt 0 count
-has_found PathWithMatch count = nat_lt 0 count
-has_found PathWithoutMatch count = count == 0
-has_found Quiet count = nat_lt 0 count
 
 -- whether the parts of the reported matches are counted
 abbrev pub counts_parts : SummaryKind → Bool

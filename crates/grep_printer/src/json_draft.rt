@@ -4,19 +4,21 @@ ghost use Rattle.grep_searcher.specs.SearchErrors.{IsOutOfMemory};
 ghost use Rattle.grep_printer.specs.JsonMessages.{json_line};
 ghost use Rattle.grep_printer.specs.JsonPieces.{AreWithin, message_of, report_of};
 ghost use Rattle.grep_printer.specs.JsonTexts.{opening_line};
+ghost use Rattle.grep_printer.specs.Pushes.{Holds};
 ghost use Rattle.grep_printer.specs.ReportedParts.{FailsAtReport, asked_parts};
 ghost use Rattle.grep_printer.specs.Reports.{has_parts};
 
 use crate::json_lines::{Message, add_message};
 use crate::parts::find_asked_parts;
 use crate::report::Report;
+use crate::text::Text;
 use grep_searcher::{FindAt, Match, SearchError, Searcher};
-use std::alloc::{AllocError, Allocator, Global};
+use std::alloc::{Allocator, Global};
 
 // The text of the call at hand, and the matches in its report.
 #[derive(Drop)]
 pub(crate) struct JsonDraft {
-    pub(crate) text: Vec<u8>,
+    pub(crate) text: Text,
     pub(crate) submatches: Vec<Match>,
 }
 
@@ -24,7 +26,7 @@ impl JsonDraft {
     // No text, and no matches.
     pub(crate) fn new(alloc: Global) -> JsonDraft {
         JsonDraft {
-            text: Vec::new(alloc),
+            text: Text::new(alloc),
             submatches: Vec::new(alloc),
         }
     }
@@ -32,12 +34,13 @@ impl JsonDraft {
     // Makes a text of a message that is no report.
     pub(crate) fn compose(&mut self, message: Message<'_>) -> Result<(), SearchError>
         requires { AreWithin message }
-        ensures text { OnOk result (self.new.text.items ≡ json_line (message_of message.entry)) }
+        ensures text { OnOk result
+            (self.new.text.bytes.items ≡ json_line (message_of message.entry)) }
         ensures error { IfErr result (λ e. IsOutOfMemory e) }
     {
         self.text.clear();
-        add_message(&mut self.text, message)?;
-        Ok(())
+        add_message(&mut self.text, message);
+        self.text.check()
     }
 
     // Makes a text of a report, after the message that the search begins if that isn't written yet.
@@ -53,7 +56,7 @@ impl JsonDraft {
             ≡ asked_parts (has_parts report.now.kind searcher.now.settings.invert_match)
             (M.first_at matcher.now) searcher.now.settings (M.facts matcher.now).meaning
             report.now.bytes.now) }
-        ensures text { OnOk result (self.new.text.items ≡ opening_line path.entry is_begun
+        ensures text { OnOk result (self.new.text.bytes.items ≡ opening_line path.entry is_begun
             ++ json_line (report_of path.entry report.now self.new.submatches.items)) }
         ensures error { IfErr result (λ e. IsOutOfMemory e ⊎ FailsAtReport (M.facts matcher.now)
             searcher.now.settings report.now.bytes.now e) }
@@ -64,25 +67,20 @@ impl JsonDraft {
             Ok(()) => {}
             Err(error) => return Err(error),
         }
-        self.draw(path, is_begun, report)?;
-        Ok(())
+        self.draw(path, is_begun, report);
+        self.text.check()
     }
 
     // Makes a text of a report with the matches at hand.
-    fn draw(
-        &mut self,
-        path: Option<&str>,
-        is_begun: bool,
-        report: &Report<'_>,
-    ) -> Result<(), AllocError>
+    fn draw(&mut self, path: Option<&str>, is_begun: bool, report: &Report<'_>)
         requires { All (λ range. range.1 ≤ length report.now.bytes.now) self.old.submatches.items }
         ensures submatches { self.new.submatches ≡ self.old.submatches }
-        ensures text { OnOk result (self.new.text.items ≡ opening_line path.entry is_begun
+        ensures text { Holds self.new.text (opening_line path.entry is_begun
             ++ json_line (report_of path.entry report.now self.old.submatches.items)) }
     {
         self.text.clear();
         if !is_begun {
-            add_message(&mut self.text, Message::Begin(path))?;
+            add_message(&mut self.text, Message::Begin(path));
         }
         add_message(
             &mut self.text,

@@ -1,16 +1,16 @@
 //! The messages of a printer of JSON, each in a line of its own.
-ghost use Rattle.std.specs.Prelude.{◌≡◌, ◌≤◌, ◌++◌, All, OnOk, length};
+ghost use Rattle.std.specs.Prelude.{◌≤◌, All, length};
 ghost use Rattle.json.specs.Tree.{json_tokens};
-ghost use Rattle.grep_printer.specs.JsonMessages.{begin_json, end_json, json_line, report_json};
-ghost use Rattle.grep_printer.specs.JsonMessages.{summary_json};
-ghost use Rattle.grep_printer.specs.JsonPieces.{AreWithin, message_of, report_of};
+ghost use Rattle.grep_printer.specs.JsonMessages.{begin_json, end_json, json_line, summary_json};
+ghost use Rattle.grep_printer.specs.JsonPieces.{AreWithin, head_tokens, message_of, report_of};
+ghost use Rattle.grep_printer.specs.Pushes.{Adds, AddsTokens};
 
-use crate::messages::{Piece, microseconds, push_pieces, push_stats, push_submatches};
+use crate::json_text::{JsonText, Piece};
 use crate::report::Report;
 use crate::stats::Stats;
+use crate::text::Text;
 use grep_searcher::Match;
 use json::Writer;
-use std::alloc::{AllocError, Global};
 use std::mem;
 
 // A message.
@@ -27,149 +27,103 @@ pub(crate) enum Message<'m> {
 }
 
 // Adds a message in a line of its own.
-pub(crate) fn add_message(text: &mut Vec<u8>, message: Message<'_>) -> Result<(), AllocError>
+pub(crate) fn add_message(text: &mut Text, message: Message<'_>)
     requires { AreWithin message }
-    ensures { OnOk result (text.new.items ≡ text.old.items ++ json_line (message_of message.entry)) }
+    ensures { Adds text.old text.new (json_line (message_of message.entry)) }
 {
-    let alloc = *text.allocator();
-    let mut out = Writer::new(mem::replace(text, Vec::new(alloc)));
-    push_message(&mut out, alloc, message)?;
-    *text = out.into_inner();
-    text.push(b'\n')?;
-    Ok(())
+    let alloc = *text.bytes.allocator();
+    let bytes = mem::replace(&mut text.bytes, Vec::new(alloc));
+    let mut json = JsonText {
+        out: Writer::new(bytes),
+        alloc,
+        has_failed: text.has_failed,
+    };
+    json.push_message(message);
+    text.has_failed = json.has_failed;
+    text.bytes = json.out.into_inner();
+    text.push(b"\n")
 }
 
-// Pushes a message.
-fn push_message(out: &mut Writer, alloc: Global, message: Message<'_>) -> Result<(), AllocError>
-    requires { AreWithin message }
-    ensures before { out.new.before ≡ out.old.before }
-    ensures tokens { OnOk result
-        (out.new.tokens ≡ out.old.tokens ++ json_tokens (message_of message.entry)) }
-{
-    match message {
-        Message::Begin(path) => push_begin(out, alloc, path),
-        Message::Report(path, report, ranges) => push_report(out, alloc, path, &report, ranges),
-        Message::End(path, binary, stats) => push_end(out, alloc, path, binary, &stats),
-        Message::Summary(stats, total) => push_summary(out, alloc, &stats, total),
+impl JsonText {
+    // Pushes a message.
+    fn push_message(&mut self, message: Message<'_>)
+        requires { AreWithin message }
+        ensures { AddsTokens self.old self.new (json_tokens (message_of message.entry)) }
+    {
+        match message {
+            Message::Begin(path) => self.push_begin(path),
+            Message::Report(path, report, ranges) => self.push_report(path, &report, ranges),
+            Message::End(path, binary, stats) => self.push_end(path, binary, &stats),
+            Message::Summary(stats, total) => self.push_summary(&stats, total),
+        }
     }
-}
 
-// Pushes the message that a search begins.
-fn push_begin(out: &mut Writer, alloc: Global, path: Option<&str>) -> Result<(), AllocError>
-    ensures before { out.new.before ≡ out.old.before }
-    ensures tokens { OnOk result
-        (out.new.tokens ≡ out.old.tokens ++ json_tokens (begin_json path.entry)) }
-{
-    push_pieces(
-        out,
-        alloc,
-        &[
+    // Pushes the first members of a message about a path.
+    fn push_head(&mut self, kind: &str, path: Option<&str>)
+        ensures { AddsTokens self.old self.new (head_tokens kind.now path.entry) }
+    {
+        self.push_all(&[
             Piece::Open,
             Piece::Key("type"),
-            Piece::Text("begin"),
+            Piece::Text(kind),
             Piece::Key("data"),
             Piece::Open,
             Piece::Key("path"),
-            Piece::Path(path),
-            Piece::Close,
-            Piece::Close,
-        ],
-    )
-}
+        ]);
+        self.push_path(path)
+    }
 
-// Pushes a report.
-fn push_report<'m>(
-    out: &mut Writer,
-    alloc: Global,
-    path: Option<&'m str>,
-    report: &Report<'m>,
-    ranges: &[Match],
-) -> Result<(), AllocError>
-    requires { All (λ range. range.1 ≤ length report.now.bytes.now) ranges.now }
-    ensures before { out.new.before ≡ out.old.before }
-    ensures tokens { OnOk result (out.new.tokens
-        ≡ out.old.tokens ++ json_tokens (report_of path.entry report.now ranges.now)) }
-{
-    push_pieces(
-        out,
-        alloc,
-        &[
-            Piece::Open,
-            Piece::Key("type"),
-            Piece::Text(report.kind.name()),
-            Piece::Key("data"),
-            Piece::Open,
-            Piece::Key("path"),
-            Piece::Path(path),
-            Piece::Key("lines"),
-            Piece::Bytes(report.bytes),
+    // Pushes the message that a search begins.
+    fn push_begin(&mut self, path: Option<&str>)
+        ensures { AddsTokens self.old self.new (json_tokens (begin_json path.entry)) }
+    {
+        self.push_head("begin", path);
+        self.push_all(&[Piece::Close, Piece::Close])
+    }
+
+    // Pushes a report.
+    fn push_report<'m>(&mut self, path: Option<&'m str>, report: &Report<'m>, ranges: &[Match])
+        requires { All (λ range. range.1 ≤ length report.now.bytes.now) ranges.now }
+        ensures { AddsTokens self.old self.new
+            (json_tokens (report_of path.entry report.now ranges.now)) }
+    {
+        self.push_head(report.kind.name(), path);
+        self.push(Piece::Key("lines"));
+        self.push_bytes(report.bytes);
+        self.push_all(&[
             Piece::Key("line_number"),
             Piece::Optional(report.number),
             Piece::Count("absolute_offset", report.offset),
             Piece::Key("submatches"),
-        ],
-    )?;
-    push_submatches(out, alloc, report.bytes, ranges)
-}
+            Piece::OpenArray,
+        ]);
+        self.push_submatches(report.bytes, ranges)
+    }
 
-// Pushes the message that a search ends.
-fn push_end(
-    out: &mut Writer,
-    alloc: Global,
-    path: Option<&str>,
-    binary: Option<u64>,
-    stats: &Stats,
-) -> Result<(), AllocError>
-    ensures before { out.new.before ≡ out.old.before }
-    ensures tokens { OnOk result
-        (out.new.tokens ≡ out.old.tokens ++ json_tokens (end_json path.entry binary stats.now)) }
-{
-    push_pieces(
-        out,
-        alloc,
-        &[
-            Piece::Open,
-            Piece::Key("type"),
-            Piece::Text("end"),
-            Piece::Key("data"),
-            Piece::Open,
-            Piece::Key("path"),
-            Piece::Path(path),
-            Piece::Key("binary_offset"),
-            Piece::Optional(binary),
-        ],
-    )?;
-    push_stats(out, alloc, stats)
-}
+    // Pushes the message that a search ends.
+    fn push_end(&mut self, path: Option<&str>, binary: Option<u64>, stats: &Stats)
+        ensures { AddsTokens self.old self.new
+            (json_tokens (end_json path.entry binary stats.now)) }
+    {
+        self.push_head("end", path);
+        self.push(Piece::Key("binary_offset"));
+        self.push(Piece::Optional(binary));
+        self.push_stats(stats)
+    }
 
-// Pushes the message about all searches.
-fn push_summary(
-    out: &mut Writer,
-    alloc: Global,
-    stats: &Stats,
-    total: u64,
-) -> Result<(), AllocError>
-    ensures before { out.new.before ≡ out.old.before }
-    ensures tokens { OnOk result
-        (out.new.tokens ≡ out.old.tokens ++ json_tokens (summary_json stats.now total)) }
-{
-    push_pieces(
-        out,
-        alloc,
-        &[
+    // Pushes the message about all searches.
+    fn push_summary(&mut self, stats: &Stats, total: u64)
+        ensures { AddsTokens self.old self.new (json_tokens (summary_json stats.now total)) }
+    {
+        self.push_all(&[
             Piece::Open,
             Piece::Key("type"),
             Piece::Text("summary"),
             Piece::Key("data"),
             Piece::Open,
             Piece::Key("elapsed_total"),
-            Piece::Open,
-            Piece::Count("secs", total / 1_000_000_000),
-            Piece::Count("nanos", total % 1_000_000_000),
-            Piece::Key("human"),
-            Piece::Seconds(microseconds(total)),
-            Piece::Close,
-        ],
-    )?;
-    push_stats(out, alloc, stats)
+        ]);
+        self.push_time(total);
+        self.push_stats(stats)
+    }
 }

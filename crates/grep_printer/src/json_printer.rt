@@ -160,13 +160,13 @@ impl<W: Output> Json<W> {
 
     // Writes the text at hand.
     fn write_text(&mut self) -> io::Result<()>
-        ensures written { Writes W.step self.old.writer self.old.draft.text.items result
+        ensures written { Writes W.step self.old.writer self.old.draft.text.bytes.items result
             self.new.writer }
         ensures always_begin_end { self.new.always_begin_end ≡ self.old.always_begin_end }
         ensures has_failed { self.new.has_failed
             ≡ (if is_ok result then self.old.has_failed else true) }
     {
-        match write_all(&mut self.writer, &self.draft.text) {
+        match write_all(&mut self.writer, &self.draft.text.bytes) {
             Ok(()) => Ok(()),
             Err(error) => {
                 self.has_failed = true;
@@ -278,7 +278,7 @@ pub struct JsonSink<'s, M, W> {
     progress: JsonProgress,
 }
 
-impl<'s, M: FindAt, W: Output> JsonSink<'s, M, W> {
+impl<'s, M, W: Output> JsonSink<'s, M, W> {
     /// Whether a match was reported.
     pub fn has_match(&self) -> bool
         ensures { result ≡ self.now.progress.has_match }
@@ -305,29 +305,10 @@ impl<'s, M: FindAt, W: Output> JsonSink<'s, M, W> {
             return Ok(stats);
         }
         let end = Message::End(self.path, self.progress.binary_offset, stats);
-        self.printer.write_message(end)?;
-        Ok(stats)
-    }
-}
-
-impl<'s, M: FindAt, W: Output> JsonSink<'s, M, W> {
-    // Prints a report.
-    fn print<A: Allocator + Copy>(
-        &mut self,
-        searcher: &Searcher<A>,
-        report: &Report<'_>,
-    ) -> Result<bool, SearchError>
-        ensures { PrintsJsonCall M.facts M.first_at W.step self.old searcher.now.settings
-            (call_of report.now) result self.new }
-    {
-        let is_begun = self.progress.is_begun;
-        let draft = &mut self.printer.draft;
-        let made = draft.compose_report(searcher, &self.matcher, self.path, is_begun, report);
-        let size = draft.text.len();
-        let matches = draft.submatches.len();
-        let terminator = searcher.line_terminator().as_byte();
-        let progress = self.progress.after(size, report, matches, terminator);
-        self.write(made, progress)
+        match self.printer.write_message(end) {
+            Ok(()) => Ok(stats),
+            Err(error) => Err(error),
+        }
     }
 
     // Writes the text at hand if it was made, with what was reported then.
@@ -350,6 +331,27 @@ impl<'s, M: FindAt, W: Output> JsonSink<'s, M, W> {
     }
 }
 
+impl<'s, M: FindAt, W: Output> JsonSink<'s, M, W> {
+    // Prints a report.
+    fn print<A: Allocator + Copy>(
+        &mut self,
+        searcher: &Searcher<A>,
+        report: &Report<'_>,
+    ) -> Result<bool, SearchError>
+        ensures { PrintsJsonCall M.facts M.first_at W.step self.old searcher.now.settings
+            (call_of report.now) result self.new }
+    {
+        let is_begun = self.progress.is_begun;
+        let draft = &mut self.printer.draft;
+        let made = draft.compose_report(searcher, &self.matcher, self.path, is_begun, report);
+        let size = draft.text.bytes.len();
+        let matches = draft.submatches.len();
+        let terminator = searcher.line_terminator().as_byte();
+        let progress = self.progress.after(size, report, matches, terminator);
+        self.write(made, progress)
+    }
+}
+
 impl<'s, M: FindAt, W: Output> Sink for JsonSink<'s, M, W> {
     type Error = SearchError;
 
@@ -364,7 +366,7 @@ impl<'s, M: FindAt, W: Output> Sink for JsonSink<'s, M, W> {
             return Ok(true);
         }
         let made = self.printer.draft.compose(Message::Begin(self.path));
-        let progress = self.progress.with_size(self.printer.draft.text.len());
+        let progress = self.progress.with_size(self.printer.draft.text.bytes.len());
         self.write(made, progress)
     }
 

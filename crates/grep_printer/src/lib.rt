@@ -13,6 +13,7 @@ mod fields;
 mod json_draft;
 mod json_lines;
 mod json_printer;
+mod json_text;
 pub mod laws;
 mod messages;
 mod parts;

@@ -1,11 +1,12 @@
 //! The printer of lines.
 ghost use Rattle.std.specs.Prelude.{◌≡◌, ◌+◌, ◌<◌, ◌^◌, ◌&&◌, ◌||◌, true, false, None, is_ok};
-ghost use Rattle.std.specs.Prelude.{length};
+ghost use Rattle.std.specs.Prelude.{is_some, length};
 ghost use Rattle.std.specs.Prelude.{if◌then◌else◌, not};
 ghost use Rattle.grep_output.specs.Outputs.{Writes, flushes};
+ghost use Rattle.grep_searcher.specs.BinaryDetections.{convert_byte_of};
 ghost use Rattle.grep_printer.specs.Reports.{call_of};
-ghost use Rattle.grep_printer.specs.StandardSteps.{PrintsCall, WritesMade, frame_of};
-ghost use Rattle.grep_printer.specs.StandardTexts.{is_hidden, is_text, layout_of, new_progress};
+ghost use Rattle.grep_printer.specs.StandardSteps.{PrintsCall, WritesMade};
+ghost use Rattle.grep_printer.specs.StandardTexts.{is_text, new_progress};
 ghost use Rattle.grep_printer.specs.StandardTexts.{progress_after};
 
 use crate::config::Config;
@@ -198,7 +199,7 @@ pub struct StandardSink<'s, M, W> {
     progress: Progress,
 }
 
-impl<'s, M: FindAt, W: Output> StandardSink<'s, M, W> {
+impl<'s, M, W: Output> StandardSink<'s, M, W> {
     /// Whether a match was reported.
     pub fn has_match(&self) -> bool
         ensures { result ≡ self.now.progress.has_match }
@@ -208,7 +209,11 @@ impl<'s, M: FindAt, W: Output> StandardSink<'s, M, W> {
 
     // How the lines of the search are laid out.
     fn layout<A: Allocator + Copy>(&self, searcher: &Searcher<A>) -> Layout<'s>
-        ensures { result ≡ layout_of (frame_of M.facts M.first_at self.now searcher.now.settings) }
+        ensures { result ≡ record {
+          config = self.now.printer.now.config;
+          path = self.now.path;
+          terminator = searcher.now.settings.line_terminator;
+        } }
     {
         Layout {
             config: self.printer.config,
@@ -219,31 +224,10 @@ impl<'s, M: FindAt, W: Output> StandardSink<'s, M, W> {
 
     // Whether reports aren't written any more.
     fn is_hidden<A: Allocator + Copy>(&self, searcher: &Searcher<A>) -> bool
-        ensures { result ≡ is_hidden
-            (frame_of M.facts M.first_at self.now searcher.now.settings) self.now.progress }
+        ensures { result ≡ (is_some self.now.progress.binary
+            && is_some (convert_byte_of searcher.now.settings.binary_detection)) }
     {
         self.progress.binary.is_some() && searcher.binary_detection().convert_byte().is_some()
-    }
-
-    // Prints a report, unless it is hidden.
-    fn print<A: Allocator + Copy>(
-        &mut self,
-        searcher: &Searcher<A>,
-        report: &Report<'_>,
-    ) -> Result<bool, SearchError>
-        requires { report.now.offset + length report.now.bytes.now < 2 ^ 64 }
-        ensures { PrintsCall M.facts M.first_at W.step self.old searcher.now.settings
-            (call_of report.now) result self.new }
-    {
-        let progress = self.progress.after(report);
-        if self.is_hidden(searcher) {
-            self.progress = progress;
-            return Ok(false);
-        }
-        let layout = self.layout(searcher);
-        let draft = &mut self.printer.draft;
-        let made = draft.compose(&layout, &self.progress, searcher, &self.matcher, report);
-        self.write(made, progress)
     }
 
     // Writes the text at hand if it was made, with what was reported then.
@@ -263,6 +247,29 @@ impl<'s, M: FindAt, W: Output> StandardSink<'s, M, W> {
             Ok(()) => Ok(true),
             Err(error) => Err(SearchError::Io(error)),
         }
+    }
+}
+
+impl<'s, M: FindAt, W: Output> StandardSink<'s, M, W> {
+    // Prints a report, unless it is hidden.
+    fn print<A: Allocator + Copy>(
+        &mut self,
+        searcher: &Searcher<A>,
+        report: &Report<'_>,
+    ) -> Result<bool, SearchError>
+        requires { report.now.offset + length report.now.bytes.now < 2 ^ 64 }
+        ensures { PrintsCall M.facts M.first_at W.step self.old searcher.now.settings
+            (call_of report.now) result self.new }
+    {
+        let progress = self.progress.after(report);
+        if self.is_hidden(searcher) {
+            self.progress = progress;
+            return Ok(false);
+        }
+        let layout = self.layout(searcher);
+        let draft = &mut self.printer.draft;
+        let made = draft.compose(&layout, &self.progress, searcher, &self.matcher, report);
+        self.write(made, progress)
     }
 }
 

@@ -6,7 +6,7 @@ ghost use Rattle.grep_searcher.specs.SearchErrors.{IsOutOfMemory};
 ghost use Rattle.grep_printer.specs.Pushes.{Adds};
 ghost use Rattle.grep_printer.specs.SummarySteps.{WritesSummaryMade};
 ghost use Rattle.grep_printer.specs.SummaryTexts;
-ghost use Rattle.grep_printer.specs.SummaryTexts.{count_line, finish_text};
+ghost use Rattle.grep_printer.specs.SummaryTexts.{count_line, finish_text, found_line};
 ghost use Rattle.grep_printer.specs.SummaryTexts.{has_found, no_counts, path_line, with_report};
 
 use crate::fields::{push_digits, push_path};
@@ -106,34 +106,35 @@ impl<W> Summary<W> {
         ensures error { IfErr result (λ e. IsOutOfMemory e) }
     {
         self.text.clear();
-        match self.config.kind {
-            SummaryKind::Count if counts.match_count > 0 => {
-                push_count_line(
-                    &mut self.text,
-                    &self.config,
-                    path,
-                    terminator,
-                    counts.match_count,
-                )
-            }
-            SummaryKind::CountMatches if counts.match_count > 0 => {
-                push_count_line(
-                    &mut self.text,
-                    &self.config,
-                    path,
-                    terminator,
-                    counts.part_count,
-                )
-            }
-            SummaryKind::PathWithMatch if counts.match_count > 0 => {
-                push_path_line(&mut self.text, &self.config, path, terminator)
-            }
-            SummaryKind::PathWithoutMatch if counts.match_count == 0 => {
-                push_path_line(&mut self.text, &self.config, path, terminator)
-            }
-            _ => {}
+        if self.config.kind.has_found(counts.match_count) {
+            push_found_line(&mut self.text, &self.config, path, terminator, counts);
         }
         self.text.check()
+    }
+}
+
+// Pushes what is written of a search that found what it is for.
+fn push_found_line(
+    text: &mut Text,
+    config: &SummaryConfig,
+    path: Option<&str>,
+    terminator: u8,
+    counts: &Counts,
+)
+    ensures { Adds text.old text.new (found_line config.now.kind config.now path.entry terminator
+        counts.now) }
+{
+    match config.kind {
+        SummaryKind::Count => {
+            push_count_line(text, config, path, terminator, counts.match_count)
+        }
+        SummaryKind::CountMatches => {
+            push_count_line(text, config, path, terminator, counts.part_count)
+        }
+        SummaryKind::PathWithMatch | SummaryKind::PathWithoutMatch => {
+            push_path_line(text, config, path, terminator)
+        }
+        SummaryKind::Quiet => {}
     }
 }
 
@@ -230,16 +231,13 @@ pub struct SummarySink<'s, M, W> {
     counts: Counts,
 }
 
-impl<'s, M: FindAt, W: Output> SummarySink<'s, M, W> {
+impl<'s, M, W: Output> SummarySink<'s, M, W> {
     /// Whether the search found what it is for: a match, or under `PathWithoutMatch` none.
     pub fn has_match(&self) -> bool
         ensures { result
             ≡ has_found self.now.printer.now.config.kind self.now.counts.match_count }
     {
-        match self.printer.config.kind {
-            SummaryKind::PathWithoutMatch => self.counts.match_count == 0,
-            _ => self.counts.match_count > 0,
-        }
+        self.printer.config.kind.has_found(self.counts.match_count)
     }
 }
 

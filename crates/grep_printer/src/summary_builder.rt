@@ -1,6 +1,7 @@
 //! How a printer of summaries writes them.
 ghost use Rattle.std.specs.Prelude.{◌≡◌, false};
 ghost use Rattle.grep_printer.specs.SummaryTexts.{counts_on, counts_parts, default_summary_config};
+ghost use Rattle.grep_printer.specs.SummaryTexts.{has_found};
 
 use crate::colors::ColorSpecs;
 use crate::summary::Summary;
@@ -24,6 +25,16 @@ pub enum SummaryKind {
 }
 
 impl SummaryKind {
+    // Whether a search found what it is for, by how many matches were reported.
+    pub(crate) fn has_found(&self, count: u64) -> bool
+        ensures { result ≡ has_found self.now count }
+    {
+        match self {
+            SummaryKind::PathWithoutMatch => count == 0,
+            _ => count > 0,
+        }
+    }
+
     // Whether the parts of reported matches are counted.
     pub(crate) fn counts_parts(&self) -> bool
         ensures { result ≡ counts_parts self.now }

@@ -4,13 +4,17 @@ use Rattle.grep_printer.proofs.json_lines.add_message.Goals as goal
 
 pub returns : goal.returns
 unfolding json_line
-returns c =
-    simp (
-      c.into_inner.ensures.items,
-      c.in_ok-push_message.ensures.before,
-      c.in_ok-push_message.ensures.tokens,
-      c.new-out.ensures.before,
-      c.new-out.ensures.tokens,
-      c.replace.ensures.value,
-      append_assoc,
-    ) at c.in_ok-push.ensures.items
+returns c = λ made.
+    let pushed = c.push.ensures made in
+    let message = c.push_message.ensures pushed.0 in (
+      message.0,
+      simp (
+        c.into_inner.ensures.items,
+        message.1,
+        message.2,
+        c.new-2.ensures.before,
+        c.new-2.ensures.tokens,
+        c.replace-bytes.ensures.value,
+        append_assoc,
+      ) at pushed.1,
+    )

@@ -11,7 +11,7 @@ returns g c =
     let draft = c.compose_report-made.new.self in
     let mid = record old { printer = record old.printer { now = record printer { draft = draft } } } in
     let report = c.args.report.now in
-    let after : c.after-progress.result ≡ after_report old.progress (length draft.text.items) report
+    let after : c.after-progress.result ≡ after_report old.progress (length draft.text.bytes.items) report
     (length draft.submatches.items) (byte_of c.args.searcher.now.settings.line_terminator) = search rules in
     json-report g.M.Matcher.facts g.M.FindAt.first_at g.W.Output.step old mid c.write.new.self
     c.args.searcher.now.settings report c.compose_report-made.result c.after-progress.result c.write.result

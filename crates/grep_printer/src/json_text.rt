@@ -1,0 +1,86 @@
+//! The text of a message in JSON, to which it is pushed piece by piece.
+ghost use Rattle.std.specs.Prelude.{◌≡◌, ◌∷◌, ◌++◌, [], OnOk, decimal};
+ghost use Rattle.json.specs.Token.{key, number};
+ghost use Rattle.grep_printer.specs.JsonPieces.{piece_tokens, pieces_tokens};
+ghost use Rattle.grep_printer.specs.Pushes.{AddsTokens};
+
+use json::Writer;
+use std::alloc::{AllocError, Global};
+
+// A piece of a message.
+#[derive(Clone, Copy)]
+pub(crate) enum Piece<'p> {
+    // An object begins.
+    Open,
+    // It ends.
+    Close,
+    // An array begins.
+    OpenArray,
+    // It ends.
+    CloseArray,
+    // The name of a member.
+    Key(&'p str),
+    // A string.
+    Text(&'p str),
+    // A number, if there is one.
+    Optional(Option<u64>),
+    // A number as a member.
+    Count(&'p str, u64),
+}
+
+// A text of JSON that is made piece by piece. Once memory was out it has failed, and takes nothing
+// more.
+#[derive(Drop)]
+pub(crate) struct JsonText {
+    pub(crate) out: Writer,
+    pub(crate) alloc: Global,
+    pub(crate) has_failed: bool,
+}
+
+impl JsonText {
+    // Pushes pieces.
+    pub(crate) fn push_all(&mut self, pieces: &[Piece<'_>])
+        ensures { AddsTokens self.old self.new (pieces_tokens pieces.now) }
+    {
+        for piece in pieces {
+            self.push(*piece);
+        }
+    }
+
+    // Pushes a piece.
+    pub(crate) fn push(&mut self, piece: Piece<'_>)
+        ensures { AddsTokens self.old self.new (piece_tokens piece.entry) }
+    {
+        if !self.has_failed {
+            self.has_failed = write_piece(&mut self.out, piece).is_err();
+        }
+    }
+}
+
+// Writes a piece.
+fn write_piece(out: &mut Writer, piece: Piece<'_>) -> Result<(), AllocError>
+    ensures before { out.new.before ≡ out.old.before }
+    ensures tokens { OnOk result (out.new.tokens ≡ out.old.tokens ++ piece_tokens piece.entry) }
+{
+    match piece {
+        Piece::Open => out.begin_object(),
+        Piece::Close => out.end_object(),
+        Piece::OpenArray => out.begin_array(),
+        Piece::CloseArray => out.end_array(),
+        Piece::Key(name) => out.key(name),
+        Piece::Text(text) => out.string(text),
+        Piece::Optional(Some(number)) => out.u64(number),
+        Piece::Optional(None) => out.null(),
+        Piece::Count(name, count) => write_count(out, name, count),
+    }
+}
+
+// Writes a number as a member.
+fn write_count(out: &mut Writer, name: &str, count: u64) -> Result<(), AllocError>
+    ensures before { out.new.before ≡ out.old.before }
+    ensures tokens { OnOk result (out.new.tokens
+        ≡ out.old.tokens ++ key name.now ∷ number (decimal count) ∷ []) }
+{
+    out.key(name)?;
+    out.u64(count)
+}
