@@ -1,285 +1,279 @@
 //! The command line.
-use crate::options::Flag;
-use clap::builder::ValueParser;
+use crate::option_id::OptionId;
 use clap::{Arg, ArgAction, Command};
 use std::alloc::{AllocError, Global};
 
-/// An option: its name, its letter if it has one, its kind, and what it is for.
+/// An option: what it is, its name, its letter if it has one, and what it is for.
 pub struct Row {
+    /// What it is.
+    pub id: OptionId,
     /// The name, after two hyphens.
     pub name: &'static str,
     letter: Option<char>,
-    /// The kind.
-    pub kind: Kind,
     help: &'static str,
 }
 
-/// What a use of an option does, or what its value is.
-#[derive(Clone, Copy)]
-pub enum Kind {
-    Help,
-    Flag(Flag),
-    Number,
-    Label,
-    Color,
-    Pattern,
-    File,
-    Glob,
-}
-
-/// The options but `--json`. Help has no letter, since -h stands for the option without paths.
-pub const ROWS: &[Row] = &[
+// The options. Help has no letter, since -h stands for the option without paths.
+const ROWS: &[Row] = &[
     Row {
+        id: OptionId::Help,
         name: "help",
         letter: None,
-        kind: Kind::Help,
         help: "Print this help",
     },
     Row {
+        id: OptionId::Color,
         name: "color",
         letter: None,
-        kind: Kind::Color,
         help: "Write paths, numbers and matches in colours; auto is for a terminal",
     },
     Row {
+        id: OptionId::FixedStrings,
         name: "fixed-strings",
         letter: Some('F'),
-        kind: Kind::Flag(Flag::FixedStrings),
         help: "Patterns are literals",
     },
     Row {
+        id: OptionId::IgnoreCase,
         name: "ignore-case",
         letter: Some('i'),
-        kind: Kind::Flag(Flag::IgnoreCase),
         help: "Letters match in either case",
     },
     Row {
+        id: OptionId::WordRegexp,
         name: "word-regexp",
         letter: Some('w'),
-        kind: Kind::Flag(Flag::WordRegexp),
         help: "Matches are whole words",
     },
     Row {
+        id: OptionId::LineRegexp,
         name: "line-regexp",
         letter: Some('x'),
-        kind: Kind::Flag(Flag::LineRegexp),
         help: "Matches are whole lines",
     },
     Row {
+        id: OptionId::InvertMatch,
         name: "invert-match",
         letter: Some('v'),
-        kind: Kind::Flag(Flag::InvertMatch),
         help: "Select the lines that don't match",
     },
     Row {
+        id: OptionId::Multiline,
         name: "multiline",
         letter: Some('U'),
-        kind: Kind::Flag(Flag::Multiline),
         help: "A match may run over several lines",
     },
     Row {
+        id: OptionId::LineNumber,
         name: "line-number",
         letter: Some('n'),
-        kind: Kind::Flag(Flag::LineNumber),
         help: "Write line numbers",
     },
     Row {
+        id: OptionId::NoLineNumber,
         name: "no-line-number",
         letter: Some('N'),
-        kind: Kind::Flag(Flag::NoLineNumber),
         help: "Write no line numbers",
     },
     Row {
+        id: OptionId::WithFilename,
         name: "with-filename",
         letter: Some('H'),
-        kind: Kind::Flag(Flag::WithFilename),
         help: "Write the path before each line",
     },
     Row {
+        id: OptionId::NoFilename,
         name: "no-filename",
         letter: Some('h'),
-        kind: Kind::Flag(Flag::NoFilename),
         help: "Write no paths",
     },
     Row {
+        id: OptionId::ByteOffset,
         name: "byte-offset",
         letter: Some('b'),
-        kind: Kind::Flag(Flag::ByteOffset),
         help: "Write the offset of each line",
     },
     Row {
+        id: OptionId::Column,
         name: "column",
         letter: None,
-        kind: Kind::Flag(Flag::Column),
         help: "Write the column of the first match",
     },
     Row {
+        id: OptionId::OnlyMatching,
         name: "only-matching",
         letter: Some('o'),
-        kind: Kind::Flag(Flag::OnlyMatching),
         help: "Write only the parts of lines that match, each in a line of its own",
     },
     Row {
+        id: OptionId::Null,
         name: "null",
         letter: Some('0'),
-        kind: Kind::Flag(Flag::Null),
         help: "Write a NUL after each path",
     },
     Row {
+        id: OptionId::Passthru,
         name: "passthru",
         letter: None,
-        kind: Kind::Flag(Flag::Passthru),
         help: "Write all lines",
     },
     Row {
+        id: OptionId::Text,
         name: "text",
         letter: Some('a'),
-        kind: Kind::Flag(Flag::Text),
         help: "Search binary files as text",
     },
     Row {
+        id: OptionId::NullData,
         name: "null-data",
         letter: Some('z'),
-        kind: Kind::Flag(Flag::NullData),
         help: "Lines end at a NUL",
     },
     Row {
+        id: OptionId::Crlf,
         name: "crlf",
         letter: None,
-        kind: Kind::Flag(Flag::Crlf),
         help: "Lines may end at a carriage return and a line feed",
     },
     Row {
+        id: OptionId::NoMessages,
         name: "no-messages",
         letter: Some('s'),
-        kind: Kind::Flag(Flag::NoMessages),
         help: "Don't say which files can't be read",
     },
     Row {
+        id: OptionId::SmartCase,
         name: "smart-case",
         letter: Some('S'),
-        kind: Kind::Flag(Flag::SmartCase),
         help: "Letters match in either case if no pattern has a capital",
     },
     Row {
+        id: OptionId::Recursive,
         name: "recursive",
         letter: Some('r'),
-        kind: Kind::Flag(Flag::Recursive),
         help: "Search the files of folders, and of the folders in them",
     },
     Row {
+        id: OptionId::Hidden,
         name: "hidden",
         letter: None,
-        kind: Kind::Flag(Flag::Hidden),
         help: "Search hidden files and folders too",
     },
     Row {
+        id: OptionId::Count,
         name: "count",
         letter: Some('c'),
-        kind: Kind::Flag(Flag::Count),
         help: "Write how many lines match, for each file",
     },
     Row {
+        id: OptionId::CountMatches,
         name: "count-matches",
         letter: None,
-        kind: Kind::Flag(Flag::CountMatches),
         help: "Write how many single matches there are, for each file",
     },
     Row {
+        id: OptionId::FilesWithMatches,
         name: "files-with-matches",
         letter: Some('l'),
-        kind: Kind::Flag(Flag::FilesWithMatches),
         help: "Write the paths of the files with a match",
     },
     Row {
+        id: OptionId::FilesWithoutMatch,
         name: "files-without-match",
         letter: Some('L'),
-        kind: Kind::Flag(Flag::FilesWithoutMatch),
         help: "Write the paths of the files without one",
     },
     Row {
+        id: OptionId::Quiet,
         name: "quiet",
         letter: Some('q'),
-        kind: Kind::Flag(Flag::Quiet),
         help: "Write nothing, and stop at the first match",
     },
     Row {
+        id: OptionId::Heading,
         name: "heading",
         letter: None,
-        kind: Kind::Flag(Flag::Heading),
         help: "Write the path once, above the lines of a file",
     },
     Row {
+        id: OptionId::NoHeading,
         name: "no-heading",
         letter: None,
-        kind: Kind::Flag(Flag::NoHeading),
         help: "Write the path before each line",
     },
     Row {
+        id: OptionId::Regexp,
         name: "regexp",
         letter: Some('e'),
-        kind: Kind::Pattern,
         help: "A pattern; may be given several times",
     },
     Row {
+        id: OptionId::File,
         name: "file",
         letter: Some('f'),
-        kind: Kind::File,
         help: "A file with a pattern in each line",
     },
     Row {
+        id: OptionId::Glob,
         name: "glob",
         letter: Some('g'),
-        kind: Kind::Glob,
         help: "Search the files of folders that match GLOB, or with ! before it those that don't",
     },
     Row {
+        id: OptionId::MaxCount,
         name: "max-count",
         letter: Some('m'),
-        kind: Kind::Number,
         help: "Stop in a file after NUM matched lines",
     },
     Row {
+        id: OptionId::MaxColumns,
         name: "max-columns",
         letter: Some('M'),
-        kind: Kind::Number,
         help: "Write a notice in place of lines of more than NUM bytes; 0 is no limit",
     },
     Row {
+        id: OptionId::AfterContext,
         name: "after-context",
         letter: Some('A'),
-        kind: Kind::Number,
         help: "Write NUM lines after each match",
     },
     Row {
+        id: OptionId::BeforeContext,
         name: "before-context",
         letter: Some('B'),
-        kind: Kind::Number,
         help: "Write NUM lines before each match",
     },
     Row {
+        id: OptionId::Context,
         name: "context",
         letter: Some('C'),
-        kind: Kind::Number,
         help: "Write NUM lines before and after each match",
     },
     Row {
+        id: OptionId::Encoding,
         name: "encoding",
         letter: Some('E'),
-        kind: Kind::Label,
         help: "The encoding of the files",
+    },
+    Row {
+        id: OptionId::Json,
+        name: "json",
+        letter: None,
+        help: "Write messages in JSON",
     },
 ];
 
-/// The command line of the program. The only error is being out of memory.
-pub fn command<'a>(alloc: Global) -> Result<Command<'a>, AllocError> {
-    match json(alloc) {
-        Ok(json) => add_rows(alloc, add(program(alloc).arg(operands(alloc)), json), ROWS),
-        Err(error) => Err(error),
-    }
+/// The options of the command line.
+pub fn rows() -> &'static [Row] {
+    ROWS
 }
 
-// Adds the options of a table, if there is memory for it.
+/// The command line of the program. The only error is being out of memory.
+pub fn command<'a>(alloc: Global) -> Result<Command<'a>, AllocError> {
+    add_rows(alloc, program(alloc).arg(operands(alloc)), rows())
+}
+
+// Adds the options of a table. A `match` is proved sooner than a `?` here.
 fn add_rows<'a>(
     alloc: Global,
     start: Result<Command<'a>, AllocError>,
@@ -287,20 +281,12 @@ fn add_rows<'a>(
 ) -> Result<Command<'a>, AllocError> {
     let mut command = start;
     for row in rows {
-        command = add(command, row.arg(alloc));
+        command = match command {
+            Ok(command) => command.arg(row.arg(alloc)),
+            Err(error) => return Err(error),
+        };
     }
     command
-}
-
-// Adds an argument, if there is memory for it.
-fn add<'a>(
-    command: Result<Command<'a>, AllocError>,
-    arg: Arg<'a>,
-) -> Result<Command<'a>, AllocError> {
-    match command {
-        Ok(command) => command.arg(arg),
-        Err(error) => Err(error),
-    }
 }
 
 // The program, without its arguments.
@@ -324,68 +310,21 @@ fn operands<'a>(alloc: Global) -> Arg<'a> {
         .help("A pattern, unless -e or -f has one, and the paths of files")
 }
 
-// Counts and paths aren't written as messages in JSON.
-fn json<'a>(alloc: Global) -> Result<Arg<'a>, AllocError> {
-    let others = [
-        "count",
-        "count-matches",
-        "files-with-matches",
-        "files-without-match",
-    ];
-    Arg::new(alloc, "json")
-        .long("json")
-        .action(ArgAction::SetTrue)
-        .help("Write messages in JSON")
-        .conflicts_with_all(&others)
-}
-
 impl Row {
     // The argument. What a builder takes is said of each row, since an argument that goes through a
     // `match` is proved slowly.
     fn arg<'a>(&self, alloc: Global) -> Arg<'a> {
+        let kind = self.id.kind();
         let arg = Arg::new(alloc, self.name)
             .long(self.name)
             .help(self.help)
-            .action(self.kind.action())
-            .value_names(self.kind.value_names())
-            .value_parser(self.kind.value_parser())
+            .action(kind.action())
+            .value_names(kind.value_names())
+            .value_parser(kind.value_parser())
             .allow_hyphen_values(true);
         match self.letter {
             Some(letter) => arg.short(letter),
             None => arg,
-        }
-    }
-}
-
-impl Kind {
-    fn action(self) -> ArgAction {
-        match self {
-            Kind::Help => ArgAction::Help,
-            Kind::Flag(_) => ArgAction::SetTrue,
-            Kind::Pattern | Kind::File | Kind::Glob => ArgAction::Append,
-            Kind::Number | Kind::Label | Kind::Color => ArgAction::Set,
-        }
-    }
-
-    // What help calls the value, if there is one.
-    fn value_names(self) -> &'static [&'static str] {
-        match self {
-            Kind::Help | Kind::Flag(_) => &[],
-            Kind::Number => &["NUM"],
-            Kind::Label => &["LABEL"],
-            Kind::Color => &["WHEN"],
-            Kind::Pattern => &["PATTERN"],
-            Kind::File => &["FILE"],
-            Kind::Glob => &["GLOB"],
-        }
-    }
-
-    fn value_parser(self) -> ValueParser<'static> {
-        match self {
-            Kind::Flag(_) => ValueParser::Bool,
-            Kind::Number => ValueParser::Unsigned(0, u64::MAX),
-            Kind::Color => ValueParser::Names(&["auto", "always", "never"]),
-            _ => ValueParser::String,
         }
     }
 }

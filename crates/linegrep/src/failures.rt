@@ -6,6 +6,9 @@ use std::process::ExitCode;
 
 const NO_PATTERN: &str = "there is no pattern\n\nFor more information, try 'linegrep --help'.";
 
+const CONFLICT: &str = "--json can't be used with -c, --count-matches, -l or -L\n\n\
+    For more information, try 'linegrep --help'.";
+
 /// Why the program ends before it has searched everything.
 #[derive(Drop)]
 pub enum Failure {
@@ -13,6 +16,8 @@ pub enum Failure {
     Usage(clap::Error),
     /// There is no pattern.
     NoPattern,
+    /// Messages in JSON are asked for, and counts or paths too.
+    Conflict,
     /// A pattern can't be compiled: its text, empty if it may be one of several, and why.
     Pattern(String, grep_regex::Error),
     /// A setting can't be used, as a message.
@@ -32,6 +37,7 @@ impl Failure {
         match self {
             Failure::Usage(error) => return report_usage(rt, error),
             Failure::NoPattern => say(rt, &NO_PATTERN),
+            Failure::Conflict => say(rt, &CONFLICT),
             Failure::Pattern(text, error) => report_pattern(rt, text, error),
             Failure::Setting(message) => say(rt, message),
             Failure::Patterns(path, error) => report_cause(rt, path, error),

@@ -8,6 +8,7 @@ mod failures;
 mod globs;
 mod haystacks;
 mod json_run;
+mod option_id;
 mod options;
 mod patterns;
 mod printers;
@@ -20,7 +21,7 @@ mod wildcards;
 use crate::command::command;
 use crate::failures::Failure;
 use crate::options::Options;
-use crate::patterns::Operands;
+use crate::patterns::read_patterns;
 use crate::printers::Printer;
 use crate::search::search_all;
 use crate::settings::{build_printer, build_searcher};
@@ -61,46 +62,50 @@ fn parse<'w>(alloc: Global, words: &'w [String]) -> Result<ArgMatches<'w>, clap:
 
 // Searches what parsed arguments name.
 fn search_parsed(rt: &HostRuntime, matches: &ArgMatches<'_>) -> Result<ExitCode, Failure> {
-    let operands = Operands::read(rt, matches)?;
-    search_operands(rt, &Options::read(matches), &operands)
+    let options = Options::read(matches);
+    if options.has_conflict() {
+        return Err(Failure::Conflict);
+    }
+    let patterns = read_patterns(rt, matches)?;
+    search_patterns(rt, &options, &patterns)
 }
 
-// Searches what the operands name. A terminal gets each text at once.
-fn search_operands(
+// Searches for patterns. A terminal gets each text at once.
+fn search_patterns(
     rt: &HostRuntime,
     options: &Options<'_, '_>,
-    operands: &Operands,
+    patterns: &[String],
 ) -> Result<ExitCode, Failure> {
     let stdout = rt.stdout();
     let is_terminal = stdout.is_terminal();
     let room = if is_terminal { 0 } else { ROOM };
     match BufWriter::with_capacity(rt.alloc(), room, stdout) {
-        Ok(writer) => search_to(rt, options, operands, is_terminal, Writing::new(writer)),
+        Ok(writer) => search_to(rt, options, patterns, is_terminal, Writing::new(writer)),
         Err(error) => Err(Failure::System(error)),
     }
 }
 
-// Searches what the operands name, and writes what is found to `writer`.
+// Searches for patterns, and writes what is found to `writer`.
 fn search_to<W: Output + Drop>(
     rt: &HostRuntime,
     options: &Options<'_, '_>,
-    operands: &Operands,
+    patterns: &[String],
     is_terminal: bool,
     writer: W,
 ) -> Result<ExitCode, Failure> {
     let mut printer = build_printer(rt, options, is_terminal, writer);
     let mut searcher = build_searcher(rt.alloc(), options, is_terminal)?;
-    search_with(rt, options, operands, &mut searcher, &mut printer)
+    search_with(rt, options, patterns, &mut searcher, &mut printer)
 }
 
-// Searches what the operands name with a searcher, and writes what is found by a printer.
+// Searches for patterns with a searcher, and writes what is found by a printer.
 fn search_with<W: Output>(
     rt: &HostRuntime,
     options: &Options<'_, '_>,
-    operands: &Operands,
+    patterns: &[String],
     searcher: &mut Searcher,
     printer: &mut Printer<W>,
 ) -> Result<ExitCode, Failure> {
     let mut input = Reading::new(rt.stdin());
-    search_all(rt, options, operands, searcher, printer, &mut input)
+    search_all(rt, options, patterns, searcher, printer, &mut input)
 }

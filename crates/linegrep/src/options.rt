@@ -1,66 +1,33 @@
 //! The options of the command line.
-use crate::command::{Kind, ROWS, Row};
+use crate::command::{Row, rows};
+use crate::option_id::OptionId;
+use crate::patterns::names_patterns;
 use clap::ArgMatches;
 use grep_printer::SummaryKind;
 use grep_searcher::{BinaryDetection, LineTerminator};
 
-/// An option without a value.
-#[derive(Clone, Copy)]
-pub enum Flag {
-    FixedStrings,
-    IgnoreCase,
-    SmartCase,
-    WordRegexp,
-    LineRegexp,
-    InvertMatch,
-    Multiline,
-    LineNumber,
-    NoLineNumber,
-    WithFilename,
-    NoFilename,
-    ByteOffset,
-    Column,
-    OnlyMatching,
-    Null,
-    Passthru,
-    Text,
-    NullData,
-    Crlf,
-    NoMessages,
-    Recursive,
-    Hidden,
-    Count,
-    CountMatches,
-    FilesWithMatches,
-    FilesWithoutMatch,
-    Quiet,
-    Heading,
-    NoHeading,
-    Json,
-}
-
 // Two flags, by name, of which the last that is given decides.
 struct Opposites {
-    first: (&'static str, Flag),
-    second: (&'static str, Flag),
+    first: (&'static str, OptionId),
+    second: (&'static str, OptionId),
 }
 
 const OPPOSITES: &[Opposites] = &[
     Opposites {
-        first: ("ignore-case", Flag::IgnoreCase),
-        second: ("smart-case", Flag::SmartCase),
+        first: ("ignore-case", OptionId::IgnoreCase),
+        second: ("smart-case", OptionId::SmartCase),
     },
     Opposites {
-        first: ("line-number", Flag::LineNumber),
-        second: ("no-line-number", Flag::NoLineNumber),
+        first: ("line-number", OptionId::LineNumber),
+        second: ("no-line-number", OptionId::NoLineNumber),
     },
     Opposites {
-        first: ("with-filename", Flag::WithFilename),
-        second: ("no-filename", Flag::NoFilename),
+        first: ("with-filename", OptionId::WithFilename),
+        second: ("no-filename", OptionId::NoFilename),
     },
     Opposites {
-        first: ("heading", Flag::Heading),
-        second: ("no-heading", Flag::NoHeading),
+        first: ("heading", OptionId::Heading),
+        second: ("no-heading", OptionId::NoHeading),
     },
 ];
 
@@ -75,8 +42,7 @@ impl Flags {
     // Reads them from parsed arguments. Of two opposites the last is given.
     fn read(matches: &ArgMatches<'_>) -> Flags {
         let mut flags = Flags { bits: 0 };
-        flags.add(matches, ROWS);
-        flags.set(Flag::Json, matches.get_flag("json"));
+        flags.add(matches, rows());
         flags.settle(matches, OPPOSITES);
         flags
     }
@@ -84,8 +50,8 @@ impl Flags {
     // Adds the flags of a table that are given.
     fn add(&mut self, matches: &ArgMatches<'_>, rows: &[Row]) {
         for row in rows {
-            if let Kind::Flag(flag) = row.kind {
-                self.set(flag, matches.get_flag(row.name));
+            if row.id.kind().is_flag() {
+                self.set(row.id, matches.get_flag(row.name));
             }
         }
     }
@@ -101,7 +67,7 @@ impl Flags {
         }
     }
 
-    fn set(&mut self, flag: Flag, is_given: bool) {
+    fn set(&mut self, flag: OptionId, is_given: bool) {
         if is_given {
             self.bits = self.bits | bit_of(flag);
         } else {
@@ -109,12 +75,12 @@ impl Flags {
         }
     }
 
-    fn has(self, flag: Flag) -> bool {
+    fn has(self, flag: OptionId) -> bool {
         self.bits & bit_of(flag) != 0
     }
 }
 
-fn bit_of(flag: Flag) -> u64 {
+fn bit_of(flag: OptionId) -> u64 {
     1u64.wrapping_shl(flag as u32)
 }
 
@@ -143,6 +109,9 @@ pub struct Options<'m, 'w> {
     pub encoding: Option<&'w str>,
     /// The globs, which choose among the files of folders.
     pub globs: Option<&'m [&'w str]>,
+    operands: Option<&'m [&'w str]>,
+    // Whether the first operand is a path like the others, and no pattern.
+    names_patterns: bool,
 }
 
 impl<'m, 'w> Options<'m, 'w> {
@@ -158,25 +127,45 @@ impl<'m, 'w> Options<'m, 'w> {
             color: matches.get_str("color"),
             encoding: matches.get_str("encoding"),
             globs: matches.get_strs("glob"),
+            operands: matches.get_strs("operands"),
+            names_patterns: names_patterns(matches),
         }
     }
 
     /// Whether a flag is given, and not its opposite after it.
-    pub fn has(&self, flag: Flag) -> bool {
+    pub fn has(&self, flag: OptionId) -> bool {
         self.flags.has(flag)
+    }
+
+    /// Whether counts or paths are asked for, and messages in JSON too, which have neither.
+    pub fn has_conflict(&self) -> bool {
+        self.has(OptionId::Json)
+            && (self.has(OptionId::Count)
+                || self.has(OptionId::CountMatches)
+                || self.has(OptionId::FilesWithMatches)
+                || self.has(OptionId::FilesWithoutMatch))
+    }
+
+    /// The paths of what is searched.
+    pub fn paths(&self) -> &'m [&'w str] {
+        match self.operands {
+            Some(operands) if self.names_patterns => operands,
+            Some([_, paths @ ..]) => paths,
+            _ => &[],
+        }
     }
 
     /// The kind of the summary that is asked for, if one is.
     pub fn summary_kind(&self) -> Option<SummaryKind> {
-        if self.has(Flag::Quiet) {
+        if self.has(OptionId::Quiet) {
             Some(SummaryKind::Quiet)
         } else if self.counts_matches() {
             Some(SummaryKind::CountMatches)
-        } else if self.has(Flag::Count) || self.has(Flag::CountMatches) {
+        } else if self.has(OptionId::Count) || self.has(OptionId::CountMatches) {
             Some(SummaryKind::Count)
-        } else if self.has(Flag::FilesWithMatches) {
+        } else if self.has(OptionId::FilesWithMatches) {
             Some(SummaryKind::PathWithMatch)
-        } else if self.has(Flag::FilesWithoutMatch) {
+        } else if self.has(OptionId::FilesWithoutMatch) {
             Some(SummaryKind::PathWithoutMatch)
         } else {
             None
@@ -186,19 +175,19 @@ impl<'m, 'w> Options<'m, 'w> {
     // Whether single matches are counted, and not lines. An inverted count is one of lines, but for
     // the options `-c` and `-o`.
     fn counts_matches(&self) -> bool {
-        if self.has(Flag::CountMatches) {
-            !self.has(Flag::InvertMatch)
+        if self.has(OptionId::CountMatches) {
+            !self.has(OptionId::InvertMatch)
         } else {
-            self.has(Flag::Count) && self.has(Flag::OnlyMatching)
+            self.has(OptionId::Count) && self.has(OptionId::OnlyMatching)
         }
     }
 
     /// Whether paths are written: if they are asked for, or if several files may be searched.
     pub fn shows_paths(&self, searches_several: bool) -> bool {
-        if self.has(Flag::Json) || self.is_summary_of_paths() {
+        if self.has(OptionId::Json) || self.is_summary_of_paths() {
             return true;
         }
-        !self.has(Flag::NoFilename) && (self.has(Flag::WithFilename) || searches_several)
+        !self.has(OptionId::NoFilename) && (self.has(OptionId::WithFilename) || searches_several)
     }
 
     fn is_summary_of_paths(&self) -> bool {
@@ -210,24 +199,24 @@ impl<'m, 'w> Options<'m, 'w> {
 
     /// Whether lines are numbered. For a terminal they are, if nothing else is asked for.
     pub fn shows_numbers(&self, is_terminal: bool) -> bool {
-        !self.has(Flag::NoLineNumber)
-            && (self.has(Flag::LineNumber)
-                || self.has(Flag::Column)
-                || self.has(Flag::Json)
+        !self.has(OptionId::NoLineNumber)
+            && (self.has(OptionId::LineNumber)
+                || self.has(OptionId::Column)
+                || self.has(OptionId::Json)
                 || is_terminal)
     }
 
     /// Whether a path is written once, above the lines of its file. For a terminal it is, if
     /// nothing else is asked for.
     pub fn shows_headings(&self, is_terminal: bool) -> bool {
-        !self.has(Flag::NoHeading) && (self.has(Flag::Heading) || is_terminal)
+        !self.has(OptionId::NoHeading) && (self.has(OptionId::Heading) || is_terminal)
     }
 
     /// What ends a line.
     pub fn line_terminator(&self) -> LineTerminator {
-        if self.has(Flag::NullData) {
+        if self.has(OptionId::NullData) {
             LineTerminator::byte(0)
-        } else if self.has(Flag::Crlf) {
+        } else if self.has(OptionId::Crlf) {
             LineTerminator::crlf()
         } else {
             LineTerminator::byte(b'\n')
@@ -255,7 +244,7 @@ impl<'m, 'w> Options<'m, 'w> {
 
     /// What is done about a file with a NUL, which is binary unless it is to be searched as text.
     pub fn binary_detection(&self) -> BinaryDetection {
-        if self.has(Flag::Text) || self.has(Flag::NullData) {
+        if self.has(OptionId::Text) || self.has(OptionId::NullData) {
             BinaryDetection::none()
         } else {
             BinaryDetection::convert(0)

@@ -1,63 +1,55 @@
-//! The patterns that are searched for, and the paths.
+//! The patterns that are searched for.
 use crate::failures::Failure;
-use crate::options::{Flag, Options};
+use crate::option_id::OptionId;
+use crate::options::Options;
 use clap::ArgMatches;
 use grep_regex::{Error, Regex, RegexMatcherBuilder};
 use grep_searcher::LineTerminator;
 use std::alloc::{AllocError, Global};
 use std::{fs, io};
 
-/// The patterns and the paths that the arguments name.
-#[derive(Drop)]
-pub struct Operands {
-    /// The texts of the patterns: those of `-e`, then those of the files of `-f`, or if neither is
-    /// used the first operand.
-    pub patterns: Vec<String>,
-    /// The other operands.
-    pub paths: Vec<String>,
+/// Reads the texts of the patterns: those of `-e`, then those in the lines of the files of `-f`, or
+/// if neither is used the first operand. A failure is that there is no pattern, that a file can't be
+/// read, or that there is no memory.
+pub fn read_patterns(rt: &HostRuntime, matches: &ArgMatches<'_>) -> Result<Vec<String>, Failure> {
+    let mut patterns = Vec::new(rt.alloc());
+    match add_patterns(rt, matches, &mut patterns) {
+        Ok(()) => Ok(patterns),
+        Err(failure) => Err(failure),
+    }
 }
 
-impl Operands {
-    /// Reads them from parsed arguments, and from the files of patterns, which have one in each
-    /// line. A failure is that there is no pattern, that a file can't be read, or that there is no
-    /// memory.
-    pub fn read(rt: &HostRuntime, matches: &ArgMatches<'_>) -> Result<Operands, Failure> {
-        let mut operands = Operands {
-            patterns: Vec::new(rt.alloc()),
-            paths: Vec::new(rt.alloc()),
-        };
-        match operands.add_all(rt, matches) {
-            Ok(()) => Ok(operands),
-            Err(failure) => Err(failure),
-        }
-    }
+/// Whether options name the patterns.
+pub fn names_patterns(matches: &ArgMatches<'_>) -> bool {
+    matches.contains_id("regexp") || matches.contains_id("file")
+}
 
-    fn add_all(&mut self, rt: &HostRuntime, matches: &ArgMatches<'_>) -> Result<(), Failure> {
-        let patterns = matches.get_strs("regexp").unwrap_or(&[]);
-        let files = matches.get_strs("file").unwrap_or(&[]);
-        let operands = matches.get_strs("operands").unwrap_or(&[]);
-        if !(patterns.is_empty() && files.is_empty()) {
-            add_texts(rt.alloc(), &mut self.patterns, patterns)?;
-            add_texts(rt.alloc(), &mut self.paths, operands)?;
-            return self.add_files(rt, files);
-        }
-        let [pattern, paths @ ..] = operands else {
-            return Err(Failure::NoPattern);
-        };
-        add_text(rt.alloc(), &mut self.patterns, pattern)?;
-        Ok(add_texts(rt.alloc(), &mut self.paths, paths)?)
+// Adds the texts of the patterns.
+fn add_patterns(
+    rt: &HostRuntime,
+    matches: &ArgMatches<'_>,
+    patterns: &mut Vec<String>,
+) -> Result<(), Failure> {
+    if names_patterns(matches) {
+        let texts = matches.get_strs("regexp").unwrap_or(&[]);
+        add_texts(rt.alloc(), patterns, texts)?;
+        return add_files(rt, patterns, matches.get_strs("file").unwrap_or(&[]));
     }
+    match matches.get_str("operands") {
+        Some(pattern) => Ok(add_text(rt.alloc(), patterns, pattern)?),
+        None => Err(Failure::NoPattern),
+    }
+}
 
-    // Adds the lines of files to the patterns.
-    fn add_files(&mut self, rt: &HostRuntime, files: &[&str]) -> Result<(), Failure> {
-        for file in files {
-            match fs::read_to_string(rt, path_of(file)) {
-                Ok(text) => add_lines(rt.alloc(), &mut self.patterns, text.as_str())?,
-                Err(error) => return Err(unread(rt.alloc(), file, error)),
-            }
+// Adds the lines of files.
+fn add_files(rt: &HostRuntime, patterns: &mut Vec<String>, files: &[&str]) -> Result<(), Failure> {
+    for file in files {
+        match fs::read_to_string(rt, path_of(file)) {
+            Ok(text) => add_lines(rt.alloc(), patterns, text.as_str())?,
+            Err(error) => return Err(unread(rt.alloc(), file, error)),
         }
-        Ok(())
     }
+    Ok(())
 }
 
 // The path of a file of patterns, of which `-` is standard input.
@@ -115,9 +107,9 @@ fn builder(options: &Options<'_, '_>, patterns: &[String]) -> RegexMatcherBuilde
     builder
         .multi_line(true)
         .case_insensitive(ignores_case(options, patterns))
-        .fixed_strings(options.has(Flag::FixedStrings))
-        .word(options.has(Flag::WordRegexp))
-        .whole_line(options.has(Flag::LineRegexp));
+        .fixed_strings(options.has(OptionId::FixedStrings))
+        .word(options.has(OptionId::WordRegexp))
+        .whole_line(options.has(OptionId::LineRegexp));
     match options.line_terminator() {
         LineTerminator::Crlf => {
             builder.crlf(true);
@@ -126,7 +118,7 @@ fn builder(options: &Options<'_, '_>, patterns: &[String]) -> RegexMatcherBuilde
             builder.line_terminator(Some(byte));
         }
     }
-    if options.has(Flag::Multiline) {
+    if options.has(OptionId::Multiline) {
         builder.line_terminator(None);
     }
     builder
@@ -134,10 +126,10 @@ fn builder(options: &Options<'_, '_>, patterns: &[String]) -> RegexMatcherBuilde
 
 // Whether letters match in either case.
 fn ignores_case(options: &Options<'_, '_>, patterns: &[String]) -> bool {
-    if options.has(Flag::IgnoreCase) {
+    if options.has(OptionId::IgnoreCase) {
         return true;
     }
-    options.has(Flag::SmartCase) && !patterns.iter().any(|text| has_capital(text.as_str()))
+    options.has(OptionId::SmartCase) && !patterns.iter().any(|text| has_capital(text.as_str()))
 }
 
 // Whether a pattern has a capital letter, but for the letters of escapes.

@@ -3,7 +3,8 @@ use crate::engine::{Engine, written_error};
 use crate::failures::{Failure, report_cause};
 use crate::globs::Globs;
 use crate::haystacks::Haystack;
-use crate::options::{Flag, Options};
+use crate::option_id::OptionId;
+use crate::options::Options;
 use crate::printers::Searched;
 use crate::walk::{Entry, Walk};
 use grep_searcher::Source;
@@ -26,16 +27,17 @@ pub struct Scope {
 }
 
 impl Scope {
-    /// What the options say of a run over the files at some paths.
-    pub fn new(rt: &HostRuntime, options: &Options<'_, '_>, paths: &[String]) -> Scope {
-        let is_recursive = options.has(Flag::Recursive);
+    /// What the options say of a run over the files at their paths.
+    pub fn new(rt: &HostRuntime, options: &Options<'_, '_>) -> Scope {
+        let paths = options.paths();
+        let is_recursive = options.has(OptionId::Recursive);
         let names_folder = is_recursive && names_folder(rt, paths);
         Scope {
             is_recursive,
-            shows_hidden: options.has(Flag::Hidden),
+            shows_hidden: options.has(OptionId::Hidden),
             shows_paths: options.shows_paths(names_folder || paths.len() > 1),
-            is_silent: options.has(Flag::NoMessages),
-            is_quiet: options.has(Flag::Quiet),
+            is_silent: options.has(OptionId::NoMessages),
+            is_quiet: options.has(OptionId::Quiet),
         }
     }
 
@@ -85,7 +87,7 @@ where
     }
 
     /// Searches the files at some paths, writes what is left, and gives the status.
-    pub fn complete(&mut self, paths: &[String]) -> Result<ExitCode, Failure> {
+    pub fn complete(&mut self, paths: &[&str]) -> Result<ExitCode, Failure> {
         self.search_paths(paths);
         match self.failure.take() {
             None => self.finish(),
@@ -95,12 +97,12 @@ where
     }
 
     // Searches the files at some paths.
-    fn search_paths(&mut self, paths: &[String]) {
+    fn search_paths(&mut self, paths: &[&str]) {
         if paths.is_empty() {
             self.search_default();
         }
         for path in paths {
-            self.search_operand(path.as_str());
+            self.search_operand(path);
             if self.is_over() {
                 break;
             }
@@ -225,9 +227,9 @@ where
 }
 
 // Whether there is a folder at one of the paths, or no path at all.
-fn names_folder(rt: &HostRuntime, paths: &[String]) -> bool {
+fn names_folder(rt: &HostRuntime, paths: &[&str]) -> bool {
     for path in paths {
-        if path.as_str() != "-" && is_folder(rt, path.as_str()) {
+        if *path != "-" && is_folder(rt, path) {
             return true;
         }
     }

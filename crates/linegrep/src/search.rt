@@ -5,7 +5,7 @@ use crate::engine::{Engine, PrintingEngine};
 use crate::failures::Failure;
 use crate::globs::Globs;
 use crate::options::Options;
-use crate::patterns::{Operands, compile};
+use crate::patterns::compile;
 use crate::printers::Printer;
 use crate::run::{Run, Scope};
 use grep_output::Output;
@@ -14,35 +14,26 @@ use grep_searcher::{FindAt, Searcher, Source};
 use std::marker::Brand;
 use std::process::ExitCode;
 
-/// Searches the files at the paths, one after another, and writes what is found. If there is no
+/// Searches the files at the paths of the options, one after another, and writes what is found. If there is no
 /// path, it searches the current folder under `-r`, and otherwise what `input` gives. The status is
 /// 0 if there is a match, 1 if there is none, and 2 if a file can't be read, which standard error
 /// says. If nothing is to be written, the first match ends it with 0.
 pub fn search_all<R: Source, W: Output>(
     rt: &HostRuntime,
     options: &Options<'_, '_>,
-    operands: &Operands,
+    patterns: &[String],
     searcher: &mut Searcher,
     printer: &mut Printer<W>,
     input: &mut R,
 ) -> Result<ExitCode, Failure> {
-    let regex = compile(rt.alloc(), options, &operands.patterns)?;
-    search_named::<Brand, R, W>(
-        rt,
-        options,
-        &operands.paths,
-        &regex,
-        searcher,
-        printer,
-        input,
-    )
+    let regex = compile(rt.alloc(), options, patterns)?;
+    search_named::<Brand, R, W>(rt, options, &regex, searcher, printer, input)
 }
 
 // Searches for a compiled expression, which `N` names: no call of its matcher compares texts.
 fn search_named<N: Naming, R: Source, W: Output>(
     rt: &HostRuntime,
     options: &Options<'_, '_>,
-    paths: &[String],
     regex: &Regex,
     searcher: &mut Searcher,
     printer: &mut Printer<W>,
@@ -52,7 +43,7 @@ where
     requires { IsNamed N.options N.patterns regex.now }
 {
     match regex.named_matcher::<N>(rt.alloc()) {
-        Ok(matcher) => search_matcher(rt, options, paths, &matcher, searcher, printer, input),
+        Ok(matcher) => search_matcher(rt, options, &matcher, searcher, printer, input),
         Err(error) => Err(Failure::from(error)),
     }
 }
@@ -61,7 +52,6 @@ where
 fn search_matcher<'e, M: FindAt, R: Source, W: Output>(
     rt: &'e HostRuntime,
     options: &Options<'_, '_>,
-    paths: &[String],
     matcher: &'e M,
     searcher: &'e mut Searcher,
     printer: &'e mut Printer<W>,
@@ -69,15 +59,15 @@ fn search_matcher<'e, M: FindAt, R: Source, W: Output>(
 ) -> Result<ExitCode, Failure> {
     let mut globs = Globs::read(rt.alloc(), options.globs.unwrap_or(&[]))?;
     let mut engine = PrintingEngine::new(rt, searcher, matcher, printer);
-    let scope = Scope::new(rt, options, paths);
-    search_chosen(rt, scope, paths, &mut globs, &mut engine, input)
+    let scope = Scope::new(rt, options);
+    search_chosen(rt, scope, options.paths(), &mut globs, &mut engine, input)
 }
 
 // Searches what globs choose.
 fn search_chosen<E: Engine, R: Source>(
     rt: &HostRuntime,
     scope: Scope,
-    paths: &[String],
+    paths: &[&str],
     globs: &mut Globs,
     engine: &mut E,
     input: &mut R,

@@ -2,7 +2,8 @@
 use crate::colors::color_specs;
 use crate::failures::Failure;
 use crate::json_run::JsonRun;
-use crate::options::{Flag, Options};
+use crate::option_id::OptionId;
+use crate::options::Options;
 use crate::printers::Printer;
 use grep_output::Output;
 use grep_printer::{
@@ -43,8 +44,8 @@ fn try_searcher(
 fn select(builder: &mut SearcherBuilder, options: &Options<'_, '_>) {
     builder
         .line_terminator(options.line_terminator())
-        .invert_match(options.has(Flag::InvertMatch))
-        .multi_line(options.has(Flag::Multiline))
+        .invert_match(options.has(OptionId::InvertMatch))
+        .multi_line(options.has(OptionId::Multiline))
         .max_matches(options.max_count)
         .binary_detection(options.binary_detection());
 }
@@ -54,7 +55,7 @@ fn surround(builder: &mut SearcherBuilder, options: &Options<'_, '_>) {
     builder
         .after_context(options.after_context())
         .before_context(options.before_context())
-        .passthru(options.has(Flag::Passthru));
+        .passthru(options.has(OptionId::Passthru));
 }
 
 fn encoding(alloc: Global, label: Option<&str>) -> Result<Option<Encoding>, ConfigError> {
@@ -86,7 +87,7 @@ pub fn build_printer<W: Output>(
     let colors = color_specs(rt, options.color, is_terminal);
     if let Some(kind) = options.summary_kind() {
         Printer::Summary(summary(options, kind, colors).build(rt.alloc(), writer))
-    } else if options.has(Flag::Json) {
+    } else if options.has(OptionId::Json) {
         let printer = JsonBuilder::new().build(rt.alloc(), writer);
         Printer::Json(JsonRun::new(rt, printer))
     } else {
@@ -120,9 +121,9 @@ fn lines(options: &Options<'_, '_>, is_terminal: bool, colors: ColorSpecs) -> St
 // Sets what is written of a line.
 fn show(builder: &mut StandardBuilder, options: &Options<'_, '_>) {
     builder
-        .column(options.has(Flag::Column))
-        .byte_offset(options.has(Flag::ByteOffset))
-        .only_matching(options.has(Flag::OnlyMatching))
+        .column(options.has(OptionId::Column))
+        .byte_offset(options.has(OptionId::ByteOffset))
+        .only_matching(options.has(OptionId::OnlyMatching))
         .max_columns(max_columns(options));
 }
 
@@ -135,7 +136,7 @@ fn max_columns(options: &Options<'_, '_>) -> Option<u64> {
 }
 
 fn path_terminator(options: &Options<'_, '_>) -> Option<u8> {
-    if options.has(Flag::Null) {
+    if options.has(OptionId::Null) {
         Some(0)
     } else {
         None
