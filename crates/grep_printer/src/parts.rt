@@ -66,12 +66,19 @@ fn find_parts<M: FindAt>(
     parts.clear();
     let mut position = 0;
     let mut end = None;
-    while let Some(found) = find_from(*parts.allocator(), matcher, bytes, limit, position)? {
-        push_part(parts, end, found)?;
-        end = Some(found.end());
-        position = position_after(&found);
+    loop {
+        match find_from(*parts.allocator(), matcher, bytes, limit, position) {
+            Ok(Some(found)) => {
+                if let Err(error) = push_part(parts, end, found) {
+                    return Err(SearchError::from(error));
+                }
+                end = Some(found.end());
+                position = position_after(&found);
+            }
+            Ok(None) => return Ok(()),
+            Err(error) => return Err(error),
+        }
     }
-    Ok(())
 }
 
 // Pushes a match, unless it is empty and the one before it ended there.

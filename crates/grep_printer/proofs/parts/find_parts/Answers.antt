@@ -12,11 +12,12 @@ loop-found-init g c =
 pub loop-found-preserved : goal.loop-found-preserved
 loop-found-preserved g c =
     let first_at = g.M.FindAt.first_at c.args.matcher.now c.args.bytes.now in
-    let found = c.in-Some.found in
+    let found = c.in-Ok-Some.found in
     let is : found_from first_at (length c.args.bytes.now) c.args.limit c.loop-found.position ≡ Some found =
-    sym c.in_ok-found.ensures.value ∙ c.in-Some.is in
-    let from = subst (IsFrom c.loop-found.position c.args.bytes.now) c.in-Some.is c.in_ok-found.ensures.within in
+    sym c.in-Ok-Some.ensures.value ∙ c.in-Ok-Some.field-0-is in
+    let from = subst (IsFrom c.loop-found.position c.args.bytes.now) c.in-Ok-Some.field-0-is
+    c.in-Ok-Some.ensures.within in
     rw (c.position_after-position.ensures, c.end.ensures.value)
     (finding-more first_at (length c.args.bytes.now) c.args.limit c.loop-found.parts.items c.loop-found.position
     c.loop-found.end found c.push_part.new.parts.items c.loop-found.invariant is from.0 from.1.0 from.1.1
-    (c.in_ok-push_part.ensures))
+    c.in_default.ensures)
