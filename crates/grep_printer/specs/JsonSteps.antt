@@ -46,8 +46,8 @@ pub record FailsToWriteJson {M W : Type 0} (write_step : W → OutputCall → W 
   pub same : IsSameJson old new
   pub error : Error
   pub is_io : e ≡ Io error
-  pub failed : FailsToWrite write_step old.printer.now.writer old.printer.now.draft.text.bytes.items error
-      new.printer.now.writer
+  pub failed : FailsToWrite write_step old.printer.now.writer
+      old.printer.now.draft.text.bytes.items error new.printer.now.writer
   pub progress : new.progress ≡ reported
   pub has_failed : new.printer.now.has_failed ≡ true
 

@@ -43,7 +43,7 @@ impl JsonDraft {
         self.text.check()
     }
 
-    // Makes a text of a report, after the message that the search begins if that isn't written yet.
+    // Makes a text of a report, after the message `begin` if that isn't written yet.
     pub(crate) fn compose_report<M: FindAt, A: Allocator + Copy>(
         &mut self,
         searcher: &Searcher<A>,

@@ -73,7 +73,7 @@ impl JsonText {
         self.push_path(path)
     }
 
-    // Pushes the message that a search begins.
+    // Pushes the message `begin` of a search.
     fn push_begin(&mut self, path: Option<&str>)
         ensures { AddsTokens self.old self.new (json_tokens (begin_json path.entry)) }
     {
@@ -100,7 +100,7 @@ impl JsonText {
         self.push_submatches(report.bytes, ranges)
     }
 
-    // Pushes the message that a search ends.
+    // Pushes the message `end` of a search.
     fn push_end(&mut self, path: Option<&str>, binary: Option<u64>, stats: &Stats)
         ensures { AddsTokens self.old self.new
             (json_tokens (end_json path.entry binary stats.now)) }

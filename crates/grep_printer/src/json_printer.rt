@@ -37,8 +37,8 @@ impl JsonBuilder {
         }
     }
 
-    /// Whether the messages that a search begins and ends are written for every search, also if it
-    /// reports nothing; not by default.
+    /// Whether the messages `begin` and `end` are written for every search, also if it reports
+    /// nothing; not by default.
     pub fn always_begin_end(&mut self, yes: bool) -> &mut JsonBuilder
         ensures reference { result.ghost_name ≡ self.entry.ghost_name }
         ensures set { result.now ≡ record self.old { always_begin_end = yes } }
@@ -118,7 +118,7 @@ impl<W> Json<W> {
 
 impl<W: Output> Json<W> {
     /// Writes the message about all searches: what was searched, found and written in them, and
-    /// how long all took in all. An error is the writer's, or one of being out of memory.
+    /// how long they took together. An error is the writer's, or one of being out of memory.
     pub fn write_summary(&mut self, stats: &Stats, elapsed: Duration) -> Result<(), SearchError>
         ensures { MatchResult result
             (λ _. WritesText W.step self.old
@@ -176,8 +176,8 @@ impl<W: Output> Json<W> {
     }
 }
 
-// What was reported to a sink, and written: whether the message that the search begins was,
-// whether a match was reported, how many bytes were written, how many lines the matches have, how
+// What was reported to a sink, and written: whether the message `begin` was written, whether a
+// match was reported, how many bytes were written, how many lines the matches have, how
 // often the matcher matches in them, and once the search has ended how many bytes it has been
 // through, and the offset of a binary byte, if one was found.
 #[derive(Clone, Copy)]
@@ -286,10 +286,10 @@ impl<'s, M, W: Output> JsonSink<'s, M, W> {
         self.progress.has_match
     }
 
-    /// Writes the message that the search ends, which took so long, if the search has ended and
+    /// Writes the message `end` of the search, which took `elapsed`, if the search has ended and
     /// something was written of it; another call would write it again. It gives what was searched,
-    /// found and written, which is 0 each if it writes nothing. An error is the writer's, or one of
-    /// being out of memory.
+    /// found and written, each 0 if it writes nothing. An error is the writer's, or one of being
+    /// out of memory.
     pub fn write_end(&mut self, elapsed: Duration) -> Result<Stats, SearchError>
         ensures same { IsSameJson self.old self.new }
         ensures progress { self.new.progress ≡ self.old.progress }

@@ -9,8 +9,8 @@ use std::alloc::{AllocError, Global};
 use std::{fs, io};
 
 /// Reads the texts of the patterns: those of `-e`, then those in the lines of the files of `-f`, or
-/// if neither is used the first operand. A failure is that there is no pattern, that a file can't be
-/// read, or that there is no memory.
+/// if neither is used the first operand. A failure is that there is no pattern, that a file can't
+/// be read, or that there is no memory.
 pub fn read_patterns(rt: &HostRuntime, matches: &ArgMatches<'_>) -> Result<Vec<String>, Failure> {
     let mut patterns = Vec::new(rt.alloc());
     match add_patterns(rt, matches, &mut patterns) {

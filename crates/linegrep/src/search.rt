@@ -14,10 +14,10 @@ use grep_searcher::{FindAt, Searcher, Source};
 use std::marker::Brand;
 use std::process::ExitCode;
 
-/// Searches the files at the paths of the options, one after another, and writes what is found. If there is no
-/// path, it searches the current folder under `-r`, and otherwise what `input` gives. The status is
-/// 0 if there is a match, 1 if there is none, and 2 if a file can't be read, which standard error
-/// says. If nothing is to be written, the first match ends it with 0.
+/// Searches the files at the paths of the options, one after another, and writes what is found. If
+/// there is no path, it searches the current folder under `-r`, and otherwise what `input` gives.
+/// The status is 0 if there is a match, 1 if there is none, and 2 if a file can't be read, which
+/// standard error says. If nothing is to be written, the first match ends it with 0.
 pub fn search_all<R: Source, W: Output>(
     rt: &HostRuntime,
     options: &Options<'_, '_>,
