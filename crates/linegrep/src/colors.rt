@@ -1,9 +1,9 @@
-//! Whether what is written has colours.
+//! Whether what is written has colors.
 use grep_printer::ColorSpecs;
 use std::env;
 use std::env::VarError;
 
-/// The colours for a choice of the options. If it is open, a terminal gets colours, unless the
+/// The colors for a choice of the options. If it is open, a terminal gets colors, unless the
 /// environment asks for none.
 pub fn color_specs(rt: &HostRuntime, choice: Option<&str>, is_terminal: bool) -> ColorSpecs {
     let is_colored = match choice {
@@ -18,7 +18,7 @@ pub fn color_specs(rt: &HostRuntime, choice: Option<&str>, is_terminal: bool) ->
     }
 }
 
-// Whether the environment names a terminal that has colours: any but the dumb one.
+// Whether the environment names a terminal that has colors: any but the dumb one.
 fn has_colors(rt: &HostRuntime) -> bool {
     match env::var(rt, "TERM") {
         Ok(term) => term.as_str() != "dumb",
@@ -27,7 +27,7 @@ fn has_colors(rt: &HostRuntime) -> bool {
     }
 }
 
-// Whether the environment doesn't ask for texts without colours.
+// Whether the environment doesn't ask for texts without colors.
 fn allows_colors(rt: &HostRuntime) -> bool {
     matches!(env::var(rt, "NO_COLOR"), Err(VarError::NotPresent))
 }

@@ -25,7 +25,7 @@ const ROWS: &[Row] = &[
         id: OptionId::Color,
         name: "color",
         letter: None,
-        help: "Write paths, numbers and matches in colours; auto is for a terminal",
+        help: "Write paths, numbers and matches in colors; auto is for a terminal",
     },
     Row {
         id: OptionId::FixedStrings,
@@ -268,30 +268,15 @@ pub fn rows() -> &'static [Row] {
     ROWS
 }
 
-/// The command line of the program. The only error is being out of memory.
+/// The command line of the program. The only error is being out of memory. A `match` is proved
+/// sooner than a `?` here.
 pub fn command<'a>(alloc: Global) -> Result<Command<'a>, AllocError> {
-    add_rows(alloc, program(alloc).arg(operands(alloc)), rows())
-}
-
-// Adds the options of a table. A `match` is proved sooner than a `?` here.
-fn add_rows<'a>(
-    alloc: Global,
-    start: Result<Command<'a>, AllocError>,
-    rows: &[Row],
-) -> Result<Command<'a>, AllocError> {
-    let mut command = start;
-    for row in rows {
-        command = match command {
-            Ok(command) => command.arg(row.arg(alloc)),
-            Err(error) => return Err(error),
-        };
-    }
-    command
-}
-
-// The program, without its arguments.
-fn program<'a>(alloc: Global) -> Command<'a> {
-    Command::new(alloc, "linegrep")
+    let operands = Arg::new(alloc, "operands")
+        .num_args(0..)
+        .action(ArgAction::Append)
+        .value_name("PATTERN PATH")
+        .help("A pattern, unless -e or -f has one, and the paths of files");
+    let mut command = Command::new(alloc, "linegrep")
         .version("0.1.0")
         .about("Searches files, or standard input, for lines that match a pattern")
         .override_usage(
@@ -299,15 +284,14 @@ fn program<'a>(alloc: Global) -> Command<'a> {
         )
         .disable_help_flag(true)
         .args_override_self(true)
-}
-
-// The pattern and the paths.
-fn operands<'a>(alloc: Global) -> Arg<'a> {
-    Arg::new(alloc, "operands")
-        .num_args(0..)
-        .action(ArgAction::Append)
-        .value_name("PATTERN PATH")
-        .help("A pattern, unless -e or -f has one, and the paths of files")
+        .arg(operands);
+    for row in rows() {
+        command = match command {
+            Ok(command) => command.arg(row.arg(alloc)),
+            Err(error) => return Err(error),
+        };
+    }
+    command
 }
 
 impl Row {

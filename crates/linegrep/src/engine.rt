@@ -18,7 +18,7 @@ pub trait Engine {
     fn has_failed(&self) -> bool;
 
     /// Writes the totals of all searches, if they are asked for, and flushes the writer. An error
-    /// is the writer's.
+    /// is the writer's, or one of being out of memory.
     fn finish(&mut self) -> io::Result<()>;
 }
 
@@ -34,7 +34,7 @@ pub struct PrintingEngine<'e, M, W> {
 }
 
 impl<'e, M, W> PrintingEngine<'e, M, W> {
-    /// An engine, by whose clock messages say how long a search took.
+    /// An engine of these. The times in messages are by the clock of `rt`.
     pub fn new(
         rt: &'e HostRuntime,
         searcher: &'e mut Searcher,

@@ -1,5 +1,5 @@
 //! Globs, which choose among the files of folders.
-use crate::failures::Failure;
+use crate::failures::{ErrorReported, report_out_of_memory};
 use crate::wildcards::{Error, Wildcards};
 use std::alloc::{AllocError, Global};
 
@@ -32,26 +32,19 @@ struct Glob {
 }
 
 impl Globs {
-    /// Reads globs, of which an empty one is left out. A failure is that
-    /// of a glob that isn't well formed, or of being out of memory.
-    pub fn read(alloc: Global, texts: &[&str]) -> Result<Globs, Failure> {
+    /// Reads globs, of which an empty one is left out. An error is that one isn't well formed, or
+    /// that there is no memory.
+    pub fn read(rt: &HostRuntime, texts: &[&str]) -> Result<Globs, ErrorReported> {
         let mut globs = Globs {
-            globs: Vec::new(alloc),
+            globs: Vec::new(rt.alloc()),
             are_exclusions: true,
         };
-        match globs.add_all(alloc, texts) {
-            Ok(()) => Ok(globs),
-            Err(failure) => Err(failure),
-        }
-    }
-
-    fn add_all(&mut self, alloc: Global, texts: &[&str]) -> Result<(), Failure> {
         for text in texts {
-            if let Err(error) = self.add(alloc, text) {
-                return Err(failure(alloc, text, error));
+            if let Err(error) = globs.add(rt.alloc(), text) {
+                return Err(report_glob(rt, text, error));
             }
         }
-        Ok(())
+        Ok(globs)
     }
 
     // Adds the glob of a text, unless the text is empty.
@@ -130,13 +123,11 @@ fn letters(alloc: Global, text: &str) -> Result<Vec<char>, AllocError> {
     Ok(text.chars().collect(alloc)?)
 }
 
-// The failure of a glob with a text.
-fn failure(alloc: Global, text: &str, error: Error) -> Failure {
+// Says what is wrong with a glob.
+fn report_glob(rt: &HostRuntime, text: &str, error: Error) -> ErrorReported {
     let Error::Malformed(cause) = error else {
-        return Failure::from(AllocError);
+        return report_out_of_memory(rt);
     };
-    match format!(in alloc; "the glob {text}: {cause}") {
-        Ok(message) => Failure::Setting(message),
-        Err(error) => Failure::from(error),
-    }
+    let _ = eprintln!(rt; "linegrep: the glob {text}: {cause}");
+    ErrorReported
 }

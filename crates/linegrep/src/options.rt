@@ -103,7 +103,7 @@ pub struct Options<'m, 'w> {
     after_context: Option<u64>,
     before_context: Option<u64>,
     context: Option<u64>,
-    /// When there are colours.
+    /// When there are colors.
     pub color: Option<&'w str>,
     /// The label of the files' encoding.
     pub encoding: Option<&'w str>,
@@ -182,7 +182,8 @@ impl<'m, 'w> Options<'m, 'w> {
         }
     }
 
-    /// Whether paths are written: if they are asked for, or if several files may be searched.
+    /// Whether paths are written: always in JSON and in summaries of paths; else, unless they are
+    /// asked not to be, if they are asked for or several files may be searched.
     pub fn shows_paths(&self, searches_several: bool) -> bool {
         if self.has(OptionId::Json) || self.is_summary_of_paths() {
             return true;

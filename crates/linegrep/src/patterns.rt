@@ -1,22 +1,25 @@
 //! The patterns that are searched for.
-use crate::failures::Failure;
+use crate::failures::{
+    ErrorReported, report_arguments, report_cause, report_out_of_memory, report_pattern,
+};
 use crate::option_id::OptionId;
 use crate::options::Options;
 use clap::ArgMatches;
 use grep_regex::{Error, Regex, RegexMatcherBuilder};
 use grep_searcher::LineTerminator;
 use std::alloc::{AllocError, Global};
-use std::{fs, io};
+use std::fs;
 
 /// Reads the texts of the patterns: those of `-e`, then those in the lines of the files of `-f`, or
-/// if neither is used the first operand. A failure is that there is no pattern, that a file can't
-/// be read, or that there is no memory.
-pub fn read_patterns(rt: &HostRuntime, matches: &ArgMatches<'_>) -> Result<Vec<String>, Failure> {
+/// if neither is used the first operand. An error is that there is no pattern, that a file can't be
+/// read, or that there is no memory.
+pub fn read_patterns(
+    rt: &HostRuntime,
+    matches: &ArgMatches<'_>,
+) -> Result<Vec<String>, ErrorReported> {
     let mut patterns = Vec::new(rt.alloc());
-    match add_patterns(rt, matches, &mut patterns) {
-        Ok(()) => Ok(patterns),
-        Err(failure) => Err(failure),
-    }
+    add_patterns(rt, matches, &mut patterns)?;
+    Ok(patterns)
 }
 
 /// Whether options name the patterns.
@@ -29,24 +32,27 @@ fn add_patterns(
     rt: &HostRuntime,
     matches: &ArgMatches<'_>,
     patterns: &mut Vec<String>,
-) -> Result<(), Failure> {
+) -> Result<(), ErrorReported> {
     if names_patterns(matches) {
-        let texts = matches.get_strs("regexp").unwrap_or(&[]);
-        add_texts(rt.alloc(), patterns, texts)?;
+        add_texts(rt, patterns, matches.get_strs("regexp").unwrap_or(&[]))?;
         return add_files(rt, patterns, matches.get_strs("file").unwrap_or(&[]));
     }
     match matches.get_str("operands") {
-        Some(pattern) => Ok(add_text(rt.alloc(), patterns, pattern)?),
-        None => Err(Failure::NoPattern),
+        Some(pattern) => add_text(rt, patterns, pattern),
+        None => Err(report_arguments(rt, "there is no pattern")),
     }
 }
 
 // Adds the lines of files.
-fn add_files(rt: &HostRuntime, patterns: &mut Vec<String>, files: &[&str]) -> Result<(), Failure> {
+fn add_files(
+    rt: &HostRuntime,
+    patterns: &mut Vec<String>,
+    files: &[&str],
+) -> Result<(), ErrorReported> {
     for file in files {
         match fs::read_to_string(rt, path_of(file)) {
-            Ok(text) => add_lines(rt.alloc(), patterns, text.as_str())?,
-            Err(error) => return Err(unread(rt.alloc(), file, error)),
+            Ok(text) => add_lines(rt, patterns, text.as_str())?,
+            Err(error) => return Err(report_cause(rt, file, &error)),
         }
     }
     Ok(())
@@ -57,48 +63,57 @@ fn path_of(file: &str) -> &str {
     if file == "-" { "/dev/stdin" } else { file }
 }
 
-fn add_lines(alloc: Global, texts: &mut Vec<String>, text: &str) -> Result<(), AllocError> {
+fn add_lines(rt: &HostRuntime, texts: &mut Vec<String>, text: &str) -> Result<(), ErrorReported> {
     for line in text.lines() {
-        add_text(alloc, texts, line)?;
+        add_text(rt, texts, line)?;
     }
     Ok(())
 }
 
-fn add_texts(alloc: Global, texts: &mut Vec<String>, added: &[&str]) -> Result<(), AllocError> {
+fn add_texts(
+    rt: &HostRuntime,
+    texts: &mut Vec<String>,
+    added: &[&str],
+) -> Result<(), ErrorReported> {
     for text in added {
-        add_text(alloc, texts, text)?;
+        add_text(rt, texts, text)?;
     }
     Ok(())
 }
 
-fn add_text(alloc: Global, texts: &mut Vec<String>, text: &str) -> Result<(), AllocError> {
+fn add_text(rt: &HostRuntime, texts: &mut Vec<String>, text: &str) -> Result<(), ErrorReported> {
+    match push_text(rt.alloc(), texts, text) {
+        Ok(()) => Ok(()),
+        Err(_) => Err(report_out_of_memory(rt)),
+    }
+}
+
+fn push_text(alloc: Global, texts: &mut Vec<String>, text: &str) -> Result<(), AllocError> {
     texts.push(String::from_str(alloc, text)?)?;
     Ok(())
 }
 
-// The failure of a file of patterns that can't be read.
-fn unread(alloc: Global, path: &str, error: io::Error) -> Failure {
-    match String::from_str(alloc, path) {
-        Ok(path) => Failure::Patterns(path, error),
-        Err(error) => Failure::from(error),
+/// Compiles patterns as the options say. An error is that of a pattern, or that there is no memory.
+pub fn compile(
+    rt: &HostRuntime,
+    options: &Options<'_, '_>,
+    patterns: &[String],
+) -> Result<Regex, ErrorReported> {
+    let Ok(texts) = texts_of(rt.alloc(), patterns) else {
+        return Err(report_out_of_memory(rt));
+    };
+    match builder(options, patterns).build_many(rt.alloc(), &texts) {
+        Ok(regex) => Ok(regex),
+        Err(error) => Err(report_pattern(rt, text_of(&texts, &error), &error)),
     }
 }
 
-/// Compiles patterns as the options say. A failure is that of a pattern, or of being out of
-/// memory.
-pub fn compile(
-    alloc: Global,
-    options: &Options<'_, '_>,
-    patterns: &[String],
-) -> Result<Regex, Failure> {
+fn texts_of<'p>(alloc: Global, patterns: &'p [String]) -> Result<Vec<&'p str>, AllocError> {
     let mut texts = Vec::new(alloc);
     for pattern in patterns {
         texts.push(pattern.as_str())?;
     }
-    match builder(options, patterns).build_many(alloc, &texts) {
-        Ok(regex) => Ok(regex),
-        Err(error) => Err(refused(alloc, error, &texts)),
-    }
+    Ok(texts)
 }
 
 // How the patterns are compiled. Where a match may run over lines no terminator is declared.
@@ -129,31 +144,35 @@ fn ignores_case(options: &Options<'_, '_>, patterns: &[String]) -> bool {
     if options.has(OptionId::IgnoreCase) {
         return true;
     }
-    options.has(OptionId::SmartCase) && !patterns.iter().any(|text| has_capital(text.as_str()))
+    let escape = if options.has(OptionId::FixedStrings) {
+        None
+    } else {
+        Some('\\')
+    };
+    options.has(OptionId::SmartCase)
+        && !patterns
+            .iter()
+            .any(|text| has_capital(text.as_str(), escape))
 }
 
-// Whether a pattern has a capital letter, but for the letters of escapes.
-fn has_capital(pattern: &str) -> bool {
+// Whether a pattern has a capital letter, but for one right after an escape character.
+fn has_capital(pattern: &str, escape: Option<char>) -> bool {
     let mut is_escaped = false;
     for letter in pattern.chars() {
         if !is_escaped && letter.is_uppercase() {
             return true;
         }
-        is_escaped = !is_escaped && letter == '\\';
+        is_escaped = !is_escaped && Some(letter) == escape;
     }
     false
 }
 
-// The failure of patterns, with the text of the one that is wrong, or none if that isn't known.
-fn refused(alloc: Global, error: Error, texts: &[&str]) -> Failure {
-    let index = match &error {
+// The text of the pattern that is wrong, or none if that isn't known.
+fn text_of<'t>(texts: &[&'t str], error: &Error) -> &'t str {
+    let index = match error {
         Error::Syntax { pattern, error: _ } => *pattern,
         _ if texts.len() == 1 => 0,
         _ => texts.len(),
     };
-    let text = texts.get(index).copied().unwrap_or("");
-    match String::from_str(alloc, text) {
-        Ok(text) => Failure::Pattern(text, error),
-        Err(error) => Failure::from(error),
-    }
+    texts.get(index).copied().unwrap_or("")
 }

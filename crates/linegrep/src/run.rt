@@ -1,6 +1,6 @@
 //! A run over files.
 use crate::engine::{Engine, written_error};
-use crate::failures::{Failure, report_cause};
+use crate::failures::{ErrorReported, report, report_cause, report_output};
 use crate::globs::Globs;
 use crate::haystacks::Haystack;
 use crate::option_id::OptionId;
@@ -42,7 +42,7 @@ impl Scope {
     }
 
     // The path that is written for a haystack with a name, if paths are.
-    fn shown<'n>(&self, name: &'n str) -> Option<&'n str> {
+    fn path_of<'n>(&self, name: &'n str) -> Option<&'n str> {
         if self.shows_paths { Some(name) } else { None }
     }
 }
@@ -86,13 +86,13 @@ where
         }
     }
 
-    /// Searches the files at some paths, writes what is left, and gives the status.
-    pub fn complete(&mut self, paths: &[&str]) -> Result<ExitCode, Failure> {
+    /// Searches the files at some paths, writes what is left, and gives the status. What can't be
+    /// read is reported, and gives the status 2. The only error is being out of memory.
+    pub fn complete(&mut self, paths: &[&str]) -> Result<ExitCode, ErrorReported> {
         self.search_paths(paths);
         match self.failure.take() {
             None => self.finish(),
-            Some(error) if self.engine.has_failed() => Err(Failure::Output(error)),
-            Some(error) => Err(Failure::System(error)),
+            Some(error) => self.fail(&error),
         }
     }
 
@@ -178,14 +178,14 @@ where
 
     fn search_file(&mut self, path: &str, file: &mut File) {
         let mut haystack: Haystack<'_, File, R> = Haystack::File(file);
-        let searched = self.engine.search(&mut haystack, self.scope.shown(path));
+        let searched = self.engine.search(&mut haystack, self.scope.path_of(path));
         self.keep(path, searched);
     }
 
     // Searches standard input.
     fn search_input(&mut self) {
         let mut haystack: Haystack<'_, File, R> = Haystack::Reader(&mut *self.input);
-        let searched = self.engine.search(&mut haystack, self.scope.shown(STDIN));
+        let searched = self.engine.search(&mut haystack, self.scope.path_of(STDIN));
         self.keep(STDIN, searched);
     }
 
@@ -208,10 +208,19 @@ where
     }
 
     // Writes what is left, and gives the status.
-    fn finish(&mut self) -> Result<ExitCode, Failure> {
+    fn finish(&mut self) -> Result<ExitCode, ErrorReported> {
         match self.engine.finish() {
             Ok(()) => Ok(ExitCode::from(self.status())),
-            Err(error) => Err(Failure::Output(error)),
+            Err(error) => self.fail(&error),
+        }
+    }
+
+    // Says why the run ends early: by the writer's error, or one of being out of memory.
+    fn fail(&self, error: &io::Error) -> Result<ExitCode, ErrorReported> {
+        if self.engine.has_failed() {
+            Ok(report_output(self.rt, error))
+        } else {
+            Err(report(self.rt, error))
         }
     }
 

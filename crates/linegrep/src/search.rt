@@ -2,7 +2,7 @@
 ghost use Rattle.grep_regex.specs.Views.{IsNamed};
 
 use crate::engine::{Engine, PrintingEngine};
-use crate::failures::Failure;
+use crate::failures::{ErrorReported, report_out_of_memory};
 use crate::globs::Globs;
 use crate::options::Options;
 use crate::patterns::compile;
@@ -17,7 +17,9 @@ use std::process::ExitCode;
 /// Searches the files at the paths of the options, one after another, and writes what is found. If
 /// there is no path, it searches the current folder under `-r`, and otherwise what `input` gives.
 /// The status is 0 if there is a match, 1 if there is none, and 2 if a file can't be read, which
-/// standard error says. If nothing is to be written, the first match ends it with 0.
+/// standard error says unless `-s` is given. If nothing is to be written, the first match ends it
+/// with 0. An error is that of a pattern that can't be compiled, of a glob that isn't well formed,
+/// or of being out of memory.
 pub fn search_all<R: Source, W: Output>(
     rt: &HostRuntime,
     options: &Options<'_, '_>,
@@ -25,8 +27,8 @@ pub fn search_all<R: Source, W: Output>(
     searcher: &mut Searcher,
     printer: &mut Printer<W>,
     input: &mut R,
-) -> Result<ExitCode, Failure> {
-    let regex = compile(rt.alloc(), options, patterns)?;
+) -> Result<ExitCode, ErrorReported> {
+    let regex = compile(rt, options, patterns)?;
     search_named::<Brand, R, W>(rt, options, &regex, searcher, printer, input)
 }
 
@@ -38,13 +40,13 @@ fn search_named<N: Naming, R: Source, W: Output>(
     searcher: &mut Searcher,
     printer: &mut Printer<W>,
     input: &mut R,
-) -> Result<ExitCode, Failure>
+) -> Result<ExitCode, ErrorReported>
 where
     requires { IsNamed N.options N.patterns regex.now }
 {
     match regex.named_matcher::<N>(rt.alloc()) {
         Ok(matcher) => search_matcher(rt, options, &matcher, searcher, printer, input),
-        Err(error) => Err(Failure::from(error)),
+        Err(_) => Err(report_out_of_memory(rt)),
     }
 }
 
@@ -56,8 +58,8 @@ fn search_matcher<'e, M: FindAt, R: Source, W: Output>(
     searcher: &'e mut Searcher,
     printer: &'e mut Printer<W>,
     input: &mut R,
-) -> Result<ExitCode, Failure> {
-    let mut globs = Globs::read(rt.alloc(), options.globs.unwrap_or(&[]))?;
+) -> Result<ExitCode, ErrorReported> {
+    let mut globs = Globs::read(rt, options.globs.unwrap_or(&[]))?;
     let mut engine = PrintingEngine::new(rt, searcher, matcher, printer);
     let scope = Scope::new(rt, options);
     search_chosen(rt, scope, options.paths(), &mut globs, &mut engine, input)
@@ -71,6 +73,6 @@ fn search_chosen<E: Engine, R: Source>(
     globs: &mut Globs,
     engine: &mut E,
     input: &mut R,
-) -> Result<ExitCode, Failure> {
+) -> Result<ExitCode, ErrorReported> {
     Run::new(rt, engine, globs, input, scope).complete(paths)
 }

@@ -1,6 +1,6 @@
 //! The searcher and the printer that the options ask for.
 use crate::colors::color_specs;
-use crate::failures::Failure;
+use crate::failures::{ErrorReported, report};
 use crate::json_run::JsonRun;
 use crate::option_id::OptionId;
 use crate::options::Options;
@@ -13,15 +13,15 @@ use grep_searcher::{ConfigError, Encoding, Searcher, SearcherBuilder};
 use std::alloc::Global;
 
 /// The searcher that the options ask for. Lines are numbered for a terminal, if nothing else is
-/// asked for. A failure is one of a setting, or of being out of memory.
+/// asked for. An error is that of a setting, or that there is no memory.
 pub fn build_searcher(
-    alloc: Global,
+    rt: &HostRuntime,
     options: &Options<'_, '_>,
     is_terminal: bool,
-) -> Result<Searcher, Failure> {
-    match try_searcher(alloc, options, is_terminal) {
+) -> Result<Searcher, ErrorReported> {
+    match try_searcher(rt.alloc(), options, is_terminal) {
         Ok(searcher) => Ok(searcher),
-        Err(error) => Err(refused(alloc, error)),
+        Err(error) => Err(report(rt, &error)),
     }
 }
 
@@ -68,16 +68,8 @@ fn encoding(alloc: Global, label: Option<&str>) -> Result<Option<Encoding>, Conf
     }
 }
 
-// The failure of a setting that can't be used.
-fn refused(alloc: Global, error: ConfigError) -> Failure {
-    match format!(in alloc; "{error}") {
-        Ok(message) => Failure::Setting(message),
-        Err(error) => Failure::from(error),
-    }
-}
-
 /// The printer that the options ask for, which writes to `writer`. A terminal gets headings, and
-/// colours.
+/// colors.
 pub fn build_printer<W: Output>(
     rt: &HostRuntime,
     options: &Options<'_, '_>,
