@@ -1,4 +1,4 @@
--- Lines of which the parts that match are coloured, as they are pushed run after run.
+-- Lines of which the parts that match are colored, as they are pushed run after run.
 use Rattle.std.proofs.Common.{◌≡◌, ℕ, ◌+◌, ◌<◌, ◌≤◌, ◌^◌, List, [], ◌∷◌, ◌++◌, Bool, true, false, length, refl, ap, sym}
 use Rattle.std.proofs.Common.{◌∙◌, append_assoc, arith, subst, Option, Some, None}
 use Rattle.std.proofs.lemmas.Bool.Decides.{nat_tests}
@@ -15,7 +15,7 @@ switch-same color true = refl
 switch-same color false = refl
 
 module _ (color : List ℕ) (f : ℕ → Bool) where
-  -- bytes that are all coloured as the one before, or none of which is
+  -- bytes that are all colored as the one before, or none of which is
   painted-more : (b : Bool) (at : ℕ) (run rest : List ℕ) → ((k : ℕ) → at ≤ k → k < at + length run → f k ≡ b)
       → painted_from color f b at (run ++ rest) ≡ run ++ painted_from color f b (at + length run) rest
   painted-more b at [] rest alike = ap (λ n. painted_from color f b n rest) (omega arith)
@@ -28,7 +28,7 @@ module _ (color : List ℕ) (f : ℕ → Bool) where
       ∙ (ap (λ (t : List ℕ). byte ∷ t) others
       ∙ ap (λ n. byte ∷ (later ++ painted_from color f b n rest)) next))
 
-  -- bytes that are all coloured, or none of which is, after any
+  -- bytes that are all colored, or none of which is, after any
   painted-run : (before b : Bool) (at : ℕ) (run rest : List ℕ)
       → ((k : ℕ) → at ≤ k → k < at + length run → f k ≡ b)
       → painted_from color f before at (run ++ rest)
@@ -44,7 +44,7 @@ module _ (color : List ℕ) (f : ℕ → Bool) where
       ∙ sym (append_assoc (switch_text color before b) (byte ∷ later)
       (painted_from color f b (at + length (byte ∷ later)) rest))))
 
-  -- bytes of which none is coloured
+  -- bytes of which none is colored
   painted-none : (before : Bool) (at : ℕ) (bytes : List ℕ) → ((k : ℕ) → at ≤ k → f k ≡ false)
       → painted_from color f before at bytes ≡ switch_text color before false ++ bytes
   painted-none before at [] none = sym (append-nil (switch_text color before false))
@@ -150,7 +150,7 @@ painted-after (Some color) position end start parts line less =
 
 module _ (color : List ℕ) (end : ℕ) (whole : List ℕ) where
   -- of a line some bytes are pushed; these are left, from a position on, and these parts, and the last byte that
-  -- was pushed may be coloured
+  -- was pushed may be colored
   pub record IsPainting (text : List ℕ) (rest : List (ℕ × ℕ)) (before : Bool) (position : ℕ) (left : List ℕ)
       : Type 0 where
     pub pushed : text ++ painted_from color (is_matched rest end) before position left ≡ whole

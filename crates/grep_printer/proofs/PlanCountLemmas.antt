@@ -18,10 +18,10 @@ use Rattle.grep_printer.proofs.SomeTextLemmas.{text-after, text-ended}
 use Rattle.grep_printer.specs.JsonMessages.{begin_json, json_line}
 use Rattle.grep_printer.specs.JsonTexts.{JsonFrame, JsonPrinted, is_opened, json_printed_with, json_text}
 use Rattle.grep_printer.specs.JsonTexts.{new_json_progress, opening_line, with_match, with_text}
-use Rattle.grep_printer.specs.PlanCounts.{JsonCounts, SummariesCount, capped, is_inner, line_count_of}
+use Rattle.grep_printer.specs.PlanCounts.{JsonCounts, SummariesCount, is_inner, line_count_of}
 use Rattle.grep_printer.specs.PlanCounts.{submatch_count_of}
 use Rattle.grep_printer.specs.StandardTexts.{is_text}
-use Rattle.grep_printer.specs.StatsSums.{capped_sum}
+use Rattle.grep_printer.specs.StatsSums.{capped, capped_sum}
 use Rattle.grep_printer.specs.SummaryTexts.{SummaryFrame, Summed, counted_parts, counts_on, summed_with, sums_on}
 use Rattle.grep_printer.specs.declared.json_printer.JsonProgress.{JsonProgress}
 

@@ -15,7 +15,7 @@ use Rattle.json.specs.Print.{print}
 use Rattle.json.specs.Tree.{HasNumbers, ItemsHaveNumbers, depth, items_depth, json_tokens}
 use Rattle.grep_printer.proofs.LineFeedLemmas.{printed-lacks}
 use Rattle.grep_printer.specs.JsonLaws.{AreWords, IsLineOf, IsReport, IsWordRange, MessagesAreReadBack, Reported}
-use Rattle.grep_printer.specs.JsonLaws.{message_of}
+use Rattle.grep_printer.specs.JsonLaws.{message_of_report}
 use Rattle.grep_printer.specs.JsonMessages.{base64_json, begin_json, bytes_json, end_json, json_line, optional_json}
 use Rattle.grep_printer.specs.JsonMessages.{path_json, report_json, stats_json, submatch_items, submatch_json}
 use Rattle.grep_printer.specs.JsonMessages.{summary_json, text_json, time_json}
@@ -113,7 +113,7 @@ begin-writable path =
     let shallow = one.shallow in
     record { numbers = (tt, ((one.numbers, tt), tt)); shallow = omega arith }
 
-report-writable : (report : Reported) → IsReport report → IsWritable 128 (message_of report)
+report-writable : (report : Reported) → IsReport report → IsWritable 128 (message_of_report report)
 unfolding report_json
 report-writable report is =
     let path = path-writable report.path in
@@ -183,7 +183,7 @@ line-read j writable = record {
 pub messages-read-back : MessagesAreReadBack
 messages-read-back = record {
   begin = λ path. line-read (begin_json path) (begin-writable path);
-  report = λ report is. line-read (message_of report) (report-writable report is);
+  report = λ report is. line-read (message_of_report report) (report-writable report is);
   end = λ path binary stats small words. line-read (end_json path binary stats)
       (end-writable path binary stats small words);
   summary = λ stats total words small. line-read (summary_json stats total)

@@ -2,8 +2,8 @@
 use Rattle.std.proofs.Common.{◌≡◌, ℕ, List, Option, Bool, true, false, refl, not, ap, ◌++◌, if◌then◌else◌, ◌&&◌, []}
 use Rattle.grep_searcher.specs.Plans.{reported_bytes}
 use Rattle.grep_printer.specs.ReportedParts.{asked_parts}
-use Rattle.grep_printer.specs.Reports.{call_of, composed_text, drawn_text, reporting_call, text_before}
-use Rattle.grep_printer.specs.StandardTexts.{Frame, asks_for_parts, call_text, goes_on, is_hidden}
+use Rattle.grep_printer.specs.Reports.{call_of, composed_text, drawn_text, reporting_call}
+use Rattle.grep_printer.specs.StandardTexts.{Frame, asks_for_parts, call_text, goes_on, is_hidden, text_before}
 use Rattle.grep_printer.specs.StandardTexts.{layout_of}
 use Rattle.grep_printer.specs.declared.report.Report.{Report}
 use Rattle.grep_printer.specs.declared.report.ReportKind.{ReportKind}

@@ -10,7 +10,7 @@ use Rattle.std.specs.Str.{is_utf8}
 use Rattle.base64.proofs.EngineFacts.{decode_of-encode_of}
 use Rattle.base64.specs.Engines.{standard}
 use Rattle.base64.specs.GeneralPurpose.{IsBytes, decode_of, encode_of}
-use Rattle.grep_printer.specs.JsonLaws.{BeginsTell, IsWordRange, MessagesTell, Reported, message_of}
+use Rattle.grep_printer.specs.JsonLaws.{BeginsTell, IsWordRange, MessagesTell, Reported, message_of_report}
 use Rattle.grep_printer.specs.JsonLaws.{path_text}
 use Rattle.grep_printer.specs.JsonMessages.{base64_json, begin_json, bytes_json, optional_json, path_json, report_json}
 use Rattle.grep_printer.specs.JsonMessages.{submatch_items, submatch_json, text_json}
@@ -88,7 +88,7 @@ messages-tell a b first later same =
     }
 
 -- the message that begins a search has no bytes
-pub begin-other : (path : Option (Bor (List ℕ))) (report : Reported) → begin_json path ≢ message_of report
+pub begin-other : (path : Option (Bor (List ℕ))) (report : Reported) → begin_json path ≢ message_of_report report
 unfolding begin_json report_json
 begin-other path report same = absurd cc
 

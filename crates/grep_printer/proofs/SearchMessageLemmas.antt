@@ -18,7 +18,7 @@ use Rattle.grep_printer.proofs.PartTextLemmas.{asked-within}
 use Rattle.grep_printer.proofs.ReadBackLemmas.{messages-read-back}
 use Rattle.grep_printer.proofs.ReportToldLemmas.{begin-other, messages-tell}
 use Rattle.grep_printer.proofs.SuccessiveLemmas.{parts-lie}
-use Rattle.grep_printer.specs.JsonLaws.{IsLineOf, IsReport, IsSameReport, IsWordRange, Reported, message_of}
+use Rattle.grep_printer.specs.JsonLaws.{IsLineOf, IsReport, IsSameReport, IsWordRange, Reported, message_of_report}
 use Rattle.grep_printer.specs.JsonMessages.{begin_json, json_line}
 use Rattle.grep_printer.specs.JsonTexts.{JsonFrame, JsonPrinted, context_submatches, json_printed_of, json_printed_with}
 use Rattle.grep_printer.specs.JsonTexts.{json_progress, json_text, submatches_of, with_text}
@@ -96,7 +96,7 @@ module _ (frame : JsonFrame) where
     where
       go : (always begun : Bool)
           → flat_map json_line ((if not begun && (always || list_any (opens frame) later)
-          then begin_json frame.path ∷ [] else []) ++ map message_of (reports_of frame later))
+          then begin_json frame.path ∷ [] else []) ++ map message_of_report (reports_of frame later))
           ≡ (if always && not begun then json_line (begin_json frame.path) else [])
           ++ flat_map json_line (messages_of frame
           (if always && not begun
@@ -195,8 +195,8 @@ module _ (frame : JsonFrame) where
     messages-read : (begun : Bool) (calls : List Call) → All HasWords calls → AreRead (messages_of frame begun calls)
     messages-read begun calls has =
         All-append (λ m. IsLineOf m (json_line m)) _ _ (opening (not begun && list_any (opens frame) calls))
-        (All-map (λ m. IsLineOf m (json_line m)) message_of (reports_of frame calls)
-        (All-weaker IsReport (λ r. IsLineOf (message_of r) (json_line (message_of r))) messages-read-back.report
+        (All-map (λ m. IsLineOf m (json_line m)) message_of_report (reports_of frame calls)
+        (All-weaker IsReport (λ r. IsLineOf (message_of_report r) (json_line (message_of_report r))) messages-read-back.report
         (reports_of frame calls) (calls-words calls has)))
       where
         opening : (due : Bool) → AreRead (if due then begin_json frame.path ∷ [] else [])
@@ -216,28 +216,28 @@ module _ (frame : JsonFrame) where
 -- ---- what the messages tell
 
 reports-same : (first later : List Reported) → All IsReport first → All IsReport later
-    → map message_of first ≡ map message_of later → AllZip IsSameReport first later
+    → map message_of_report first ≡ map message_of_report later → AllZip IsSameReport first later
 reports-same [] [] one two same = tt
 reports-same [] (b ∷ later) one two same = absurd cc
 reports-same (a ∷ first) [] one two same = absurd cc
 reports-same (a ∷ first) (b ∷ later) one two same =
-    let head : message_of a ≡ message_of b = cc in let tail : map message_of first ≡ map message_of later = cc in (
+    let head : message_of_report a ≡ message_of_report b = cc in let tail : map message_of_report first ≡ map message_of_report later = cc in (
       messages-tell a b (All-head IsReport a first one) (All-head IsReport b later two) head,
       reports-same first later (All-tail IsReport a first one) (All-tail IsReport b later two) tail,
     )
 
 -- `begin` is no report's
 begin-alone : (path : Option (Bor (List ℕ))) (first later : List Reported)
-    → begin_json path ∷ map message_of first ≡ map message_of later → ⊥
+    → begin_json path ∷ map message_of_report first ≡ map message_of_report later → ⊥
 begin-alone path first [] same = absurd cc
-begin-alone path first (b ∷ later) same = let head : begin_json path ≡ message_of b = cc in begin-other path b head
+begin-alone path first (b ∷ later) same = let head : begin_json path ≡ message_of_report b = cc in begin-other path b head
 
 messages-same : (due also : Bool) (path other : Option (Bor (List ℕ))) (first later : List Reported)
     → All IsReport first → All IsReport later
-    → (if due then begin_json path ∷ [] else []) ++ map message_of first
-    ≡ (if also then begin_json other ∷ [] else []) ++ map message_of later → AllZip IsSameReport first later
+    → (if due then begin_json path ∷ [] else []) ++ map message_of_report first
+    ≡ (if also then begin_json other ∷ [] else []) ++ map message_of_report later → AllZip IsSameReport first later
 messages-same true true path other first later one two same =
-    let tail : map message_of first ≡ map message_of later = cc in reports-same first later one two tail
+    let tail : map message_of_report first ≡ map message_of_report later = cc in reports-same first later one two tail
 messages-same true false path other first later one two same = absurd (begin-alone path first later same)
 messages-same false true path other first later one two same = absurd (begin-alone other later first (sym same))
 messages-same false false path other first later one two same = reports-same first later one two same

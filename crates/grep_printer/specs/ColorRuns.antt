@@ -1,4 +1,4 @@
--- Bytes that are all coloured, or none of which is, as they are written one run after another.
+-- Bytes that are all colored, or none of which is, as they are written one run after another.
 use Rattle.std.specs.Prelude.{ℕ, Bool, List, [], ◌∷◌, ◌++◌}
 use Rattle.grep_printer.specs.ColoredTexts.{switch_text}
 
@@ -8,7 +8,7 @@ run_text color before is_colored [] = []
 run_text color before is_colored (byte ∷ later) =
     switch_text color before is_colored ++ byte ∷ later
 
--- whether the last byte is coloured then
+-- whether the last byte is colored then
 abbrev pub after_run : Bool → Bool → List ℕ → Bool
 after_run before is_colored [] = before
 after_run before is_colored (byte ∷ later) = is_colored

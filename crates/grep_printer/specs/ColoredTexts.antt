@@ -1,5 +1,5 @@
--- Texts in colours: the escapes before and after them, and lines of which the parts that match are
--- coloured.
+-- Texts in colors: the escapes before and after them, and lines of which the parts that match are
+-- colored.
 use Rattle.std.specs.Prelude.{ℕ, ◌+◌, ◌&&◌, Bool, true, false, nat_le, nat_lt, List, [], ◌∷◌}
 use Rattle.std.specs.Prelude.{◌++◌, codes, Option, Some, None}
 use Rattle.std.specs.Borrow.{Bor}
@@ -7,11 +7,11 @@ use Rattle.std.specs.List.{list_any}
 use Rattle.grep_printer.specs.declared.colors.ColorSpecs.{ColorSpecs}
 use Rattle.grep_printer.specs.declared.colors.ColorSpecs.TheVariants.{Plain, Default}
 
--- the escape after which a terminal shows a text without colours
+-- the escape after which a terminal shows a text without colors
 abbrev pub reset : List ℕ
 reset = 27 ∷ codes "[0m"
 
--- the escape before a path, if there are colours: magenta is ripgrep's
+-- the escape before a path, if there are colors: magenta is ripgrep's
 abbrev pub path_color : ColorSpecs → Option (List ℕ)
 path_color Plain = None
 path_color Default = Some (reset ++ 27 ∷ codes "[35m")
@@ -36,7 +36,7 @@ abbrev pub color_of : Option (Bor (List ℕ)) → Option (List ℕ)
 color_of None = None
 color_of (Some color) = Some color.now
 
--- a text in a colour, if there is one
+-- a text in a color, if there is one
 abbrev pub colored : Option (List ℕ) → List ℕ → List ℕ
 colored None text = text
 colored (Some color) text = color ++ (text ++ reset)
@@ -46,15 +46,15 @@ abbrev pub is_matched : List (ℕ × ℕ) → ℕ → ℕ → Bool
 is_matched parts end at =
     list_any (λ part. nat_le part.0 at && nat_lt at part.1) parts && nat_lt at end
 
--- what is written between two bytes, by whether the one before is coloured, and the one after: a
--- colour where it begins, and a reset where it ends
+-- what is written between two bytes, by whether the one before is colored, and the one after: a
+-- color where it begins, and a reset where it ends
 abbrev pub switch_text : List ℕ → Bool → Bool → List ℕ
 switch_text color false true = color
 switch_text color true false = reset
 switch_text color true true = []
 switch_text color false false = []
 
--- some bytes, the first of them at a position, of which those that a test chooses are coloured; by
+-- some bytes, the first of them at a position, of which those that a test chooses are colored; by
 -- whether the byte before them is
 abbrev pub painted_from : List ℕ → (ℕ → Bool) → Bool → ℕ → List ℕ → List ℕ
 painted_from color is_chosen before at [] = switch_text color before false
@@ -62,8 +62,8 @@ painted_from color is_chosen before at (byte ∷ later) =
     switch_text color before (is_chosen at)
     ++ byte ∷ painted_from color is_chosen (is_chosen at) (at + 1) later
 
--- some bytes of a report from a position on, with those in some parts coloured that come before an
--- end, if there is a colour
+-- some bytes of a report from a position on, with those in some parts colored that come before an
+-- end, if there is a color
 abbrev pub painted : Option (List ℕ) → List (ℕ × ℕ) → ℕ → ℕ → List ℕ → List ℕ
 painted None parts end start bytes = bytes
 painted (Some color) parts end start bytes =

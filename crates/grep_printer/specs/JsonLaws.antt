@@ -46,8 +46,8 @@ pub record IsReport (report : Reported) : Type 0 where
   pub ranges : All IsWordRange report.ranges
 
 -- its message
-abbrev pub message_of : Reported → Json
-message_of report =
+abbrev pub message_of_report : Reported → Json
+message_of_report report =
     report_json report.type report.path report.bytes report.number report.offset report.ranges
 
 -- the text of a path, if there is one
@@ -69,7 +69,7 @@ pub record MessagesAreReadBack : Type 0 where
   pub begin : (path : Option (Bor (List ℕ)))
       → IsLineOf (begin_json path) (json_line (begin_json path))
   pub report : (report : Reported) → IsReport report
-      → IsLineOf (message_of report) (json_line (message_of report))
+      → IsLineOf (message_of_report report) (json_line (message_of_report report))
   pub end : (path : Option (Bor (List ℕ))) (binary : Option ℕ) (stats : Stats)
       → IfSome binary (λ n. n < 2 ^ 64) → AreWords stats
       → IsLineOf (end_json path binary stats) (json_line (end_json path binary stats))
@@ -79,11 +79,12 @@ pub record MessagesAreReadBack : Type 0 where
 -- a message tells all of its report: no other report has it
 abbrev pub MessagesTell : Type 0
 MessagesTell =
-    (a b : Reported) → IsReport a → IsReport b → message_of a ≡ message_of b → IsSameReport a b
+    (a b : Reported) → IsReport a → IsReport b → message_of_report a ≡ message_of_report b
+    → IsSameReport a b
 
 -- the message that begins a search tells its path, and is that of no report
 pub record BeginsTell : Type 0 where
   pub path : (a b : Option (Bor (List ℕ))) → begin_json a ≡ begin_json b
       → path_text a ≡ path_text b
   pub other : (path : Option (Bor (List ℕ))) (report : Reported)
-      → begin_json path ≢ message_of report
+      → begin_json path ≢ message_of_report report

@@ -16,12 +16,12 @@ use Rattle.grep_printer.specs.declared.fields.LineKind.{LineKind}
 use Rattle.grep_printer.specs.declared.fields.LineKind.TheVariants.{Match, Context}
 use Rattle.grep_printer.specs.declared.fields.Place.{Place}
 
--- a number, in a colour if there is one, and a mark, if there is a number
+-- a number, in a color if there is one, and a mark, if there is a number
 abbrev pub number_field : Option (List ℕ) → ℕ → Option ℕ → List ℕ
 number_field color mark None = []
 number_field color mark (Some number) = colored color (decimal number) ++ mark ∷ []
 
--- a path, in a colour if there is one, and a byte, if there is a path
+-- a path, in a color if there is one, and a byte, if there is a path
 abbrev pub path_field : Option (List ℕ) → ℕ → Option (Bor (List ℕ)) → List ℕ
 path_field color mark None = []
 path_field color mark (Some path) = colored color path.now ++ mark ∷ []
@@ -89,7 +89,7 @@ module _ (layout : Layout) where
       ++ number_field (column_color layout.config.color_specs) mark
       (if layout.config.byte_offset then Some place.offset else None)))
 
-  -- a line that begins at a position of its report, with the bytes in some parts coloured, but for
+  -- a line that begins at a position of its report, with the bytes in some parts colored, but for
   -- the terminator
   abbrev pub painted_line : List (ℕ × ℕ) → ℕ → List ℕ → List ℕ
   painted_line parts start line =

@@ -1,5 +1,5 @@
 -- What the counts of a printer come to for a whole plan, in terms of all its calls.
-use Rattle.std.specs.Prelude.{◌≡◌, ℕ, ◌-◌, ◌^◌, min, not, Bool, true, false, ◌==◌, if◌then◌else◌}
+use Rattle.std.specs.Prelude.{◌≡◌, ℕ, not, Bool, true, false, ◌==◌, if◌then◌else◌}
 use Rattle.std.specs.Prelude.{All, List, [], length, Some}
 use Rattle.std.specs.List.{sum_by}
 use Rattle.grep_matcher.specs.Lines.{byte_of}
@@ -10,14 +10,11 @@ use Rattle.grep_searcher.specs.SearchLaws.{calls_of, match_calls}
 use Rattle.grep_printer.specs.JsonTexts.{JsonFrame, json_printed_of, new_json_progress}
 use Rattle.grep_printer.specs.JsonTexts.{submatches_of}
 use Rattle.grep_printer.specs.StandardTexts.{is_text}
+use Rattle.grep_printer.specs.StatsSums.{capped}
 use Rattle.grep_printer.specs.SummaryTexts.{SummaryFrame, counted_parts, counts_on, finish_text}
 use Rattle.grep_printer.specs.SummaryTexts.{is_left_out, no_counts, summed_of}
 use Rattle.grep_printer.specs.declared.json_printer.JsonProgress.{JsonProgress}
 use Rattle.grep_printer.specs.declared.summary.Counts.{Counts}
-
--- a number, or the greatest one of 64 bits
-abbrev pub capped : ℕ → ℕ
-capped n = min n (2 ^ 64 - 1)
 
 -- how many lines the reports of a call have, and how many matches
 abbrev pub line_count_of : JsonFrame → Call → ℕ

@@ -1,13 +1,13 @@
 -- A report as a printer has it, and the call that it is.
-use Rattle.std.specs.Prelude.{ℕ, Bool, true, false, ◌&&◌, if◌then◌else◌, List, [], ◌++◌, codes, length}
+use Rattle.std.specs.Prelude.{ℕ, Bool, true, false, ◌&&◌, if◌then◌else◌, List, ◌++◌, codes, length}
 use Rattle.std.specs.Prelude.{Option}
 use Rattle.grep_searcher.specs.Lines.{lines}
 use Rattle.grep_searcher.specs.Meanings.{Meaning}
 use Rattle.grep_searcher.specs.Plans.{is_across, Call, matches, context, Settings}
-use Rattle.grep_printer.specs.LineTexts.{end_byte, line_text, lines_text, opening_text}
+use Rattle.grep_printer.specs.LineTexts.{end_byte, line_text, lines_text}
 use Rattle.grep_printer.specs.PartTexts.{across_text, column_of, parts_text, writes_parts}
 use Rattle.grep_printer.specs.ReportedParts.{asked_parts}
-use Rattle.grep_printer.specs.StandardTexts.{asks_for_parts}
+use Rattle.grep_printer.specs.StandardTexts.{asks_for_parts, text_before}
 use Rattle.grep_printer.specs.declared.fields.Layout.{Layout}
 use Rattle.grep_printer.specs.declared.fields.Place.{Place}
 use Rattle.grep_printer.specs.declared.standard.Progress.{Progress}
@@ -70,16 +70,11 @@ module _ (layout : Layout) (report : Report) (parts : List (ℕ × ℕ)) where
   drawn_text across =
       if writes_parts layout parts
       then (if is_split report.kind across
-      then across_text layout (line_kind report.kind 0) report.offset report.bytes.now report.number 0
-      (lines (end_byte layout) report.bytes.now) parts
+      then across_text layout (line_kind report.kind 0) report.offset report.bytes.now
+      report.number 0 (lines (end_byte layout) report.bytes.now) parts
       else parts_text layout (line_kind report.kind 0) report.offset report.bytes.now report.number
       parts)
       else whole_text report.kind
-
--- what comes before a report: the opening, if nothing was reported yet
-abbrev pub text_before : Layout → Progress → List ℕ
-text_before layout progress =
-    if progress.is_open then [] else opening_text layout progress.follows
 
 -- the text of a report after what comes before it, with the parts that a matcher finds
 abbrev pub composed_text : Layout → Progress → Settings → Meaning

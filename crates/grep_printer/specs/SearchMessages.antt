@@ -11,7 +11,7 @@ use Rattle.grep_searcher.specs.Meanings.{Meaning}
 use Rattle.grep_searcher.specs.Plans.{Call, Plan, Settings, begins, matches, context}
 use Rattle.grep_searcher.specs.Plans.{reported_bytes, reported_from, search_plan}
 use Rattle.grep_searcher.specs.SearchLaws.{calls_of, is_report}
-use Rattle.grep_printer.specs.JsonLaws.{IsLineOf, IsSameReport, Reported, message_of}
+use Rattle.grep_printer.specs.JsonLaws.{IsLineOf, IsSameReport, Reported, message_of_report}
 use Rattle.grep_printer.specs.JsonMessages.{begin_json, json_line}
 use Rattle.grep_printer.specs.JsonTexts.{JsonFrame, context_submatches, json_printed_of}
 use Rattle.grep_printer.specs.JsonTexts.{submatches_of}
@@ -52,7 +52,7 @@ module _ (frame : JsonFrame) where
   abbrev pub messages_of : Bool → List Call → List Json
   messages_of is_begun calls =
       (if not is_begun && list_any opens calls then begin_json frame.path ∷ [] else [])
-      ++ map message_of (reports_of calls)
+      ++ map message_of_report (reports_of calls)
 
 -- the number, the offset and the length of what a call reports are numbers of 64 bits, and it
 -- reports bytes

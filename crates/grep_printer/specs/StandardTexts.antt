@@ -40,12 +40,12 @@ abbrev pub new_progress : Bool → Progress
 new_progress follows =
     record { follows = follows; has_match = false; is_open = false; binary = None }
 
--- a path before a message, in a colour if there is one, if there is a path
+-- a path before a message, in a color if there is one, if there is a path
 abbrev pub path_prefix : Option (List ℕ) → Option (Bor (List ℕ)) → List ℕ
 path_prefix color None = []
 path_prefix color (Some path) = colored color path.now ++ codes ": "
 
--- what is written after a search that found a match, and a NUL at an offset, by the colour of paths
+-- what is written after a search that found a match, and a NUL at an offset, by the color of paths
 -- and by what the search does about a NUL
 abbrev pub binary_message : Option (List ℕ) → BinaryDetection → Option (Bor (List ℕ)) → ℕ
     → List ℕ
@@ -87,7 +87,7 @@ layout_of frame = record {
 }
 
 -- whether the parts of reports that match are asked for: to write them, their columns, or their
--- colours
+-- colors
 abbrev pub asks_for_parts : Config → Bool
 asks_for_parts config =
     config.only_matching || config.column || is_some (matched_color config.color_specs)
@@ -120,26 +120,27 @@ abbrev pub is_hidden : Frame → Progress → Bool
 is_hidden frame progress =
     is_some progress.binary && is_some (convert_byte_of frame.settings.binary_detection)
 
--- the opening, before the first report of the search
-abbrev pub opening_of : Frame → Progress → List ℕ
-opening_of frame progress =
-    if progress.is_open then [] else opening_text (layout_of frame) progress.follows
+-- what comes before a report: the opening, if nothing was reported yet
+abbrev pub text_before : Layout → Progress → List ℕ
+text_before layout progress =
+    if progress.is_open then [] else opening_text layout progress.follows
 
 -- the text of a call, by what was reported before
 abbrev pub call_text : Frame → Progress → Call → List ℕ
 call_text frame progress begins = []
 call_text frame progress (matches number offset bytes) =
     if is_hidden frame progress then []
-    else opening_of frame progress ++ report_text frame (matches number offset bytes)
+    else text_before (layout_of frame) progress ++ report_text frame (matches number offset bytes)
 call_text frame progress (context kind number offset line) =
     if is_hidden frame progress then []
-    else opening_of frame progress ++ report_text frame (context kind number offset line)
+    else text_before (layout_of frame) progress
+    ++ report_text frame (context kind number offset line)
 call_text frame progress breaks = report_text frame breaks
 call_text frame progress (binary_data offset) = []
 call_text frame progress (finishes count binary) =
     if progress.has_match
-    then message_text (path_color frame.config.color_specs) frame.settings.binary_detection frame.path
-    binary
+    then message_text (path_color frame.config.color_specs) frame.settings.binary_detection
+    frame.path binary
     else []
 
 -- whether the search goes on after a call

@@ -4,13 +4,17 @@ use Rattle.std.specs.Duration.{as_nanos}
 use Rattle.std.specs.declared.time.Duration.{Duration}
 use Rattle.grep_printer.specs.declared.stats.Stats.{Stats}
 
+-- a number, or the greatest one of 64 bits
+abbrev pub capped : ℕ → ℕ
+capped n = min n (2 ^ 64 - 1)
+
 -- a sum, or the greatest number of 64 bits
 abbrev pub capped_sum : ℕ → ℕ → ℕ
-capped_sum a b = min (a + b) (2 ^ 64 - 1)
+capped_sum a b = capped (a + b)
 
 -- the nanoseconds of a duration, or the greatest number of 64 bits
 abbrev pub nanos_of : Duration → ℕ
-nanos_of duration = min (as_nanos duration) (2 ^ 64 - 1)
+nanos_of duration = capped (as_nanos duration)
 
 -- nothing was searched yet
 abbrev pub no_stats : Stats

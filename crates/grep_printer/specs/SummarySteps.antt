@@ -30,7 +30,7 @@ module _ {W : Type 0} (write_step : W → OutputCall → W → Type 0) where
     pub has_failed : new.has_failed ≡ old.has_failed
 
   -- the writer failed after some first bytes of it
-  pub record FailsToWriteText (old : Summary W) (e : SearchError Global) (new : Summary W)
+  pub record FailsAtSummaryText (old : Summary W) (e : SearchError Global) (new : Summary W)
       : Type 0 where
     pub config : new.config ≡ old.config
     pub error : Error
@@ -51,7 +51,7 @@ module _ {W : Type 0} (write_step : W → OutputCall → W → Type 0) where
       → Result (Unit {0}) (SearchError Global) → Summary W → Type 0
   WritesSummaryMade old made (Ok u) new = (made ≡ Ok tt) × IsSummaryWritten old new
   WritesSummaryMade old made (Err e) new =
-      ((made ≡ Ok tt) × FailsToWriteText old e new) ⊎ LacksMemory old e new
+      ((made ≡ Ok tt) × FailsAtSummaryText old e new) ⊎ LacksMemory old e new
 
 module _ {M W F : Type 0} (facts : M → MatcherFacts F)
     (first_at : M → List ℕ → ℕ → Option (ℕ × ℕ)) where

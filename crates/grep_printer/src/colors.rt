@@ -1,4 +1,4 @@
-//! Colours.
+//! Colors.
 ghost use Rattle.std.specs.Prelude.{◌≡◌, ◌+◌, ◌<◌, ◌≤◌, ◌^◌, ◌++◌, false, IfOk, OnOk, length};
 ghost use Rattle.grep_printer.specs.ColorRuns.{after_run, run_text};
 ghost use Rattle.grep_printer.specs.ColoredTexts.{color_of, colored, column_color, is_matched};
@@ -10,16 +10,16 @@ ghost use Rattle.grep_printer.specs.Pushes.{Adds};
 use crate::text::Text;
 use grep_searcher::Match;
 
-// The escape after which a terminal shows a text without colours.
+// The escape after which a terminal shows a text without colors.
 const RESET: &[u8] = b"\x1b[0m";
 
-/// The colours of what a printer writes: the escape before it, if it has one. After it comes the
+/// The colors of what a printer writes: the escape before it, if it has one. After it comes the
 /// escape that ends all of them.
 #[derive(Clone, Copy, Debug, PartialEq, Eq)]
 pub enum ColorSpecs {
-    /// No colours.
+    /// No colors.
     Plain,
-    /// The colours of ripgrep: a path is magenta, a line number green, and what matches bold and
+    /// The colors of ripgrep: a path is magenta, a line number green, and what matches bold and
     /// red; a column and an offset have escapes that change nothing.
     Default,
 }
@@ -66,7 +66,7 @@ impl ColorSpecs {
     }
 }
 
-// Pushes a text, in a colour if there is one.
+// Pushes a text, in a color if there is one.
 pub(crate) fn push_colored(text: &mut Text, color: Option<&str>, bytes: &[u8])
     ensures { Adds text.old text.new (colored (color_of color.entry) bytes.now) }
 {
@@ -81,7 +81,7 @@ pub(crate) fn push_colored(text: &mut Text, color: Option<&str>, bytes: &[u8])
 }
 
 // Pushes a line, the first byte of which is at a position of its report, with the bytes in some
-// parts coloured that come before an end.
+// parts colored that come before an end.
 pub(crate) fn push_painted(
     text: &mut Text,
     color: &str,
@@ -116,7 +116,7 @@ pub(crate) fn push_painted(
     push_rest(text, color, is_colored, left)
 }
 
-// Pushes the bytes after the last part of a line, by whether the byte before them is coloured.
+// Pushes the bytes after the last part of a line, by whether the byte before them is colored.
 fn push_rest(text: &mut Text, color: &str, before: bool, bytes: &[u8])
     ensures { Adds text.old text.new (switch_text color.now before false ++ bytes.now) }
 {
@@ -124,7 +124,7 @@ fn push_rest(text: &mut Text, color: &str, before: bool, bytes: &[u8])
     text.push(bytes)
 }
 
-// Pushes bytes that are all coloured, or none of which is, and returns whether the last byte that
+// Pushes bytes that are all colored, or none of which is, and returns whether the last byte that
 // was pushed is.
 fn push_run(text: &mut Text, color: &str, before: bool, is_colored: bool, bytes: &[u8]) -> bool
     ensures after { result ≡ after_run before is_colored bytes.now }
@@ -138,7 +138,7 @@ fn push_run(text: &mut Text, color: &str, before: bool, is_colored: bool, bytes:
     is_colored
 }
 
-// Pushes what comes between two bytes, by whether the one before is coloured, and the one after.
+// Pushes what comes between two bytes, by whether the one before is colored, and the one after.
 fn push_switch(text: &mut Text, color: &str, before: bool, after: bool)
     ensures { Adds text.old text.new (switch_text color.now before after) }
 {

@@ -33,7 +33,7 @@ pub(crate) struct Config {
 
 impl Config {
     // Whether the parts of a report that match are asked for: to write them, their columns, or their
-    // colours, if it has some.
+    // colors, if it has some.
     pub(crate) fn asks_for_parts(&self, has_parts: bool) -> bool
         ensures { result ≡ (has_parts && asks_for_parts self.now) }
     {
@@ -58,7 +58,7 @@ impl Model for StandardBuilder {
 
 impl StandardBuilder {
     /// The default settings: whole lines are written, a path before each, and neither columns nor
-    /// byte offsets; nothing is written between two searches, and nothing is coloured.
+    /// byte offsets; nothing is written between two searches, and nothing is colored.
     pub fn new() -> StandardBuilder
         ensures { result ≡ default_config }
     {
@@ -159,7 +159,7 @@ impl StandardBuilder {
         self
     }
 
-    /// The colours of paths, numbers and matches; none by default. With one for matches the parts of
+    /// The colors of paths, numbers and matches; none by default. With one for matches the parts of
     /// a match are found, as they are for its column.
     pub fn color_specs(&mut self, specs: ColorSpecs) -> &mut StandardBuilder
         ensures reference { result.ghost_name ≡ self.entry.ghost_name }

@@ -7,9 +7,10 @@ ghost use Rattle.grep_printer.specs.MatchedParts.{AreInOrder};
 ghost use Rattle.grep_printer.specs.PartTexts.{writes_parts};
 ghost use Rattle.grep_printer.specs.Pushes.{Adds, Holds};
 ghost use Rattle.grep_printer.specs.ReportedParts.{FailsAtReport};
-ghost use Rattle.grep_printer.specs.Reports.{composed_text, drawn_text, report_place, text_before};
+ghost use Rattle.grep_printer.specs.Reports.{composed_text, drawn_text, report_place};
 ghost use Rattle.grep_printer.specs.Reports.{whole_text};
 ghost use Rattle.grep_printer.specs.StandardTexts.{binary_message, message_text, path_prefix};
+ghost use Rattle.grep_printer.specs.StandardTexts.{text_before};
 
 use crate::colors::{ColorSpecs, push_colored};
 use crate::fields::{Layout, Place, push_digits};
@@ -52,9 +53,9 @@ impl Draft {
         report: &Report<'_>,
     ) -> Result<(), SearchError>
         requires fits { report.now.offset + length report.now.bytes.now < 2 ^ 64 }
-        ensures text { OnOk result (self.new.text.bytes.items ≡ composed_text layout.now progress.now
-            searcher.now.settings (M.facts matcher.now).meaning (M.first_at matcher.now)
-            report.now) }
+        ensures text { OnOk result (self.new.text.bytes.items ≡ composed_text layout.now
+            progress.now searcher.now.settings (M.facts matcher.now).meaning
+            (M.first_at matcher.now) report.now) }
         ensures error { IfErr result (λ e. IsOutOfMemory e ⊎ FailsAtReport (M.facts matcher.now)
             searcher.now.settings report.now.bytes.now e) }
     {
@@ -110,10 +111,10 @@ impl Draft {
             return;
         }
         if report.kind.is_split(is_across) {
-            layout.push_across(&mut self.text, report, report.number, &self.parts);
+            layout.push_across(&mut self.text, report, &self.parts);
             return;
         }
-        layout.push_parts(&mut self.text, report, report.number, &self.parts)
+        layout.push_parts(&mut self.text, report, &self.parts)
     }
 
     // Pushes a report without its parts: the lines of a match, or the line that isn't one.
@@ -225,7 +226,7 @@ fn push_message(
     text.push(b"\n")
 }
 
-// Pushes a path before a message, in a colour if there is one, if there is a path.
+// Pushes a path before a message, in a color if there is one, if there is a path.
 fn push_prefix(text: &mut Text, color: Option<&str>, path: Option<&str>)
     ensures { Adds text.old text.new (path_prefix (color_of color.entry) path.entry) }
 {

@@ -78,7 +78,7 @@ impl<'p> Layout<'p> {
         push_path(text, self.config.color_specs.path(), self.path, mark)
     }
 
-    // Pushes the lines of a match, the first of which is at a place, with its parts in colour.
+    // Pushes the lines of a match, the first of which is at a place, with its parts in color.
     pub(crate) fn push_lines(
         &self,
         text: &mut Text,
@@ -157,7 +157,7 @@ impl<'p> Layout<'p> {
     }
 }
 
-// Pushes a number, in a colour if there is one, and a mark, if there is a number.
+// Pushes a number, in a color if there is one, and a mark, if there is a number.
 fn push_number(text: &mut Text, color: Option<&str>, number: Option<u64>, mark: u8)
     ensures { Adds text.old text.new (number_field (color_of color.entry) mark number) }
 {
@@ -170,7 +170,7 @@ fn push_number(text: &mut Text, color: Option<&str>, number: Option<u64>, mark: 
     }
 }
 
-// Pushes a number in a colour, and a mark.
+// Pushes a number in a color, and a mark.
 fn push_colored_digits(text: &mut Text, color: &str, number: u64, mark: u8)
     ensures { Adds text.old text.new (colored (Some color.now) (decimal number) ++ mark ∷ []) }
 {
@@ -191,7 +191,7 @@ pub(crate) fn push_digits(text: &mut Text, number: u64, mark: u8)
     text.push(&digits[start..])
 }
 
-// Pushes a path, in a colour if there is one, and a byte, if there is a path.
+// Pushes a path, in a color if there is one, and a byte, if there is a path.
 pub(crate) fn push_path(text: &mut Text, color: Option<&str>, path: Option<&str>, mark: u8)
     ensures { Adds text.old text.new (path_field (color_of color.entry) mark path.entry) }
 {

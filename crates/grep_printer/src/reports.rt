@@ -18,40 +18,28 @@ use grep_searcher::{LineIter, Match};
 
 impl<'p> Layout<'p> {
     // Pushes each part of a report in a line of its own.
-    pub(crate) fn push_parts(
-        &self,
-        text: &mut Text,
-        report: &Report<'_>,
-        number: Option<u64>,
-        parts: &[Match],
-    )
+    pub(crate) fn push_parts(&self, text: &mut Text, report: &Report<'_>, parts: &[Match])
         requires fits { report.now.offset + length report.now.bytes.now < 2 ^ 64 }
         requires ordered { AreInOrder 0 (length report.now.bytes.now) parts.now }
         ensures { Adds text.old text.new (parts_text self.now (line_kind report.now.kind 0)
-            report.now.offset report.now.bytes.now number parts.now) }
+            report.now.offset report.now.bytes.now report.now.number parts.now) }
     {
         let mut rest = parts;
         while let Some((part, later)) = rest.split_first() {
-            self.push_part(text, report, number, part);
+            self.push_part(text, report, report.number, part);
             rest = later;
         }
     }
 
     // Pushes what the parts have in each line of a report, without its terminator.
-    pub(crate) fn push_across(
-        &self,
-        text: &mut Text,
-        report: &Report<'_>,
-        number: Option<u64>,
-        parts: &[Match],
-    )
+    pub(crate) fn push_across(&self, text: &mut Text, report: &Report<'_>, parts: &[Match])
         requires fits { report.now.offset + length report.now.bytes.now < 2 ^ 64 }
         requires ordered { AreInOrder 0 (length report.now.bytes.now) parts.now }
         ensures { Adds text.old text.new (across_text self.now (line_kind report.now.kind 0)
-            report.now.offset report.now.bytes.now number 0
+            report.now.offset report.now.bytes.now report.now.number 0
             (lines (byte_of self.now.terminator) report.now.bytes.now) parts.now) }
     {
-        let mut number = number;
+        let mut number = report.number;
         let mut start = 0;
         let mut rest = parts;
         for line in LineIter::new(self.terminator.as_byte(), report.bytes) {

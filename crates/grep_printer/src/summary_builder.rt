@@ -74,7 +74,7 @@ impl Model for SummaryBuilder {
 }
 
 impl SummaryBuilder {
-    /// The default settings: the matches that are reported are counted, and nothing is coloured.
+    /// The default settings: the matches that are reported are counted, and nothing is colored.
     pub fn new() -> SummaryBuilder
         ensures { result ≡ default_summary_config }
     {
@@ -116,7 +116,7 @@ impl SummaryBuilder {
         self
     }
 
-    /// The colours, of which a summary has that of the path; none by default.
+    /// The colors, of which a summary has that of the path; none by default.
     pub fn color_specs(&mut self, specs: ColorSpecs) -> &mut SummaryBuilder
         ensures reference { result.ghost_name ≡ self.entry.ghost_name }
         ensures set { result.now ≡ record self.old { color_specs = specs } }

@@ -19,7 +19,7 @@ loop-line-init c =
     record {
       bytes = c.args.text.now.bytes.items;
       is = crossing-none c.args.self.now (line_kind c.args.report.now.kind 0) c.args.report.now.offset
-          c.args.report.now.bytes.now c.args.text.now.bytes.items c.args.number c.into_iter-line-iterator.result
+          c.args.report.now.bytes.now c.args.text.now.bytes.items c.args.report.now.number c.into_iter-line-iterator.result
           c.args.parts.now same c.requires.ordered;
       made = λ made. (made, refl);
     }
@@ -47,7 +47,7 @@ loop-line-preserved c =
     let range : ℕ × ℕ = (start, start + length (strip layout.terminator line)) in
     let ranged : c.new.result ≡ range =
     c.new.ensures ∙ ap (λ (l : List ℕ). (start, start + length l)) c.without_terminator.ensures in
-    let whole : List ℕ = old.bytes.items ++ across_text layout kind report.offset bytes c.args.number 0
+    let whole : List ℕ = old.bytes.items ++ across_text layout kind report.offset bytes c.args.report.now.number 0
     (lines (byte_of layout.terminator) bytes) c.args.parts.now in
     let pushed = c.loop-line.invariant in
     rw (c.parts_after-rest.ensures, c.next_number-number.ensures)

@@ -9,7 +9,7 @@ pub loop-part-preserved : goal.loop-part-preserved
 loop-part-preserved c =
     let high = length c.args.report.now.bytes.now in
     let texts = part_text c.args.self.now (line_kind c.args.report.now.kind 0) c.args.report.now.offset
-    c.args.report.now.bytes.now c.args.number in
+    c.args.report.now.bytes.now c.args.report.now.number in
     let start = c.args.text.now.bytes.items in
     let pushed = c.loop-part.invariant in
     let part = c.in-Some.part.now in
