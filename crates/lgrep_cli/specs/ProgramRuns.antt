@@ -117,8 +117,8 @@ module _ {R W : Type 0} (remaining : R → Option (List ℕ)) (read_step : R →
         (read_error : Error)
         → IsUnread remaining read_step (searcher_of options) (meaning_of options)
         reader begun seen read_error reader'
-        → Writes write_step writer (partial_text options (calls_over options begun seen)) (Err error)
-        writer'
+        → Writes write_step writer (partial_text options (calls_over options begun seen))
+        (Err error) writer'
         → IsFailure options reader writer (Io error) reader' writer'
     -- the writer failed with this error. Whatever follows what was taken of the reader, the text of
     -- the calls is written as far as some first bytes

@@ -1,6 +1,6 @@
 //! Lines and numbers, each written at once.
 ghost use Rattle.std.specs.Prelude.{◌≡◌, ◌∷◌, ◌++◌, [], decimal};
-ghost use Rattle.lgrep_cli.specs.PrintedTexts.{ended, numbered};
+ghost use Rattle.lgrep_cli.specs.PrintedTexts.{ended_line, numbered_line};
 ghost use Rattle.grep_output.specs.Outputs.{Writes};
 
 use grep_output::{Output, write_all};
@@ -14,7 +14,7 @@ pub(crate) fn write_line<W: Output>(
     mark: u8,
     line: &[u8],
 ) -> io::Result<()>
-    ensures { Writes W.step writer.old (numbered number mark line.now) result writer.new }
+    ensures { Writes W.step writer.old (numbered_line number mark line.now) result writer.new }
 {
     if let Some(number) = number {
         write_number(writer, number, mark)?;
@@ -34,7 +34,7 @@ pub(crate) fn write_number<W: Output>(writer: &mut W, number: u64, mark: u8) -> 
 
 // Writes a line, and a line feed if it has none.
 fn write_ended<W: Output>(writer: &mut W, line: &[u8]) -> io::Result<()>
-    ensures { Writes W.step writer.old (ended line.now) result writer.new }
+    ensures { Writes W.step writer.old (ended_line line.now) result writer.new }
 {
     write_all(writer, line)?;
     if line.last() == Some(&b'\n') {

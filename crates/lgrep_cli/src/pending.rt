@@ -3,7 +3,7 @@ ghost use Rattle.std.specs.Prelude.{◌≡◌, ◌∷◌, ◌++◌, ◌+◌, ◌
 ghost use Rattle.std.specs.Prelude.{take};
 ghost use Rattle.grep_output.specs.Outputs.{Writes};
 ghost use Rattle.lgrep_cli.specs.PendingTexts.{Puts};
-ghost use Rattle.lgrep_cli.specs.PrintedTexts.{ended, numbered};
+ghost use Rattle.lgrep_cli.specs.PrintedTexts.{ended_line, numbered_line};
 
 use crate::lines::write_line;
 use crate::numeral::{MARKED_LEN, Numeral};
@@ -54,7 +54,7 @@ impl Pending {
         mark: u8,
         line: &[u8],
     ) -> io::Result<()>
-        ensures { Puts W.step writer.old self.old (numbered number mark line.now) result
+        ensures { Puts W.step writer.old self.old (numbered_line number mark line.now) result
             writer.new self.new }
     {
         if self.takes_line(number, mark, line) {
@@ -87,7 +87,7 @@ impl Pending {
     // Pushes a line as `push_line` does if there is room for it, and returns whether there was.
     #[inline]
     pub(crate) fn takes_line(&mut self, number: Option<u64>, mark: u8, line: &[u8]) -> bool
-        ensures { MatchBool result (self.new ≡ self.old ++ numbered number mark line.now)
+        ensures { MatchBool result (self.new ≡ self.old ++ numbered_line number mark line.now)
             (self.new ≡ self.old) }
     {
         if self.bytes.len() - self.len < MARKED_LEN + line.len() + 1 {
@@ -118,7 +118,7 @@ fn put_line(
 ) -> usize
     requires { at + 21 + length line.now + 1 ≤ length text.old }
     ensures within { result ≤ length text.old }
-    ensures text { take result text.new ≡ take at text.old ++ numbered number mark line.now }
+    ensures text { take result text.new ≡ take at text.old ++ numbered_line number mark line.now }
 {
     match number {
         Some(number) => {
@@ -134,7 +134,7 @@ fn put_line(
 fn put_ended(line: &[u8], text: &mut [u8], at: usize) -> usize
     requires { at + length line.now + 1 ≤ length text.old }
     ensures within { result ≤ length text.old }
-    ensures text { take result text.new ≡ take at text.old ++ ended line.now }
+    ensures text { take result text.new ≡ take at text.old ++ ended_line line.now }
 {
     let end = at + line.len();
     text[at..end].copy_from_slice(line);

@@ -50,7 +50,7 @@ impl<'w, W: Output> Printer<'w, W> {
 
     // What a call returns, by how its text was put together.
     #[inline(never)]
-    fn returned(&mut self, put: io::Result<()>) -> Result<bool, SearchError>
+    fn result_of(&mut self, put: io::Result<()>) -> Result<bool, SearchError>
         ensures { MatchResult put
             (λ _. (result ≡ Ok true) × (self.new ≡ self.old))
             (λ error. (result ≡ Err (SearchError.Io error))
@@ -91,7 +91,7 @@ impl<'w, W: Output> Sink for Printer<'w, W> {
             return Ok(true);
         }
         let put = push_lines(self.pending, self.writer, number, bytes);
-        self.returned(put)
+        self.result_of(put)
     }
 
     fn context<A: Allocator + Copy>(
@@ -104,7 +104,7 @@ impl<'w, W: Output> Sink for Printer<'w, W> {
             return Ok(true);
         }
         let put = self.pending.push_line(self.writer, number, b'-', bytes);
-        self.returned(put)
+        self.result_of(put)
     }
 
     fn context_break<A: Allocator + Copy>(
@@ -112,7 +112,7 @@ impl<'w, W: Output> Sink for Printer<'w, W> {
         _searcher: &Searcher<A>,
     ) -> Result<bool, SearchError> {
         let put = self.pending.push_break(self.writer);
-        self.returned(put)
+        self.result_of(put)
     }
 
     fn binary_data<A: Allocator + Copy>(

@@ -10,8 +10,8 @@ use std::{slice, str};
 /// Why a line is no case that can be run.
 #[derive(Clone, Copy)]
 pub(crate) enum CaseError {
-    /// A field isn't known, or its value isn't one of the field's, or the input or the literal is
-    /// missing.
+    /// The line isn't UTF-8; a field isn't known, or its value isn't one of the field's; the input
+    /// or the literal is missing; or a terminator is to be named by a matcher that can't.
     Malformed,
     /// The label of `enc` isn't one of an encoding that is known.
     UnknownEncoding,

@@ -118,7 +118,7 @@ impl<W: Output> Printer for Standard<W> {
     }
 
     fn finish(&mut self) -> Result<(), SearchError> {
-        flushed(self.flush())
+        end_of_flush(self.flush())
     }
 }
 
@@ -135,7 +135,7 @@ impl<W: Output> Printer for Summary<W> {
     }
 
     fn finish(&mut self) -> Result<(), SearchError> {
-        flushed(self.flush())
+        end_of_flush(self.flush())
     }
 }
 
@@ -164,12 +164,12 @@ impl<W: Output> Printer for Messages<W> {
     fn finish(&mut self) -> Result<(), SearchError> {
         self.printer
             .write_summary(&self.stats, Duration::from_nanos(ELAPSED))?;
-        flushed(self.printer.flush())
+        end_of_flush(self.printer.flush())
     }
 }
 
 // The end of a search whose writer was flushed.
-fn flushed(flushed: io::Result<()>) -> Result<(), SearchError> {
+fn end_of_flush(flushed: io::Result<()>) -> Result<(), SearchError> {
     match flushed {
         Ok(()) => Ok(()),
         Err(error) => Err(SearchError::Io(error)),

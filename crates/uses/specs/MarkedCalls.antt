@@ -10,12 +10,12 @@ abbrev pub one_before : Settings
 one_before = record default_settings { before_context = 1 }
 
 -- a match after `>`, a line near it after a space, a break as two dashes
-abbrev pub marked : Call → List ℕ
-marked (matches number offset line) = 62 ∷ line
-marked (context kind number offset line) = 32 ∷ line
-marked breaks = codes "--\n"
-marked _ = []
+abbrev pub marked_text : Call → List ℕ
+marked_text (matches number offset line) = 62 ∷ line
+marked_text (context kind number offset line) = 32 ∷ line
+marked_text breaks = codes "--\n"
+marked_text _ = []
 
 -- the whole report
 abbrev pub report_of : Plan → List ℕ
-report_of plan = flat_map marked (run_calls plan)
+report_of plan = flat_map marked_text (run_calls plan)

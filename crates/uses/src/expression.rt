@@ -1,5 +1,5 @@
 //! How many lines match a regular expression.
-ghost use Rattle.std.specs.Prelude.{◌≡◌, false, IfOk};
+ghost use Rattle.std.specs.Prelude.{◌≡◌, false, true, IfOk};
 ghost use Rattle.grep_searcher.specs.Plans.{is_across};
 ghost use Rattle.grep_searcher.specs.Searches.{searched_bytes};
 ghost use Rattle.grep_searcher.specs.LineCounts.{matched_count};
@@ -30,6 +30,7 @@ pub fn count_pattern_lines(
         count ≡ matched_count searcher.old.settings (line_meaning pattern.now)
         (searched_bytes searcher.old.settings bytes.now)) }
     ensures settings { searcher.new.settings ≡ searcher.old.settings }
+    ensures buffers { searcher.old.has_buffers ≡ true → searcher.new.has_buffers ≡ true }
 {
     let mut builder = RegexMatcherBuilder::new();
     builder.multi_line(true).line_terminator(Some(b'\n'));

@@ -1,5 +1,5 @@
 //! How many lines start with a prefix: a matcher of one's own.
-ghost use Rattle.std.specs.Prelude.{◌≡◌, false, IfOk};
+ghost use Rattle.std.specs.Prelude.{◌≡◌, false, true, IfOk};
 ghost use Rattle.grep_searcher.specs.HitLines.{IsUnlimited};
 ghost use Rattle.grep_searcher.specs.Searches.{searched_bytes};
 ghost use Rattle.grep_searcher.specs.LineCounts.{IsLineSearch};
@@ -25,6 +25,7 @@ pub fn count_with_prefix(
         → IfOk result (λ count. count ≡ prefixed_count searcher.old.settings prefix.now
         (searched_bytes searcher.old.settings bytes.now)) }
     ensures settings { searcher.new.settings ≡ searcher.old.settings }
+    ensures buffers { searcher.old.has_buffers ≡ true → searcher.new.has_buffers ≡ true }
 {
     hits_are_selected();
     count_matching_lines(searcher, PrefixMatcher { prefix }, bytes)

@@ -3,7 +3,7 @@ ghost use Rattle.std.specs.Prelude.{◌≡◌, ◌++◌, ◌∷◌, true, IfOk, 
 ghost use Rattle.grep_searcher.specs.Plans.{IsLawful, search_plan};
 ghost use Rattle.grep_searcher.specs.Searches.{searched_bytes};
 ghost use Rattle.grep_searcher.specs.PassedCalls.{passed_call};
-ghost use Rattle.uses.specs.MarkedCalls.{marked, one_before, report_of};
+ghost use Rattle.uses.specs.MarkedCalls.{marked_text, one_before, report_of};
 
 use grep_searcher::laws::{calls_are_passed, searches_run};
 use grep_searcher::sinks::{Calls, SinkCall};
@@ -36,7 +36,7 @@ pub fn in_context<M: Matcher + Drop>(
     let mut sink = Calls(
         |call: SinkCall<'_>|
             ensures { IfOk result (λ goes. (goes ≡ true)
-                × (text.exit.items ≡ text.entry.items ++ marked (passed_call call.entry))) }
+                × (text.exit.items ≡ text.entry.items ++ marked_text (passed_call call.entry))) }
         {
             write_call(&mut text, call)?;
             Ok(true)
@@ -60,7 +60,8 @@ pub fn reporter(alloc: Global) -> Result<Searcher, ConfigError>
 
 // Adds what a report has of a call. The only error is being out of memory.
 fn write_call(text: &mut Vec<u8>, call: SinkCall<'_>) -> Result<(), AllocError>
-    ensures { OnOk result (text.new.items ≡ text.old.items ++ marked (passed_call call.entry)) }
+    ensures { OnOk result (text.new.items
+        ≡ text.old.items ++ marked_text (passed_call call.entry)) }
 {
     match call {
         SinkCall::Match(found) => write_line(text, b'>', found.bytes()),
