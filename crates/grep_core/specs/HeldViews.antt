@@ -1,5 +1,5 @@
--- What a line buffer holds of the bytes that a decoder gave. The contracts of private functions
--- cite these definitions; no public contract does.
+-- What a line buffer holds of the bytes that a decoder gave, for the invariant of `read_by_line`.
+-- No contract cites it.
 use Rattle.std.specs.Prelude.{◌≡◌, ℕ, List, ◌++◌, Option}
 use Rattle.grep_decode.specs.DecoderStates.{DecoderState, Decodes}
 use Rattle.grep_decode.specs.Source.{ReadResult}

@@ -1,5 +1,5 @@
--- A search of an input that isn't refused, by where it looks for binary bytes. `IsBytesSearched` is
--- what a search of bytes promises; the contracts of private functions cite the others.
+-- A search of an input that isn't refused, by where it looks for binary bytes. The contracts of
+-- private functions cite these definitions, or proofs do; no public contract does.
 use Rattle.std.specs.Prelude.{ℕ, List, Option, Result, Ok, Err}
 use Rattle.grep_decode.specs.Source.{ReadResult}
 use Rattle.grep_definitions.specs.Searches.{Look, nowhere, in_contents, on_stream}

@@ -53,7 +53,7 @@ module _ {S E : Type 0} (step : Steps S E) (settings : Settings) (meaning : Mean
       CountedFrom step settings first (turns settings meaning input)
       (byte_count settings meaning input) count outcome new
 
-  -- a search in which no line may have a turn has read nothing yet, and looks for a binary byte
+  -- a search in which no line may be reported has read nothing yet, and looks for a binary byte
   pub record IsIdle (gone : List ℕ) (buffer : BufferState) (first : Origin S) (now : S) : Type 0
     where
       pub none : gone ++ buffer.shown ≡ []
@@ -173,8 +173,8 @@ module _ {S E : Type 0} (step : Steps S E) (settings : Settings) (meaning : Mean
       pub over_all : (bytes : List ℕ) → IsInput settings input.taken.ended input.taken.pieces bytes
           → IsWalkFault step errors matcher settings (view_of settings bytes) first e new
 
-    -- a search of a reader begins, and reads nothing unless `begin` returned true and it reads
-    -- lines, and once if it may report nothing
+    -- a search of a reader begins. It reads nothing unless `begin` returned true and it reads
+    -- lines, and fills the buffer once if it may report nothing
     pub record HasBegun (reader : R) (old : S) (reader' : R) : Type 0 where
       pub begun : Bool
       pub first : S
@@ -250,7 +250,8 @@ pub record IsStreamCounted {S E : Type 0} (step : Steps S E) (settings : Setting
   pub over_each : (bytes : List ℕ) → IsInput settings taken.ended taken.pieces bytes
       → IsMadeTo step settings old (plan_with settings.binary_detection point
       (search_plan settings meaning (view_of settings bytes))) outcome finish last
-  -- unless a call returned false, or a byte ended the search, each line with a turn was seen
+  -- unless a call returned false, or a byte ended the search, each line that may be reported was
+  -- seen
   pub all : outcome ≡ all_true
       → (quits settings.binary_detection ≡ true → finish.binary ≡ None)
       → (bytes : List ℕ) → IsInput settings taken.ended taken.pieces bytes

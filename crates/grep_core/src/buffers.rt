@@ -13,8 +13,8 @@ const BUFFER_CAPACITY: usize = 64 * 1024;
 // How many bytes of its reader a decoder keeps.
 const DECODER_CAPACITY: usize = 8192;
 
-/// What a search of a reader needs: a decoder, and a buffer that shows its lines or, across lines,
-/// all its bytes.
+/// What a search of a reader needs: a decoder, a buffer that shows its lines and, across lines, a
+/// vector for all its bytes.
 #[derive(Drop)]
 pub struct Buffers<A: Allocator> {
     pub(crate) lines: LineBuffer<A>,

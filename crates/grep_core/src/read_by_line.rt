@@ -186,8 +186,9 @@ impl<'c, A: Allocator + Copy, T> Search<'c, A, T> {
             IsLawful (M.facts matcher.now) self.now.config
             → (first : C.Sink)
             → C.step first self.now.config begins (Ok true) sink.old
-            → IsStreamCounted C.step self.now.config (M.facts matcher.now).meaning R.remaining R.step
-            reader.old first (record { count = count; binary = binary.new }) reader.new sink.new) }
+            → IsStreamCounted C.step self.now.config (M.facts matcher.now).meaning
+            R.remaining R.step reader.old first
+            (record { count = count; binary = binary.new }) reader.new sink.new) }
         ensures once { OnOk result (reports_nothing self.now.config ≡ true
             → IsReadForLine R.remaining R.step self.now.config reader.old reader.new) }
         ensures fault { IfErr result (λ e.

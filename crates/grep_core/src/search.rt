@@ -83,7 +83,8 @@ impl<'c, A: Allocator + Copy, T> Search<'c, A, T> {
             → (outcome : Outcome C.Error)
             × Counted C.step self.now.config sink.old
             ((calls_if self.now.config (M.facts matcher.now).meaning is_across).turns bytes.now)
-            ((calls_if self.now.config (M.facts matcher.now).meaning is_across).byte_count bytes.now)
+            ((calls_if self.now.config (M.facts matcher.now).meaning is_across).byte_count
+            bytes.now)
             count outcome sink.new) }
         ensures fault { IfErr result (λ e.
             (is_across ≡ false → IsLawful (M.facts matcher.now) self.now.config)

@@ -2,15 +2,14 @@
 use std::io;
 use thiserror::Error;
 
-/// Why a line buffer couldn't be filled, or a reader's contents couldn't be read. In each case the
-/// buffer still holds every byte that it held and that was read, and the vector has every byte that
-/// was read.
+/// Why a line buffer couldn't be filled, or a reader's contents couldn't be read. No byte that was
+/// read is lost: a further fill goes on after it, and the vector has it.
 #[derive(Debug, Drop, Error)]
 pub enum FillError {
     /// The reader's own error.
     #[error("{0}")]
     Read(io::Error),
-    /// The buffer is full, it is as large as it may be, and it holds no end of a line. Or the
+    /// The buffer is full, it is as large as it may be, and no line ended in what was read. Or the
     /// contents aren't shorter than the limit.
     #[error("the heap limit was reached")]
     HeapLimit,

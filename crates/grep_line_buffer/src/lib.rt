@@ -1,5 +1,6 @@
-//! A buffer over a reader's decoded bytes that shows whole lines of them, in bounded memory. It
-//! follows grep-searcher's module `line_buffer`. And all of a reader's decoded bytes in a vector.
+//! `LineBuffer` shows a reader's decoded bytes by whole lines, in memory that a limit can bound; it
+//! follows grep-searcher's module `line_buffer`. `read_contents` reads all of a reader's decoded
+//! bytes into a vector.
 #![tactic(auto)]
 
 mod contents;

@@ -129,8 +129,8 @@ impl<A: Allocator> LineBuffer<A> {
         self.has_ended = false;
     }
 
-    /// Sets what the buffer does with binary bytes. The caller ensures that nothing was filled
-    /// since `new` or `clear`: bytes that were read stay as they are.
+    /// Sets what the buffer does with binary bytes that it reads from now on. The caller ensures
+    /// that none was found since `new` or `clear`; bytes that were read before stay as they are.
     pub fn set_binary_detection(&mut self, detection: Detection)
         requires { self.old.binary ≡ None }
         ensures { self.new ≡ record self.old { detection = detection } }

@@ -54,7 +54,8 @@ module _ {H E : Type 0} (goes : H → Call → Bool) (next : H → Call → H)
       → (settings : Settings) (old : H) (plan : Plan) (new : H)
       → IsRun IsHandlerStep settings old plan (Ok tt) new → plan.finish.count < 2 ^ 64
 
--- a match that was kept: the number of its first line, its offset in the whole input, and its bytes
+-- a report that was kept: the number of its first line, its offset in the whole input, and its
+-- bytes
 pub record KeptReport : Type 0 where
   pub line_number : Option ℕ
   pub offset : ℕ
@@ -66,7 +67,7 @@ reported_number (matches number offset bytes) = number
 reported_number (context kind number offset bytes) = number
 reported_number _ = None
 
--- what is kept of a match
+-- what is kept of a report
 abbrev pub kept_of : Call → KeptReport
 kept_of call = record {
   line_number = reported_number call;
@@ -74,7 +75,7 @@ kept_of call = record {
   bytes = reported_bytes call;
 }
 
--- there was no memory for a match, and what was kept stays
+-- there was no memory for a report, and what was kept stays
 abbrev pub LacksMemory : {V A : Type 0} → V → Call → SearchError A → V → Type 0
 LacksMemory old call e new = IsOutOfMemory e × (new ≡ old)
 

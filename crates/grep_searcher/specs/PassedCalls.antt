@@ -20,7 +20,7 @@ passed_call Break = breaks
 passed_call (BinaryData offset) = binary_data offset
 passed_call (Finish finish) = finish_call finish.now
 
--- whether the search has ended
+-- whether a call is `finish`
 abbrev pub is_finish : Call → Bool
 is_finish (finishes count binary) = true
 is_finish _ = false

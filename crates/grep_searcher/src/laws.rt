@@ -50,8 +50,9 @@ use std::io::Read;
 
 /// Without limit and stop, in a search by line, a line is selected exactly if it hits, and so are
 /// the matched lines: a line hits if whether it matches without its terminator differs from
-/// inversion. Then as many lines are matched as hit. Without inversion, of a matcher that has a match
-/// exactly where a predicate holds, these are the lines of which it holds without their terminators.
+/// inversion. Then as many lines are matched as hit. Without inversion, of a matcher that has a
+/// match exactly where a predicate holds, these are the lines of which it holds without their
+/// terminators.
 pub fn hits_are_selected()
     ensures selected { HitsAreSelected }
     ensures matched { HitsAreMatched }
@@ -99,9 +100,9 @@ pub fn runs_append_parts<S: Sink, X>()
     ensures { RunsAppend S.step X }
 {}
 
-/// A run of a new `Count` along the plan of some bytes, that ended in `Ok`, counted the matches that
-/// are reported. Any run that ended in `Ok` added them to what was counted before, up to the largest
-/// `u64`.
+/// A run of a new `Count` along the plan of some bytes, that ended in `Ok`, counted the matches
+/// that are reported. Any run that ended in `Ok` added them to what was counted before, up to the
+/// largest `u64`.
 pub fn runs_count_matches<E>()
     ensures all { RunsCountAll E }
     ensures added { RunsCount E }
@@ -114,8 +115,9 @@ pub fn runs_count_lines<E>()
 
 /// A run of `OnMatch` that ended in `Ok` made its handler handle the matches that are reported, in
 /// order, up to the first after which the search doesn't go on. One that ended in an error made it
-/// handle the matches before one, and that one failed. If the handler always goes on, the byte count
-/// of a run that ended in `Ok` is below 2^64, and by `matches_are_within_count` so are the matches.
+/// handle the matches before one, and that one failed. If the handler always goes on, the byte
+/// count of a run that ended in `Ok` is below 2^64, and by `matches_are_within_count` so are the
+/// matches.
 pub fn runs_handle_matches<H: MatchHandler>()
     ensures handled { RunsHandle H.goes H.next H.fails }
     ensures failed { RunsFailAt H.goes H.next H.fails }
@@ -145,17 +147,18 @@ pub fn runs_hand_first<A: Allocator + Copy>()
 {}
 
 /// A run of `Collect` that ended in `Ok` kept the matches that are reported, after those that it
-/// had kept; by line these are the matched lines, each with its number, its offset and its bytes. One
-/// that ended in an error, which is out of memory, kept those before the match at which it failed.
+/// had kept; by line these are the matched lines, each with its number, its offset and its bytes.
+/// One that ended in an error, which is out of memory, kept those before the match at which it
+/// failed.
 pub fn runs_collect_lines<A: Allocator + Copy>()
     ensures all { RunsCollect A }
     ensures lines { RunsCollectLines A }
     ensures failed { RunsCollectUntil A }
 {}
 
-/// A run of `Reports` that ended in `Ok` kept the reports of the plan, after those that it had kept.
-/// One that ended in an error, which is out of memory, kept those before the report at which it
-/// failed.
+/// A run of `Reports` that ended in `Ok` kept the reports of the plan, after those that it had
+/// kept. One that ended in an error, which is out of memory, kept those before the report at which
+/// it failed.
 pub fn runs_keep_reports<A: Allocator + Copy>()
     ensures all { RunsKeep A }
     ensures failed { RunsKeepUntil A }
@@ -211,9 +214,9 @@ pub fn matches_are_lent<F: FnMut(&SinkMatch<'_>) -> Result<bool, io::Error>, X>(
     ensures failed { ClosuresFailLent F.step (λ (s : Matches F). s.0) }
 {}
 
-/// A run of `Calls` that ended in `Ok` passed its closure the calls of the plan, in order, up to the
-/// first at which it returned false, and then the end. If each call of the closure that returns goes
-/// on, but for the end, and appends a part for what it is passed to what is kept, through one
+/// A run of `Calls` that ended in `Ok` passed its closure the calls of the plan, in order, up to
+/// the first at which it returned false, and then the end. If each call of the closure that returns
+/// goes on, but for the end, and appends a part for what it is passed to what is kept, through one
 /// reference, the run appends the parts of all calls of the plan, and of the end; or these calls
 /// themselves. An error of a call is the closure's. Pass the sink, since a closure's type has no
 /// name. `X` is what is appended.
@@ -253,8 +256,9 @@ where
         (makers_of M.Error.output S.Error.makers) (M.facts matcher) }
 {}
 
-/// Under these conditions an error that a search of a reader ended in is that of a step of the
-/// sink, or one of reading.
+/// Without binary detection, if the matcher never fails and is lawful, and the search isn't
+/// refused, an error that a search of a reader ended in is that of a step of the sink, or one of
+/// reading.
 pub fn reader_searches_fail<A: Allocator + Copy, M: Matcher, R: Source, S: Sink>()
 where
     S::Error: SinkError<A>,
@@ -263,9 +267,10 @@ where
         R.remaining R.step }
 {}
 
-/// Under these conditions an error of a search of a slice is that of a step of the sink, or it is
-/// made of the reason why the slice, which has to be decoded, wasn't decoded to its end. Pass the
-/// sink, since a closure's type has no name.
+/// Without binary detection, if the matcher never fails and is lawful, and the search isn't
+/// refused, an error of a search of a slice is that of a step of the sink, or it is made of the
+/// reason why the slice, which has to be decoded, wasn't decoded to its end. Pass the sink, since a
+/// closure's type has no name.
 pub fn slices_fail<A: Allocator + Copy, M: Matcher, S: Sink>(_: &S)
 where
     S::Error: SinkError<A>,
@@ -273,8 +278,9 @@ where
         (makers_of M.Error.output S.Error.makers) (M.facts matcher) }
 {}
 
-/// Under these conditions an error of a search of a reader is that of a step of the sink, or it is
-/// made of why the reader wasn't read to its end.
+/// Without binary detection, if the matcher never fails and is lawful, and the search isn't
+/// refused, an error of a search of a reader is that of a step of the sink, or it is made of the
+/// reason why the reader wasn't read to its end. Pass the sink, since a closure's type has no name.
 pub fn readers_fail<A: Allocator + Copy, M: Matcher, R: Source, S: Sink>(_: &S)
 where
     S::Error: SinkError<A>,
@@ -294,8 +300,8 @@ where
         R.remaining R.step }
 {}
 
-/// Without binary detection, a search of a file that says which bytes remain is such a run too.
-/// After `search_path` such a file is one that was opened.
+/// What `known_readers_run` says of a reader, of a file that says which bytes remain. After
+/// `search_path` such a file is one that was opened.
 pub fn known_files_run<A: Allocator + Copy, M: Matcher, F: Read, S: Sink>()
 where
     S::Error: SinkError<A>,
@@ -311,15 +317,17 @@ pub fn slices_count_lines<A: Allocator + Copy, M: Matcher, E: SinkError<A>>()
         (makers_of M.Error.output E.makers) (M.facts matcher) }
 {}
 
-/// So did such a search of a reader that says which bytes remain.
+/// A search of a reader that says which bytes remain, by line and without binary detection, with a
+/// lawful matcher and a new `Count`, if it ended in `Ok`, counted the matched lines of its decoded
+/// bytes.
 pub fn readers_count_lines<A: Allocator + Copy, M: Matcher, R: Source, E: SinkError<A>>()
     ensures { (matcher : M) → ReadersCountLines
         (makers_of M.Error.output E.makers) (M.facts matcher)
         R.remaining R.step }
 {}
 
-/// So did such a search of a file that says which bytes remain. After `search_path` such a file is
-/// one that was opened.
+/// What `readers_count_lines` says of a reader, of a file that says which bytes remain. After
+/// `search_path` such a file is one that was opened.
 pub fn files_count_lines<A: Allocator + Copy, M: Matcher, F: Read, E: SinkError<A>>()
     ensures { (matcher : M) → ReadersCountLines
         (makers_of M.Error.output E.makers) (M.facts matcher)
@@ -327,17 +335,17 @@ pub fn files_count_lines<A: Allocator + Copy, M: Matcher, F: Read, E: SinkError<
 {}
 
 /// A search of a reader that says which bytes remain, by line and without binary detection, with a
-/// lawful matcher and a new `Found`, if it ended in `Ok`, found a match exactly if a line is selected.
-/// Under a heap limit it read at most that many bytes, and three, beyond the first selected line, if
-/// the input is searched as it is.
+/// lawful matcher and a new `Found`, if it ended in `Ok`, found a match exactly if a line is
+/// selected. Under a heap limit it read at most that many bytes, and three, beyond the first
+/// selected line, if the input is searched as it is.
 pub fn readers_find_lines<A: Allocator + Copy, M: Matcher, R: Source, E: SinkError<A>>()
     ensures { (matcher : M) → ReadersFindLines
         (makers_of M.Error.output E.makers) (M.facts matcher)
         R.remaining R.step }
 {}
 
-/// So did such a search of a file that says which bytes remain. After `search_path` such a file is
-/// one that was opened.
+/// What `readers_find_lines` says of a reader, of a file that says which bytes remain. After
+/// `search_path` such a file is one that was opened.
 pub fn files_find_lines<A: Allocator + Copy, M: Matcher, F: Read, E: SinkError<A>>()
     ensures { (matcher : M) → ReadersFindLines
         (makers_of M.Error.output E.makers) (M.facts matcher)

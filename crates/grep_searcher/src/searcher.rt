@@ -20,8 +20,8 @@ use std::alloc::{Allocator, Global};
 use std::io;
 use std::marker::Model;
 
-/// A search, as a `SearcherBuilder` configured it. It can be used for any number of searches; each
-/// begins anew.
+/// Searches as a `SearcherBuilder` configured it to. It can be used for any number of searches;
+/// each begins anew.
 #[derive(Drop)]
 pub struct Searcher<A: Allocator + Copy = Global> {
     config: Config,

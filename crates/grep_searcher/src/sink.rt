@@ -19,7 +19,7 @@ use std::alloc::Allocator;
 /// A sink that returns false ends the search: `finish` alone follows. An error ends it at once, and
 /// nothing follows.
 pub trait Sink {
-    /// Why a call failed. A search also makes its own faults of it, as `SinkError` says.
+    /// Why a call failed. A search makes its own errors of this type too, by `SinkError`.
     type Error;
 
     /// One call: the state before, the searcher's settings, the call with its data, what it

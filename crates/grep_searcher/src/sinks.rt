@@ -1,7 +1,7 @@
-//! Ready sinks. Some call a closure at each match, with its line number and its text or with the
-//! match itself, and one passes each call of a search to a closure: it returns whether the search
-//! goes on, and its error ends the search. One counts the matches, one keeps each report, and one
-//! passes each match to a handler, with the handlers that callers need most.
+//! Ready sinks. `UTF8`, `Lossy`, `Bytes` and `Matches` call a closure at each match, and `Calls` at
+//! each call of a search; the closure returns whether the search goes on, and its error ends the
+//! search. `Count` counts the matches, `Reports` keeps each report, and `OnMatch` passes each match
+//! to a handler: `Found`, `First`, `Collect` or the caller's own.
 ghost use Rattle.std.specs.Prelude.{◌≡◌, Some, None, MatchResult};
 ghost use Rattle.std.specs.IoError.{error_kind};
 ghost use Rattle.std.specs.declared.io.ErrorKind.TheVariants.{Other};

@@ -104,14 +104,15 @@ abbrev pub AreCounts : Settings → Walk → ℕ → ℕ → Type 0
 AreCounts settings w line through =
     counts_lines settings ≡ true → (line ≡ w.line) × (through ≡ w.next_unreported)
 
--- whether no later line has a turn, by whether the last line was chosen
+-- whether no later line may be reported, by whether the last line was chosen
 abbrev pub is_over : Settings → Walk → Bool → Bool
 is_over settings w chosen =
     (stops_next settings (nat_lt 0 w.match_count) && not chosen)
     || (not settings.passthru && not (has_room settings w.match_count)
     && w.after_context_left == 0)
 
--- the byte count after calls: that of the whole search, or the end of the turn that returned false
+-- the byte count after calls: that of the whole search, or the count of the call that returned
+-- false
 abbrev pub IsCount : {E : Type 0} → Outcome E → ℕ → ℕ → Type 0
 IsCount all_true whole count = count ≡ whole
 IsCount (stopped finish) whole count = counted count ≡ finish
@@ -146,7 +147,7 @@ module _ (settings : Settings) (meaning : Meaning) (bytes : List ℕ) where
     pub few : w.match_count ≤ w.line
 
   -- a walk that goes on: which lines were reported, what is known of limit and stop, and that the
-  -- turns so far have ended
+  -- counts of the calls so far are at most its offset
   pub record IsWalk (w : Walk) : Type 0 where
     pub placed : IsPlaced w
     pub near : IsNear settings meaning bytes w.next_unreported w.line w.after_context_left

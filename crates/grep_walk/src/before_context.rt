@@ -71,8 +71,9 @@ impl Config {
         self.step_back(window, window.len(), near)
     }
 
-    /// Whether lines were left out before the one with this index, which is reported before the
-    /// chosen one that a walk is at, or is that line: the caller ensures that it is no later one.
+    /// Whether a break comes before the line with this index: it is the first line of the context
+    /// before the chosen one that a walk is at, or that line itself, and lines were left out before
+    /// it. The caller ensures that it is no later than that line.
     pub fn is_gap(&self, index: u64, walk: &Walk) -> bool
         requires { index ≤ walk.now.line }
         ensures { result ≡ is_gap self.now walk.now.next_unreported index walk.now.line }

@@ -27,7 +27,8 @@ pub struct Config {
     pub after_context: usize,
     /// How many lines are reported before a match.
     pub before_context: usize,
-    /// Whether every line is reported, up to the last that may be.
+    /// Whether every line is reported, selected or not, up to the one at which `stop_on_nonmatch`
+    /// ends the search.
     pub passthru: bool,
     /// How many decoded bytes a search holds at most, if there is a limit.
     pub heap_limit: Option<usize>,
@@ -35,9 +36,10 @@ pub struct Config {
     pub memory_map: MmapChoice,
     /// Which bytes mark the input as binary, and what a search does about them.
     pub binary_detection: BinaryDetection,
-    /// The encoding that the input is said to have, if any.
+    /// The encoding that the input is said to have, if any; a mark at its start overrides it.
     pub encoding: Option<Encoding>,
-    /// Whether a mark at the start of the input says its encoding.
+    /// Whether a mark at the start of the input is looked for without an encoding too; with one it
+    /// always is.
     pub bom_sniffing: bool,
     /// Whether the first line that isn't selected, after one that is, ends the search.
     pub stop_on_nonmatch: bool,
@@ -94,14 +96,15 @@ impl Config {
         matches != self.invert_match
     }
 
-    /// Across lines, whether the lines that no match touches are selected, each a report of its own.
+    /// Across lines, whether the lines that no match touches are selected, each a report of its
+    /// own.
     pub fn selects_free(&self) -> bool
         ensures { result ≡ selects_free self.now }
     {
         self.invert_match
     }
 
-    /// Whether so many lines are fewer than the limit has.
+    /// Whether `count` is below the limit; true if there is none.
     pub fn has_room(&self, count: u64) -> bool
         ensures { result ≡ has_room self.now count }
     {

@@ -60,7 +60,8 @@ impl Ahead {
         requires bounded { IsBounded window.now self.now }
         ensures within { IfSome result (λ end. (start < end) × (end ≤ length window.now)) }
         ensures line { IfSome result (λ end. IsExact terminator window.now self.now → (i : ℕ)
-            → IsLineStart terminator window.now start i → IsLine terminator window.now i start end) }
+            → IsLineStart terminator window.now start i
+            → IsLine terminator window.now i start end) }
         ensures end { IfNone result (start ≡ length window.now) }
         ensures last { IfNone result ((i : ℕ) → IsLineStart terminator window.now start i
             → i ≡ length (lines terminator window.now)) }

@@ -65,9 +65,9 @@ impl Config {
         }
     }
 
-    /// Where the unit ends that begins at `start`, if it is chosen, and the line, if it isn't.
-    /// Under inversion a unit is one line. The caller ensures that `start` is before the end of the
-    /// bytes, and of a chosen unit.
+    /// Where the report of the line at `start` ends: with its unit, if that is chosen, and else
+    /// with the line. Under inversion each line is a report of its own. The caller ensures that
+    /// `start` is before the end of the bytes, and of a chosen unit.
     pub fn end_across(&self, bytes: &[u8], start: usize, unit: &Match, chosen: bool) -> usize
         requires some { start < length bytes.now }
         requires within { unit.now.1 ≤ length bytes.now }

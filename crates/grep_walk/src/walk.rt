@@ -23,13 +23,13 @@ use grep_matcher::Matcher;
 pub struct Walk {
     /// Where the next line begins, in bytes.
     pub offset: u64,
-    /// How many lines are before it, without those that were skipped uncounted.
+    /// The index of that line, counted from 0, less the lines that were skipped uncounted.
     pub line: u64,
-    /// The same up to the last reported line, and with it.
+    /// The index of the line after the last reported one, counted the same way; 0 if there is none.
     pub next_unreported: u64,
     /// How many lines are still to be reported after a match.
     pub after_context_left: usize,
-    /// How many lines were chosen.
+    /// How many lines were chosen; across lines, how many reports of chosen lines there were.
     pub match_count: u64,
 }
 
@@ -47,14 +47,15 @@ pub const WALK_START: Walk = Walk {
 pub enum Verdict {
     /// It is chosen: it hits, and the limit has room.
     Chosen,
-    /// It hits past the limit.
+    /// It hits past the limit, in the context after a match.
     Trailing,
-    /// It doesn't hit.
+    /// It doesn't hit; or it is past both the limit and that context, where the matcher isn't
+    /// asked.
     Missed,
 }
 
 impl Verdict {
-    /// That of a line across lines, where no line is trailing.
+    /// The verdict on a line of a search across lines, where none is trailing.
     pub fn of(chosen: bool) -> Self
         ensures chosen { chooses result ≡ chosen }
         ensures trailing { trails result ≡ false }
@@ -185,7 +186,8 @@ impl Config {
         }
     }
 
-    // Whether it matters if the line hits that a walk is at.
+    // Whether the line that a walk is at may be reported as a match: the limit has room, or lines
+    // are left in the context after a match.
     fn can_hit(&self, walk: &Walk) -> bool
         ensures { result ≡ can_hit self.now walk.now }
     {

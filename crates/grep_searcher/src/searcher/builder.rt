@@ -90,7 +90,8 @@ impl SearcherBuilder {
         Searcher::of(alloc, config)
     }
 
-    /// What ends a line; a line feed by default.
+    /// What ends a line; a line feed by default. A search with a matcher that names another one is
+    /// refused, with `ConfigError::MismatchedLineTerminators`.
     pub fn line_terminator(&mut self, terminator: LineTerminator) -> &mut SearcherBuilder
         ensures reference { result.ghost_name ≡ self.entry.ghost_name }
         ensures set { result.now ≡ record self.old { line_terminator = terminator } }
@@ -121,8 +122,8 @@ impl SearcherBuilder {
     ///
     /// Then a search runs across lines, unless the matcher says that none of its matches contains
     /// the line terminator (`Searcher::multi_line_with_matcher`). It looks for matches in all bytes
-    /// at once, and reports the lines of matches that overlap or follow each other as one match;
-    /// under inversion it reports each line that no match extends over. The limit counts matches,
+    /// at once, and reports each longest run of lines that matches touch as one match; under
+    /// inversion each line that no match touches is a report of its own. The limit counts matches,
     /// and under inversion lines. `stop_on_nonmatch` is ignored. All of a reader is read into
     /// memory before the search begins.
     pub fn multi_line(&mut self, yes: bool) -> &mut SearcherBuilder
@@ -151,8 +152,8 @@ impl SearcherBuilder {
         self
     }
 
-    /// Whether every line is reported, match or not, up to a stop; not by default. Both contexts
-    /// then count as 0.
+    /// Whether every line is reported, selected or not, up to the one at which `stop_on_nonmatch`
+    /// ends the search; not by default. Both contexts then count as 0.
     pub fn passthru(&mut self, yes: bool) -> &mut SearcherBuilder
         ensures reference { result.ghost_name ≡ self.entry.ghost_name }
         ensures set { result.now ≡ record self.old { passthru = yes } }
@@ -164,8 +165,8 @@ impl SearcherBuilder {
     /// How many decoded bytes of a reader, or of a slice that needs decoding, a search holds at
     /// most; no limit by default. A line that doesn't fit ends the search in an error, as
     /// `Searcher::search_reader` says; across lines all decoded bytes have to be fewer. A limit of
-    /// 0 refuses each search. The bytes of any other slice don't count, nor do the 8,192 of the
-    /// decoder.
+    /// 0 refuses each search. The bytes of any other slice don't count, nor do the decoder's 8,192
+    /// and, across lines, those of the line buffer, which isn't used then.
     pub fn heap_limit(&mut self, bytes: Option<usize>) -> &mut SearcherBuilder
         ensures reference { result.ghost_name ≡ self.entry.ghost_name }
         ensures set { result.now ≡ record self.old { heap_limit = bytes } }
@@ -174,7 +175,7 @@ impl SearcherBuilder {
         self
     }
 
-    /// Whether a file is mapped into memory; never.
+    /// Whether files are mapped into memory. `Never` is the one choice: files are read.
     pub fn memory_map(&mut self, choice: MmapChoice) -> &mut SearcherBuilder
         ensures reference { result.ghost_name ≡ self.entry.ghost_name }
         ensures set { result.now ≡ record self.old { memory_map = choice } }
@@ -195,7 +196,8 @@ impl SearcherBuilder {
         self
     }
 
-    /// The encoding that the input is said to have; none by default.
+    /// The encoding that the input is said to have; none by default. If one is set, a mark at the
+    /// start of the input is looked for, whatever `bom_sniffing` says, and overrides it.
     pub fn encoding(&mut self, encoding: Option<Encoding>) -> &mut SearcherBuilder
         ensures reference { result.ghost_name ≡ self.entry.ghost_name }
         ensures set { result.now ≡ record self.old { encoding = encoding } }
@@ -204,7 +206,9 @@ impl SearcherBuilder {
         self
     }
 
-    /// Whether a mark at the start of the input says its encoding; it does by default.
+    /// Whether a mark at the start of the input is looked for where no encoding is set; it is by
+    /// default. A mark that is found says the encoding, and isn't searched. With an encoding one is
+    /// always looked for.
     pub fn bom_sniffing(&mut self, yes: bool) -> &mut SearcherBuilder
         ensures reference { result.ghost_name ≡ self.entry.ghost_name }
         ensures set { result.now ≡ record self.old { bom_sniffing = yes } }

@@ -22,11 +22,11 @@ use std::rt::Files;
 
 impl<A: Allocator + Copy> Searcher<A> {
     /// Searches a file from its position on, as `search_reader` searches a reader, with the same
-    /// errors. It is read straight into the searcher's line buffer, with no buffer between. The
-    /// caller ensures that the sink may be called.
+    /// errors. By line, bytes that need no decoding are read straight into the searcher's line
+    /// buffer, with no buffer between. The caller ensures that the sink may be called.
     ///
-    /// What is promised of the calls, but for their order, is promised of a file that says which
-    /// bytes remain. Of one of the system nobody knows that; it holds while nobody writes the file
+    /// But for their order, what is promised of the calls holds of a file that says which bytes
+    /// remain. A file of the system doesn't say so: of it this holds while nobody writes the file
     /// and the disk returns what was written. That an error of reading is the file's own isn't in
     /// the contract, since `Read` says nothing of its errors.
     pub fn search_file<M: Matcher, F: Read, S: Sink>(

@@ -64,7 +64,8 @@ impl<A: Allocator + Copy> Searcher<A> {
         self.config.before_context
     }
 
-    /// Whether every line is reported, up to the last that may be.
+    /// Whether every line is reported, selected or not, up to the one at which `stop_on_nonmatch`
+    /// ends the search.
     pub fn passthru(&self) -> bool
         ensures value { result ≡ self.now.settings.passthru }
         ensures bare { self.now.settings.passthru ≡ true

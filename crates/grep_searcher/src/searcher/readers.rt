@@ -16,24 +16,25 @@ use grep_report::SinkError;
 use std::alloc::Allocator;
 
 impl<A: Allocator + Copy> Searcher<A> {
-    /// Searches the decoded bytes of a reader, line by line as they come, in bounded memory, and
-    /// reports to the sink what it finds, as `search_slice` does. The caller ensures that the sink
-    /// may be called.
+    /// Searches the decoded bytes of a reader, line by line as they come, and reports to the sink
+    /// what it finds, as `search_slice` does. The caller ensures that the sink may be called.
     ///
     /// By line `begin` comes before any read. The reader is read no further than the search needs:
-    /// a false, the limit or a stop ends it without another read (at a limit of 0 it may be read
-    /// once under binary detection), and so does an unterminated last line. A buffer shows whole
-    /// lines; between two reads it keeps at most as many of them as are reported before a match. It
-    /// has 65,536 bytes at first, or the heap limit if that is lower. It grows for a line that is
-    /// longer, and after the first mebibyte of an input, if there is memory, to 131,072 bytes; but
-    /// never over the heap limit.
+    /// a false, the limit or a stop ends it without another read, and so does an unterminated last
+    /// line. Under binary detection a search at a limit of 0 without `passthru` fills the buffer
+    /// once: the reader is called until a line has come.
+    ///
+    /// A buffer shows whole lines; between two reads it keeps at most as many of them as are
+    /// reported before a match. It has 65,536 bytes at first, or the heap limit if that is lower.
+    /// It grows for a line that is longer, and after the first mebibyte of an input, if there is
+    /// memory, to 131,072 bytes; but never over the heap limit.
     ///
     /// A search that is refused reads nothing and makes no call. An error of reading comes after
     /// the reports of the lines before it, and nothing follows. It is made of
     /// - the reader's error, unchanged; an interrupted read isn't tried again;
-    /// - one of kind `Other`, if the heap limit is reached: a line that is longer than the limit,
-    ///   or as long and unterminated, or with the lines that are kept before it as long as the
-    ///   limit;
+    /// - one of kind `Other`, if the heap limit is reached: a line, with the lines that are kept
+    ///   before it, is longer than the limit, or as long and unterminated; or the kept lines alone
+    ///   are as long as the limit;
     /// - one of kind `InvalidData`, if the decoded bytes are more than 2^64 - 1;
     /// - one of kind `OutOfMemory`, if the buffer has to grow and can't, which it never does under
     ///   a heap limit of at most 65,536; or if the searcher has no buffers, as a clone that was

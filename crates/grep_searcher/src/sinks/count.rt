@@ -89,7 +89,7 @@ impl<E> Sink for Count<E> {
         _: &Searcher<A>,
         finish: &SinkFinish,
     ) -> Result<(), E> {
-        // Read, so that it is known to fit.
+        // Read for the proof alone: the step says that it fits in 64 bits (`FitsAtEnd`).
         let _byte_count = finish.byte_count();
         Ok(())
     }

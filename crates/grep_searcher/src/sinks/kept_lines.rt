@@ -9,9 +9,9 @@ use std::marker::Model;
 /// What reported lines are: a match, or a line that isn't one.
 #[derive(Clone, Copy, PartialEq, Eq, Debug)]
 pub enum ReportKind {
-    /// They are a match.
+    /// A match.
     Match,
-    /// It is a line that isn't a match, for this reason.
+    /// A line that isn't a match, and why it is reported.
     Context(SinkContextKind),
 }
 

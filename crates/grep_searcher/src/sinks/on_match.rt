@@ -12,8 +12,8 @@ use std::marker::Model;
 
 /// What is done at a match, as functions of the state and the call: `OnMatch` makes a sink of it.
 pub trait MatchHandler {
-    /// Why a match couldn't be handled. A search also makes its own faults of it, as `SinkError`
-    /// says.
+    /// Why a match couldn't be handled. A search makes its own errors of this type too, by
+    /// `SinkError`.
     type Error;
 
     /// Whether the search goes on after a match: the state before, the call with its data.
@@ -114,7 +114,7 @@ impl<H: MatchHandler> Sink for OnMatch<H> {
         _: &Searcher<A>,
         finish: &SinkFinish,
     ) -> Result<(), H::Error> {
-        // Read, so that it is known to fit.
+        // Read for the proof alone: the step says that it fits in 64 bits (`FitsAtEnd`).
         let _byte_count = finish.byte_count();
         Ok(())
     }
