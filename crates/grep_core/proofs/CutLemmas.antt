@@ -52,8 +52,8 @@ use Rattle.std.specs.Prelude.{◌&&◌}
 use Rattle.std.specs.declared.io.Error.{Error}
 use Rattle.grep_decode.specs.DecoderStates.{DecoderState, Decodes, started}
 use Rattle.grep_decode.specs.Source.{ReadResult}
-use Rattle.grep_line_buffer.specs.BufferStates.{BufferState, held, is_cut}
-use Rattle.grep_line_buffer.specs.Detections.{detected, found_in, is_quit}
+use Rattle.grep_line_buffer.specs.BufferStates.{BufferState, held_bytes, is_cut}
+use Rattle.grep_line_buffer.specs.Detections.{detected_bytes, found_in, is_quit}
 use Rattle.grep_matcher.specs.Lines.{lines, byte_of}
 use Rattle.grep_matcher.specs.Meanings.{Meaning, MatcherFacts}
 use Rattle.grep_definitions.specs.Searches.{
@@ -239,7 +239,7 @@ module _ {R : Type 0} {remaining : R → Option (List ℕ)} {read_step : R → R
     -- it found the first binary byte
     module _ (unknown : sink.binary ≡ None) (offset : ℕ) (is : new.binary ≡ Some offset) where
       -- which is after all that was held
-      past : length on.rolling.gone + length (held old) ≤ offset
+      past : length on.rolling.gone + length (held_bytes old) ≤ offset
       past = reading.found-past _ (rolls.held-then fill.fitting.terminator on.rolling) held-now (sym known ∙ unknown)
           _ is
 
@@ -262,9 +262,9 @@ module _ {R : Type 0} {remaining : R → Option (List ℕ)} {read_step : R → R
           ))
           (views.found-below _ (byte_of k.line_terminator) raw offset found-is)
         where
-          length-is : length on.rolling.gone + length (held new)
-              ≡ length (detected (detection_of k.binary_detection) (byte_of k.line_terminator) raw)
-          length-is = sym (length-append on.rolling.gone (held new)) ∙ ap length (reading.holds-is held-now)
+          length-is : length on.rolling.gone + length (held_bytes new)
+              ≡ length (detected_bytes (detection_of k.binary_detection) (byte_of k.line_terminator) raw)
+          length-is = sym (length-append on.rolling.gone (held_bytes new)) ∙ ap length (reading.holds-is held-now)
 
       -- and so is all that was given, also what came after the byte
       raw-fits : length raw ≤ length on.rolling.gone + new.size
@@ -280,14 +280,14 @@ module _ {R : Type 0} {remaining : R → Option (List ℕ)} {read_step : R → R
           ))
           (cases_lt 0 (length fill.fills.given))
         where
-          held-before : length on.rolling.given ≡ length on.rolling.gone + length (held old)
+          held-before : length on.rolling.given ≡ length on.rolling.gone + length (held_bytes old)
           held-before = reading.length-there (rolls.held-then fill.fitting.terminator on.rolling) on.rolling.uncut
 
       -- of each input that begins with what was given
       cut-there : (later : List ℕ) → IsCutAt k meaning (raw ++ later) seen-then offset
       cut-there later =
           let text = reading.fronts-there held-now later in
-          let more : List ℕ = detected old.detection old.terminator fill.fills.given in
+          let more : List ℕ = detected_bytes old.detection old.terminator fill.fills.given in
           record {
             front = rolls.goes-on on.rolling.between _
                 (reading.split-text _ _ _ more _
@@ -428,7 +428,7 @@ module _ {R : Type 0} {remaining : R → Option (List ℕ)} {read_step : R → R
               let there = on.rolling.between.next busy more after closes in
               record {
                 line = there.line;
-                through = there.through;
+                next_unreported = there.next_unreported;
                 counts = there.counts;
                 walked = record {
                   inside = there.walked.inside;
@@ -518,7 +518,7 @@ module _ {R : Type 0} {remaining : R → Option (List ℕ)} {read_step : R → R
       -- or it reads on
       pub reads-on : {moved : BufferState} {w' : Walk} {now' : S}
           → HasMovedOn step k meaning new w sink.sink moved w' now' → w.offset ≤ w'.offset
-          → ((gone : List ℕ) (count : ℕ) → gone ++ held new ≡ (gone ++ take count new.shown)
+          → ((gone : List ℕ) (count : ℕ) → gone ++ held_bytes new ≡ (gone ++ take count new.shown)
           ++ (drop count new.shown ++ new.rest))
           → IsReadingOn step k meaning remaining read_step decoder reader first moved d' r' w'
           (record { sink = now'; binary = sink.binary })

@@ -69,16 +69,16 @@ use Rattle.grep_definitions.proofs.CallOrderLemmas as order
 use Rattle.grep_core.specs.declared.quitting.Quitting.{Quitting}
 use Rattle.grep_core.specs.BinaryCalls.{FailsAtBinary, Noted, PassesBinary}
 use Rattle.grep_core.specs.SearchBuffers.{IsMadeOf, detection_of}
-use Rattle.grep_line_buffer.specs.BufferStates.{BufferState, held}
+use Rattle.grep_line_buffer.specs.BufferStates.{BufferState, held_bytes}
 use Rattle.grep_line_buffer.specs.Detections.{first_of, found_in}
 use Rattle.grep_report.specs.declared.binary_detection.BinaryDetection.{BinaryDetection}
 use Rattle.grep_line_buffer.specs.declared.fill_error.FillError.{FillError}
 use Rattle.grep_line_buffer.specs.declared.fill_error.FillError.TheVariants.{Read, HeapLimit, Offset, Memory}
-use Rattle.grep_core.specs.QuittingSinks.{IsLookedAt, IsMadeAfter, Quits, count_to, ended, watch_of, first_quit}
+use Rattle.grep_core.specs.QuittingSinks.{IsLookedAt, IsMadeAfter, Quits, count_to, end_result, watch_of, first_quit}
 
 -- a fill finds no byte if none is looked for
 pub clear-filled : (d : BinaryDetection) (old new : BufferState) (given : List ℕ)
-    → new.binary ≡ first_of old.binary (option_map (λ i. old.offset + length (held old) + i)
+    → new.binary ≡ first_of old.binary (option_map (λ i. old.offset + length (held_bytes old) + i)
     (found_in old.detection old.terminator given))
     → old.detection ≡ detection_of d → (is_detecting d ≡ false → old.binary ≡ None) → is_detecting d ≡ false
     → new.binary ≡ None
@@ -231,7 +231,7 @@ module _ {S E : Type 0} (step : Steps S E) (k : Settings) where
 
     -- a byte is found in a report
     quits : (old : Quitting S) {result : Result Bool E} (end offset : ℕ) (new : Quitting S) → new.found ≡ Some offset
-        → (returned : Result Bool E) → result ≡ ended returned
+        → (returned : Result Bool E) → result ≡ end_result returned
         → step old.sink.now k (binary_data offset) returned new.sink.now
         → QuitPasses old result end new
     quits old end offset new is (Ok goes_on) ends made =

@@ -3,8 +3,8 @@
 use Rattle.grep_core.specs.InputSearches.{IsSearchedUntil}
 use Rattle.grep_core.specs.QuittingSinks.{
   Watch,
-  quitting,
-  ended,
+  IsQuittingStep,
+  end_result,
   IsLookedAt,
   IsMadeAfter,
   count_to,
@@ -212,7 +212,7 @@ module _ {S E : Type 0} (step : Steps S E) (may_call : S → Type 0) (k : Settin
           (reported (calls_before b later n)))
 
   abbrev Q : Steps (Watch S) E
-  Q = quitting step may_call b
+  Q = IsQuittingStep step may_call b
 
   -- what followed a call
   abbrev Went : Planned → Result Bool E → Watch S → List Planned → Outcome E → Watch S → Type 0
@@ -270,7 +270,7 @@ module _ {S E : Type 0} (step : Steps S E) (may_call : S → Type 0) (k : Settin
   -- the search ended at a report
   end-of : (turn : Planned) (later : List Planned) (mid : Watch S) (outcome : Outcome E) (new : Watch S)
       (returned : Result Bool E)
-      → Went turn (ended returned) mid later outcome new → (new ≡ mid) × IsEnd outcome returned
+      → Went turn (end_result returned) mid later outcome new → (new ≡ mid) × IsEnd outcome returned
   end-of turn later mid outcome new (Ok goes_on) (stops, same) = (same, (turn.if_false, stops))
   end-of turn later mid outcome new (Err e) (fails, same) = (same, fails)
 
@@ -279,7 +279,7 @@ module _ {S E : Type 0} (step : Steps S E) (may_call : S → Type 0) (k : Settin
       {outcome : Outcome E} {new : Watch S} (index : ℕ) {result : Result Bool E}
       → position_of b (reported_bytes turn.call) ≡ Some index → position (holds_byte b) turns ≡ Some n
       → call_at b turns n ≡ turn → calls_before b turns n ≡ []
-      → mid.found ≡ Some (reported_from turn.call + index) → (returned : Result Bool E) → result ≡ ended returned
+      → mid.found ≡ Some (reported_from turn.call + index) → (returned : Result Bool E) → result ≡ end_result returned
       → step old k (binary_data (reported_from turn.call + index)) returned mid.sink
       → Went turn result mid later outcome new → HasQuit turns old outcome new
   at-byte turns n turn later old mid {outcome} {new} index holds is there none found returned ends called went =
@@ -497,7 +497,7 @@ module _ {S E : Type 0} (step : Steps S E) (may_call : S → Type 0) (k : Settin
   -- the same calls, without the reference
   watched : (turns : List Planned) (old : Quitting S) (outcome : Outcome E) (new : Quitting S) → old.byte ≡ b
       → AreMade (Quits step may_call) k old turns outcome new
-      → (new.byte ≡ b) × AreMade (quitting step may_call b) k (watch_of old) turns outcome (watch_of new)
+      → (new.byte ≡ b) × AreMade (IsQuittingStep step may_call b) k (watch_of old) turns outcome (watch_of new)
   watched [] old outcome new is (all, same) = (ap (λ (q : Quitting S). q.byte) same ∙ is, (all, ap watch_of same))
   watched (turn ∷ later) old outcome new is (inl (mid, made, rest)) =
       let next = watched later mid _ new (made.1 ∙ is) rest in (
@@ -546,7 +546,7 @@ module _ {S E : Type 0} (step : Steps S E) (may_call : S → Type 0) (k : Settin
 
       closed : (outcome : Outcome E) → run.mid.byte ≡ b
           → IsFinished (Quits step may_call) k outcome run.mid (counted count) result new
-          → IsFinished (quitting step may_call b) k outcome (watch_of run.mid) (counted count) result (watch_of new)
+          → IsFinished (IsQuittingStep step may_call b) k outcome (watch_of run.mid) (counted count) result (watch_of new)
       closed all_true same finished =
           finished.2
       closed (stopped finish) same finished =
@@ -640,7 +640,7 @@ module _ {S E F : Type 0} (step : Steps S E) (may_call : S → Type 0) (errors :
       let calls = quits-all step may_call k b (quits-begun step may_call k b 0
       (pairs.turns-through _ turns all) _
       whole clear
-      (subst (λ l. AreMade (quitting step may_call b) k (watch_of old) l all_true (watch_of new)) begun seen.1)) in
+      (subst (λ l. AreMade (IsQuittingStep step may_call b) k (watch_of old) l all_true (watch_of new)) begun seen.1)) in
       of_quit_matcher haystack error made asked fails message
       (rw none (subst (λ l. point_unless b l None ≡ None) (sym begun) (rw calls.0 refl)))
       (subst (λ l. AreMade step k old.sink.now l all_true new.sink.now) (sym begun) calls.1)

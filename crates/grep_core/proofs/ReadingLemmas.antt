@@ -36,17 +36,17 @@ use Rattle.grep_definitions.specs.Searches.{
   Taken,
 }
 use Rattle.grep_definitions.specs.DecodedInputs.{IsDecodedFront, passes_after, passes_unchanged}
-use Rattle.grep_line_buffer.proofs.DetectionLemmas.{length-detected, uncut-none}
+use Rattle.grep_line_buffer.proofs.DetectionLemmas.{length-detected_bytes, uncut-none}
 use Rattle.grep_line_buffer.specs.BufferStates.{
   BufferState,
   empty_buffer,
   is_cut,
-  held,
+  held_bytes,
   IsFilled,
   IsSameBuffer,
   IsWithin,
 }
-use Rattle.grep_line_buffer.specs.Detections.{detected, found_in, is_quit}
+use Rattle.grep_line_buffer.specs.Detections.{detected_bytes, found_in, is_quit}
 use Rattle.grep_line_buffer.specs.Fills.{HasWaitedForLine, Fills}
 use Rattle.grep_matcher.specs.Lines.{byte_of}
 use Rattle.grep_matcher.specs.Meanings.{Meaning}
@@ -213,9 +213,9 @@ module _ {R : Type 0} {remaining : R → Option (List ℕ)} {step : R → ReadRe
       ∙ (ap (λ x. found_in x buffer.terminator given) (sym detects)
       ∙ waited.uncut (ap is_quit detects ∙ quits)) in
       let held = views.view-held _ t given uncut ∙ sym (as-viewed bd _ _) in
-      let shown : detected buffer.detection buffer.terminator given ≡ view_of k given =
-      ap (λ x. detected x buffer.terminator given) detects
-      ∙ (ap (λ c. detected (detection_of bd) c given) fitting.terminator ∙ held) in
+      let shown : detected_bytes buffer.detection buffer.terminator given ≡ view_of k given =
+      ap (λ x. detected_bytes x buffer.terminator given) detects
+      ∙ (ap (λ c. detected_bytes (detection_of bd) c given) fitting.terminator ∙ held) in
       record {
         mid = last.mid;
         before = taken k reads;
@@ -228,7 +228,7 @@ module _ {R : Type 0} {remaining : R → Option (List ℕ)} {step : R → ReadRe
           rest = view_of k given;
           whole = refl;
           unended = subst (All (λ b. b ≢ t)) shown
-              (subst (λ c. All (λ b. b ≢ c) (detected buffer.detection buffer.terminator given)) fitting.terminator
+              (subst (λ c. All (λ b. b ≢ c) (detected_bytes buffer.detection buffer.terminator given)) fitting.terminator
               waited.unended);
           room = λ limit is. omega (arith, waited.room limit (fitting.limit ∙ is), view-length k given);
           unquit = ap (before_quit bd) (sym held) ∙ (as-unquit bd _ ∙ (views.before-held _ t given ∙ held));
@@ -281,8 +281,8 @@ module _ {R : Type 0} (remaining : R → Option (List ℕ)) (step : R → ReadRe
     pub fitting : IsFitting k.heap_limit (byte_of k.line_terminator) old
     pub same : IsSameBuffer old new
     pub filled : IsFilled old new
-    pub room : length (held new) ≤ new.size
-    pub tight : is_cut new ≡ true → length (held new) < new.size
+    pub room : length (held_bytes new) ≤ new.size
+    pub tight : is_cut new ≡ true → length (held_bytes new) < new.size
     pub within : IsWithin new.limit new.size
     pub done : (old.has_ended ≡ true → is_cut old ≡ false → IsDone d) → new.has_ended ≡ true → is_cut new ≡ false
         → IsDone d'
@@ -312,23 +312,23 @@ module _ {R : Type 0} {remaining : R → Option (List ℕ)} {step : R → ReadRe
   -- what the view of an input is, by what a buffer holds of it
   module _ {k : Settings} {gone given : List ℕ} {old new : BufferState} {decoder d : DecoderState} {reader r : R}
       (is : IsHeld remaining step k gone given old new decoder d reader r) where
-    pub holds-is : gone ++ held new ≡ detected (detection_of k.binary_detection) (t k) given
-    holds-is = is.holds.whole ∙ (ap (λ d. detected d old.terminator given) is.detects
-        ∙ ap (λ c. detected (detection_of k.binary_detection) c given) is.ends_at)
+    pub holds-is : gone ++ held_bytes new ≡ detected_bytes (detection_of k.binary_detection) (t k) given
+    holds-is = is.holds.whole ∙ (ap (λ d. detected_bytes d old.terminator given) is.detects
+        ∙ ap (λ c. detected_bytes (detection_of k.binary_detection) c given) is.ends_at)
 
     pub found-there : new.binary ≡ found_in (detection_of k.binary_detection) (t k) given
     found-there = is.holds.found ∙ (ap (λ d. found_in d old.terminator given) is.detects
         ∙ ap (λ c. found_in (detection_of k.binary_detection) c given) is.ends_at)
 
     -- the view of every input begins with what is gone and what is held
-    pub fronts-there : (later : List ℕ) → (back : List ℕ) × (view_of k (given ++ later) ≡ (gone ++ held new) ++ back)
+    pub fronts-there : (later : List ℕ) → (back : List ℕ) × (view_of k (given ++ later) ≡ (gone ++ held_bytes new) ++ back)
     fronts-there later =
         let front = views.view-front _ (t k) given later in
         (front.0, as-viewed k.binary_detection _ _ ∙ (front.1 ∙ ap (λ xs. xs ++ front.0) (sym holds-is)))
 
     -- also of what comes before a byte that ends the search
     pub before-there : (later : List ℕ)
-        → (back : List ℕ) × (before_quit k.binary_detection (view_of k (given ++ later)) ≡ (gone ++ held new) ++ back)
+        → (back : List ℕ) × (before_quit k.binary_detection (view_of k (given ++ later)) ≡ (gone ++ held_bytes new) ++ back)
     before-there later =
         let front = views.before-front _ (t k) given later in (
           front.0,
@@ -337,41 +337,41 @@ module _ {R : Type 0} {remaining : R → Option (List ℕ)} {step : R → ReadRe
         )
 
     -- which is none of the bytes that are gone or held
-    pub unquit-held : before_quit k.binary_detection (gone ++ held new) ≡ gone ++ held new
+    pub unquit-held : before_quit k.binary_detection (gone ++ held_bytes new) ≡ gone ++ held_bytes new
     unquit-held = ap (before_quit k.binary_detection) holds-is
         ∙ (as-unquit k.binary_detection _ ∙ (views.before-held _ (t k) given ∙ sym holds-is))
 
     module _ (uncut : is_cut new ≡ false) where
-      pub view-there : view_of k given ≡ gone ++ held new
+      pub view-there : view_of k given ≡ gone ++ held_bytes new
       view-there = sym (holds-is ∙ views.view-held _ (t k) given
           (λ quits. sym found-there
           ∙ uncut-none _ _ uncut (ap is_quit (is.same.detection ∙ is.detects) ∙ quits)) ∙ sym (as-viewed k.binary_detection _ _))
 
-      pub shows-there : (later : List ℕ) → view_of k (given ++ later) ≡ (gone ++ held new) ++ view_of k later
+      pub shows-there : (later : List ℕ) → view_of k (given ++ later) ≡ (gone ++ held_bytes new) ++ view_of k later
       shows-there later = as-viewed k.binary_detection _ _ ∙ (views.view-append _ (t k) given later
           ∙ ap₂ (λ xs ys. xs ++ ys) (sym (as-viewed k.binary_detection _ _) ∙ view-there) (sym (as-viewed k.binary_detection _ _)))
 
       -- as much is gone and held as was given
-      pub length-there : length given ≡ length gone + length (held new)
+      pub length-there : length given ≡ length gone + length (held_bytes new)
       length-there = omega (
         arith,
         ap length view-there,
         view-length k given,
-        length-append gone (held new),
+        length-append gone (held_bytes new),
       )
 
   -- a byte that wasn't found before is after all that was held then
   pub found-past : {k : Settings} {gone given : List ℕ} (more : List ℕ) {old new : BufferState} {decoder d d' : DecoderState}
       {reader r r' : R} → IsHeld remaining step k gone given old old decoder d reader r
       → IsHeld remaining step k gone (given ++ more) old new decoder d' reader r' → old.binary ≡ None
-      → (o : ℕ) → new.binary ≡ Some o → length gone + length (held old) ≤ o
+      → (o : ℕ) → new.binary ≡ Some o → length gone + length (held_bytes old) ≤ o
   found-past {k} {gone} {given} more {old} before after none o is =
       let absent = sym (found-there before) ∙ none in
       omega (
         arith,
         views.found-after _ (t k) given more o absent
             (sym (found-there after) ∙ is),
-        length-detected _ (t k) given absent,
+        length-detected_bytes _ (t k) given absent,
         ap length (holds-is before),
-        length-append gone (held old),
+        length-append gone (held_bytes old),
       )

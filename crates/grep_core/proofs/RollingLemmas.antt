@@ -52,17 +52,17 @@ use Rattle.grep_line_buffer.proofs.BufferStateLemmas.{
   last-filled,
   unended-filled,
 }
-use Rattle.grep_line_buffer.proofs.DetectionLemmas.{detected-nil, found-nil}
+use Rattle.grep_line_buffer.proofs.DetectionLemmas.{detected_bytes-nil, found-nil}
 use Rattle.grep_line_buffer.specs.BufferStates.{
   BufferState,
-  held,
+  held_bytes,
   is_cut,
   IsWithin,
   empty_buffer,
   GrowsIfFull,
   IsSameBuffer,
 }
-use Rattle.grep_line_buffer.specs.Detections.{detected, found_in, is_quit}
+use Rattle.grep_line_buffer.specs.Detections.{detected_bytes, found_in, is_quit}
 use Rattle.grep_matcher.proofs.LineLemmas.{lines-append}
 use Rattle.grep_matcher.specs.Lines.{lines, byte_of}
 use Rattle.grep_matcher.specs.Meanings.{Meaning, MatcherFacts}
@@ -72,7 +72,7 @@ use Rattle.grep_walk.proofs.WindowLemmas.{roll-input}
 use Rattle.grep_walk.proofs.WindowSearchLemmas.{line-seen, passed-end, searched-rolled, searched-start}
 use Rattle.grep_walk.specs.Origins.{Origin, fresh}
 use Rattle.grep_walk.specs.WalkFaults.{IsWalkFault}
-use Rattle.grep_walk.specs.Walks.{AreCounts, recounted, IsCount}
+use Rattle.grep_walk.specs.Walks.{AreCounts, with_counts, IsCount}
 use Rattle.grep_walk.specs.Windows.{HasPassed, HasSearched, IsInWindow}
 use Rattle.grep_walk.specs.declared.walk.Walk.{Walk}
 use Rattle.std.proofs.Common.{
@@ -203,12 +203,12 @@ module _ {S E : Type 0} {step : Steps S E} {k : Settings} {meaning : Meaning}
             → ((gone : List ℕ) → IsClosed (t_of k) gone → IsClosed (t_of k) (gone ++ take r old.shown))
             → ((gone more after : List ℕ) → IsClosed (t_of k) gone
             → (0 < length after → IsClosed (t_of k) (drop r old.shown ++ more))
-            → (line through : ℕ) → AreCounts k w' line through
+            → (line next_unreported : ℕ) → AreCounts k w' line next_unreported
             → IsInWindow k gone old.shown (gone ++ (old.shown ++ (more ++ after))) (length old.shown)
-            (recounted w' line through)
+            (with_counts w' line next_unreported)
             → IsInWindow k (gone ++ take r old.shown) (drop r old.shown ++ more)
             (gone ++ (old.shown ++ (more ++ after)))
-            (length old.shown - r) (recounted w' line through))
+            (length old.shown - r) (with_counts w' line next_unreported))
             → (gone : List ℕ) (first : Origin S) → IsClosed (t_of k) gone
             → IsReady step k meaning gone old.shown (start_in old w) first w now
             → IsClosed (t_of k) (gone ++ take r old.shown)
@@ -287,7 +287,7 @@ module _ {S E : Type 0} {step : Steps S E} {k : Settings} {meaning : Meaning}
           {d d' : DecoderState} {r r' : R} {new : BufferState}
           (fill : HasFilled remaining read_step k old d r new d' r') (uncut : is_cut new ≡ false) where
         abbrev given : List ℕ
-        given = detected old.detection old.terminator fill.fills.given
+        given = detected_bytes old.detection old.terminator fill.fills.given
 
         way : IsUncut old new
         way = uncut-filled uncut fill.filled
@@ -417,7 +417,7 @@ module _ {R : Type 0} {remaining : R → Option (List ℕ)} {read_step : R → R
     };
     given = [];
     holds = record {
-      whole = ap held empty ∙ sym (detected-nil buffer.detection _);
+      whole = ap held_bytes empty ∙ sym (detected_bytes-nil buffer.detection _);
       found = ap (λ b. b.binary) empty ∙ sym (found-nil buffer.detection _);
       decodes = reads;
     };
@@ -471,7 +471,7 @@ module _ {R : Type 0} {remaining : R → Option (List ℕ)} {read_step : R → R
 
       -- what follows what is gone and held
       abbrev view : (bytes : List ℕ) → Input bytes
-          → (later : List ℕ) × (view_of k bytes ≡ (so_far.gone ++ held new) ++ later) × (IsDone d' → later ≡ [])
+          → (later : List ℕ) × (view_of k bytes ≡ (so_far.gone ++ held_bytes new) ++ later) × (IsDone d' → later ≡ [])
       view = reading.view-is k reads-now _ (reading.shows-there held-now uncut)
 
       -- and what is shown
@@ -482,7 +482,7 @@ module _ {R : Type 0} {remaining : R → Option (List ℕ)} {read_step : R → R
           ≡ view_of k bytes
       after-is bytes input =
           let text = view bytes input in
-          sym (text.1 ∙ (append_assoc so_far.gone (held new) text.0
+          sym (text.1 ∙ (append_assoc so_far.gone (held_bytes new) text.0
           ∙ ap (λ xs. so_far.gone ++ xs) (append_assoc new.shown new.rest text.0)))
 
       last : (bytes : List ℕ) (input : Input bytes) → new.has_ended ≡ true → (view bytes input).0 ≡ []
@@ -599,7 +599,7 @@ module _ {R : Type 0} {remaining : R → Option (List ℕ)} {read_step : R → R
       -- or it reads on
       abbrev pub rolling-next : {w' : Walk} {moved : BufferState} {now' : S}
           → HasMovedOn step k meaning new w now moved w' now'
-          → ((count : ℕ) → so_far.gone ++ held new ≡ (so_far.gone ++ take count new.shown)
+          → ((count : ℕ) → so_far.gone ++ held_bytes new ≡ (so_far.gone ++ take count new.shown)
           ++ (drop count new.shown ++ new.rest))
           → IsRolling step k meaning remaining read_step decoder reader first moved d' r' w' now'
       rolling-next on consumed = record {
@@ -608,8 +608,8 @@ module _ {R : Type 0} {remaining : R → Option (List ℕ)} {read_step : R → R
         given = raw;
         holds = rw on.moved (record {
           whole = sym (consumed on.count) ∙ (held-now.holds.whole
-              ∙ (ap (λ x. detected x old.terminator raw) (sym fill.same.detection)
-              ∙ ap (λ c. detected new.detection c raw) (sym fill.same.terminator)));
+              ∙ (ap (λ x. detected_bytes x old.terminator raw) (sym fill.same.detection)
+              ∙ ap (λ c. detected_bytes new.detection c raw) (sym fill.same.terminator)));
           found = held-now.holds.found ∙ (ap (λ x. found_in x old.terminator raw) (sym fill.same.detection)
               ∙ ap (λ c. found_in new.detection c raw) (sym fill.same.terminator));
           decodes = held-now.holds.decodes;

@@ -36,14 +36,14 @@ use Rattle.grep_line_buffer.specs.declared.fill_error.FillError.{FillError}
 use Rattle.grep_line_buffer.specs.declared.fill_error.FillError.TheVariants.{Read, HeapLimit, Offset, Memory}
 use Rattle.grep_line_buffer.specs.BufferStates.{
   BufferState,
-  held,
+  held_bytes,
   is_cut,
   GrowsIfFull,
   HasNoLine,
   IsSameBuffer,
   IsWithin,
 }
-use Rattle.grep_line_buffer.specs.Detections.{detected}
+use Rattle.grep_line_buffer.specs.Detections.{detected_bytes}
 use Rattle.grep_line_buffer.specs.Fills.{FailsToFill, FillFails, Fills, IfRead, UnlessRead}
 use Rattle.grep_matcher.specs.Meanings.{Meaning}
 use Rattle.grep_matcher.specs.Lines.{byte_of}
@@ -136,7 +136,7 @@ module _ {R : Type 0} {remaining : R → Option (List ℕ)} {read_step : R → R
       (fill : HasNotFilled remaining read_step k old d r new d' r' error)
       (fills : Fills remaining read_step old d r new d' mid) where
     abbrev given : List ℕ
-    given = detected old.detection old.terminator fills.given
+    given = detected_bytes old.detection old.terminator fills.given
 
     abbrev raw : List ℕ
     raw = so_far.given ++ fills.given
@@ -153,19 +153,19 @@ module _ {R : Type 0} {remaining : R → Option (List ℕ)} {read_step : R → R
     reads-now = reading.reads stream held-now
 
     -- what is gone and held is what was seen, and the bytes after it
-    seen-is : so_far.gone ++ held new ≡ seen ++ (old.rest ++ given)
+    seen-is : so_far.gone ++ held_bytes new ≡ seen ++ (old.rest ++ given)
     seen-is = ap (λ xs. so_far.gone ++ xs) (fills.appended ∙ append_assoc old.shown old.rest given)
         ∙ sym (append_assoc so_far.gone old.shown (old.rest ++ given))
 
-    text-is : {bytes : List ℕ} (later : List ℕ) → bytes ≡ (so_far.gone ++ held new) ++ later
+    text-is : {bytes : List ℕ} (later : List ℕ) → bytes ≡ (so_far.gone ++ held_bytes new) ++ later
         → bytes ≡ seen ++ ((old.rest ++ given) ++ later)
     text-is later is = is ∙ (ap (λ xs. xs ++ later) seen-is ∙ append_assoc seen (old.rest ++ given) later)
 
-    room-is : length (held new) ≡ length old.shown + length (old.rest ++ given)
+    room-is : length (held_bytes new) ≡ length old.shown + length (old.rest ++ given)
     room-is = omega (
       arith,
       ap length fills.appended,
-      length-append (held old) given,
+      length-append (held_bytes old) given,
       length-append old.shown old.rest,
       length-append old.rest given,
     )
@@ -179,8 +179,8 @@ module _ {R : Type 0} {remaining : R → Option (List ℕ)} {read_step : R → R
 
     -- a buffer that is full cuts an input short that goes on with what was given
     crowded-there : {bytes : List ℕ} (later : List ℕ) (least : ℕ) → HasNoLine old new
-        → bytes ≡ (so_far.gone ++ held new) ++ later
-        → length (held new) ≡ new.size → 0 < least → least ≤ new.size → IsCrowded k meaning bytes seen least
+        → bytes ≡ (so_far.gone ++ held_bytes new) ++ later
+        → length (held_bytes new) ≡ new.size → 0 < least → least ≤ new.size → IsCrowded k meaning bytes seen least
     crowded-there later least no_line is full some enough = rw (text-is later is)
         (crowded k _ _ _ _ later least
         so_far.between.opens so_far.between.shut
@@ -190,7 +190,7 @@ module _ {R : Type 0} {remaining : R → Option (List ℕ)} {read_step : R → R
     -- the buffer's error does
     cuts-short : (error : FillError) {io : Error} → IsMadeOf error io → FillFails old new error
         → ((e : Error) → error ≡ Read e → ⊥)
-        → {bytes : List ℕ} (later : List ℕ) → bytes ≡ (so_far.gone ++ held new) ++ later
+        → {bytes : List ℕ} (later : List ℕ) → bytes ≡ (so_far.gone ++ held_bytes new) ++ later
         → CutsShort k meaning bytes seen io
     cuts-short (Read e) made fails other later is = absurd (other e refl)
     cuts-short HeapLimit made (no_line, at) other later is =
@@ -204,8 +204,8 @@ module _ {R : Type 0} {remaining : R → Option (List ℕ)} {read_step : R → R
       fill.same.offset,
       so_far.between.offset,
       ap length is,
-      length-append (so_far.gone ++ held new) later,
-      length-append so_far.gone (held new),
+      length-append (so_far.gone ++ held_bytes new) later,
+      length-append so_far.gone (held_bytes new),
     ))
     cuts-short Memory made (no_line, may) other later is =
         let large = may-grow _ _ (grown old new fill.grows fill.fitting.size)
@@ -234,7 +234,7 @@ module _ {R : Type 0} {remaining : R → Option (List ℕ)} {read_step : R → R
         (fills.given ++ text.0, text.1 ∙ append_assoc so_far.given fills.given text.0)
 
     -- the reader's own error
-    short-read : {e : Error} → is_cut new ≡ false → HasNoLine old new → length (held new) < new.size
+    short-read : {e : Error} → is_cut new ≡ false → HasNoLine old new → length (held_bytes new) < new.size
         → d'.has_ended ≡ false
         → read_step mid (Err e) r' → d'.ready ≡ [] → IsWaiting d'.mode d'.held → IsShortTo r' e
     short-read uncut no_line room unended failed ready waits =

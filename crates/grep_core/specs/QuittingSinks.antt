@@ -24,9 +24,9 @@ first_quit offset = record {
 }
 
 -- the search ends, whatever `binary_data` returned
-abbrev pub ended : {E : Type 0} → Result Bool E → Result Bool E
-ended (Ok goes_on) = Ok false
-ended (Err e) = Err e
+abbrev pub end_result : {E : Type 0} → Result Bool E → Result Bool E
+end_result (Ok goes_on) = Ok false
+end_result (Err e) = Err e
 
 -- the byte count of `finish`: that offset, if there is one
 abbrev pub count_to : Option ℕ → ℕ → ℕ
@@ -52,7 +52,7 @@ module _ {S E : Type 0} (step : Steps S E) (may_call : S → Type 0) where
       × IsMadeAfter old.has_break old.sink settings call result new.sink
   IsLookedAt (Some index) from old settings call result new =
       (new.found ≡ Some (from + index)) × (new.has_break ≡ false)
-      × ((returned : Result Bool E) × (result ≡ ended returned)
+      × ((returned : Result Bool E) × (result ≡ end_result returned)
       × step old.sink settings (binary_data (from + index)) returned new.sink)
 
   -- any other call is passed on
@@ -61,17 +61,18 @@ module _ {S E : Type 0} (step : Steps S E) (may_call : S → Type 0) where
       (new.found ≡ old.found) × (new.has_break ≡ old.has_break)
       × step old.sink settings call result new.sink
 
-  abbrev pub quitting : ℕ → Steps (Watch S) E
-  quitting b old settings begins result new = IsPassedOn old settings begins result new
-  quitting b old settings (matches number from bytes) result new =
+  -- the steps of that sink, where the byte is b
+  abbrev pub IsQuittingStep : ℕ → Steps (Watch S) E
+  IsQuittingStep b old settings begins result new = IsPassedOn old settings begins result new
+  IsQuittingStep b old settings (matches number from bytes) result new =
       IsLookedAt (position_of b bytes) from old settings (matches number from bytes) result new
-  quitting b old settings (context kind number from bytes) result new =
+  IsQuittingStep b old settings (context kind number from bytes) result new =
       IsLookedAt (position_of b bytes) from old settings (context kind number from bytes) result new
-  quitting b old settings breaks result new =
+  IsQuittingStep b old settings breaks result new =
       (new ≡ record old { has_break = true }) × (result ≡ Ok true)
-  quitting b old settings (binary_data offset) result new =
+  IsQuittingStep b old settings (binary_data offset) result new =
       IsPassedOn old settings (binary_data offset) result new
-  quitting b old settings (finishes count binary) result new =
+  IsQuittingStep b old settings (finishes count binary) result new =
       IsPassedOn old settings (finishes (count_to old.found count) old.found) result new
 
 -- what is known of such a sink between two calls
@@ -82,4 +83,4 @@ watch_of q = record { sink = q.sink.now; has_break = q.has_break; found = q.foun
 abbrev pub Quits : {S E : Type 0} → Steps S E → (S → Type 0) → Steps (Quitting S) E
 Quits step may_call old settings call result new =
     (new.sink.ghost_name ≡ old.sink.ghost_name) × (new.byte ≡ old.byte)
-    × quitting step may_call old.byte (watch_of old) settings call result (watch_of new)
+    × IsQuittingStep step may_call old.byte (watch_of old) settings call result (watch_of new)

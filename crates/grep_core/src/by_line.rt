@@ -142,7 +142,7 @@ impl<'c, A: Allocator + Copy, T> Search<'c, A, T> {
                 return Ok(true);
             };
             let line = &window[start..end];
-            let known = ahead.at(start);
+            let known = ahead.known_at(start);
             let verdict = match self.config.judge(matcher, line, known, walk) {
                 Ok(verdict) => verdict,
                 Err(error) => return Err(C::Error::error_message(self.alloc, error)),

@@ -3,7 +3,7 @@ ghost use Rattle.std.specs.Prelude.{◌≡◌, ◌+◌, ◌<◌, ◌^◌, true, 
 ghost use Rattle.std.specs.Prelude.{Result, length};
 ghost use Rattle.std.specs.Option.{option_map};
 ghost use Rattle.grep_core.specs.Configured.{IsConfigured};
-ghost use Rattle.grep_core.specs.QuittingSinks.{ended};
+ghost use Rattle.grep_core.specs.QuittingSinks.{end_result};
 ghost use Rattle.grep_definitions.specs.Searches.{position_of};
 ghost use Rattle.grep_definitions.specs.Plans.{binary_data, breaks};
 
@@ -62,7 +62,7 @@ impl<'c, A, T> Search<'c, A, T> {
     ) -> Result<bool, C::Error>
         requires configured { IsConfigured (C.settings self.now.searcher.now) self.now.config }
         requires may_call { C.may_call sink.old.sink.now }
-        ensures step { (returned : Result Bool C.Error) × (result ≡ ended returned)
+        ensures step { (returned : Result Bool C.Error) × (result ≡ end_result returned)
             × C.step sink.old.sink.now self.now.config
             (binary_data offset) returned sink.new.sink.now }
         ensures found { sink.new.found ≡ Some offset }

@@ -6,7 +6,7 @@ ghost use Rattle.std.specs.declared.io.Error.{Error};
 ghost use Rattle.grep_matcher.specs.Lines.{byte_of};
 ghost use Rattle.grep_matcher.specs.Meanings.{IsInfallible};
 ghost use Rattle.grep_decode.specs.DecoderStates.{started};
-ghost use Rattle.grep_line_buffer.specs.BufferStates.{empty_buffer, held};
+ghost use Rattle.grep_line_buffer.specs.BufferStates.{empty_buffer, held_bytes};
 ghost use Rattle.grep_definitions.specs.Plans.{is_at, is_across, IsLawful, begins, NeverFails};
 ghost use Rattle.grep_definitions.specs.Searches.{is_detecting, look_of, on_stream, IsReadingError};
 ghost use Rattle.grep_definitions.specs.Searches.{IsClosed, IsReadForLine, IsUnread, reads_lines};
@@ -311,7 +311,7 @@ impl<'c, A: Allocator + Copy, T> Search<'c, A, T> {
             (makers_of M.Error.output C.Error.makers) (M.facts matcher.now)
             self.now.config (gone ++ (lines.old.shown ++ after)) first e sink.new) }
         ensures kept { OnErr result (lines.new ≡ lines.old) }
-        ensures room { length (held lines.old) ≤ lines.old.size }
+        ensures room { length (held_bytes lines.old) ≤ lines.old.size }
         ensures succeeds { NeverFails C.step C.may_call → IsInfallible (M.facts matcher.now).fails
             → IsOk result }
         ensures binary { OnOk result (lines.new.binary ≡ lines.old.binary) }

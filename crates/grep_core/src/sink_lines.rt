@@ -41,7 +41,7 @@ impl<'c, A: Allocator + Copy, T> Search<'c, A, T> {
         requires after { start ≤ walk.now.offset }
         requires fits { walk.now.offset + (length window.now - start) < 2 ^ 64 }
         requires number { walk.now.line + 1 < 2 ^ 64 }
-        requires through { walk.now.next_unreported ≤ walk.now.line }
+        requires low { walk.now.next_unreported ≤ walk.now.line }
         requires configured { IsConfigured (C.settings self.now.searcher.now) self.now.config }
         requires may_call { C.may_call sink.old }
         ensures reported { (gone input : List ℕ)
@@ -133,7 +133,7 @@ impl<'c, A: Allocator + Copy, T> Search<'c, A, T> {
         requires after { start ≤ walk.now.offset }
         requires fits { walk.now.offset + (length window.now - start) < 2 ^ 64 }
         requires number { walk.now.line + 1 < 2 ^ 64 }
-        requires through { walk.now.next_unreported ≤ walk.now.line }
+        requires low { walk.now.next_unreported ≤ walk.now.line }
         requires configured { IsConfigured (C.settings self.now.searcher.now) self.now.config }
         requires may_call { C.may_call sink.old }
         ensures reported { (gone input : List ℕ)

@@ -8,7 +8,7 @@ use Rattle.std.proofs.lemmas.List.Elements.{All-append, All-get_or}
 use Rattle.grep_line_buffer.specs.declared.detection.Detection.{Detection}
 use Rattle.std.specs.Prelude.{slice_range}
 use Rattle.grep_line_buffer.specs.BufferStates.{BufferState, EndsAtEnd, EndsAtLine, EndsWith, GrowsIfFull, IsFilled}
-use Rattle.grep_line_buffer.specs.BufferStates.{HasNoLine, IsSameBuffer, Lacks, held, is_cut}
+use Rattle.grep_line_buffer.specs.BufferStates.{HasNoLine, IsSameBuffer, Lacks, held_bytes, is_cut}
 use Rattle.grep_line_buffer.proofs.SliceLemmas.{drop-slice, slice-join, length-slice, slice_index-slice}
 
 -- two windows that differ in what is shown, in what follows it, and in sizes
@@ -114,7 +114,7 @@ uncut-filled uncut (inr (inl end)) = inr end
 uncut-filled uncut (inr (inr byte)) = absurd (false≢true (sym uncut ∙ byte.cut))
 
 -- a fill shows at least what was shown
-pub long-shown : {old new : BufferState} (given : List ℕ) → held new ≡ held old ++ given → IsUncut old new
+pub long-shown : {old new : BufferState} (given : List ℕ) → held_bytes new ≡ held_bytes old ++ given → IsUncut old new
     → length old.shown ≤ length new.shown
 long-shown {old} given whole (inl line) = omega (arith, line.came, length-append old.shown old.rest)
 long-shown {old} {new} given whole (inr end) = omega (
@@ -122,7 +122,7 @@ long-shown {old} {new} given whole (inr end) = omega (
   ap length whole,
   ap length end.all,
   length-append new.shown new.rest,
-  length-append (held old) given,
+  length-append (held_bytes old) given,
   length-append old.shown old.rest,
 )
 
@@ -152,17 +152,17 @@ module _ {t : ℕ} {old new : BufferState} (ends_at : old.terminator ≡ t) wher
   last-filled later (inr end) done last = ap (λ xs. xs ++ later) end.all ∙ done end.ended
 
   -- if it shows whole lines, and more than before, the end wasn't seen
-  pub unended-filled : (given : List ℕ) → held new ≡ held old ++ given → Lacks t old.rest → IsUncut old new
+  pub unended-filled : (given : List ℕ) → held_bytes new ≡ held_bytes old ++ given → Lacks t old.rest → IsUncut old new
       → length old.shown < length new.shown → IsEnded t new.shown → (new.has_ended ≡ false) × Lacks t new.rest
   unended-filled given whole lacks (inl line) more closed =
       (line.unended, subst (λ c. Lacks c new.rest) ends_at line.none)
   unended-filled given whole lacks (inr end) more closed =
-      let all : new.shown ≡ held old ++ given = sym (append-nil new.shown)
+      let all : new.shown ≡ held_bytes old ++ given = sym (append-nil new.shown)
       ∙ (ap (λ xs. new.shown ++ xs) (sym end.all) ∙ whole) in
       let tail : List ℕ = old.rest ++ given in
       let shown : new.shown ≡ old.shown ++ tail = all ∙ append_assoc old.shown old.rest given in
       let given_lacks = subst (λ c. Lacks c given) ends_at (subst (Lacks old.terminator)
-      (ap (drop (length (held old))) all ∙ drop_at (held old) given (length (held old)) refl) end.none) in
+      (ap (drop (length (held_bytes old))) all ∙ drop_at (held_bytes old) given (length (held_bytes old)) refl) end.none) in
       let tail_lacks = All-append (λ b. b ≢ t) old.rest given lacks given_lacks in
       let size : length new.shown ≡ length old.shown + length tail = ap length shown ∙ length-append old.shown tail in
       let last : length old.shown + (length tail - 1) ≡ length new.shown - 1 = omega (arith, size, more) in
@@ -173,9 +173,9 @@ module _ {t : ℕ} {old new : BufferState} (ends_at : old.terminator ≡ t) wher
 
 -- after a fill that failed, what is held and isn't shown lacks the byte that ends a line
 pub unended-rest : {t : ℕ} {old new : BufferState} (given : List ℕ) → old.terminator ≡ t
-    → held new ≡ held old ++ given → Lacks t old.rest → HasNoLine old new → Lacks t (old.rest ++ given)
+    → held_bytes new ≡ held_bytes old ++ given → Lacks t old.rest → HasNoLine old new → Lacks t (old.rest ++ given)
 unended-rest {t} {old} {new} given ends_at whole lacks no_line =
-    let tail : given ≡ new.rest = append_cancel_left (held old) given new.rest
+    let tail : given ≡ new.rest = append_cancel_left (held_bytes old) given new.rest
     (sym whole ∙ ap (λ xs. xs ++ new.rest) no_line.shown) in
     All-append (λ b. b ≢ t) old.rest given lacks
     (subst (Lacks t) (sym tail) (subst (λ c. Lacks c new.rest) ends_at no_line.none))

@@ -11,8 +11,8 @@ use Rattle.std.proofs.lemmas.Slice.{between_is, drop-put_mid, take-put_mid, take
 use Rattle.std.proofs.Math.Seq.{take-append_seam}
 use Rattle.std.specs.Prelude.{slice_range}
 use Rattle.grep_line_buffer.specs.Appends.{Detects}
-use Rattle.grep_line_buffer.specs.BufferStates.{BufferState, held}
-use Rattle.grep_line_buffer.specs.Detections.{detected, found_in, first_of}
+use Rattle.grep_line_buffer.specs.BufferStates.{BufferState, held_bytes}
+use Rattle.grep_line_buffer.specs.Detections.{detected_bytes, found_in, first_of}
 use Rattle.grep_line_buffer.specs.declared.detection.Detection.TheVariants.{Quit}
 use Rattle.grep_line_buffer.proofs.DetectionLemmas.{all-before, first_of-none, passes-or-not, position-at}
 use Rattle.grep_line_buffer.proofs.DetectionLemmas.{position-missing}
@@ -21,11 +21,11 @@ use Rattle.grep_line_buffer.proofs.SliceLemmas.{length-slice, slice-join, slice-
 
 -- the bytes before the last ones stay, and detection makes these of the last ones
 pub Detects-made : (count : ℕ) (old new : BufferState) (front last made : List ℕ) (free : ℕ) (binary : Option ℕ)
-    → old.rest ≡ front ++ last → length last ≡ count → made ≡ detected old.detection old.terminator last
+    → old.rest ≡ front ++ last → length last ≡ count → made ≡ detected_bytes old.detection old.terminator last
     → new ≡ record old { rest = front ++ made; free = free; binary = binary }
-    → binary ≡ first_of old.binary (option_map (λ i. old.offset + (length (held old) - count) + i)
+    → binary ≡ first_of old.binary (option_map (λ i. old.offset + (length (held_bytes old) - count) + i)
     (found_in old.detection old.terminator last))
-    → free + length (old.shown ++ (front ++ made)) ≡ old.free + length (held old) → Detects count old new
+    → free + length (old.shown ++ (front ++ made)) ≡ old.free + length (held_bytes old) → Detects count old new
 Detects-made count old new front last made free binary split counted is changed found sum =
     let at : length old.rest - count ≡ length front =
     omega (arith, ap (λ l. length l) split, length-append front last, counted) in
@@ -34,9 +34,9 @@ Detects-made count old new front last made free binary split counted is changed 
     let after : drop (length old.rest - count) old.rest ≡ last =
     ap (λ n. drop n old.rest) at ∙ ap (drop (length front)) split ∙ drop_at front last _ refl in
     subst (Detects count old) (sym changed) (record {
-      appended = ap (λ l. front ++ l) is ∙ ap (λ l. l ++ detected old.detection old.terminator last) (sym before)
-          ∙ ap (λ l. take (length old.rest - count) old.rest ++ detected old.detection old.terminator l) (sym after);
-      found = found ∙ ap (λ l. first_of old.binary (option_map (λ i. old.offset + (length (held old) - count) + i)
+      appended = ap (λ l. front ++ l) is ∙ ap (λ l. l ++ detected_bytes old.detection old.terminator last) (sym before)
+          ∙ ap (λ l. take (length old.rest - count) old.rest ++ detected_bytes old.detection old.terminator l) (sym after);
+      found = found ∙ ap (λ l. first_of old.binary (option_map (λ i. old.offset + (length (held_bytes old) - count) + i)
           (found_in old.detection old.terminator l))) (sym after);
       free = sum;
       others = refl;
@@ -142,12 +142,12 @@ pub nothing-found : (before found : Option ℕ) (f : ℕ → ℕ) → found ≡ 
 nothing-found before found f none = sym (ap (λ o. first_of before (option_map f o)) none ∙ first_of-none before)
 
 -- the byte of `Quit` isn't among these, or is first at an index
-pub quit-none : (b t : ℕ) (bytes : List ℕ) → position (λ x. x == b) bytes ≡ None → bytes ≡ detected (Quit b) t bytes
+pub quit-none : (b t : ℕ) (bytes : List ℕ) → position (λ x. x == b) bytes ≡ None → bytes ≡ detected_bytes (Quit b) t bytes
 quit-none b t bytes none =
     sym (take_all (position_or_len (λ x. x == b) bytes) bytes (omega (arith, all-before (λ x. x == b) bytes none)))
 
 pub quit-at : (b t : ℕ) (bytes : List ℕ) (at : ℕ) → position (λ x. x == b) bytes ≡ Some at → take at bytes
-    ≡ detected (Quit b) t bytes
+    ≡ detected_bytes (Quit b) t bytes
 quit-at b t bytes at is = by (passes-or-not (λ x. x == b) bytes)
   where
     by : (position_or_len (λ x. x == b) bytes < length bytes) ⊎ (position_or_len (λ x. x == b) bytes ≡ length bytes)

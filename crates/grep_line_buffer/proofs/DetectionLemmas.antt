@@ -12,7 +12,7 @@ use Rattle.std.proofs.lemmas.List.Sums.{prefix_len-le-length}
 use Rattle.std.proofs.lemmas.Option.{none-some}
 use Rattle.grep_line_buffer.specs.declared.detection.Detection.{Detection}
 use Rattle.grep_line_buffer.specs.declared.detection.Detection.TheVariants.{None as no_detection, Quit, Convert}
-use Rattle.grep_line_buffer.specs.Detections.{detected, found_in, first_of, is_quit}
+use Rattle.grep_line_buffer.specs.Detections.{detected_bytes, found_in, first_of, is_quit}
 
 -- a number that is at most another is below it or the same
 below-or-same : (a b : ℕ) → a ≤ b → (t : Bool) → nat_lt a b ≡ t → (a < b) ⊎ (a ≡ b)
@@ -101,25 +101,25 @@ found-append (Convert b) t xs ys = by (b == t)
     by false = position-append (λ x. x == b) xs ys
 
 -- bytes that none of `Quit` is among are all held
-pub detected-append : (detection : Detection) (t : ℕ) (xs ys : List ℕ)
+pub detected_bytes-append : (detection : Detection) (t : ℕ) (xs ys : List ℕ)
     → (is_quit detection ≡ true → found_in detection t xs ≡ None)
-    → detected detection t (xs ++ ys) ≡ detected detection t xs ++ detected detection t ys
-detected-append no_detection t xs ys none = refl
-detected-append (Convert b) t xs ys none = map-append (λ x. if x == b then t else x) xs ys
-detected-append (Quit b) t xs ys none =
+    → detected_bytes detection t (xs ++ ys) ≡ detected_bytes detection t xs ++ detected_bytes detection t ys
+detected_bytes-append no_detection t xs ys none = refl
+detected_bytes-append (Convert b) t xs ys none = map-append (λ x. if x == b then t else x) xs ys
+detected_bytes-append (Quit b) t xs ys none =
     let p : ℕ → Bool = λ x. x == b in
     let all = all-before p xs (none refl) in
     ap (λ n. take n (xs ++ ys)) (first-later p xs ys all) ∙ take-later xs (position_or_len p ys) ys
     ∙ ap (λ l. l ++ take (position_or_len p ys) ys) (sym (take_all (position_or_len p xs) xs (omega (arith, all))))
 
 -- if none was found, as many bytes are held
-pub length-detected : (detection : Detection) (t : ℕ) (xs : List ℕ) → found_in detection t xs ≡ None
-    → length (detected detection t xs) ≡ length xs
-length-detected no_detection t xs none = refl
-length-detected (Quit b) t xs none =
+pub length-detected_bytes : (detection : Detection) (t : ℕ) (xs : List ℕ) → found_in detection t xs ≡ None
+    → length (detected_bytes detection t xs) ≡ length xs
+length-detected_bytes no_detection t xs none = refl
+length-detected_bytes (Quit b) t xs none =
     ap (λ l. length l) (take_all (position_or_len (λ x. x == b) xs) xs
     (omega (arith, all-before (λ x. x == b) xs none)))
-length-detected (Convert b) t xs none = length-map xs (λ x. if x == b then t else x)
+length-detected_bytes (Convert b) t xs none = length-map xs (λ x. if x == b then t else x)
 
 -- a buffer that isn't cut found no byte of `Quit`
 pub uncut-none : (detection : Detection) (binary : Option ℕ) → (is_quit detection && is_some binary) ≡ false
@@ -130,10 +130,10 @@ uncut-none (Quit b) (Some n) uncut quits = absurd (false≢true (sym uncut))
 uncut-none (Convert b) (Some n) uncut quits = absurd (false≢true quits)
 
 -- nothing was found in no bytes
-pub detected-nil : (detection : Detection) (t : ℕ) → detected detection t [] ≡ []
-detected-nil no_detection t = refl
-detected-nil (Quit b) t = refl
-detected-nil (Convert b) t = refl
+pub detected_bytes-nil : (detection : Detection) (t : ℕ) → detected_bytes detection t [] ≡ []
+detected_bytes-nil no_detection t = refl
+detected_bytes-nil (Quit b) t = refl
+detected_bytes-nil (Convert b) t = refl
 
 pub found-nil : (detection : Detection) (t : ℕ) → found_in detection t [] ≡ None
 found-nil no_detection t = refl
@@ -151,18 +151,18 @@ first_of-none (Some n) = refl
 -- bytes that aren't cut are held in full
 pub length-uncut : (detection : Detection) (t : ℕ) (xs : List ℕ)
     → (is_quit detection ≡ true → found_in detection t xs ≡ None)
-    → length (detected detection t xs) ≡ length xs
+    → length (detected_bytes detection t xs) ≡ length xs
 length-uncut no_detection t xs none = refl
-length-uncut (Quit b) t xs none = length-detected (Quit b) t xs (none refl)
+length-uncut (Quit b) t xs none = length-detected_bytes (Quit b) t xs (none refl)
 length-uncut (Convert b) t xs none = length-map xs (λ x. if x == b then t else x)
 
 -- bytes after the one that cuts are dropped
-pub detected-cut : (detection : Detection) (t : ℕ) (xs ys : List ℕ) → is_quit detection ≡ true → (n : ℕ)
+pub detected_bytes-cut : (detection : Detection) (t : ℕ) (xs ys : List ℕ) → is_quit detection ≡ true → (n : ℕ)
     → found_in detection t xs ≡ Some n
-    → detected detection t (xs ++ ys) ≡ detected detection t xs
-detected-cut no_detection t xs ys quits n found = absurd (false≢true quits)
-detected-cut (Convert b) t xs ys quits n found = absurd (false≢true quits)
-detected-cut (Quit b) t xs ys quits n found = by (passes-or-not (λ x. x == b) xs)
+    → detected_bytes detection t (xs ++ ys) ≡ detected_bytes detection t xs
+detected_bytes-cut no_detection t xs ys quits n found = absurd (false≢true quits)
+detected_bytes-cut (Convert b) t xs ys quits n found = absurd (false≢true quits)
+detected_bytes-cut (Quit b) t xs ys quits n found = by (passes-or-not (λ x. x == b) xs)
   where
     by : (position_or_len (λ x. x == b) xs < length xs) ⊎ (position_or_len (λ x. x == b) xs ≡ length xs)
         → take (position_or_len (λ x. x == b) (xs ++ ys)) (xs ++ ys) ≡ take (position_or_len (λ x. x == b) xs) xs

@@ -19,11 +19,11 @@ use Rattle.grep_line_buffer.specs.declared.fill_error.FillError.TheVariants.{Rea
 use Rattle.std.specs.Option.{option_map, is_some}
 use Rattle.std.proofs.Math.Seq.{take-append_seam}
 use Rattle.grep_line_buffer.specs.declared.detection.Detection.TheVariants.{None as no_detection, Quit, Convert}
-use Rattle.grep_line_buffer.specs.Detections.{detected, found_in, first_of, is_quit}
-use Rattle.grep_line_buffer.proofs.DetectionLemmas.{detected-append, detected-cut, detected-nil, found-next, found-nil}
+use Rattle.grep_line_buffer.specs.Detections.{detected_bytes, found_in, first_of, is_quit}
+use Rattle.grep_line_buffer.proofs.DetectionLemmas.{detected_bytes-append, detected_bytes-cut, detected_bytes-nil, found-next, found-nil}
 use Rattle.grep_line_buffer.proofs.DetectionLemmas.{first_of-none}
-use Rattle.grep_line_buffer.proofs.DetectionLemmas.{length-detected, length-uncut, uncut-none}
-use Rattle.grep_line_buffer.specs.BufferStates.{BufferState, coming_to, held, is_cut, stream, Lacks, IsWithin}
+use Rattle.grep_line_buffer.proofs.DetectionLemmas.{length-detected_bytes, length-uncut, uncut-none}
+use Rattle.grep_line_buffer.specs.BufferStates.{BufferState, coming_to, held_bytes, is_cut, stream, Lacks, IsWithin}
 use Rattle.grep_line_buffer.specs.BufferStates.{IsSameBuffer, GrowsIfFull, KeepsStream, EndsWith, ShowsLine, IsFilled}
 use Rattle.grep_line_buffer.specs.BufferStates.{HasNoLine}
 use Rattle.grep_line_buffer.specs.Fills.{IfRead, UnlessRead, Fills, FailsToFill, FillFails, PassesOffsets, IsAtLimit}
@@ -82,7 +82,7 @@ if-read-full X limit size Memory P fault = tt
 -- what a buffer shows that had seen the end
 pub filled-before : (w : BufferState) → w.has_ended ≡ true → w.rest ≡ [] → length w.shown < w.size → IsFilled w w
 filled-before w ended all room = inr (inl (record {
-  none = λ k x below. absurd (omega (arith, length-drop (length (held w)) w.shown, length-append w.shown w.rest));
+  none = λ k x below. absurd (omega (arith, length-drop (length (held_bytes w)) w.shown, length-append w.shown w.rest));
   all = all;
   room = room;
   ended = ended;
@@ -91,7 +91,7 @@ filled-before w ended all room = inr (inl (record {
 -- a full buffer at its limit without the end of a line is an error of its own, and no other
 pub only-limit : (old new : BufferState) (result : Result Bool FillError) → IfErr result (FillFails old new)
     → OnOk result (IsFilled old new)
-    → HasNoLine old new → IsAtLimit new → new.offset + length (held new) < 2 ^ 64 → result ≡ Err HeapLimit
+    → HasNoLine old new → IsAtLimit new → new.offset + length (held_bytes new) < 2 ^ 64 → result ≡ Err HeapLimit
 only-limit old new (Ok some) failed (inl line) none full fits =
     absurd (omega (arith, ap (λ l. length l) none.shown, line.came))
 only-limit old new (Ok some) failed (inr (inl end)) none full fits = absurd (false≢true (sym none.unended ∙ end.ended))
@@ -103,21 +103,21 @@ only-limit old new (Err Memory) failed filled none full fits = absurd (failed.1.
 
 -- bytes move from those to come to those that are held, as detection makes them
 stream-moved : (detection : Detection) (t : ℕ) (before after : Option (List ℕ)) (old raw now : List ℕ) (cut : Bool)
-    → now ≡ old ++ detected detection t raw
+    → now ≡ old ++ detected_bytes detection t raw
     → (cut ≡ false → is_quit detection ≡ true → found_in detection t raw ≡ None)
     → (cut ≡ true → (is_quit detection ≡ true) × ((n : ℕ) × (found_in detection t raw ≡ Some n)))
     → Consumes before after raw
-    → Keeps (prepend_known old (option_map (detected detection t) before))
-    (prepend_known now (if cut then Some [] else option_map (detected detection t) after))
+    → Keeps (prepend_known old (option_map (detected_bytes detection t) before))
+    (prepend_known now (if cut then Some [] else option_map (detected_bytes detection t) after))
 stream-moved detection t None after old raw now cut is going ended moved = tt
 stream-moved detection t (Some x) None old raw now cut is going ended moved = absurd moved
 stream-moved detection t (Some x) (Some y) old raw now true is going ended moved =
     let found = ended refl in
-    append-nil now ∙ is ∙ ap (λ l. old ++ l) (sym (detected-cut detection t raw y found.0 found.1.0 found.1.1)
-    ∙ ap (detected detection t) (sym moved))
+    append-nil now ∙ is ∙ ap (λ l. old ++ l) (sym (detected_bytes-cut detection t raw y found.0 found.1.0 found.1.1)
+    ∙ ap (detected_bytes detection t) (sym moved))
 stream-moved detection t (Some x) (Some y) old raw now false is going ended moved =
-    ap (λ l. l ++ detected detection t y) is ∙ append_assoc old (detected detection t raw) (detected detection t y)
-    ∙ ap (λ l. old ++ l) (sym (detected-append detection t raw y (going refl)) ∙ ap (detected detection t) (sym moved))
+    ap (λ l. l ++ detected_bytes detection t y) is ∙ append_assoc old (detected_bytes detection t raw) (detected_bytes detection t y)
+    ∙ ap (λ l. old ++ l) (sym (detected_bytes-append detection t raw y (going refl)) ∙ ap (detected_bytes detection t) (sym moved))
 
 -- what is known stays
 Keeps-same : (known : Option (List ℕ)) → Keeps known known
@@ -142,9 +142,9 @@ Lacks-more t count before given now is len none more =
     subst P (sym is) (All-append (λ b. b ≢ t) before given none (subst P last more))
 
 -- a buffer that grew, and one that grew again
-grows-more : (old now made : BufferState) → GrowsIfFull old now → length (held made) ≡ length (held now)
-    → (made.size ≡ now.size) ⊎ (now.size < made.size) × (now.size ≤ length (held now))
-    × (made.size ≤ 2 * length (held now) + 1)
+grows-more : (old now made : BufferState) → GrowsIfFull old now → length (held_bytes made) ≡ length (held_bytes now)
+    → (made.size ≡ now.size) ⊎ (now.size < made.size) × (now.size ≤ length (held_bytes now))
+    × (made.size ≤ 2 * length (held_bytes now) + 1)
     → GrowsIfFull old made
 grows-more old now made (inl same) len (inl kept) = inl (kept ∙ same)
 grows-more old now made (inl same) len (inr grew) = inr
@@ -156,13 +156,13 @@ grows-more old now made (inr more) len (inr grew) = inr
 
 -- bytes that are held now don't leave
 grows-held : (old now new : BufferState) → GrowsIfFull old now → new.size ≡ now.size
-    → length (held now) ≤ length (held new) → GrowsIfFull old new
+    → length (held_bytes now) ≤ length (held_bytes new) → GrowsIfFull old new
 grows-held old now new (inl same) size more = inl (size ∙ same)
 grows-held old now new (inr grew) size more = inr (omega (arith, grew.0), omega (arith, grew.1), omega (arith, grew.2))
 
 -- what a buffer found, if reads gave these bytes after those that it held
 abbrev found_after : BufferState → List ℕ → Option ℕ
-found_after old raw = first_of old.binary (option_map (λ i. old.offset + length (held old) + i)
+found_after old raw = first_of old.binary (option_map (λ i. old.offset + length (held_bytes old) + i)
     (found_in old.detection old.terminator raw))
 
 module _ {R : Type 0} (remaining : R → Option (List ℕ)) (step : R → ReadResult → R → Type 0) where
@@ -170,14 +170,14 @@ module _ {R : Type 0} (remaining : R → Option (List ℕ)) (step : R → ReadRe
   pub record IsFilling (old : BufferState) (d : DecoderState) (r : R) (now : BufferState) (d' : DecoderState) (r' : R) :
       Type 0 where
     pub raw : List ℕ
-    pub came : now.rest ≡ detected old.detection old.terminator raw
+    pub came : now.rest ≡ detected_bytes old.detection old.terminator raw
     pub found : now.binary ≡ found_after old raw
     pub uncut : is_cut old ≡ false
-    pub shown : now.shown ≡ held old
+    pub shown : now.shown ≡ held_bytes old
     pub unended : now.has_ended ≡ false
     pub same : IsSameBuffer old now
-    pub rolled : now.free + length (held now) ≡ now.size
-    pub fits : length (held old) + length raw ≤ now.size
+    pub rolled : now.free + length (held_bytes now) ≡ now.size
+    pub fits : length (held_bytes old) + length raw ≤ now.size
     pub within : IsWithin now.limit now.size
     pub grows : GrowsIfFull old now
     pub read : HasRead remaining step d r raw d' r'
@@ -187,28 +187,28 @@ module _ {R : Type 0} (remaining : R → Option (List ℕ)) (step : R → ReadRe
       Type 0 where
     pub filling : IsFilling old d r now d' r'
     pub none : Lacks old.terminator now.rest
-    pub offset : now.offset + length (held now) < 2 ^ 64
+    pub offset : now.offset + length (held_bytes now) < 2 ^ 64
     pub going : is_cut now ≡ false
     pub begun : HasReadNothing d → ((d' ≡ d) × (r' ≡ r)) ⊎ HasWaitedForLine remaining step old d r r'
     pub waited : (r' ≡ r) ⊎ HasWaitedForLine remaining step old d r r'
 
   -- it begins with all that was held moved to the front
   pub HasNone-first : (old now : BufferState) (d : DecoderState) (r : R) (free : ℕ) → Decodes remaining step d r [] d r
-      → now ≡ record old { shown = held old; rest = []; free = free } → free + length (held old) ≡ old.size
+      → now ≡ record old { shown = held_bytes old; rest = []; free = free } → free + length (held_bytes old) ≡ old.size
       → old.has_ended ≡ false
-      → IsWithin old.limit old.size → old.offset + length (held old) < 2 ^ 64 → is_cut old ≡ false
+      → IsWithin old.limit old.size → old.offset + length (held_bytes old) < 2 ^ 64 → is_cut old ≡ false
       → HasNone old d r now d r
   HasNone-first old now d r free none is rolled unended within offset uncut =
-      let all : held old ++ [] ≡ held old = append-nil (held old) in
+      let all : held_bytes old ++ [] ≡ held_bytes old = append-nil (held_bytes old) in
       let found : old.binary ≡ found_after old [] =
-      sym (ap (λ o. first_of old.binary (option_map (λ i. old.offset + length (held old) + i) o))
+      sym (ap (λ o. first_of old.binary (option_map (λ i. old.offset + length (held_bytes old) + i) o))
       (found-nil old.detection old.terminator)
       ∙ first_of-none old.binary)
       in
       subst (λ w. HasNone old d r w d r) (sym is) (record {
         filling = record {
           raw = [];
-          came = sym (detected-nil old.detection old.terminator);
+          came = sym (detected_bytes-nil old.detection old.terminator);
           found = found;
           uncut = uncut;
           shown = refl;
@@ -230,13 +230,13 @@ module _ {R : Type 0} (remaining : R → Option (List ℕ)) (step : R → ReadRe
   -- it goes on with more room
   pub HasNone-room : (old now made : BufferState) (d d1 : DecoderState) (r r1 : R) (size free : ℕ)
       → HasNone old d r now d1 r1
-      → made ≡ record now { size = size; free = free } → free + length (held made) ≡ size → IsWithin made.limit size
+      → made ≡ record now { size = size; free = free } → free + length (held_bytes made) ≡ size → IsWithin made.limit size
       → (size ≡ now.size) ⊎ (now.size < size) × (now.free ≡ 0) × (size ≤ 2 * now.size + 1)
       → HasNone old d r made d1 r1
   HasNone-room old now made d d1 r r1 size free before is rolled within grows =
       let next : BufferState = record now { size = size; free = free } in
       let f = before.filling in
-      let len : ℕ = length (held now) in
+      let len : ℕ = length (held_bytes now) in
       subst (λ w. HasNone old d r w d1 r1) (sym is) (record {
         filling = record {
           raw = f.raw;
@@ -252,7 +252,7 @@ module _ {R : Type 0} (remaining : R → Option (List ℕ)) (step : R → ReadRe
             detection =
                 f.same.detection;
           };
-          rolled = subst (λ w. free + length (held w) ≡ size) is rolled;
+          rolled = subst (λ w. free + length (held_bytes w) ≡ size) is rolled;
           fits = fits grows;
           within = subst (λ w. IsWithin w.limit size) is within;
           grows = grows-more old now next f.grows refl (grew grows);
@@ -266,15 +266,15 @@ module _ {R : Type 0} (remaining : R → Option (List ℕ)) (step : R → ReadRe
       })
     where
       fits : (size ≡ now.size) ⊎ (now.size < size) × (now.free ≡ 0) × (size ≤ 2 * now.size + 1)
-          → length (held old) + length before.filling.raw ≤ size
+          → length (held_bytes old) + length before.filling.raw ≤ size
       fits (inl same) = omega (arith, before.filling.fits, same)
       fits (inr more) = omega (arith, before.filling.fits, more.0)
 
       grew : (size ≡ now.size) ⊎ (now.size < size) × (now.free ≡ 0) × (size ≤ 2 * now.size + 1)
-          → (size ≡ now.size) ⊎ (now.size < size) × (now.size ≤ length (held now)) × (size ≤ 2 * length (held now) + 1)
+          → (size ≡ now.size) ⊎ (now.size < size) × (now.size ≤ length (held_bytes now)) × (size ≤ 2 * length (held_bytes now) + 1)
       grew (inl same) = inl same
       grew (inr more) =
-          let full : length (held now) ≡ now.size = omega (arith, before.filling.rolled, more.1) in
+          let full : length (held_bytes now) ≡ now.size = omega (arith, before.filling.rolled, more.1) in
           inr (more.0, omega (arith, full), omega (arith, full, more.2))
 
   -- nothing that ends the input was among the bytes that came
@@ -285,7 +285,7 @@ module _ {R : Type 0} (remaining : R → Option (List ℕ)) (step : R → ReadRe
       let none : now.binary ≡ None =
       uncut-none old.detection now.binary (ap (λ x. is_quit x && is_some now.binary) (sym f.same.detection) ∙ going)
       quits in
-      first-missing old.binary (found_in old.detection old.terminator f.raw) (λ i. old.offset + length (held old) + i)
+      first-missing old.binary (found_in old.detection old.terminator f.raw) (λ i. old.offset + length (held_bytes old) + i)
       (sym f.found ∙ none)
 
   -- so there was none before a read that calls the reader
@@ -308,7 +308,7 @@ module _ {R : Type 0} (remaining : R → Option (List ℕ)) (step : R → ReadRe
           f.rolled,
           subst (λ m. IsWithin m now.size) (f.same.limit ∙ is) f.within,
           ap (λ l. length (l ++ now.rest)) f.shown,
-          length-append (held old) now.rest,
+          length-append (held_bytes old) now.rest,
           ap (λ l. length l) f.came,
           length-uncut old.detection old.terminator f.raw uncut,
         );
@@ -339,11 +339,11 @@ module _ {R : Type 0} (remaining : R → Option (List ℕ)) (step : R → ReadRe
 
   -- the bytes of one read, as detection makes them
   pub record Comes (count : ℕ) (now : BufferState) (given : List ℕ) (made : BufferState) : Type 0 where
-    pub rest : made.rest ≡ now.rest ++ detected now.detection now.terminator given
+    pub rest : made.rest ≡ now.rest ++ detected_bytes now.detection now.terminator given
     pub binary : made.binary
-        ≡ first_of now.binary (option_map (λ i. now.offset + length (held now) + i)
+        ≡ first_of now.binary (option_map (λ i. now.offset + length (held_bytes now) + i)
         (found_in now.detection now.terminator given))
-    pub whole : made.free + length (held made) ≡ now.free + length (held now)
+    pub whole : made.free + length (held_bytes made) ≡ now.free + length (held_bytes now)
     pub others : made ≡ record now { rest = made.rest; free = made.free; binary = made.binary }
 
   -- a read, and what detection makes of it
@@ -358,14 +358,14 @@ module _ {R : Type 0} (remaining : R → Option (List ℕ)) (step : R → ReadRe
       ap (λ n. take n (now.rest ++ came.given)) len ∙ take-append_seam now.rest came.given in
       let back : drop (length (now.rest ++ came.given) - count) (now.rest ++ came.given) ≡ came.given =
       ap (λ n. drop n (now.rest ++ came.given)) len ∙ drop_at now.rest came.given _ refl in
-      let all : length (now.shown ++ (now.rest ++ came.given)) ≡ length (held now) + count =
+      let all : length (now.shown ++ (now.rest ++ came.given)) ≡ length (held_bytes now) + count =
       rw (length-append, length-append, length-append, came.counted) (omega arith) in
-      let base : length (now.shown ++ (now.rest ++ came.given)) - count ≡ length (held now) = omega (arith, all) in
+      let base : length (now.shown ++ (now.rest ++ came.given)) - count ≡ length (held_bytes now) = omega (arith, all) in
       let of : Detects count grown made = subst (λ w. Detects count w made) came.appended changed in
       record {
-        rest = of.appended ∙ ap (λ l. l ++ detected now.detection now.terminator
+        rest = of.appended ∙ ap (λ l. l ++ detected_bytes now.detection now.terminator
             (drop (length (now.rest ++ came.given) - count) (now.rest ++ came.given))) front
-            ∙ ap (λ l. now.rest ++ detected now.detection now.terminator l) back;
+            ∙ ap (λ l. now.rest ++ detected_bytes now.detection now.terminator l) back;
         binary = of.found
             ∙ ap (λ l. first_of now.binary (option_map (λ i. now.offset +
             (length (now.shown ++ (now.rest ++ came.given)) - count) + i) (found_in now.detection now.terminator l)))
@@ -388,26 +388,26 @@ module _ {R : Type 0} (remaining : R → Option (List ℕ)) (step : R → ReadRe
       let none = going-none old now d d1 r r1 f before.going in
       let D = old.detection in
       let t = old.terminator in
-      let given : detected now.detection now.terminator came.given
-      ≡ detected D t came.given = rw (same-d, same-t) refl in
-      let found : made.binary ≡ first_of now.binary (option_map (λ i. now.offset + length (held now) + i)
+      let given : detected_bytes now.detection now.terminator came.given
+      ≡ detected_bytes D t came.given = rw (same-d, same-t) refl in
+      let found : made.binary ≡ first_of now.binary (option_map (λ i. now.offset + length (held_bytes now) + i)
       (found_in D t came.given)) =
       comes.binary ∙ rw (same-d, same-t) refl in
-      let held-now : length (held now) ≡ length (held old) + length now.rest =
-      ap (λ l. length (l ++ now.rest)) f.shown ∙ length-append (held old) now.rest in
-      let base : now.offset + length (held now) ≡ old.offset + length (held old) + length now.rest =
+      let held-now : length (held_bytes now) ≡ length (held_bytes old) + length now.rest =
+      ap (λ l. length (l ++ now.rest)) f.shown ∙ length-append (held_bytes old) now.rest in
+      let base : now.offset + length (held_bytes now) ≡ old.offset + length (held_bytes old) + length now.rest =
       omega (arith, f.same.offset, held-now) in
-      let len : length (held made) ≡ length (held now) + length (detected D t came.given) =
-      ap (λ w. length (held w)) comes.others ∙ ap (λ l. length (now.shown ++ l))
+      let len : length (held_bytes made) ≡ length (held_bytes now) + length (detected_bytes D t came.given) =
+      ap (λ w. length (held_bytes w)) comes.others ∙ ap (λ l. length (now.shown ++ l))
       (comes.rest ∙ ap (λ l. now.rest ++ l) given)
       ∙ (rw (length-append, length-append, length-append) (omega arith)) in
       record {
         raw = f.raw ++ came.given;
-        came = comes.rest ∙ ap (λ l. now.rest ++ l) given ∙ ap (λ l. l ++ detected D t came.given) f.came
-            ∙ sym (detected-append D t f.raw came.given none);
-        found = found-next D t (old.offset + length (held old)) (length now.rest) f.raw came.given old.binary now.binary
+        came = comes.rest ∙ ap (λ l. now.rest ++ l) given ∙ ap (λ l. l ++ detected_bytes D t came.given) f.came
+            ∙ sym (detected_bytes-append D t f.raw came.given none);
+        found = found-next D t (old.offset + length (held_bytes old)) (length now.rest) f.raw came.given old.binary now.binary
             made.binary f.found
-            (λ missing. ap (λ l. length l) f.came ∙ length-detected D t f.raw missing)
+            (λ missing. ap (λ l. length l) f.came ∙ length-detected_bytes D t f.raw missing)
             (found ∙ ap (λ n. first_of now.binary (option_map (λ i. n + i) (found_in D t came.given))) base);
         uncut = f.uncut;
         shown = ap shown_of comes.others ∙ f.shown;
@@ -445,7 +445,7 @@ module _ {R : Type 0} (remaining : R → Option (List ℕ)) (step : R → ReadRe
     pub reads : Fills remaining step old d r new d' r'
     pub stream : KeepsStream old new (yet d (remaining r)) (yet d' (remaining r'))
     pub ahead : is_cut new ≡ false → d'.mode ≡ Passing
-        → TakesAtMost (remaining r) (remaining r') (length (held new) - length (held old) + runs_ahead d.mode)
+        → TakesAtMost (remaining r) (remaining r') (length (held_bytes new) - length (held_bytes old) + runs_ahead d.mode)
     pub stays : IsSettled d.mode → d'.mode ≡ d.mode
 
   -- a buffer is cut exactly if the byte was among those that came
@@ -457,7 +457,7 @@ module _ {R : Type 0} (remaining : R → Option (List ℕ)) (step : R → ReadRe
     where
       by : (D : Detection) (before later : Option ℕ) → found_in old.detection old.terminator f.raw ≡ later
           → (is_quit D && is_some now.binary) ≡ true
-          → now.binary ≡ first_of before (option_map (λ i. old.offset + length (held old) + i) later)
+          → now.binary ≡ first_of before (option_map (λ i. old.offset + length (held_bytes old) + i) later)
           → (is_quit D && is_some before) ≡ false → (is_quit D ≡ true)
           × ((n : ℕ) × (found_in old.detection old.terminator f.raw ≡ Some n))
       by (Quit b) before (Some n) same cut found uncut = (refl, (n, same))
@@ -468,7 +468,7 @@ module _ {R : Type 0} (remaining : R → Option (List ℕ)) (step : R → ReadRe
 
   stream-filled : (old now new : BufferState) (d d' : DecoderState) (r r' : R)
       → (f : IsFilling old d r now d' r') (after : Option (List ℕ))
-      → held new ≡ held old ++ detected old.detection old.terminator f.raw → is_cut new ≡ is_cut now → new.detection
+      → held_bytes new ≡ held_bytes old ++ detected_bytes old.detection old.terminator f.raw → is_cut new ≡ is_cut now → new.detection
       ≡ old.detection
       → new.terminator ≡ old.terminator → Consumes (yet d (remaining r)) after f.raw
       → KeepsStream old new (yet d (remaining r)) after
@@ -476,26 +476,26 @@ module _ {R : Type 0} (remaining : R → Option (List ℕ)) (step : R → ReadRe
       let D = old.detection in
       let t = old.terminator in
       let before = yet d (remaining r) in
-      let was : coming_to old before ≡ option_map (detected D t) before =
-      ap (λ b. if b then Some [] else option_map (detected D t) before) f.uncut in
-      let will : coming_to new after ≡ (if is_cut new then Some [] else option_map (detected D t) after) =
-      ap (λ x. if is_cut new then Some [] else option_map (detected x new.terminator) after) same-d
-      ∙ ap (λ x. if is_cut new then Some [] else option_map (detected D x) after) same-t in
-      subst (λ c. Keeps (prepend_known (held old) c) (stream new after)) (sym was)
-      (subst (λ c. Keeps (prepend_known (held old) (option_map (detected D t) before)) (prepend_known (held new) c))
+      let was : coming_to old before ≡ option_map (detected_bytes D t) before =
+      ap (λ b. if b then Some [] else option_map (detected_bytes D t) before) f.uncut in
+      let will : coming_to new after ≡ (if is_cut new then Some [] else option_map (detected_bytes D t) after) =
+      ap (λ x. if is_cut new then Some [] else option_map (detected_bytes x new.terminator) after) same-d
+      ∙ ap (λ x. if is_cut new then Some [] else option_map (detected_bytes D x) after) same-t in
+      subst (λ c. Keeps (prepend_known (held_bytes old) c) (stream new after)) (sym was)
+      (subst (λ c. Keeps (prepend_known (held_bytes old) (option_map (detected_bytes D t) before)) (prepend_known (held_bytes new) c))
       (sym will)
-      (stream-moved D t before after (held old) f.raw (held new) (is_cut new) is
+      (stream-moved D t before after (held_bytes old) f.raw (held_bytes new) (is_cut new) is
       (λ going. going-none old now d d' r r' f (sym cut ∙ going))
       (λ ended. cut-found old now d d' r r' f (sym cut ∙ ended)) gives))
 
   pub IsFilling-outcome : (old now new : BufferState) (d d' : DecoderState) (r r' : R) → IsFilling old d r now d' r'
-      → held new ≡ held now → IsSameBuffer now new → new.size ≡ now.size → new.binary ≡ now.binary
+      → held_bytes new ≡ held_bytes now → IsSameBuffer now new → new.size ≡ now.size → new.binary ≡ now.binary
       → Outcome old d r new d' r'
   IsFilling-outcome old now new d d' r r' f whole same size binary =
-      let is : held new ≡ held old ++ detected old.detection old.terminator f.raw =
-      whole ∙ ap (λ l. l ++ now.rest) f.shown ∙ ap (λ l. held old ++ l) f.came in
+      let is : held_bytes new ≡ held_bytes old ++ detected_bytes old.detection old.terminator f.raw =
+      whole ∙ ap (λ l. l ++ now.rest) f.shown ∙ ap (λ l. held_bytes old ++ l) f.came in
       let cut : is_cut new ≡ is_cut now = rw (same.detection, binary) refl in
-      let len : is_cut new ≡ false → length (held new) - length (held old) ≡ length f.raw =
+      let len : is_cut new ≡ false → length (held_bytes new) - length (held_bytes old) ≡ length f.raw =
       λ going.
       let full = length-uncut old.detection old.terminator f.raw (going-none old now d d' r r' f (sym cut ∙ going)) in
       rw (is, length-append) (omega (arith, full))
@@ -535,8 +535,8 @@ module _ {R : Type 0} (remaining : R → Option (List ℕ)) (step : R → ReadRe
     capacity = refl;
     reads = record {
       given = [];
-      appended = sym (ap (λ l. held old ++ l) (detected-nil old.detection old.terminator) ∙ append-nil (held old));
-      found = sym (ap (λ o. first_of old.binary (option_map (λ i. old.offset + length (held old) + i) o))
+      appended = sym (ap (λ l. held_bytes old ++ l) (detected_bytes-nil old.detection old.terminator) ∙ append-nil (held_bytes old));
+      found = sym (ap (λ o. first_of old.binary (option_map (λ i. old.offset + length (held_bytes old) + i) o))
           (found-nil old.detection old.terminator)
           ∙ first_of-none old.binary);
       uncut = λ was. refl;
@@ -551,14 +551,14 @@ module _ {R : Type 0} (remaining : R → Option (List ℕ)) (step : R → ReadRe
   -- the bytes that are held are moved to the front, and all of them are shown
   pub Fills-none : (old rolled new : BufferState) (d : DecoderState) (r : R) (free : ℕ)
       → Decodes remaining step d r [] d r
-      → rolled ≡ record old { shown = held old; rest = []; free = free }
-      → new ≡ record rolled { shown = held rolled; rest = []; has_ended = true } → Fills remaining step old d r new d r
+      → rolled ≡ record old { shown = held_bytes old; rest = []; free = free }
+      → new ≡ record rolled { shown = held_bytes rolled; rest = []; has_ended = true } → Fills remaining step old d r new d r
   Fills-none old rolled new d r free none moved ended = record {
     given = [];
-    appended = ap (λ w. held w) ended ∙ append-nil (held rolled) ∙ ap (λ w. held w) moved ∙ append-nil (held old)
-        ∙ sym (append-nil (held old)) ∙ ap (λ l. held old ++ l) (sym (detected-nil old.detection old.terminator));
+    appended = ap (λ w. held_bytes w) ended ∙ append-nil (held_bytes rolled) ∙ ap (λ w. held_bytes w) moved ∙ append-nil (held_bytes old)
+        ∙ sym (append-nil (held_bytes old)) ∙ ap (λ l. held_bytes old ++ l) (sym (detected_bytes-nil old.detection old.terminator));
     found = ap binary_of ended ∙ ap binary_of moved
-        ∙ sym (ap (λ o. first_of old.binary (option_map (λ i. old.offset + length (held old) + i) o))
+        ∙ sym (ap (λ o. first_of old.binary (option_map (λ i. old.offset + length (held_bytes old) + i) o))
         (found-nil old.detection old.terminator)
         ∙ first_of-none old.binary);
     uncut = λ was. refl;
@@ -588,9 +588,9 @@ module _ {R : Type 0} (remaining : R → Option (List ℕ)) (step : R → ReadRe
 
   -- once the end was seen
   pub IsFilling-ended : (old now new : BufferState) (d d' : DecoderState) (r r' : R) → IsFilling old d r now d' r'
-      → new ≡ record now { shown = held now; rest = []; has_ended = true } → Outcome old d r new d' r'
+      → new ≡ record now { shown = held_bytes now; rest = []; has_ended = true } → Outcome old d r new d' r'
   IsFilling-ended old now new d d' r r' f is = IsFilling-outcome old now new d d' r r' f
-      (ap (λ w. held w) is ∙ append-nil (held now))
+      (ap (λ w. held_bytes w) is ∙ append-nil (held_bytes now))
       (record {
         offset = ap offset_of is;
         limit = ap limit_of is;
@@ -611,7 +611,7 @@ module _ {R : Type 0} (remaining : R → Option (List ℕ)) (step : R → ReadRe
     pub stream : KeepsStream old new (yet d (remaining r)) (yet d' (remaining r'))
     pub stays : IsSettled d.mode → d'.mode ≡ d.mode
     pub line : HasNoLine old new
-    pub room : length (held new) < new.size
+    pub room : length (held_bytes new) < new.size
     pub unended : new.has_ended ≡ false
     pub uncut : is_cut new ≡ false
 
@@ -621,8 +621,8 @@ module _ {R : Type 0} (remaining : R → Option (List ℕ)) (step : R → ReadRe
       → ReadFault old d r e new d2 r2
   HasNone-fault old now new d d1 d2 r r1 r2 e before failed some capacity is =
       let f = before.filling in
-      let appended : held now ≡ held old ++ detected old.detection old.terminator f.raw =
-      ap (λ l. l ++ now.rest) f.shown ∙ ap (λ l. held old ++ l) f.came in
+      let appended : held_bytes now ≡ held_bytes old ++ detected_bytes old.detection old.terminator f.raw =
+      ap (λ l. l ++ now.rest) f.shown ∙ ap (λ l. held_bytes old ++ l) f.came in
       let out = HasRead-failed remaining step d d1 d2 r r1 r2 f.raw e f.read failed capacity in
       subst (λ w. ReadFault old d r e w d2 r2) (sym is) (record {
         same = f.same;
@@ -654,21 +654,21 @@ module _ {R : Type 0} (remaining : R → Option (List ℕ)) (step : R → ReadRe
   pub HasNone-end : (old now next new : BufferState) (d d1 d2 : DecoderState) (r r1 r2 : R) (count : ℕ)
       → HasNone old d r now d1 r1
       → Appends remaining step count now d1 r1 next d2 r2 → count ≡ 0 → 0 < now.free
-      → new ≡ record next { shown = held next; rest = []; has_ended = true } → IsFilled old new
+      → new ≡ record next { shown = held_bytes next; rest = []; has_ended = true } → IsFilled old new
   HasNone-end old now next new d d1 d2 r r1 r2 count before came zero some is =
       let f = before.filling in
       let empty : came.given ≡ [] = nil_from_length came.given (came.counted ∙ zero) in
       let rest : next.rest ≡ now.rest = ap rest_of came.appended ∙ ap (λ l. now.rest ++ l) empty
       ∙ append-nil now.rest in
       let free : next.free ≡ now.free - count = ap free_of came.appended in
-      let whole : held next ≡ held old ++ now.rest = ap (λ l. l ++ next.rest) (ap shown_of came.appended ∙ f.shown)
-      ∙ ap (λ l. held old ++ l) rest in
-      let held-now : held now ≡ held old ++ now.rest = ap (λ l. l ++ now.rest) f.shown in
-      let last : drop (length (held old)) (held next) ≡ now.rest =
-      ap (drop (length (held old))) whole ∙ drop_at (held old) now.rest _ refl in
+      let whole : held_bytes next ≡ held_bytes old ++ now.rest = ap (λ l. l ++ next.rest) (ap shown_of came.appended ∙ f.shown)
+      ∙ ap (λ l. held_bytes old ++ l) rest in
+      let held-now : held_bytes now ≡ held_bytes old ++ now.rest = ap (λ l. l ++ now.rest) f.shown in
+      let last : drop (length (held_bytes old)) (held_bytes next) ≡ now.rest =
+      ap (drop (length (held_bytes old))) whole ∙ drop_at (held_bytes old) now.rest _ refl in
       let size : next.size ≡ now.size = ap size_of came.appended in
       let P : List ℕ → Type 0 = Lacks old.terminator in
-      let none : P (drop (length (held old)) (held next)) = subst P (sym last) before.none in
+      let none : P (drop (length (held_bytes old)) (held_bytes next)) = subst P (sym last) before.none in
       subst (IsFilled old) (sym is) (inr (inl (record {
         none = none;
         all = refl;
@@ -683,21 +683,21 @@ module _ {R : Type 0} (remaining : R → Option (List ℕ)) (step : R → ReadRe
       → d2.capacity ≡ d1.capacity → IsFilling old d r next d2 r2
   IsFilling-none old now next d d1 d2 r r1 r2 count before came zero capacity =
       let empty : came.given ≡ [] = nil_from_length came.given (came.counted ∙ zero) in
-      let rest : next.rest ≡ now.rest ++ detected now.detection now.terminator came.given =
-      ap rest_of came.appended ∙ ap (λ l. now.rest ++ l) (empty ∙ sym (detected-nil now.detection now.terminator)
-      ∙ ap (detected now.detection now.terminator) (sym empty)) in
-      let found : next.binary ≡ first_of now.binary (option_map (λ i. now.offset + length (held now) + i)
+      let rest : next.rest ≡ now.rest ++ detected_bytes now.detection now.terminator came.given =
+      ap rest_of came.appended ∙ ap (λ l. now.rest ++ l) (empty ∙ sym (detected_bytes-nil now.detection now.terminator)
+      ∙ ap (detected_bytes now.detection now.terminator) (sym empty)) in
+      let found : next.binary ≡ first_of now.binary (option_map (λ i. now.offset + length (held_bytes now) + i)
       (found_in now.detection now.terminator came.given)) =
       ap binary_of came.appended ∙ sym (first_of-none now.binary)
-      ∙ ap (λ o. first_of now.binary (option_map (λ i. now.offset + length (held now) + i) o))
+      ∙ ap (λ o. first_of now.binary (option_map (λ i. now.offset + length (held_bytes now) + i) o))
       (sym (found-nil now.detection now.terminator) ∙ ap (found_in now.detection now.terminator) (sym empty))
       in
-      let len : length (now.shown ++ (now.rest ++ came.given)) ≡ length (held now) =
+      let len : length (now.shown ++ (now.rest ++ came.given)) ≡ length (held_bytes now) =
       ap (λ l. length (now.shown ++ (now.rest ++ l))) empty ∙ ap (λ l. length (now.shown ++ l)) (append-nil now.rest) in
       IsFilling-more old now next next d d1 d2 r r1 r2 count before came (record {
         rest = rest;
         binary = found;
-        whole = ap (λ w. w.free + length (held w)) came.appended ∙ (omega (arith, len, zero));
+        whole = ap (λ w. w.free + length (held_bytes w)) came.appended ∙ (omega (arith, len, zero));
         others = same-next came.appended;
       }) capacity
     where
@@ -708,7 +708,7 @@ module _ {R : Type 0} (remaining : R → Option (List ℕ)) (step : R → ReadRe
   -- what is shown once a byte ended the input
   pub IsFilling-byte : (old now new : BufferState) (d d' : DecoderState) (r r' : R) → IsFilling old d r now d' r'
       → is_cut now ≡ true
-      → length (held now) < now.size → new ≡ record now { shown = held now; rest = []; has_ended = true }
+      → length (held_bytes now) < now.size → new ≡ record now { shown = held_bytes now; rest = []; has_ended = true }
       → IsFilled old new
   IsFilling-byte old now new d d' r r' f cut room is =
       subst (IsFilled old) (sym is) (inr (inr (record { cut = cut; all = refl; room = room; ended = refl })))
@@ -716,11 +716,11 @@ module _ {R : Type 0} (remaining : R → Option (List ℕ)) (step : R → ReadRe
   -- if the input isn't cut, detection keeps the number of bytes
   pub Comes-counted : (old now made : BufferState) (d d1 d2 : DecoderState) (r r1 r2 : R) (count : ℕ) (given : List ℕ)
       → HasNone old d r now d1 r1 → Comes count now given made → length given ≡ count → is_cut made ≡ false
-      → length (detected now.detection now.terminator given) ≡ count
+      → length (detected_bytes now.detection now.terminator given) ≡ count
   Comes-counted old now made d d1 d2 r r1 r2 count given before comes counted going =
       length-uncut now.detection now.terminator given
       (λ quits. first-missing now.binary (found_in now.detection now.terminator given)
-      (λ i. now.offset + length (held now) + i)
+      (λ i. now.offset + length (held_bytes now) + i)
       (sym comes.binary ∙ uncut-none now.detection made.binary
       (ap (λ x. is_quit x && is_some made.binary) (sym (ap detection_of comes.others)) ∙ going) quits))
       ∙ counted
@@ -732,11 +732,11 @@ module _ {R : Type 0} (remaining : R → Option (List ℕ)) (step : R → ReadRe
       → IsFilling old d r made d2 r2 → ShowsLine made new count → IsFilled old new
   IsFilling-line old now made new d d1 d2 r r1 r2 count given before comes counted going f shows =
       let kept = Comes-counted old now made d d1 d2 r r1 r2 count given before comes counted going in
-      let len : length (held made) ≡ length (held old) + (length now.rest + count) =
-      ap (λ l. length (l ++ made.rest)) f.shown ∙ length-append (held old) made.rest
-      ∙ ap (λ l. length (held old) + length l) comes.rest
-      ∙ ap (λ n. length (held old) + n) (length-append now.rest (detected now.detection now.terminator given))
-      ∙ ap (λ n. length (held old) + (length now.rest + n)) kept in
+      let len : length (held_bytes made) ≡ length (held_bytes old) + (length now.rest + count) =
+      ap (λ l. length (l ++ made.rest)) f.shown ∙ length-append (held_bytes old) made.rest
+      ∙ ap (λ l. length (held_bytes old) + length l) comes.rest
+      ∙ ap (λ n. length (held_bytes old) + n) (length-append now.rest (detected_bytes now.detection now.terminator given))
+      ∙ ap (λ n. length (held_bytes old) + (length now.rest + n)) kept in
       inl (record {
         came = omega (arith, len, shows.reached);
         ends = subst (λ t. EndsWith t new.shown) f.same.terminator shows.ends;
@@ -749,7 +749,7 @@ module _ {R : Type 0} (remaining : R → Option (List ℕ)) (step : R → ReadRe
       (given : List ℕ)
       → HasNone old d r now d1 r1 → Comes count now given made → length given ≡ count → is_cut made ≡ false
       → IsFilling old d r made d2 r2
-      → Lacks made.terminator (drop (length made.rest - count) made.rest) → made.offset + length (held made) < 2 ^ 64
+      → Lacks made.terminator (drop (length made.rest - count) made.rest) → made.offset + length (held_bytes made) < 2 ^ 64
       → new ≡ made → (HasReadNothing d → HasWaitedForLine remaining step old d r r2)
       → (r2 ≡ r) ⊎ HasWaitedForLine remaining step old d r r2
       → HasNone old d r new d2 r2
@@ -758,7 +758,7 @@ module _ {R : Type 0} (remaining : R → Option (List ℕ)) (step : R → ReadRe
       let last = subst (λ t. Lacks t (drop (length made.rest - count) made.rest)) f.same.terminator lacks in
       subst (λ w. HasNone old d r w d2 r2) (sym is) (record {
         filling = f;
-        none = Lacks-more old.terminator count now.rest (detected now.detection now.terminator given) made.rest
+        none = Lacks-more old.terminator count now.rest (detected_bytes now.detection now.terminator given) made.rest
             comes.rest kept before.none last;
         offset = offset;
         going = going;
@@ -769,9 +769,9 @@ module _ {R : Type 0} (remaining : R → Option (List ℕ)) (step : R → ReadRe
   -- an offset would be above 2^64 - 1
   pub IsFilling-past : (old now next : BufferState) (d d1 d2 : DecoderState) (r r1 r2 : R) → HasNone old d r now d1 r1
       → IsFilling old d r next d2 r2
-      → 2 ^ 64 ≤ next.offset + length (held next) → PassesOffsets old next
+      → 2 ^ 64 ≤ next.offset + length (held_bytes next) → PassesOffsets old next
   IsFilling-past old now next d d1 d2 r r1 r2 before f past =
-      let len = ap (λ l. length (l ++ now.rest)) before.filling.shown ∙ length-append (held old) now.rest in
+      let len = ap (λ l. length (l ++ now.rest)) before.filling.shown ∙ length-append (held_bytes old) now.rest in
       record {
         past = past;
         shown = λ _. f.shown;

@@ -8,10 +8,10 @@ use Rattle.std.specs.Option.{option_map}
 use Rattle.std.specs.Prelude.{if◌then◌else◌}
 use Rattle.grep_line_buffer.specs.declared.detection.Detection.{Detection}
 use Rattle.grep_line_buffer.specs.declared.detection.Detection.TheVariants.{None as no_detection, Quit, Convert}
-use Rattle.grep_line_buffer.specs.Detections.{detected, found_in, first_of, is_quit}
+use Rattle.grep_line_buffer.specs.Detections.{detected_bytes, found_in, first_of, is_quit}
 use Rattle.grep_line_buffer.proofs.DetectionLemmas.{all-before, found-append, passes-or-not, position-at}
 use Rattle.grep_line_buffer.proofs.DetectionLemmas.{position-missing}
-use Rattle.grep_line_buffer.proofs.DetectionLemmas.{detected-append, detected-cut, first-none, first-same, some-below}
+use Rattle.grep_line_buffer.proofs.DetectionLemmas.{detected_bytes-append, detected_bytes-cut, first-none, first-same, some-below}
 
 -- all bytes of an input, for each byte of `Convert` the byte t
 abbrev pub viewed : Detection → ℕ → List ℕ → List ℕ
@@ -42,7 +42,7 @@ view-none (Convert b) t = refl
 
 -- what a buffer holds of some bytes is their view, if the byte of `Quit` isn't among them
 pub view-held : (d : Detection) (t : ℕ) (xs : List ℕ)
-    → (is_quit d ≡ true → found_in d t xs ≡ None) → detected d t xs
+    → (is_quit d ≡ true → found_in d t xs ≡ None) → detected_bytes d t xs
     ≡ viewed d t xs
 view-held no_detection t xs none = refl
 view-held (Quit b) t xs none = take_all (position_or_len (λ x. x == b) xs) xs
@@ -51,7 +51,7 @@ view-held (Convert b) t xs none = refl
 
 -- it is the front of the view in any case
 pub view-front : (d : Detection) (t : ℕ) (xs ys : List ℕ)
-    → (back : List ℕ) × (viewed d t (xs ++ ys) ≡ detected d t xs ++ back)
+    → (back : List ℕ) × (viewed d t (xs ++ ys) ≡ detected_bytes d t xs ++ back)
 view-front no_detection t xs ys = (ys, refl)
 view-front (Quit b) t xs ys =
     let n = position_or_len (λ x. x == b) xs in
@@ -64,17 +64,17 @@ view-front (Convert b) t xs ys = (
 
 -- and the front of what comes before the byte of `Quit`
 pub before-front : (d : Detection) (t : ℕ) (xs ys : List ℕ)
-    → (back : List ℕ) × (unquit d (viewed d t (xs ++ ys)) ≡ detected d t xs ++ back)
+    → (back : List ℕ) × (unquit d (viewed d t (xs ++ ys)) ≡ detected_bytes d t xs ++ back)
 before-front no_detection t xs ys = (ys, refl)
 before-front (Quit b) t xs ys = ⊎_elim
     (λ some. (
       [],
-      detected-cut (Quit b) t xs ys refl _ (position-at (λ x. x == b) xs some)
-          ∙ sym (append-nil (detected (Quit b) t xs)),
+      detected_bytes-cut (Quit b) t xs ys refl _ (position-at (λ x. x == b) xs some)
+          ∙ sym (append-nil (detected_bytes (Quit b) t xs)),
     ))
     (λ all. (
-      detected (Quit b) t ys,
-      detected-append (Quit b) t xs ys (λ _. position-missing (λ x. x == b) xs all),
+      detected_bytes (Quit b) t ys,
+      detected_bytes-append (Quit b) t xs ys (λ _. position-missing (λ x. x == b) xs all),
     ))
     (passes-or-not (λ x. x == b) xs)
 before-front (Convert b) t xs ys = (
@@ -85,7 +85,7 @@ before-front (Convert b) t xs ys = (
 
 -- no byte of what a buffer holds ends a search
 pub before-held : (d : Detection) (t : ℕ) (xs : List ℕ)
-    → unquit d (detected d t xs) ≡ detected d t xs
+    → unquit d (detected_bytes d t xs) ≡ detected_bytes d t xs
 before-held no_detection t xs = refl
 before-held (Convert b) t xs = refl
 before-held (Quit b) t xs = ⊎_elim
@@ -169,8 +169,8 @@ position-is p xs offset is = ⊎_elim
 -- the first binary byte is among what a buffer holds, or right after it if the byte ends the input
 pub found-below : (d : Detection) (t : ℕ) (xs : List ℕ) (offset : ℕ) → found_in d t xs
     ≡ Some offset
-    → (offset < length (detected d t xs))
-    ⊎ ((offset ≤ length (detected d t xs)) × (is_quit d ≡ true))
+    → (offset < length (detected_bytes d t xs))
+    ⊎ ((offset ≤ length (detected_bytes d t xs)) × (is_quit d ≡ true))
 found-below no_detection t xs offset is = absurd (cc)
 found-below (Quit b) t xs offset is =
     let at = position-is (λ x. x == b) xs _ is in

@@ -7,18 +7,18 @@ use Rattle.grep_decode.specs.declared.mode.Mode.TheVariants.{Passing}
 use Rattle.grep_decode.specs.DecoderStates.{DecoderState, Decodes, FailsToDecode, IsDone, IsSettled}
 use Rattle.grep_decode.specs.DecoderStates.{HasReadNothing, HasWaited, IsWaiting, TakesAtMost, runs_ahead, yet}
 use Rattle.grep_decode.specs.Source.{ReadResult}
-use Rattle.grep_line_buffer.specs.BufferStates.{BufferState, held}
-use Rattle.grep_line_buffer.specs.Detections.{detected, found_in, first_of}
+use Rattle.grep_line_buffer.specs.BufferStates.{BufferState, held_bytes}
+use Rattle.grep_line_buffer.specs.Detections.{detected_bytes, found_in, first_of}
 
 -- Detection changed the last bytes that are held, so many of them, and none but these. It never
 -- adds one.
 pub record Detects (count : ℕ) (old new : BufferState) : Type 0 where
   pub appended : new.rest ≡ take (length old.rest - count) old.rest
-      ++ detected old.detection old.terminator (drop (length old.rest - count) old.rest)
+      ++ detected_bytes old.detection old.terminator (drop (length old.rest - count) old.rest)
   pub found : new.binary
-      ≡ first_of old.binary (option_map (λ i. old.offset + (length (held old) - count) + i)
+      ≡ first_of old.binary (option_map (λ i. old.offset + (length (held_bytes old) - count) + i)
       (found_in old.detection old.terminator (drop (length old.rest - count) old.rest)))
-  pub free : new.free + length (held new) ≡ old.free + length (held old)
+  pub free : new.free + length (held_bytes new) ≡ old.free + length (held_bytes old)
   pub others : new ≡ record old { rest = new.rest; free = new.free; binary = new.binary }
 
 module _ {R : Type 0} (remaining : R → Option (List ℕ)) (step : R → ReadResult → R → Type 0) where

@@ -6,7 +6,7 @@ use Rattle.std.specs.Prelude.{slice_index}
 use Rattle.std.specs.Option.{option_map}
 use Rattle.std.specs.Io.KnownBytes.{prepend_known, Keeps}
 use Rattle.grep_line_buffer.specs.declared.detection.Detection.{Detection}
-use Rattle.grep_line_buffer.specs.Detections.{detected, is_quit}
+use Rattle.grep_line_buffer.specs.Detections.{detected_bytes, is_quit}
 
 -- A line buffer: the bytes that it shows, the bytes that it holds after them, the offset of its
 -- first byte in the whole input, its size in bytes, the most that this may become, how many bytes
@@ -40,8 +40,8 @@ empty_buffer size limit terminator detection = record {
 }
 
 -- all bytes that a buffer holds
-abbrev pub held : BufferState → List ℕ
-held w = w.shown ++ w.rest
+abbrev pub held_bytes : BufferState → List ℕ
+held_bytes w = w.shown ++ w.rest
 
 -- the input ended at a binary byte
 abbrev pub is_cut : BufferState → Bool
@@ -65,11 +65,11 @@ IsWithin (Some most) n = n ≤ most
 -- input was cut
 abbrev pub coming_to : BufferState → Option (List ℕ) → Option (List ℕ)
 coming_to w coming =
-    if is_cut w then Some [] else option_map (detected w.detection w.terminator) coming
+    if is_cut w then Some [] else option_map (detected_bytes w.detection w.terminator) coming
 
 -- the bytes that a buffer holds, and then those
 abbrev pub stream : BufferState → Option (List ℕ) → Option (List ℕ)
-stream w coming = prepend_known (held w) (coming_to w coming)
+stream w coming = prepend_known (held_bytes w) (coming_to w coming)
 
 -- no byte of the stream was lost
 abbrev pub KeepsStream : BufferState → BufferState → Option (List ℕ) → Option (List ℕ) → Type 0
@@ -86,28 +86,28 @@ pub record IsSameBuffer (old new : BufferState) : Type 0 where
 -- the size is as before, or a full buffer grew, to at most twice the bytes that it holds now
 abbrev pub GrowsIfFull : BufferState → BufferState → Type 0
 GrowsIfFull old new = (new.size ≡ old.size)
-    ⊎ (old.size < new.size) × (old.size ≤ length (held new))
-    × (new.size ≤ 2 * length (held new) + 1)
+    ⊎ (old.size < new.size) × (old.size ≤ length (held_bytes new))
+    × (new.size ≤ 2 * length (held_bytes new) + 1)
 
 -- Some of the bytes that were read last end a line, and just after the last of these the shown
 -- bytes end.
 pub record ShowsLine (old new : BufferState) (count : ℕ) : Type 0 where
-  pub whole : held new ≡ held old
+  pub whole : held_bytes new ≡ held_bytes old
   pub ends : EndsWith old.terminator new.shown
   pub none : Lacks old.terminator new.rest
-  pub reached : length (held old) < length new.shown + count
+  pub reached : length (held_bytes old) < length new.shown + count
   pub others : new ≡ record old { shown = new.shown; rest = new.rest }
 
 -- a terminator came, and the shown bytes end just after the last one
 pub record EndsAtLine (old new : BufferState) : Type 0 where
-  pub came : length (held old) < length new.shown
+  pub came : length (held_bytes old) < length new.shown
   pub ends : EndsWith old.terminator new.shown
   pub none : Lacks old.terminator new.rest
   pub unended : new.has_ended ≡ false
 
 -- the end came before any terminator, and all bytes that are left are shown
 pub record EndsAtEnd (old new : BufferState) : Type 0 where
-  pub none : Lacks old.terminator (drop (length (held old)) new.shown)
+  pub none : Lacks old.terminator (drop (length (held_bytes old)) new.shown)
   pub all : new.rest ≡ []
   pub room : length new.shown < new.size
   pub ended : new.has_ended ≡ true
@@ -126,6 +126,6 @@ IsFilled old new = EndsAtLine old new ⊎ (EndsAtEnd old new ⊎ EndsAtByte new)
 -- after a fill that failed: the bytes that were held before are shown, and what came since has no
 -- terminator
 pub record HasNoLine (old new : BufferState) : Type 0 where
-  pub shown : new.shown ≡ held old
+  pub shown : new.shown ≡ held_bytes old
   pub none : Lacks old.terminator new.rest
   pub unended : new.has_ended ≡ false

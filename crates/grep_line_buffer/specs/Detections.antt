@@ -13,10 +13,10 @@ is_quit (Quit b) = true
 is_quit (Convert b) = false
 
 -- the bytes before the byte of `Quit`, and for each byte of `Convert` the byte t, which ends lines
-abbrev pub detected : Detection → ℕ → List ℕ → List ℕ
-detected no_detection t bytes = bytes
-detected (Quit b) t bytes = take (position_or_len (λ x. x == b) bytes) bytes
-detected (Convert b) t bytes = map (λ x. if x == b then t else x) bytes
+abbrev pub detected_bytes : Detection → ℕ → List ℕ → List ℕ
+detected_bytes no_detection t bytes = bytes
+detected_bytes (Quit b) t bytes = take (position_or_len (λ x. x == b) bytes) bytes
+detected_bytes (Convert b) t bytes = map (λ x. if x == b then t else x) bytes
 
 -- where the first binary byte is. If it is the byte t, `Convert` looks for none
 abbrev pub found_in : Detection → ℕ → List ℕ → Option ℕ

@@ -8,8 +8,8 @@ use Rattle.grep_decode.specs.Source.{ReadResult}
 use Rattle.grep_line_buffer.specs.declared.fill_error.FillError.{FillError}
 use Rattle.grep_line_buffer.specs.declared.fill_error.FillError.TheVariants.{Read, HeapLimit}
 use Rattle.grep_line_buffer.specs.declared.fill_error.FillError.TheVariants.{Offset, Memory}
-use Rattle.grep_line_buffer.specs.BufferStates.{BufferState, held, is_cut, HasNoLine, Lacks}
-use Rattle.grep_line_buffer.specs.Detections.{detected, found_in, first_of, is_quit}
+use Rattle.grep_line_buffer.specs.BufferStates.{BufferState, held_bytes, is_cut, HasNoLine, Lacks}
+use Rattle.grep_line_buffer.specs.Detections.{detected_bytes, found_in, first_of, is_quit}
 
 -- the fact holds of the reader's error, if the result is one
 abbrev pub IfRead : {X : Type 0} → Result X FillError → (Error → Type 0) → Type 0
@@ -30,24 +30,24 @@ UnlessRead (Err Memory) P = P
 -- The offset after the bytes that are held is above 2^64 - 1. If the offset after the bytes that
 -- were held before isn't, these are shown; else nothing changed.
 pub record PassesOffsets (old new : BufferState) : Type 0 where
-  pub past : 2 ^ 64 ≤ new.offset + length (held new)
-  pub shown : old.offset + length (held old) < 2 ^ 64 → new.shown ≡ held old
-  pub same : 2 ^ 64 ≤ old.offset + length (held old) → new ≡ old
+  pub past : 2 ^ 64 ≤ new.offset + length (held_bytes new)
+  pub shown : old.offset + length (held_bytes old) < 2 ^ 64 → new.shown ≡ held_bytes old
+  pub same : 2 ^ 64 ≤ old.offset + length (held_bytes old) → new ≡ old
   pub unended : new.has_ended ≡ false
 
 -- A full buffer is at its limit.
 pub record IsAtLimit (w : BufferState) : Type 0 where
-  pub full : length (held w) ≡ w.size
+  pub full : length (held_bytes w) ≡ w.size
   pub limit : w.limit ≡ Some w.size
 
 -- A full buffer may grow.
 pub record MayGrow (w : BufferState) : Type 0 where
-  pub full : length (held w) ≡ w.size
+  pub full : length (held_bytes w) ≡ w.size
   pub limit : w.limit ≢ Some w.size
 
 -- what each error means
 abbrev pub FillFails : BufferState → BufferState → FillError → Type 0
-FillFails old new (Read e) = HasNoLine old new × (length (held new) < new.size)
+FillFails old new (Read e) = HasNoLine old new × (length (held_bytes new) < new.size)
 FillFails old new HeapLimit = HasNoLine old new × IsAtLimit new
 FillFails old new Offset = PassesOffsets old new
 FillFails old new Memory = HasNoLine old new × MayGrow new
@@ -60,12 +60,12 @@ module _ {R : Type 0} (remaining : R → Option (List ℕ)) (step : R → ReadRe
   pub record Fills (old : BufferState) (decoder : DecoderState) (reader : R) (new : BufferState)
       (decoder' : DecoderState) (reader' : R) : Type 0 where
     pub given : List ℕ
-    pub appended : held new ≡ held old ++ detected old.detection old.terminator given
+    pub appended : held_bytes new ≡ held_bytes old ++ detected_bytes old.detection old.terminator given
     pub found : new.binary ≡ first_of old.binary
-        (option_map (λ i. old.offset + length (held old) + i)
+        (option_map (λ i. old.offset + length (held_bytes old) + i)
         (found_in old.detection old.terminator given))
     pub uncut : is_cut old ≡ true → given ≡ []
-    pub fits : 0 < length given → length (held old) + length given ≤ new.size
+    pub fits : 0 < length given → length (held_bytes old) + length given ≤ new.size
     pub decodes : Decodes remaining step decoder reader given decoder' reader'
 
   -- The same, and then one more call of the reader returned this error. The decoder has still to
@@ -87,7 +87,7 @@ module _ {R : Type 0} (remaining : R → Option (List ℕ)) (step : R → ReadRe
     pub waiting : DecoderState
     pub mid : R
     pub decodes : Decodes remaining step decoder reader given waiting mid
-    pub unended : Lacks old.terminator (detected old.detection old.terminator given)
+    pub unended : Lacks old.terminator (detected_bytes old.detection old.terminator given)
     pub uncut : is_quit old.detection ≡ true → found_in old.detection old.terminator given ≡ None
-    pub room : (limit : ℕ) → old.limit ≡ Some limit → length (held old) + length given < limit
+    pub room : (limit : ℕ) → old.limit ≡ Some limit → length (held_bytes old) + length given < limit
     pub last : HasWaited remaining step waiting mid reader'

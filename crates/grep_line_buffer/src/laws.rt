@@ -3,8 +3,8 @@ ghost use Rattle.std.specs.Prelude.{◌≡◌, ◌++◌, ℕ, List, length, take
 ghost use Rattle.std.specs.declared.io.Error.{Error};
 ghost use Rattle.grep_decode.specs.DecoderStates.{DecoderState, Decodes};
 ghost use Rattle.grep_decode.specs.Reading.{FailsWith};
-ghost use Rattle.grep_line_buffer.specs.BufferStates.{BufferState, held, is_cut};
-ghost use Rattle.grep_line_buffer.specs.Detections.{detected, found_in};
+ghost use Rattle.grep_line_buffer.specs.BufferStates.{BufferState, held_bytes, is_cut};
+ghost use Rattle.grep_line_buffer.specs.Detections.{detected_bytes, found_in};
 ghost use Rattle.grep_line_buffer.specs.Fills.{Fills, FailsToFill};
 
 use grep_decode::Source;
@@ -18,14 +18,14 @@ pub fn fills_continue<R: Source>()
     ensures fills { (old new : BufferState) (d d1 d2 : DecoderState) (r r1 r2 : R)
         (gone given : List ℕ)
         → Decodes R.remaining R.step d r given d1 r1
-        → gone ++ held old ≡ detected old.detection old.terminator given
+        → gone ++ held_bytes old ≡ detected_bytes old.detection old.terminator given
         → old.offset ≡ length gone → old.binary ≡ found_in old.detection old.terminator given
         → is_cut old ≡ false → (fill : Fills R.remaining R.step old d1 r1 new d2 r2)
         → Decodes R.remaining R.step d r (given ++ fill.given) d2 r2
-        × (gone ++ held new ≡ detected old.detection old.terminator (given ++ fill.given))
+        × (gone ++ held_bytes new ≡ detected_bytes old.detection old.terminator (given ++ fill.given))
         × (new.binary ≡ found_in old.detection old.terminator (given ++ fill.given)) }
     ensures consumed { (w : BufferState) (gone : List ℕ) (count : ℕ)
-        → gone ++ held w ≡ (gone ++ take count w.shown) ++ (drop count w.shown ++ w.rest) }
+        → gone ++ held_bytes w ≡ (gone ++ take count w.shown) ++ (drop count w.shown ++ w.rest) }
     ensures fails { (old new : BufferState) (d d1 d2 : DecoderState) (r r1 r2 : R) (given : List ℕ)
         (e : Error)
         → Decodes R.remaining R.step d r given d1 r1

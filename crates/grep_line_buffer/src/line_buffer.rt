@@ -11,7 +11,7 @@ ghost use Rattle.grep_decode.specs.Reading.{FailsWith};
 ghost use Rattle.grep_decode.specs.declared.mode.Mode.TheVariants.{Passing};
 ghost use Rattle.grep_decode.specs.DecoderStates.{HasReadNothing, IsDone, IsSettled, IsWaiting};
 ghost use Rattle.grep_decode.specs.DecoderStates.{TakesAtMost, runs_ahead, yet};
-ghost use Rattle.grep_line_buffer.specs.BufferStates.{BufferState, empty_buffer, held, Lacks};
+ghost use Rattle.grep_line_buffer.specs.BufferStates.{BufferState, empty_buffer, held_bytes, Lacks};
 ghost use Rattle.grep_line_buffer.specs.BufferStates.{IsWithin, IsSameBuffer, GrowsIfFull};
 ghost use Rattle.grep_line_buffer.specs.BufferStates.{ShowsLine, IsFilled, HasNoLine, KeepsStream};
 ghost use Rattle.grep_line_buffer.specs.BufferStates.{is_cut};
@@ -142,7 +142,7 @@ impl<A: Allocator> LineBuffer<A> {
     pub fn buffer(&self) -> &[u8]
         ensures value { result.now ≡ self.now.shown }
         ensures within { IsWithin self.now.limit self.now.size }
-        ensures room { length (held self.now) + self.now.free ≤ self.now.size }
+        ensures room { length (held_bytes self.now) + self.now.free ≤ self.now.size }
         ensures offset { self.now.offset + length self.now.shown < 2 ^ 64 }
         ensures ended { self.now.has_ended ≡ true → self.now.rest ≡ [] }
     {
@@ -160,10 +160,10 @@ impl<A: Allocator> LineBuffer<A> {
     /// offset above 2^64 - 1, which comes only with `FillError::Offset`, is returned as that
     /// number.
     pub fn binary_byte_offset(&self) -> Option<u64>
-        ensures exact { self.now.offset + length (held self.now) < 2 ^ 64
+        ensures exact { self.now.offset + length (held_bytes self.now) < 2 ^ 64
             → result ≡ self.now.binary }
-        ensures room { length (held self.now) ≤ self.now.size }
-        ensures cut { is_cut self.now ≡ true → length (held self.now) < self.now.size }
+        ensures room { length (held_bytes self.now) ≤ self.now.size }
+        ensures cut { is_cut self.now ≡ true → length (held_bytes self.now) < self.now.size }
     {
         match self.binary {
             Some((offset, index)) => Some(offset.saturating_add(index as u64)),
@@ -245,10 +245,10 @@ impl<A: Allocator> LineBuffer<A> {
         ensures filled { OnOk result (IsFilled self.old self.new) }
         ensures error { IfErr result (FillFails self.old self.new) }
         ensures limit { HasNoLine self.old self.new → IsAtLimit self.new
-            → self.new.offset + length (held self.new) < 2 ^ 64 → result ≡ Err HeapLimit }
+            → self.new.offset + length (held_bytes self.new) < 2 ^ 64 → result ≡ Err HeapLimit }
         ensures fault { IfRead result (λ e. FailsWith R.step reader.old e reader.new) }
         ensures uncut { IfRead result (λ _. is_cut self.new ≡ false) }
-        ensures fits { OnOk result (self.new.offset + length (held self.new) < 2 ^ 64) }
+        ensures fits { OnOk result (self.new.offset + length (held_bytes self.new) < 2 ^ 64) }
 
         // the reader is called at first, and again only as long as no line has come
         ensures begins { self.old.has_ended ≡ false → is_cut self.old ≡ false
@@ -272,7 +272,7 @@ impl<A: Allocator> LineBuffer<A> {
         // bytes pass unchanged
         ensures ahead { OnOk result (is_cut self.new ≡ false → decoder.new.mode ≡ Passing
             → TakesAtMost (R.remaining reader.old) (R.remaining reader.new)
-            (length (held self.new) - length (held self.old) + runs_ahead decoder.old.mode)) }
+            (length (held_bytes self.new) - length (held_bytes self.old) + runs_ahead decoder.old.mode)) }
         ensures passing { OnOk result (self.old.has_ended ≡ false → is_cut self.old ≡ false
             → decoder.new.mode ≡ Passing
             → (length decoder.new.ready ≤ 3) × (decoder.new.held ≡ [])) }
@@ -329,15 +329,15 @@ impl<A: Allocator> LineBuffer<A> {
     // Whether a binary byte ended the input.
     fn is_cut(&self) -> bool
         ensures value { result ≡ is_cut self.now }
-        ensures room { result ≡ true → length (held self.now) < self.now.size }
+        ensures room { result ≡ true → length (held_bytes self.now) < self.now.size }
     {
         matches!(self.detection, Detection::Quit(_)) && self.binary.is_some()
     }
 
     // Whether the offset after the bytes that are held is at most 2^64 - 1.
     fn has_offsets(&self) -> bool
-        ensures { MatchBool result (self.now.offset + length (held self.now) < 2 ^ 64)
-            (2 ^ 64 ≤ self.now.offset + length (held self.now)) }
+        ensures { MatchBool result (self.now.offset + length (held_bytes self.now) < 2 ^ 64)
+            (2 ^ 64 ≤ self.now.offset + length (held_bytes self.now)) }
     {
         self.offset
             .checked_add((self.end - self.start) as u64)
@@ -346,10 +346,10 @@ impl<A: Allocator> LineBuffer<A> {
 
     // Moves the bytes that are held to the front, and shows them all.
     fn roll(&mut self)
-        requires { self.old.offset + length (held self.old) < 2 ^ 64 }
+        requires { self.old.offset + length (held_bytes self.old) < 2 ^ 64 }
         ensures same { self.new
-            ≡ record self.old { shown = held self.old; rest = []; free = self.new.free } }
-        ensures free { self.new.free + length (held self.old) ≡ self.new.size }
+            ≡ record self.old { shown = held_bytes self.old; rest = []; free = self.new.free } }
+        ensures free { self.new.free + length (held_bytes self.old) ≡ self.new.size }
     {
         move_to_front(&mut self.bytes, self.start, self.end);
         self.line_end = self.end - self.start;
@@ -359,9 +359,9 @@ impl<A: Allocator> LineBuffer<A> {
 
     // Makes room for another byte, if the buffer is full and below its limit.
     fn make_room(&mut self) -> Result<(), FillError>
-        requires { self.old.free + length (held self.old) ≡ self.old.size }
+        requires { self.old.free + length (held_bytes self.old) ≡ self.old.size }
         ensures same { self.new ≡ record self.old { size = self.new.size; free = self.new.free } }
-        ensures free { self.new.free + length (held self.new) ≡ self.new.size }
+        ensures free { self.new.free + length (held_bytes self.new) ≡ self.new.size }
         ensures within { IsWithin self.new.limit self.new.size }
         ensures grows { (self.new.size ≡ self.old.size) ⊎ (self.old.size < self.new.size)
             × (self.old.free ≡ 0) × (self.new.size ≤ 2 * self.old.size + 1) }
@@ -432,7 +432,7 @@ impl<A: Allocator> LineBuffer<A> {
 
     // Keeps the index of a binary byte, if it is the first.
     fn note(&mut self, index: usize)
-        requires within { index ≤ length (held self.old) }
+        requires within { index ≤ length (held_bytes self.old) }
         requires quits { is_quit self.old.detection ≡ false }
         ensures { self.new ≡ record self.old {
           binary = first_of self.old.binary (Some (self.old.offset + index));
@@ -447,7 +447,7 @@ impl<A: Allocator> LineBuffer<A> {
     fn show_lines(&mut self, count: usize) -> bool
         requires ended { self.old.has_ended ≡ false }
         requires count { count ≤ length self.old.rest }
-        requires offset { self.old.offset + length (held self.old) < 2 ^ 64 }
+        requires offset { self.old.offset + length (held_bytes self.old) < 2 ^ 64 }
         ensures { MatchBool result (ShowsLine self.old self.new count)
             ((self.new ≡ self.old)
             × Lacks self.old.terminator (drop (length self.old.rest - count) self.old.rest)) }
@@ -464,10 +464,10 @@ impl<A: Allocator> LineBuffer<A> {
     // Shows all that is held, as the end was seen, and returns whether that is any byte.
     fn end(&mut self) -> bool
         requires free { 0 < self.old.free }
-        requires offset { self.old.offset + length (held self.old) < 2 ^ 64 }
+        requires offset { self.old.offset + length (held_bytes self.old) < 2 ^ 64 }
         ensures same { self.new
-            ≡ record self.old { shown = held self.old; rest = []; has_ended = true } }
-        ensures some { IsTrue result ↔ (0 < length (held self.old)) }
+            ≡ record self.old { shown = held_bytes self.old; rest = []; has_ended = true } }
+        ensures some { IsTrue result ↔ (0 < length (held_bytes self.old)) }
     {
         self.line_end = self.end;
         self.has_ended = true;

@@ -3,20 +3,20 @@ use Rattle.std.proofs.Common.{◌≡◌, ℕ, ◌+◌, ◌<◌, ◌-◌, ◌^◌
 use Rattle.grep_definitions.specs.Plans.{search_plan, Call}
 use Rattle.grep_definitions.specs.SearchLaws.{match_calls}
 use Rattle.grep_definitions.specs.SinkFolds.{fold_while}
-use Rattle.grep_searcher.specs.CountSinks.{counted, RunsCount, RunsCountAll}
+use Rattle.grep_searcher.specs.CountSinks.{count_after, RunsCount, RunsCountAll}
 use Rattle.grep_searcher.proofs.UnitCallLemmas.{matches-are_within_count}
 use Rattle.grep_searcher.proofs.MatchHandlerLemmas.{runs-fit, runs-handle}
 
 -- each of some matches is counted, up to the largest number
-fold_while-counted : (old : ℕ) (calls : List Call) → old < 2 ^ 64
-    → fold_while (λ _ _. true) counted old calls ≡ min (old + length calls) (2 ^ 64 - 1)
-fold_while-counted old [] fits = omega arith
-fold_while-counted old (call ∷ later) fits = omega (arith, fold_while-counted (counted old call) later (omega arith))
+fold_while-count_after : (old : ℕ) (calls : List Call) → old < 2 ^ 64
+    → fold_while (λ _ _. true) count_after old calls ≡ min (old + length calls) (2 ^ 64 - 1)
+fold_while-count_after old [] fits = omega arith
+fold_while-count_after old (call ∷ later) fits = omega (arith, fold_while-count_after (count_after old call) later (omega arith))
 
 pub runs-count : (E : Type 0) → RunsCount E
 runs-count E settings old plan new fits run =
-    runs-handle {E = E} (λ _ _. true) counted (λ _ _ _ _. ⊥) settings old plan new run
-    ∙ fold_while-counted old (match_calls plan.calls) fits
+    runs-handle {E = E} (λ _ _. true) count_after (λ _ _ _ _. ⊥) settings old plan new run
+    ∙ fold_while-count_after old (match_calls plan.calls) fits
 
 pub runs-count_all : (E : Type 0) → RunsCountAll E
 runs-count_all E settings meaning bytes old new is_new run =
@@ -25,6 +25,6 @@ runs-count_all E settings meaning bytes old new is_new run =
       arith,
       is_new,
       (matches-are_within_count settings meaning bytes).0,
-      runs-fit {E = E} (λ _ _. true) counted (λ _ _ _ _. ⊥) (λ _ _. refl) settings old plan new run,
+      runs-fit {E = E} (λ _ _. true) count_after (λ _ _ _ _. ⊥) (λ _ _. refl) settings old plan new run,
       runs-count E settings old plan new (omega (arith, is_new)) run,
     )

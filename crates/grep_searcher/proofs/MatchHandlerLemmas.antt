@@ -17,12 +17,12 @@ use Rattle.grep_definitions.proofs.MatchCallLemmas.{first_match-is_first, matche
 use Rattle.grep_definitions.specs.SearchLaws.{is_match, matched_lines}
 use Rattle.grep_definitions.specs.SinkFolds.{fold_while, IsMatchOk}
 use Rattle.grep_definitions.proofs.SinkFoldLemmas.{runs-fold_matches}
-use Rattle.grep_searcher.specs.MatchHandlers.{KeptReport, kept_of, collected, FirstReports, has_room}
+use Rattle.grep_searcher.specs.MatchHandlers.{KeptReport, kept_of, with_match, FirstReports, has_room}
 use Rattle.grep_searcher.specs.MatchHandlers.{with_first, IsHandlerStep, LacksMemory, RunsHandle, RunsFit, RunsFailAt}
 use Rattle.grep_searcher.specs.Units.{unit_of}
 use Rattle.grep_searcher.proofs.UnitCallLemmas.{first_match-is_first_unit}
-use Rattle.grep_searcher.specs.MatchHandlers.{IsFoundStep, RunsFindAcross, RunsFindSelected, RunsCollect, RunsCollectLines, RunsHandFirst}
-use Rattle.grep_searcher.specs.MatchHandlers.{RunsCollectUntil, RunsHandFirstLines}
+use Rattle.grep_searcher.specs.MatchHandlers.{IsFoundStep, RunsFindAcross, RunsFindSelected, RunsCollect, RunsCollectLines, RunsKeepFirst}
+use Rattle.grep_searcher.specs.MatchHandlers.{RunsCollectUntil, RunsKeepFirstLines}
 
 module _ {H E : Type 0} (goes : H → Call → Bool) (next : H → Call → H) (fails : H → Call → E → H → Type 0) where
   abbrev step : Steps H E
@@ -152,27 +152,27 @@ runs-find_across E settings meaning bytes across old new is_new run =
     settings _ old new (first_match-is_first_unit settings meaning bytes across) is_new run
 
 -- each match is kept
-fold_while-collected : (old : List KeptReport) (calls : List Call)
-    → fold_while (λ _ _. true) collected old calls ≡ old ++ map kept_of calls
-fold_while-collected old [] = sym (append-nil old)
-fold_while-collected old (call ∷ later) =
-    fold_while-collected (collected old call) later ∙ append_assoc old (kept_of call ∷ []) (map kept_of later)
+fold_while-with_match : (old : List KeptReport) (calls : List Call)
+    → fold_while (λ _ _. true) with_match old calls ≡ old ++ map kept_of calls
+fold_while-with_match old [] = sym (append-nil old)
+fold_while-with_match old (call ∷ later) =
+    fold_while-with_match (with_match old call) later ∙ append_assoc old (kept_of call ∷ []) (map kept_of later)
 
 pub runs-collect : (A : Type 0) → RunsCollect A
 runs-collect A settings old plan new run =
-    runs-handle (λ _ _. true) collected (LacksMemory {A = A}) settings old plan new run
-    ∙ fold_while-collected old (match_calls plan.calls)
+    runs-handle (λ _ _. true) with_match (LacksMemory {A = A}) settings old plan new run
+    ∙ fold_while-with_match old (match_calls plan.calls)
 
 -- those that were kept before one that wasn't
-fold-collected : (old : List KeptReport) (calls : List Call) → fold collected old calls ≡ old ++ map kept_of calls
-fold-collected old [] = sym (append-nil old)
-fold-collected old (call ∷ later) =
-    fold-collected (collected old call) later ∙ append_assoc old (kept_of call ∷ []) (map kept_of later)
+fold-with_match : (old : List KeptReport) (calls : List Call) → fold with_match old calls ≡ old ++ map kept_of calls
+fold-with_match old [] = sym (append-nil old)
+fold-with_match old (call ∷ later) =
+    fold-with_match (with_match old call) later ∙ append_assoc old (kept_of call ∷ []) (map kept_of later)
 
 pub runs-collect_until : (A : Type 0) → RunsCollectUntil A
 runs-collect_until A settings old plan e new run =
-    let at = runs-fail_at (λ _ _. true) collected (LacksMemory {A = A}) settings old plan e new run in
-    (at.4.0, at.0, at.1 ∷ at.2, at.3, at.4.1 ∙ fold-collected old at.0)
+    let at = runs-fail_at (λ _ _. true) with_match (LacksMemory {A = A}) settings old plan e new run in
+    (at.4.0, at.0, at.1 ∷ at.2, at.3, at.4.1 ∙ fold-with_match old at.0)
 
 map-kept_lines : (f : ℕ → Call) (listed : List ℕ) → map kept_of (map f listed) ≡ map (λ i. kept_of (f i)) listed
 map-kept_lines f [] = refl
@@ -197,28 +197,28 @@ fold_while-first limit zero kept (call ∷ later) fits =
     rw (full, full) (ap (kept_up_to limit) (sym (append-nil kept)))
 fold_while-first limit (suc zero) kept (call ∷ later) fits =
     let room : nat_lt (length kept) limit ≡ true = lt-ltb (length kept) limit (omega (arith, fits)) in
-    let full : nat_lt (length (collected kept call)) limit ≡ false =
+    let full : nat_lt (length (with_match kept call)) limit ≡ false =
     le-ltb _ _ (omega (arith, fits, length-append kept (kept_of call ∷ []))) in
     rw (room, full) refl
 fold_while-first limit (suc (suc room)) kept (call ∷ later) fits =
     let here : nat_lt (length kept) limit ≡ true = lt-ltb (length kept) limit (omega (arith, fits)) in
     let size = length-append kept (kept_of call ∷ []) in
-    let more : nat_lt (length (collected kept call)) limit ≡ true =
-    lt-ltb (length (collected kept call)) limit (omega (arith, fits, size)) in
-    rw (here, more) (fold_while-first limit (suc room) (collected kept call) later (omega (arith, fits, size))
+    let more : nat_lt (length (with_match kept call)) limit ≡ true =
+    lt-ltb (length (with_match kept call)) limit (omega (arith, fits, size)) in
+    rw (here, more) (fold_while-first limit (suc room) (with_match kept call) later (omega (arith, fits, size))
     ∙ ap (kept_up_to limit) (append_assoc kept (kept_of call ∷ []) (map kept_of (take (suc room) later))))
 
-pub runs-hand_first : (A : Type 0) → RunsHandFirst A
-runs-hand_first A settings limit old plan new is_new run =
+pub runs-keep_first : (A : Type 0) → RunsKeepFirst A
+runs-keep_first A settings limit old plan new is_new run =
     let goes : FirstReports → Call → Bool = λ old call. has_room (with_first old call) in
     let calls = match_calls plan.calls in
     runs-handle goes with_first (LacksMemory {A = A}) settings old plan new run
     ∙ ap (λ first. fold_while goes with_first first calls) is_new ∙ fold_while-first limit limit [] calls (omega arith)
 
-pub runs-hand_first_lines : (A : Type 0) → RunsHandFirstLines A
-runs-hand_first_lines A settings meaning bytes by_line limit old new is_new run =
+pub runs-keep_first_lines : (A : Type 0) → RunsKeepFirstLines A
+runs-keep_first_lines A settings meaning bytes by_line limit old new is_new run =
     let listed = matched_lines settings meaning bytes in
-    runs-hand_first A settings limit old _ new is_new run
+    runs-keep_first A settings limit old _ new is_new run
     ∙ ap (kept_up_to limit)
     (ap (λ calls. map kept_of (take limit calls)) (matches-are_matched_lines settings meaning bytes by_line)
     ∙ ap (map kept_of) (take-map (match_of settings bytes) limit listed)

@@ -6,12 +6,12 @@ use Rattle.grep_definitions.specs.SearchLaws.{match_calls}
 use Rattle.grep_searcher.specs.MatchHandlers.{IsHandlerStep}
 
 -- one match more, up to the largest number
-abbrev pub counted : ℕ → Call → ℕ
-counted count call = min (count + 1) (2 ^ 64 - 1)
+abbrev pub count_after : ℕ → Call → ℕ
+count_after count call = min (count + 1) (2 ^ 64 - 1)
 
 -- only a match changes the count, and no call fails
 abbrev pub IsCountStep : {E : Type 0} → Steps ℕ E
-IsCountStep = IsHandlerStep (λ _ _. true) counted (λ _ _ _ _. ⊥)
+IsCountStep = IsHandlerStep (λ _ _. true) count_after (λ _ _ _ _. ⊥)
 
 -- a run that ended in `Ok` adds how many matches are reported, up to the largest number
 abbrev pub RunsCount : Type 0 → Type 0

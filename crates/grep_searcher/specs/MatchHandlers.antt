@@ -80,8 +80,8 @@ abbrev pub LacksMemory : {V A : Type 0} → V → Call → SearchError A → V �
 LacksMemory old call e new = IsOutOfMemory e × (new ≡ old)
 
 -- each match is kept
-abbrev pub collected : List KeptReport → Call → List KeptReport
-collected old call = old ++ kept_of call ∷ []
+abbrev pub with_match : List KeptReport → Call → List KeptReport
+with_match old call = old ++ kept_of call ∷ []
 
 -- the first matches that were kept, and how many there may be
 pub record FirstReports : Type 0 where
@@ -95,7 +95,7 @@ has_room first = nat_lt (length first.kept) first.limit
 -- a match is kept if there is room
 abbrev pub with_first : FirstReports → Call → FirstReports
 with_first old call =
-    if has_room old then record old { kept = collected old.kept call } else old
+    if has_room old then record old { kept = with_match old.kept call } else old
 
 -- The sinks of these handlers.
 
@@ -105,7 +105,7 @@ IsFoundStep = IsHandlerStep (λ _ _. false) (λ _ _. true) (λ _ _ _ _. ⊥)
 
 -- each match is kept
 abbrev pub IsCollectStep : {A : Type 0} → Steps (List KeptReport) (SearchError A)
-IsCollectStep = IsHandlerStep (λ _ _. true) collected LacksMemory
+IsCollectStep = IsHandlerStep (λ _ _. true) with_match LacksMemory
 
 -- the first matches are kept, and the last of them ends the search
 abbrev pub IsFirstStep : {A : Type 0} → Steps FirstReports (SearchError A)
@@ -163,16 +163,16 @@ RunsCollectLines A =
     → new ≡ old ++ map (kept_line settings bytes) (matched_lines settings meaning bytes)
 
 -- a run of a new handler that ended in `Ok` kept the first matches that are reported
-abbrev pub RunsHandFirst : Type 0 → Type 0
-RunsHandFirst A =
+abbrev pub RunsKeepFirst : Type 0 → Type 0
+RunsKeepFirst A =
     (settings : Settings) (limit : ℕ) (old : FirstReports) (plan : Plan) (new : FirstReports)
     → old ≡ record { limit = limit; kept = [] }
     → IsRun {E = SearchError A} IsFirstStep settings old plan (Ok tt) new
     → new ≡ record { limit = limit; kept = map kept_of (take limit (match_calls plan.calls)) }
 
 -- by line these are the first matched lines
-abbrev pub RunsHandFirstLines : Type 0 → Type 0
-RunsHandFirstLines A =
+abbrev pub RunsKeepFirstLines : Type 0 → Type 0
+RunsKeepFirstLines A =
     (settings : Settings) (meaning : Meaning) (bytes : List ℕ) → is_across settings meaning ≡ false
     → (limit : ℕ) (old new : FirstReports) → old ≡ record { limit = limit; kept = [] }
     → IsRun {E = SearchError A} IsFirstStep settings old (search_plan settings meaning bytes)

@@ -17,7 +17,7 @@ ghost use Rattle.grep_searcher.specs.LineCounts.{ReadersCountLines};
 ghost use Rattle.grep_searcher.specs.MatchHandlers.{RunsHandle, RunsFailAt, RunsFit};
 ghost use Rattle.grep_searcher.specs.MatchHandlers.{RunsFindSelected, RunsFindAcross, RunsCollect};
 ghost use Rattle.grep_searcher.specs.MatchHandlers.{RunsCollectLines, RunsCollectUntil};
-ghost use Rattle.grep_searcher.specs.MatchHandlers.{RunsHandFirst, RunsHandFirstLines};
+ghost use Rattle.grep_searcher.specs.MatchHandlers.{RunsKeepFirst, RunsKeepFirstLines};
 ghost use Rattle.grep_searcher.specs.PassedCalls.{ClosuresAppend, ClosuresArePassed};
 ghost use Rattle.grep_searcher.specs.PassedCalls.{ClosuresFailPassed, ClosuresKeepCalls};
 ghost use Rattle.grep_searcher.specs.SearchFailures.{ReadersFail, SlicesFail};
@@ -141,9 +141,9 @@ pub fn runs_find_selected<E>()
 
 /// A run of a new `First` that ended in `Ok` kept the first matches that are reported, up to its
 /// limit; by line these are the first matched lines.
-pub fn runs_hand_first<A: Allocator + Copy>()
-    ensures all { RunsHandFirst A }
-    ensures lines { RunsHandFirstLines A }
+pub fn runs_keep_first<A: Allocator + Copy>()
+    ensures all { RunsKeepFirst A }
+    ensures lines { RunsKeepFirstLines A }
 {}
 
 /// A run of `Collect` that ended in `Ok` kept the matches that are reported, after those that it

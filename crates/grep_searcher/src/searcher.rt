@@ -9,7 +9,7 @@ mod builder;
 mod files;
 mod queries;
 mod readers;
-mod sink_calls;
+mod searcher_calls;
 mod slices;
 
 pub use builder::SearcherBuilder;

@@ -13,7 +13,7 @@ mod first;
 mod found;
 mod kept_lines;
 mod kept_match;
-mod lent;
+mod matches;
 mod on_match;
 mod reports;
 
@@ -27,7 +27,7 @@ pub use found::Found;
 use grep_report::{SinkContext, SinkError, SinkFinish, SinkMatch};
 pub use kept_lines::{KeptLines, ReportKind};
 pub use kept_match::KeptMatch;
-pub use lent::Matches;
+pub use matches::Matches;
 pub use on_match::{MatchHandler, OnMatch};
 pub use reports::Reports;
 use std::alloc::Allocator;

@@ -17,7 +17,7 @@ use Rattle.grep_definitions.proofs.BoolLemmas.{and-both, clash}
 use Rattle.grep_walk.specs.declared.blocks.Blocks.{Blocks}
 use Rattle.grep_walk.specs.declared.walk.Walk.{Walk}
 use Rattle.grep_walk.specs.AcrossWalks.{IsAcross, IsComing, IsReady, is_done, is_joined, next_chosen}
-use Rattle.grep_walk.specs.TouchedUnits.{AreLeft, IsUnit, is_hit}
+use Rattle.grep_walk.specs.TouchedUnits.{AreLeft, IsUnit, is_counted}
 use Rattle.grep_lines.proofs.LineRangeLemmas.{starts-before, starts-from, starts-until, comes-before, comes-from}
 use Rattle.grep_lines.proofs.LineRangeLemmas.{end-start}
 
@@ -35,14 +35,14 @@ module _ (k : Settings) (meaning : Meaning) (bytes : List ℕ) where
   free = is_free k meaning bytes
 
   -- which lines are selected, by which are touched
-  selected-plain : selects_free k ≡ false → (j : ℕ) → S j ≡ is_hit k meaning bytes j
+  selected-plain : selects_free k ≡ false → (j : ℕ) → S j ≡ is_counted k meaning bytes j
   selected-plain plain j = rw plain refl
 
   pub selected-inverted : selects_free k ≡ true → (j : ℕ) → S j ≡ (free j && has_room k (count_below free j))
   selected-inverted inverted j = rw inverted refl
 
   -- if the limit isn't 0
-  free-is : selects_free k ≡ true → has_room k 0 ≡ true → (j : ℕ) → j < n → free j ≡ not (is_hit k meaning bytes j)
+  free-is : selects_free k ≡ true → has_room k 0 ≡ true → (j : ℕ) → j < n → free j ≡ not (is_counted k meaning bytes j)
   free-is inverted some j inside = let test = lt-ltb j n inside in rw (test, inverted, some) refl
 
   -- the next unit, which is looked for at the end of the last one

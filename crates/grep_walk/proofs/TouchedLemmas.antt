@@ -23,7 +23,7 @@ use Rattle.grep_definitions.proofs.BlockLemmas.{block_end-part}
 use Rattle.grep_lines.proofs.LineRangeLemmas.{comes-before, end-start, starts-before, starts-until}
 use Rattle.grep_definitions.proofs.TouchLemmas.{rises}
 use Rattle.grep_definitions.proofs.SuccessiveMatchLemmas.{position_after-start}
-use Rattle.grep_walk.specs.TouchedUnits.{is_in, is_hit, IsPart, IsUnit, AreTouched}
+use Rattle.grep_walk.specs.TouchedUnits.{is_in, is_counted, IsPart, IsUnit, AreTouched}
 
 -- a position in a range is at its start or after it, and before its end
 in-range : (u : ℕ × ℕ) (s : ℕ) → u.0 ≤ s → s < u.1 → is_in (Some u) s ≡ true
@@ -69,7 +69,7 @@ module _ (k : Settings) (meaning : Meaning) (bytes : List ℕ) where
 
   -- whether a line is touched, by the matches that were found and those after them
   hit-of : (found later : List (ℕ × ℕ)) → counted_matches k meaning bytes ≡ found ++ later → (j : ℕ) → j < n
-      → is_hit k meaning bytes j ≡ (touched_of found j || touched_of later j)
+      → is_counted k meaning bytes j ≡ (touched_of found j || touched_of later j)
   hit-of found later all j inside =
       let yes = lt-ltb j n inside in
       rw (yes, all) (list_any-append (touches k meaning bytes j) found later)
@@ -270,7 +270,7 @@ module _ (k : Settings) (meaning : Meaning) (bytes : List ℕ) where
     apart = λ some below. below;
     some = λ below. absurd (omega arith);
     miss = λ j here over before.
-        let none : is_hit k meaning bytes j ≡ (touched_of found j || false) = hit-of found []
+        let none : is_counted k meaning bytes j ≡ (touched_of found j || false) = hit-of found []
         (all ∙ sym (append-nil found)) j here in
         none ∙ (or-false (touched_of found j) ∙ touched.same j here over);
     hit = λ j here over before. absurd (omega arith);

@@ -16,7 +16,7 @@ use Rattle.grep_walk.specs.declared.look_ahead.Ahead.{Ahead}
 use Rattle.grep_walk.specs.declared.walk.Walk.{Walk}
 use Rattle.grep_walk.specs.LookAheads.{IsBounded, IsExact, IsKnown, MayAskAhead, known_at, skips}
 use Rattle.grep_walk.specs.Walks.{AreCounts, IsDecided, can_hit, counts_lines, is_over, line_end, line_turns}
-use Rattle.grep_walk.specs.Walks.{after_line, recounted, reports_line, skip_unmatched}
+use Rattle.grep_walk.specs.Walks.{after_line, with_counts, reports_line, skip_unmatched}
 use Rattle.grep_walk.specs.Windows.{HasSearched, HasWalked, IsInWindow}
 use Rattle.grep_walk.proofs.BeforeContextLemmas.{pending-none}
 use Rattle.grep_walk.proofs.SkipLemmas as skips
@@ -42,13 +42,13 @@ is_uncounted k un = record {
 pub counts-before : (k : Settings) → 0 < k.before_context → counts_lines k ≡ true
 counts-before k some = grind (arith, nat_tests)
 
-module _ (k : Settings) (w : Walk) (line through : ℕ) (counts : AreCounts k w line through) where
+module _ (k : Settings) (w : Walk) (line next_unreported : ℕ) (counts : AreCounts k w line next_unreported) where
   -- as many lines are near
-  pub near-same : min k.before_context (line - through) ≡ min k.before_context (w.line - w.next_unreported)
+  pub near-same : min k.before_context (line - next_unreported) ≡ min k.before_context (w.line - w.next_unreported)
   near-same = go (counts_lines k) refl
     where
       go : (b : Bool) → counts_lines k ≡ b
-          → min k.before_context (line - through) ≡ min k.before_context (w.line - w.next_unreported)
+          → min k.before_context (line - next_unreported) ≡ min k.before_context (w.line - w.next_unreported)
       go true is = ap₂ (λ a b. min k.before_context (a - b)) (counts is).0 (counts is).1
       go false is = omega (arith, (is_uncounted k is).none_before)
 
@@ -62,33 +62,33 @@ module _ (k : Settings) (w : Walk) (line through : ℕ) (counts : AreCounts k w 
       (cases_lt i v)
 
   match-same : IsUncounted k → (end : ℕ) (here : List ℕ)
-      → match_turns k through line w.offset end here ≡ match_turns k w.next_unreported w.line w.offset end here
+      → match_turns k next_unreported line w.offset end here ≡ match_turns k w.next_unreported w.line w.offset end here
   match-same un end here = rw (un.none_after, un.unnumbered) refl
 
   -- the calls of a line are the ones of the recounted walk
   pub turns-same : (input here : List ℕ) (chosen trailing : Bool)
-      → line_turns k input w here chosen trailing ≡ line_turns k input (recounted w line through) here chosen trailing
+      → line_turns k input w here chosen trailing ≡ line_turns k input (with_counts w line next_unreported) here chosen trailing
   turns-same input here chosen trailing = go (counts_lines k) refl
     where
       uncounted : IsUncounted k → (c t : Bool) (left : ℕ)
           → line_turns k input (record w { after_context_left = left }) here c t
-          ≡ line_turns k input (record w { line = line; next_unreported = through; after_context_left = left }) here c t
+          ≡ line_turns k input (record w { line = line; next_unreported = next_unreported; after_context_left = left }) here c t
       uncounted un true t left = ap₂ (λ xs ys. xs ++ ys)
           (pending-silent un input w.next_unreported w.line (line_end w here)
-          ∙ sym (pending-silent un input through line (line_end w here)))
+          ∙ sym (pending-silent un input next_unreported line (line_end w here)))
           (sym (match-same un (line_end w here) here))
       uncounted un false t left = rw (un.none_after, un.unnumbered) refl
 
       go : (b : Bool) → counts_lines k ≡ b
-          → line_turns k input w here chosen trailing ≡ line_turns k input (recounted w line through) here chosen
+          → line_turns k input w here chosen trailing ≡ line_turns k input (with_counts w line next_unreported) here chosen
           trailing
-      go true is = ap₂ (λ l v. line_turns k input (recounted w l v) here chosen trailing) (sym (counts is).0)
+      go true is = ap₂ (λ l v. line_turns k input (with_counts w l v) here chosen trailing) (sym (counts is).0)
           (sym (counts is).1)
       go false is = uncounted (is_uncounted k is) chosen trailing w.after_context_left
 
   -- the next walk's counts
   pub counts-next : (here : List ℕ) (chosen : Bool) → AreCounts k (after_line k w here chosen) (line + 1)
-      (if reports_line k w chosen then line + 1 else through)
+      (if reports_line k w chosen then line + 1 else next_unreported)
   counts-next here chosen is = (
     ap (λ n. n + 1) (counts is).0,
     ap₂ (λ l v. if reports_line k w chosen then l + 1 else v) (counts is).0 (counts is).1,
@@ -96,7 +96,7 @@ module _ (k : Settings) (w : Walk) (line through : ℕ) (counts : AreCounts k w 
 
   -- the counts after lines that were skipped
   pub counts-past : (passed : List ℕ)
-      → AreCounts k (skip_unmatched k w passed) (line + length (lines (byte_of k.line_terminator) passed)) through
+      → AreCounts k (skip_unmatched k w passed) (line + length (lines (byte_of k.line_terminator) passed)) next_unreported
   counts-past passed is = (
     ap (λ n. n + length (lines (byte_of k.line_terminator) passed)) (counts is).0
         ∙ sym (ap (λ b. if b then w.line + length (lines (byte_of k.line_terminator) passed) else w.line) is),
@@ -109,8 +109,8 @@ pub inside-counted : {S E : Type 0} {step : Steps S E} {k : Settings} {meaning :
     → counts_lines k ≡ true → IsInWindow k gone window input p w
 inside-counted {k = k} {gone = gone} {window = window} {input = input} {p = p} {w = w} so_far is =
     let counts = so_far.counts is in
-    subst (λ v. IsInWindow k gone window input p (recounted w w.line v)) counts.1
-    (subst (λ l. IsInWindow k gone window input p (recounted w l so_far.through)) counts.0 so_far.walked.inside)
+    subst (λ v. IsInWindow k gone window input p (with_counts w w.line v)) counts.1
+    (subst (λ l. IsInWindow k gone window input p (with_counts w l so_far.next_unreported)) counts.0 so_far.walked.inside)
 
 -- what a turn of a walk has of the line from p up to q that it decides
 pub record HasLine {S E : Type 0} (step : Steps S E) (k : Settings) (meaning : Meaning) (gone window input : List ℕ)
@@ -142,16 +142,16 @@ pub line-comes : {S E : Type 0} {step : Steps S E} {k : Settings} {meaning : Mea
 line-comes {step = step} {k = k} {meaning = meaning} {gone = gone} {window = window} {input = input} {first = first}
     {p = p} {q = q} {w = w} {now = now} bare turn within {chosen} {trailing} decided outcome new made =
     comes-on k meaning input step first (line_end w here) (is_over k (after_line k w here chosen) chosen)
-    (HasWalked step k meaning gone window input first q (after_line k (recounted w line through) here chosen))
+    (HasWalked step k meaning gone window input first q (after_line k (with_counts w line next_unreported) here chosen))
     (HasSearched step k meaning gone window input first q (after_line k w here chosen)) (λ new walked. record {
       line = line + 1;
-      through = if reports_line k w chosen then line + 1 else through;
-      counts = counts-next k w line through turn.here.counts here chosen;
+      next_unreported = if reports_line k w chosen then line + 1 else next_unreported;
+      counts = counts-next k w line next_unreported turn.here.counts here chosen;
       walked = walked;
     }) outcome new (search.line-comes turn.here.walked within turn.line bare
     (record { chosen_is = decided.chosen_is; trailing_is = decided.trailing_is }) outcome new
     (subst (λ turns. AreMade step k now turns outcome new)
-    (turns-same k w line through turn.here.counts input here chosen trailing) made))
+    (turns-same k w line next_unreported turn.here.counts input here chosen trailing) made))
   where
     here : List ℕ
     here = slice_range window p q
@@ -159,8 +159,8 @@ line-comes {step = step} {k = k} {meaning = meaning} {gone = gone} {window = win
     line : ℕ
     line = turn.here.line
 
-    through : ℕ
-    through = turn.here.through
+    next_unreported : ℕ
+    next_unreported = turn.here.next_unreported
 
 -- the matcher's error for the lines from a position on
 pub failed-ahead : {S E F : Type 0} {step : Steps S E} {k : Settings} {gone window input : List ℕ} {first : Origin S}
@@ -190,10 +190,10 @@ module _ {S E : Type 0} {step : Steps S E} {k : Settings} {meaning : Meaning} {g
       go false is = so_far
       go true is = record {
         line = so_far.line + length (lines (byte_of k.line_terminator) (slice_range window p a.candidate));
-        through = so_far.through;
-        counts = counts-past k w so_far.line so_far.through so_far.counts (slice_range window p a.candidate);
+        next_unreported = so_far.next_unreported;
+        counts = counts-past k w so_far.line so_far.next_unreported so_far.counts (slice_range window p a.candidate);
         walked = skips.walked-past step k meaning gone window input first now bare
-            (recounted w so_far.line so_far.through) p a so_far.walked (omega (arith, bounded.ordered, bounded.within))
+            (with_counts w so_far.line so_far.next_unreported) p a so_far.walked (omega (arith, bounded.ordered, bounded.within))
             known is;
       }
 

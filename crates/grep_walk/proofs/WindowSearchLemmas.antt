@@ -21,7 +21,7 @@ use Rattle.grep_report.specs.ErrorMakers.{ErrorMakers}
 use Rattle.grep_walk.specs.WalkFaults.{IsWalkFault}
 use Rattle.grep_walk.specs.declared.walk.Walk.{Walk}
 use Rattle.grep_walk.specs.Walks.{IsDecided, IsOrdered, HasReported, can_hit, line_end, line_turns, after_line, is_over}
-use Rattle.grep_walk.specs.Walks.{recounted, CountedFrom}
+use Rattle.grep_walk.specs.Walks.{with_counts, CountedFrom}
 use Rattle.grep_definitions.specs.Questions.{IsAsked}
 use Rattle.grep_walk.specs.LookAheads.{MayAskAhead}
 use Rattle.grep_walk.specs.Windows.{IsWindow, IsInWindow, HasPassed, HasSearched, HasWalked}
@@ -49,7 +49,7 @@ pub searched-start : {S E : Type 0} (step : Steps S E) (k : Settings) (meaning :
     → HasSearched step k meaning [] window input (fresh first) 0 (start_walk k meaning input) now
 searched-start step k meaning window input first now shown busy begun = record {
   line = 0;
-  through = 0;
+  next_unreported = 0;
   counts = λ _. (refl, refl);
   walked = record {
     inside = record {
@@ -67,11 +67,11 @@ pub searched-rolled : {S E : Type 0} (step : Steps S E) (k : Settings) (meaning 
     (first : Origin S)
     (w : Walk) (now : S) (passed : HasPassed step k meaning gone window input first w now)
     → (gone' window' : List ℕ) (start : ℕ)
-    → IsInWindow k gone' window' input start (recounted w passed.searched.line passed.searched.through)
+    → IsInWindow k gone' window' input start (with_counts w passed.searched.line passed.searched.next_unreported)
     → HasSearched step k meaning gone' window' input first start w now
 searched-rolled step k meaning gone window input first w now passed gone' window' start inside = record {
   line = passed.searched.line;
-  through = passed.searched.through;
+  next_unreported = passed.searched.next_unreported;
   counts = passed.searched.counts;
   walked = record { inside = inside; reported = passed.searched.walked.reported };
 }
@@ -86,9 +86,9 @@ pub passed-all : {S E : Type 0} (step : Steps S E) (k : Settings) (meaning : Mea
 passed-all step k meaning gone window input first p w now so_far end last = record {
   searched = record {
     line = so_far.line;
-    through = so_far.through;
+    next_unreported = so_far.next_unreported;
     counts = so_far.counts;
-    walked = subst (λ p. HasWalked step k meaning gone window input first p (recounted w so_far.line so_far.through)
+    walked = subst (λ p. HasWalked step k meaning gone window input first p (with_counts w so_far.line so_far.next_unreported)
         now) end
         so_far.walked;
   };
@@ -117,7 +117,7 @@ pub counted-passed : {S E : Type 0} (step : Steps S E) (k : Settings) (meaning :
     ≡ length (lines (byte_of k.line_terminator) input)
     → IsCounted step k meaning input first w.offset all_true now
 counted-passed step k meaning gone window input first w now passed all =
-    walks.counted-end k meaning input step first (recounted w passed.searched.line passed.searched.through) now
+    walks.counted-end k meaning input step first (with_counts w passed.searched.line passed.searched.next_unreported) now
     passed.searched.walked.reported (passed.all ∙ all)
 
 -- at the end of the input the walk has made all calls, and if it doesn't go on earlier no more are to come
@@ -247,7 +247,7 @@ module _ {S E : Type 0} {step : Steps S E} {k : Settings} {meaning : Meaning} {g
   pub calls-seen : (k.passthru ≡ true → k.before_context ≡ 0) → (after : List ℕ)
       → (there : HasSearched step k meaning gone (shown ++ more) (gone ++ ((shown ++ more) ++ after)) first
       (length shown) w now)
-      → turns_before k meaning (gone ++ ((shown ++ more) ++ after)) there.through ≡ turns k meaning (gone ++ shown)
+      → turns_before k meaning (gone ++ ((shown ++ more) ++ after)) there.next_unreported ≡ turns k meaning (gone ++ shown)
   calls-seen built after there =
       let input : List ℕ = gone ++ ((shown ++ more) ++ after) in
       let walk = there.walked.reported.walk in
@@ -264,19 +264,19 @@ module _ {S E : Type 0} {step : Steps S E} {k : Settings} {meaning : Meaning} {g
         end,
       ))
       (cases_lt there.line (length (lines (byte_of k.line_terminator) input))) in
-      let known = subst (λ i. (IsNear k meaning input there.through i w.after_context_left)
+      let known = subst (λ i. (IsNear k meaning input there.next_unreported i w.after_context_left)
       × (i ≤ LineSearch.turn_count k meaning input)
       × All (λ (turn : Planned). turn.if_false.count ≤ LineSearch.start k meaning input i)
-      (turns_before k meaning input there.through)) (line-seen there) (
+      (turns_before k meaning input there.next_unreported)) (line-seen there) (
         walk.near,
         turned,
-        subst (λ n. All (λ (turn : Planned). turn.if_false.count ≤ n) (turns_before k meaning input there.through))
+        subst (λ n. All (λ (turn : Planned). turn.if_false.count ≤ n) (turns_before k meaning input there.next_unreported))
             (sym walk.placed.at.begins) walk.ended,
       ) in
       let count : ℕ = length (lines (byte_of k.line_terminator) (gone ++ shown)) in
-      let moved = subst (λ xs. (IsNear k meaning xs there.through count w.after_context_left)
+      let moved = subst (λ xs. (IsNear k meaning xs there.next_unreported count w.after_context_left)
       × (count ≤ LineSearch.turn_count k meaning xs)
       × All (λ (turn : Planned). turn.if_false.count ≤ LineSearch.start k meaning xs count)
-      (turns_before k meaning xs there.through)) same_input known in
-      ap (λ xs. turns_before k meaning xs there.through) same_input
+      (turns_before k meaning xs there.next_unreported)) same_input known in
+      ap (λ xs. turns_before k meaning xs there.next_unreported) same_input
       ∙ turns-seen k meaning _ back (closed-append (byte_of k.line_terminator) gone shown opens shut) built _ _ moved.0 moved.1 moved.2

@@ -11,7 +11,7 @@ use Rattle.grep_definitions.specs.LineSearch.{line_count}
 use Rattle.grep_definitions.specs.Selections.{IsNear, no_line}
 use Rattle.grep_walk.specs.declared.blocks.Blocks.{Blocks}
 use Rattle.grep_walk.specs.declared.walk.Walk.{Walk}
-use Rattle.grep_walk.specs.TouchedUnits.{AreLeft, IsUnit, is_hit}
+use Rattle.grep_walk.specs.TouchedUnits.{AreLeft, IsUnit, is_counted}
 use Rattle.grep_walk.specs.Walks.{IsPlaced, line_end, after_line}
 
 -- whether as many lines were chosen under inversion as the limit has
@@ -72,7 +72,7 @@ module _ (settings : Settings) (meaning : Meaning) (bytes : List ℕ) where
     pub after : low ≤ start
     pub before : start ≤ unit.1
     pub whole : selects_free settings ≡ false → start ≤ unit.0
-    pub alone : 0 < is_unit.first → is_hit settings meaning bytes (is_unit.first - 1) ≡ false
+    pub alone : 0 < is_unit.first → is_counted settings meaning bytes (is_unit.first - 1) ≡ false
 
   -- a walk at `start` has come to a unit or is in it, or is at its end. Nothing is known of it if
   -- no more lines are chosen

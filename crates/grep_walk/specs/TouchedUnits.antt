@@ -30,8 +30,8 @@ pub record IsPart (t : ℕ) (bytes : List ℕ) (low : ℕ) (found part : ℕ × 
 
 module _ (settings : Settings) (meaning : Meaning) (bytes : List ℕ) where
   -- whether a match that counts touches the line
-  abbrev pub is_hit : ℕ → Bool
-  is_hit j = is_touched settings meaning bytes (counted_matches settings meaning bytes) j
+  abbrev pub is_counted : ℕ → Bool
+  is_counted j = is_touched settings meaning bytes (counted_matches settings meaning bytes) j
 
   -- a range of whole lines. It begins at `low`, or after it if `low` is neither 0 nor the end, and
   -- it has a line unless it is at the end
@@ -62,12 +62,12 @@ module _ (settings : Settings) (meaning : Meaning) (bytes : List ℕ) where
     -- no line between is touched, each of its own is, and the one after it isn't
     pub miss : (j : ℕ) → j < line_count settings meaning bytes
         → low ≤ start settings meaning bytes j → start settings meaning bytes j < unit.0
-        → is_hit j ≡ false
+        → is_counted j ≡ false
     pub hit : (j : ℕ) → j < line_count settings meaning bytes
         → unit.0 ≤ start settings meaning bytes j → start settings meaning bytes j < unit.1
-        → is_hit j ≡ true
+        → is_counted j ≡ true
     pub past : (j : ℕ) → j < line_count settings meaning bytes
-        → start settings meaning bytes j ≡ unit.1 → is_hit j ≡ false
+        → start settings meaning bytes j ≡ unit.1 → is_counted j ≡ false
 
   -- which matches were found, and which are still to be found
   pub record AreFound (position : ℕ) (left : Option ℕ) (asked : List (ℕ × ℕ)) : Type 0 where

@@ -96,13 +96,13 @@ skip_unmatched settings w passed = record w {
 }
 
 -- a walk with its lines counted anew
-abbrev pub recounted : Walk → ℕ → ℕ → Walk
-recounted w line through = record w { line = line; next_unreported = through }
+abbrev pub with_counts : Walk → ℕ → ℕ → Walk
+with_counts w line next_unreported = record w { line = line; next_unreported = next_unreported }
 
 -- these are a walk's counts of lines, if it counts them
 abbrev pub AreCounts : Settings → Walk → ℕ → ℕ → Type 0
-AreCounts settings w line through =
-    counts_lines settings ≡ true → (line ≡ w.line) × (through ≡ w.next_unreported)
+AreCounts settings w line next_unreported =
+    counts_lines settings ≡ true → (line ≡ w.line) × (next_unreported ≡ w.next_unreported)
 
 -- whether no later line may be reported, by whether the last line was chosen
 abbrev pub is_over : Settings → Walk → Bool → Bool

@@ -6,7 +6,7 @@ use Rattle.grep_matcher.specs.Meanings.{Meaning}
 use Rattle.grep_lines.specs.Positions.{IsLine, IsLineStart}
 use Rattle.grep_definitions.specs.Plans.{Settings, Steps}
 use Rattle.grep_walk.specs.declared.walk.Walk.{Walk}
-use Rattle.grep_walk.specs.Walks.{AreCounts, HasReported, recounted}
+use Rattle.grep_walk.specs.Walks.{AreCounts, HasReported, with_counts}
 use Rattle.grep_walk.specs.Origins.{Origin}
 
 -- a window shows bytes of the input, after those that are gone, and its lines are lines of the
@@ -43,10 +43,10 @@ pub record HasWalked {S E : Type 0} (step : Steps S E) (settings : Settings) (me
 pub record HasSearched {S E : Type 0} (step : Steps S E) (settings : Settings) (meaning : Meaning)
     (gone window input : List ℕ) (first : Origin S) (start : ℕ) (w : Walk) (now : S) : Type 0 where
   pub line : ℕ
-  pub through : ℕ
-  pub counts : AreCounts settings w line through
+  pub next_unreported : ℕ
+  pub counts : AreCounts settings w line next_unreported
   pub walked : HasWalked step settings meaning gone window input first start
-      (recounted w line through) now
+      (with_counts w line next_unreported) now
 
 -- it has come to the end of the window, and passed all its lines
 pub record HasPassed {S E : Type 0} (step : Steps S E) (settings : Settings) (meaning : Meaning)

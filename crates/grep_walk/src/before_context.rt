@@ -6,7 +6,7 @@ ghost use Rattle.grep_matcher.specs.Lines.{byte_of, lines};
 ghost use Rattle.grep_lines.specs.Positions.{IsLineStart};
 ghost use Rattle.grep_definitions.specs.Searches.{IsClosed};
 ghost use Rattle.grep_definitions.specs.LineTurns.{is_gap};
-ghost use Rattle.grep_walk.specs.Walks.{AreCounts, recounted};
+ghost use Rattle.grep_walk.specs.Walks.{AreCounts, with_counts};
 ghost use Rattle.grep_walk.specs.Windows.{IsInWindow};
 
 use crate::config::Config;
@@ -60,12 +60,12 @@ impl Config {
             → IsClosed (byte_of self.now.line_terminator) window.now
             → (0 < length after
             → IsClosed (byte_of self.now.line_terminator) (drop result window.now ++ more))
-            → (line through : ℕ) → AreCounts self.now walk.now line through
+            → (line next_unreported : ℕ) → AreCounts self.now walk.now line next_unreported
             → IsInWindow self.now gone window.now (gone ++ (window.now ++ (more ++ after)))
-            (length window.now) (recounted walk.now line through)
+            (length window.now) (with_counts walk.now line next_unreported)
             → IsInWindow self.now (gone ++ take result window.now)
             (drop result window.now ++ more) (gone ++ (window.now ++ (more ++ after)))
-            (length window.now - result) (recounted walk.now line through) }
+            (length window.now - result) (with_counts walk.now line next_unreported) }
     {
         let near = self.lines_before(walk);
         self.step_back(window, window.len(), near)

@@ -48,10 +48,10 @@ impl Config {
         Ok(blocks)
     }
 
-    /// Returns the next unit, and moves past it. At the end of the bytes, if there is no other, it
-    /// is empty. The error is the matcher's. The caller ensures that the blocks are those that the
-    /// step before left.
-    pub fn next_unit<M: Matcher>(
+    // Returns the next unit, and moves past it. At the end of the bytes, if there is no other, it
+    // is empty. The error is the matcher's. The caller ensures that the blocks are those that the
+    // step before left.
+    pub(crate) fn next_unit<M: Matcher>(
         &self,
         matcher: &M,
         bytes: &[u8],
@@ -110,7 +110,7 @@ impl Config {
             × IsAskedAfter self.now (M.facts matcher.now).meaning bytes.now found haystack
             × (M.facts matcher.now).fails haystack error) }
     {
-        if blocks.position >= bytes.len() || !has_room(blocks.left) {
+        if blocks.position >= bytes.len() || blocks.left == Some(0) {
             return Ok(None);
         }
         let found = match matcher.find(&bytes[blocks.position..]) {
@@ -156,16 +156,6 @@ fn position_after(found: Match) -> usize
         found.end() + 1
     } else {
         found.end()
-    }
-}
-
-// Whether a limit isn't 0, if there is one.
-fn has_room(left: Option<u64>) -> bool
-    ensures { result ≡ is_below 0 left }
-{
-    match left {
-        Some(left) => 0 < left,
-        None => true,
     }
 }
 

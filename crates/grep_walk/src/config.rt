@@ -89,23 +89,23 @@ impl Model for Config {
 }
 
 impl Config {
-    /// Whether a line hits, by whether it matches.
-    pub fn hits_if(&self, matches: bool) -> bool
+    // Whether a line hits, by whether it matches.
+    pub(crate) fn hits_if(&self, matches: bool) -> bool
         ensures { result ≡ hits_if self.now matches }
     {
         matches != self.invert_match
     }
 
-    /// Across lines, whether the lines that no match touches are selected, each a report of its
-    /// own.
-    pub fn selects_free(&self) -> bool
+    // Across lines, whether the lines that no match touches are selected, each a report of its
+    // own.
+    pub(crate) fn selects_free(&self) -> bool
         ensures { result ≡ selects_free self.now }
     {
         self.invert_match
     }
 
-    /// Whether `count` is below the limit; true if there is none.
-    pub fn has_room(&self, count: u64) -> bool
+    // Whether `count` is below the limit; true if there is none.
+    pub(crate) fn has_room(&self, count: u64) -> bool
         ensures { result ≡ has_room self.now count }
     {
         match self.max_matches {
@@ -114,9 +114,9 @@ impl Config {
         }
     }
 
-    /// How many matches count across lines, if there is a limit: where free lines are selected, the
-    /// limit is one of lines, and all matches count unless it is 0.
-    pub fn match_limit(&self) -> Option<u64>
+    // How many matches count across lines, if there is a limit: where free lines are selected, the
+    // limit is one of lines, and all matches count unless it is 0.
+    pub(crate) fn match_limit(&self) -> Option<u64>
         ensures { result ≡ match_limit self.now }
     {
         if self.selects_free() && self.has_room(0) {

@@ -42,7 +42,7 @@ pub const NOTHING_AHEAD: Ahead = Ahead {
 
 impl Ahead {
     /// Whether the line that begins at a position matches, if that is known.
-    pub fn at(&self, start: usize) -> Option<bool>
+    pub fn known_at(&self, start: usize) -> Option<bool>
         ensures { result ≡ known_at self.now start }
     {
         if start < self.candidate {

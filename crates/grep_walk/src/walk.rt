@@ -116,15 +116,15 @@ impl Config {
         }
     }
 
-    /// Whether the limit is reached.
-    pub fn is_full(&self, walk: &Walk) -> bool
+    // Whether the limit is reached.
+    pub(crate) fn is_full(&self, walk: &Walk) -> bool
         ensures { result ≡ not (has_room self.now walk.now.match_count) }
     {
         !self.has_room(walk.match_count)
     }
 
-    /// Whether lines are counted: if they are numbered, or reported around matches.
-    pub fn counts_lines(&self) -> bool
+    // Whether lines are counted: if they are numbered, or reported around matches.
+    pub(crate) fn counts_lines(&self) -> bool
         ensures { result ≡ counts_lines self.now }
     {
         self.line_number || self.after_context > 0 || self.before_context > 0
@@ -137,9 +137,9 @@ impl Config {
         !self.passthru && !self.has_room(0)
     }
 
-    /// Whether the search ends at the next line that isn't chosen: it is to stop there, and a line
-    /// was chosen.
-    pub fn stops_next(&self, walk: &Walk) -> bool
+    // Whether the search ends at the next line that isn't chosen: it is to stop there, and a line
+    // was chosen.
+    pub(crate) fn stops_next(&self, walk: &Walk) -> bool
         ensures { result ≡ stops_next self.now (nat_lt 0 walk.now.match_count) }
     {
         self.stop_on_nonmatch && walk.match_count > 0

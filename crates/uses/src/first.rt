@@ -4,7 +4,7 @@ ghost use Rattle.grep_searcher.specs.Searches.{IsInput, Taken};
 ghost use Rattle.grep_searcher.specs.LineCounts.{IsLineSearch};
 ghost use Rattle.uses.specs.MatchedLines.{first_lines};
 
-use grep_searcher::laws::{reader_searches_run, runs_hand_first};
+use grep_searcher::laws::{reader_searches_run, runs_keep_first};
 use grep_searcher::sinks::{First, KeptMatch, OnMatch};
 use grep_searcher::{Matcher, SearchError, Searcher, Source};
 use std::alloc::Global;
@@ -36,6 +36,6 @@ pub fn first_matches<M: Matcher + Drop, R: Source>(
     let mut sink = OnMatch::new(First::new(alloc, n));
     searcher.search_reader(matcher, reader, &mut sink)?;
     reader_searches_run::<Global, M, R, _>(&sink);
-    runs_hand_first::<Global>();
+    runs_keep_first::<Global>();
     Ok(sink.into_handler().into_matches())
 }

@@ -72,5 +72,5 @@ pub fn has_match<R: Files, M: Matcher + Drop, P: AsPath>(
     let mut sink = OnMatch::new(found);
     searcher.search_path(rt, matcher, path, &mut sink)?;
     files_find_lines::<Global, M, R::File, SearchError>();
-    Ok(sink.handler().found())
+    Ok(sink.handler().is_found())
 }

@@ -9,7 +9,7 @@ ghost use Rattle.grep_definitions.specs.SliceSearches.{IsUndecoded};
 ghost use Rattle.grep_report.specs.ErrorMakers.{makers_of};
 
 use crate::searcher::Searcher;
-use crate::searcher::sink_calls::SinkCalls;
+use crate::searcher::searcher_calls::SearcherCalls;
 use crate::sink::Sink;
 use grep_matcher::Matcher;
 use grep_report::SinkError;
@@ -120,7 +120,7 @@ impl<A: Allocator + Copy> Searcher<A> {
         if self.config.is_searched_unchanged(input) {
             return self
                 .search()
-                .search_bytes::<M, SinkCalls<S>>(matcher, input, sink);
+                .search_bytes::<M, SearcherCalls<S>>(matcher, input, sink);
         }
         let mut source = input;
         self.search_source(matcher, &mut source, sink)

@@ -66,13 +66,13 @@ impl<A: Allocator + Copy> Collect<A> {
 
 impl<A: Allocator + Copy> MatchHandler for Collect<A> {
     ghost use Rattle.std.specs.Prelude.{true};
-    ghost use Rattle.grep_searcher.specs.MatchHandlers.{collected, LacksMemory};
+    ghost use Rattle.grep_searcher.specs.MatchHandlers.{with_match, LacksMemory};
 
     type Error = SearchError<A>;
 
     ghost goes = { λ _ _. true };
 
-    ghost next = { collected };
+    ghost next = { with_match };
 
     ghost fails = { LacksMemory };
 

@@ -34,7 +34,7 @@ impl<E> Found<E> {
     }
 
     /// Whether a match was reported.
-    pub fn found(&self) -> bool
+    pub fn is_found(&self) -> bool
         ensures { result ≡ self.now }
     {
         self.found

@@ -8,6 +8,6 @@ returns-clause-lines g c = λ by.
     by.lawful c.in_ok-search_reader.ensures.searched in (
       run.0.taken,
       λ bytes input. c.into_matches.ensures ∙ ap (λ (first : FirstReports). first.kept) (c.into_handler.ensures
-          ∙ c.runs_hand_first.ensures.lines c.args.searcher.now.settings (g.M.Matcher.facts c.args.matcher).meaning bytes
+          ∙ c.runs_keep_first.ensures.lines c.args.searcher.now.settings (g.M.Matcher.facts c.args.matcher).meaning bytes
           by.by_line _ _ _ (c.new-sink.ensures ∙ c.new.ensures) (run.1 bytes input)),
     )

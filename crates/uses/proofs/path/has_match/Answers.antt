@@ -10,6 +10,6 @@ returns-clause-found g c = λ by. elim c.in_ok-search_path.ensures.searched [
     λ input all.
         let is = c.files_find_lines.ensures c.args.matcher c.args.searcher.now file input _ read _ by
         (c.new-sink.ensures ∙ c.new-found.ensures) all searched in
-        (c.found.ensures ∙ c.handler.ensures ∙ is.0, is.1),
+        (c.is_found.ensures ∙ c.handler.ensures ∙ is.0, is.1),
   )
 ]

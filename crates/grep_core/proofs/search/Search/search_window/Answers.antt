@@ -36,23 +36,23 @@ use Rattle.grep_core.proofs.search.Search.search_window.Given.{Over}
 use Rattle.grep_definitions.specs.CallOrder.{of_call, of_question}
 use Rattle.grep_definitions.proofs.CallOrderLemmas.{called-none, called-then}
 use Rattle.grep_core.proofs.search.Search.search_window.Goals as goal
-use Rattle.grep_core.proofs.search.Search.search_window.Goals.{After-at-known}
+use Rattle.grep_core.proofs.search.Search.search_window.Goals.{After-known_at-known}
 
 -- the line that a walk decides, after those that it skipped
-reached : (g : Over) (c : goal.After-at-known g) → IsLawful (g.M.Matcher.facts c.args.matcher.now) c.args.self.now.config
+reached : (g : Over) (c : goal.After-known_at-known g) → IsLawful (g.M.Matcher.facts c.args.matcher.now) c.args.self.now.config
     → (gone input : List ℕ) (first : Origin g.row.C-Sink.Denot)
     → HasSearched g.C.Calls.step c.args.self.now.config (g.M.Matcher.facts c.args.matcher.now).meaning gone c.args.window.now input
     first c.args.start c.args.walk.now c.args.sink.now
     → uncounted.HasLine g.C.Calls.step c.args.self.now.config (g.M.Matcher.facts c.args.matcher.now).meaning gone
     c.args.window.now input first c.skip_unmatched-start.result c.in-Some.end c.skip_unmatched-start.new.walk
-    c.lines.sink c.at-known.result
+    c.lines.sink c.known_at-known.result
 reached g c lawful gone input first so_far =
     let now = c.lines.invariant.searched lawful gone input first so_far in
     uncounted.line-reached c.requires.configured.bare now c.in-Ok.ensures.bounded
     (c.in-Ok.ensures.known lawful _ now.walked.inside.line.begins
     (c.lines.invariant.known lawful gone input first so_far)) c.skip_unmatched-start.ensures.low
     c.skip_unmatched-start.ensures.position c.skip_unmatched-start.ensures.walk c.terminator-terminator.ensures
-    c.in-Some.ensures.line c.at-known.ensures
+    c.in-Some.ensures.line c.known_at-known.ensures
 
 pub lines-init : goal.lines-init
 lines-init g c = record {
@@ -98,7 +98,7 @@ pub returns-in-Err-judge-clause-fault : goal.returns-in-Err-judge-clause-fault
 returns-in-Err-judge-clause-fault g c =
     let below = c.in-Err-judge.ensures.open in
     λ lawful gone input first so_far.
-    let turn = reached g (goal.at.returns-in-Err-judge-clause-fault g c).After-at-known lawful _ _ _ so_far in
+    let turn = reached g (goal.at.returns-in-Err-judge-clause-fault g c).After-known_at-known lawful _ _ _ so_far in
     uncounted.failed-asked _ _ c.requires.configured.bare turn c.in-Some.ensures.within.1 below c.in-Err-judge.error _ c.error_message-in-Err-judge.ensures
     c.in-Err-judge.ensures.fault
 
@@ -107,7 +107,7 @@ returns-in_err-sink_line-clause-fault g c =
     let decided = c.in-Ok-judge.ensures.decided in
     let p = err_from_is_err_and c.from_residual.result c.from_residual.ensures.1 in
     rw (p.1, p.2) (λ lawful gone input first so_far.
-    let turn = reached g (goal.at.returns-in_err-sink_line-clause-fault g c).After-at-known lawful _ _ _ so_far in
+    let turn = reached g (goal.at.returns-in_err-sink_line-clause-fault g c).After-known_at-known lawful _ _ _ so_far in
     at_call (uncounted.line-comes c.requires.configured.bare turn c.in-Some.ensures.within.1 (decided turn.agrees)
     (failed _) _ (c.in_err-sink_line.ensures.reported gone input (uncounted.inside-counted turn.here))))
 
@@ -119,7 +119,7 @@ returns-then-not-branch-clause-ends g c = λ lawful ends.
       stopped (counted (line_end c.skip_unmatched-start.new.walk
           (slice_range c.args.window.now c.skip_unmatched-start.result c.in-Some.end))),
       λ gone input first so_far.
-          let turn = reached g (goal.at.returns-then-not-branch-clause-ends g c).After-at-known lawful _ _ _ so_far in
+          let turn = reached g (goal.at.returns-then-not-branch-clause-ends g c).After-known_at-known lawful _ _ _ so_far in
           uncounted.line-comes c.requires.configured.bare turn c.in-Some.ensures.within.1 (decided turn.agrees)
           (stopped _) _ (reported gone input (uncounted.inside-counted turn.here)) refl,
     )
@@ -139,7 +139,7 @@ returns-then-is_over-clause-ends g c = λ lawful ends.
     rw next (
       all_true,
       λ gone input first so_far.
-          let turn = reached g (goal.at.returns-then-is_over-clause-ends g c).After-at-known lawful _ _ _ so_far in
+          let turn = reached g (goal.at.returns-then-is_over-clause-ends g c).After-known_at-known lawful _ _ _ so_far in
           (uncounted.line-comes c.requires.configured.bare turn c.in-Some.ensures.within.1 (decided turn.agrees)
           all_true _ (reported gone input (uncounted.inside-counted turn.here))).0 over,
     )
@@ -184,7 +184,7 @@ lines-preserved g c =
           _ _ (omega (arith, c.skip_unmatched-start.ensures.low, c.in-Some.ensures.within.0))
           (learns lawful _ now.walked.inside.line.begins (c.lines.invariant.known lawful gone input first so_far));
       searched = λ lawful gone input first so_far.
-          let turn = reached g (goal.at.lines-preserved g c).After-at-known lawful _ _ _ so_far in
+          let turn = reached g (goal.at.lines-preserved g c).After-known_at-known lawful _ _ _ so_far in
           (uncounted.line-comes c.requires.configured.bare turn c.in-Some.ensures.within.1 (decided turn.agrees)
           all_true _ (reported gone input (uncounted.inside-counted turn.here))).1 on;
       called = called-then _ _ _ _ _

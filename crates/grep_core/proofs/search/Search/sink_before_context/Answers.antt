@@ -11,7 +11,7 @@ returns-then-near-eq0-clause-reported g c =
     let w = c.args.walk.now in
     λ gone input inside end. before.reported-none c.args.self.now.config input w.next_unreported w.line end
     g.C.Calls.step c.args.sink.now
-    c.requires.through ((sym c.lines_before-near.ensures ∙ c.if-near-eq0.true))
+    c.requires.low ((sym c.lines_before-near.ensures ∙ c.if-near-eq0.true))
 
 pub returns-clause-reported : goal.returns-clause-reported
 returns-clause-reported g c =
@@ -31,5 +31,5 @@ returns-clause-reported g c =
           (back (w.line - gone_lines) inside.line.begins);
     } in
     rw (before.pending-near k input _ _ end
-    (w.line - near) c.requires.through (omega (arith, near_is)))
+    (w.line - near) c.requires.low (omega (arith, near_is)))
     (c.sink_before_lines.ensures.reported gone input inside first end)

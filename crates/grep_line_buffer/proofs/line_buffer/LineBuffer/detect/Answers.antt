@@ -7,7 +7,7 @@ use Rattle.std.specs.Prelude.{slice_range}
 use Rattle.grep_lines.proofs.ReplaceLemmas.{position-found}
 use Rattle.grep_line_buffer.specs.declared.detection.Detection.TheVariants.{Convert}
 use Rattle.grep_line_buffer.specs.BufferStates.{BufferState, is_cut}
-use Rattle.grep_line_buffer.specs.Detections.{detected, found_in, first_of, byte_offset, is_quit}
+use Rattle.grep_line_buffer.specs.Detections.{detected_bytes, found_in, first_of, byte_offset, is_quit}
 use Rattle.grep_line_buffer.proofs.BufferStateLemmas.{window-same}
 use Rattle.grep_line_buffer.proofs.DetectLemmas.{Detects-made, found-at, found-first, length-cut, nothing-found}
 use Rattle.grep_line_buffer.proofs.DetectLemmas.{quit-at, is-changed, length-held, length-last, quit-none, slice-before}
@@ -32,7 +32,7 @@ returns-in-Some g c =
     let at = c.in-Some.at in
     let here = position-found c.in-Quit.byte last (Some at) (rw c.deref.ensures.value at c.in-Some.ensures) in
     let found : found_in b.detection b.terminator last ≡ Some at = rw c.in-Quit.is here in
-    let made : take at last ≡ detected b.detection b.terminator last =
+    let made : take at last ≡ detected_bytes b.detection b.terminator last =
     rw c.in-Quit.is (quit-at c.in-Quit.byte b.terminator last at here) in
     let part : at ≤ n = omega (arith, counted, (rw c.deref.ensures.value at c.in-Some.ensures).0.high) in
     let U : BufferState → Type 0 = λ w. is_cut w ≡ false in
@@ -68,7 +68,7 @@ returns-in_default g c =
     let counted = length-last b.start b.line_end b.end n bs low high within read in
     let missing = position-found c.in-Quit.byte last None (rw c.deref.ensures.value at c.in_default.ensures) in
     let none : found_in b.detection b.terminator last ≡ None = rw c.in-Quit.is missing in
-    let same : last ≡ detected b.detection b.terminator last =
+    let same : last ≡ detected_bytes b.detection b.terminator last =
     rw c.in-Quit.is (quit-none c.in-Quit.byte b.terminator last missing) in
     record {
       detects = rw (← c.self.view_is) (Detects-made n _ _ front last last (length bs - b.end)
@@ -94,9 +94,9 @@ returns-in-Some-replace_bytes g c =
     let now = put_mid (b.end - n) (b.end - (b.end - n)) c.deref_mut.result.now c.replace_bytes.new.bytes in
     let moved : now ≡ put_mid (b.end - n) (b.end - (b.end - n)) bs c.replace_bytes.new.bytes =
     ap (λ l. put_mid (b.end - n) (b.end - (b.end - n)) l c.replace_bytes.new.bytes) c.deref_mut.ensures.value in
-    let bytes : c.replace_bytes.new.bytes ≡ detected (Convert c.in-Convert.byte) b.terminator last =
+    let bytes : c.replace_bytes.new.bytes ≡ detected_bytes (Convert c.in-Convert.byte) b.terminator last =
     rw c.deref_mut.ensures.value at c.replace_bytes.ensures.bytes in
-    let made : c.replace_bytes.new.bytes ≡ detected b.detection b.terminator last = rw c.in-Convert.is bytes in
+    let made : c.replace_bytes.new.bytes ≡ detected_bytes b.detection b.terminator last = rw c.in-Convert.is bytes in
     let many : length c.replace_bytes.new.bytes ≡ n =
     ap (λ l. length l) bytes ∙ length-map last (λ x. if x == c.in-Convert.byte then b.terminator else x) ∙ counted in
     let after = is-changed b.start b.line_end b.end n bs low high within read c.replace_bytes.new.bytes many now
@@ -138,9 +138,9 @@ returns-in_default-replace_bytes g c =
     let now = put_mid (b.end - n) (b.end - (b.end - n)) c.deref_mut.result.now c.replace_bytes.new.bytes in
     let moved : now ≡ put_mid (b.end - n) (b.end - (b.end - n)) bs c.replace_bytes.new.bytes =
     ap (λ l. put_mid (b.end - n) (b.end - (b.end - n)) l c.replace_bytes.new.bytes) c.deref_mut.ensures.value in
-    let bytes : c.replace_bytes.new.bytes ≡ detected (Convert c.in-Convert.byte) b.terminator last =
+    let bytes : c.replace_bytes.new.bytes ≡ detected_bytes (Convert c.in-Convert.byte) b.terminator last =
     rw c.deref_mut.ensures.value at c.replace_bytes.ensures.bytes in
-    let made : c.replace_bytes.new.bytes ≡ detected b.detection b.terminator last = rw c.in-Convert.is bytes in
+    let made : c.replace_bytes.new.bytes ≡ detected_bytes b.detection b.terminator last = rw c.in-Convert.is bytes in
     let many : length c.replace_bytes.new.bytes ≡ n =
     ap (λ l. length l) bytes ∙ length-map last (λ x. if x == c.in-Convert.byte then b.terminator else x) ∙ counted in
     let after = is-changed b.start b.line_end b.end n bs low high within read c.replace_bytes.new.bytes many now

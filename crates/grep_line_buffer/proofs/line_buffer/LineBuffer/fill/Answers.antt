@@ -2,7 +2,7 @@ use Rattle.std.proofs.Common.{◌≡◌, ◌<◌, inl, Bool, length, true, false
 use Rattle.std.proofs.lemmas.Bool.{false≢true}
 use Rattle.std.proofs.lemmas.List.{nil_from_length}
 use Rattle.grep_decode.proofs.DecoderLemmas.{Decodes-none, reads-fail}
-use Rattle.grep_line_buffer.specs.BufferStates.{held, is_cut, HasNoLine}
+use Rattle.grep_line_buffer.specs.BufferStates.{held_bytes, is_cut, HasNoLine}
 use Rattle.grep_line_buffer.specs.Fills.{PassesOffsets}
 use Rattle.grep_line_buffer.proofs.FillLemmas.{Fills-none, only-limit, Outcome-none, IsFilling-stopped, IsFilling-shown}
 use Rattle.grep_line_buffer.proofs.FillLemmas.{Comes-detected, IsFilling-byte, IsFilling-ended, IsFilling-line}
@@ -135,7 +135,7 @@ returns-in-Err-read g c =
     c.in_default.ensures.ok
     c.read.ensures.capacity c.in-Err-read.ensures.same in
     let error : HasNoLine c.args.self.now c.read.new.self
-    × (length (held c.read.new.self) < c.read.new.self.size) = (out.line, out.room) in
+    × (length (held_bytes c.read.new.self) < c.read.new.self.size) = (out.line, out.room) in
     record {
       same = out.same;
       within = out.within;

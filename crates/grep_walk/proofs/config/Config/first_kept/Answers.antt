@@ -1,5 +1,5 @@
 use Rattle.std.proofs.Common.{◌∙◌, sym, arith}
-use Rattle.grep_walk.specs.Walks.{recounted}
+use Rattle.grep_walk.specs.Walks.{with_counts}
 use Rattle.grep_walk.proofs.UncountedLemmas.{near-same}
 use Rattle.grep_walk.proofs.WindowLemmas.{gone-closed, rolled, rest-few}
 use Rattle.grep_walk.proofs.config.Config.first_kept.Goals as goal
@@ -17,9 +17,9 @@ returns-clause-closed c = λ gone opens closed.
     back.closed opens closed
 
 pub returns-clause-kept : goal.returns-clause-kept
-returns-clause-kept c = λ gone more after opens closed closes line through counts inside.
+returns-clause-kept c = λ gone more after opens closed closes line next_unreported counts inside.
     let back = c.step_back.ensures in
     rolled c.args.self.now gone c.args.window.now c.step_back.result c.lines_before-near.result back.within back.closed
-    opens closed more after (recounted c.args.walk.now line through)
-    (c.lines_before-near.ensures ∙ sym (near-same c.args.self.now c.args.walk.now line through counts)) closes
+    opens closed more after (with_counts c.args.walk.now line next_unreported)
+    (c.lines_before-near.ensures ∙ sym (near-same c.args.self.now c.args.walk.now line next_unreported counts)) closes
     back.start inside

@@ -1,5 +1,5 @@
 use Rattle.std.proofs.Common.{◌≡◌, ◌∙◌, ◌-◌, ℕ, List, Some, None, length, drop, sym, subst, arith, take, take_all}
-use Rattle.std.proofs.Common.{length-drop}
+use Rattle.std.proofs.Common.{length-drop, rules}
 use Rattle.grep_matcher.specs.FindResults.{IsWithin}
 use Rattle.grep_definitions.proofs.SuccessiveMatchLemmas.{matches_left-end, matches_left-full}
 use Rattle.grep_walk.proofs.FoundMatchLemmas.{no-more, no-more-missed, found-next, asked-next}
@@ -18,8 +18,8 @@ returns-then-blocks-bytes-clause-none g c =
     (elim c.then-blocks-bytes.branch [
       | goal.then-blocks-bytes-via-then-blocks-bytes w ↦
           matches_left-end meaning c.args.bytes.now b.position b.left (omega arith)
-      | goal.then-blocks-bytes-via-else-blocks-bytes+then-not-has_room w ↦
-          matches_left-full meaning c.args.bytes.now b.position b.left (sym w.has_room.ensures ∙ w.if-not-has_room.true)
+      | goal.then-blocks-bytes-via-else-blocks-bytes+then-eq w ↦
+          matches_left-full meaning c.args.bytes.now b.position b.left (search rules)
     ])
 
 pub returns-in_default-clause-none : goal.returns-in_default-clause-none
@@ -44,7 +44,7 @@ returns-clause-some g c =
     c.in-Ok.ensures.within in
     found-next c.args.self.now meaning bytes b c.in-Some.found
     c.offset-found.result c.position_after-blocks.result c.one_less-blocks.result
-    (omega arith) (sym c.has_room.ensures ∙ c.if-not-has_room.false)
+    (omega arith) (search rules)
     (subst (λ rest. meaning.first rest ≡ Some c.in-Some.found) whole some)
     (subst (λ rest. IsWithin rest (Some c.in-Some.found)) whole inside)
     c.offset-found.ensures c.position_after-blocks.ensures c.one_less-blocks.ensures
@@ -56,7 +56,7 @@ returns-in-Err-clause-fault g c = λ asked so_far.
     let meaning = (g.M.Matcher.facts c.args.matcher.now).meaning in (
       drop b.position bytes,
       asked-next c.args.self.now meaning bytes b.position b.left asked so_far
-          (omega arith) (sym c.has_room.ensures ∙ c.if-not-has_room.false),
+          (omega arith) (search rules),
       subst (λ rest. (g.M.Matcher.facts c.args.matcher.now).fails rest c.in-Err.error) (rest-is bytes b.position)
           c.in-Err.ensures.error,
     )

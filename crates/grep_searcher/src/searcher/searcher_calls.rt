@@ -25,9 +25,9 @@ impl<A: Allocator + Copy> Searcher<A> {
 
 // The calls of a sink, each with the searcher. What those for a line return is taken apart, so that
 // the room for an error isn't copied (`sink_lines.rt` of grep_core).
-pub(crate) struct SinkCalls<S>(PhantomData<S>);
+pub(crate) struct SearcherCalls<S>(PhantomData<S>);
 
-impl<A: Allocator + Copy, S: Sink> Calls<Searcher<A>> for SinkCalls<S> {
+impl<A: Allocator + Copy, S: Sink> Calls<Searcher<A>> for SearcherCalls<S> {
     type Sink = S;
 
     type Error = S::Error;

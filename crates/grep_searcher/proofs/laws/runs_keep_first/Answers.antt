@@ -1,0 +1,8 @@
+use Rattle.grep_searcher.proofs.MatchHandlerLemmas.{runs-keep_first, runs-keep_first_lines}
+use Rattle.grep_searcher.proofs.laws.runs_keep_first.Goals as goal
+
+pub returns-clause-all : goal.returns-clause-all
+returns-clause-all g c = runs-keep_first _
+
+pub returns-clause-lines : goal.returns-clause-lines
+returns-clause-lines g c = runs-keep_first_lines _
