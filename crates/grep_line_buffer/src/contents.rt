@@ -13,9 +13,9 @@ ghost use Rattle.grep_line_buffer.specs.Fills.{IfRead, UnlessRead};
 ghost use Rattle.grep_line_buffer.specs.Room.{IsFullFault, IsLarge, next_size};
 
 use crate::fill_error::FillError;
-use crate::room::{larger_size, read_after};
+use crate::room::{larger_size, read_after, show_zeros};
 use grep_decode::{Decoder, Source};
-use std::alloc::{AllocError, Allocator};
+use std::alloc::Allocator;
 
 // For how many bytes there is room at first, if the limit isn't lower.
 const FIRST_SIZE: usize = 65_536;
@@ -118,25 +118,4 @@ fn make_room<A: Allocator>(
         return Err(FillError::Memory);
     }
     Ok(())
-}
-
-// Fills up with zeros to `wanted` bytes; if there is no room for them, room for `size` is made.
-// An error leaves the bytes as they are.
-fn show_zeros<A: Allocator>(
-    bytes: &mut Vec<u8, A>,
-    wanted: usize,
-    size: usize,
-) -> Result<(), AllocError>
-    requires larger { vec_len bytes.old ≤ wanted }
-    requires within { wanted ≤ size }
-    ensures capacity { vec_capacity bytes.old ≤ vec_capacity bytes.new }
-    ensures ok { OnOk result (bytes.new.items
-        ≡ bytes.old.items ++ replicate (wanted - vec_len bytes.old) 0) }
-    ensures err { OnErr result ((bytes.new.items ≡ bytes.old.items)
-        × (vec_capacity bytes.old < wanted)) }
-{
-    if bytes.capacity() < wanted {
-        bytes.reserve_exact(size - bytes.len())?;
-    }
-    bytes.resize(wanted, 0)
 }

@@ -197,7 +197,7 @@ impl<A: Allocator> LineBuffer<A> {
         if self.end < size || size >= WIDE || self.offset / LONG < size as u64 {
             return;
         }
-        let _ = enlarge(&mut self.bytes, 1, self.limit);
+        let _ = enlarge(&mut self.bytes, self.limit);
     }
 
     /// Reads up to the end of a line, and returns whether any byte is shown then.
@@ -373,7 +373,7 @@ impl<A: Allocator> LineBuffer<A> {
         if self.end < self.bytes.len() {
             return Ok(());
         }
-        enlarge(&mut self.bytes, 1, self.limit)
+        enlarge(&mut self.bytes, self.limit)
     }
 
     // Reads once into the free part, just after the bytes that are held, and returns how many bytes

@@ -17,32 +17,31 @@ use std::io;
 // `HeapLimit` or `Memory`.
 pub(crate) fn enlarge<A: Allocator>(
     bytes: &mut Vec<u8, A>,
-    least: usize,
     limit: Option<usize>,
 ) -> Result<(), FillError>
-    requires some { 0 < least }
-    requires within { IsWithin limit (vec_len bytes.old) }
+    requires { IsWithin limit (vec_len bytes.old) }
     ensures capacity { vec_capacity bytes.old ≤ vec_capacity bytes.new }
     ensures ok { OnOk result (bytes.new.items
         ≡ bytes.old.items ++ replicate (length bytes.new.items - vec_len bytes.old) 0) }
     ensures larger { OnOk result (vec_len bytes.old < length bytes.new.items) }
     ensures size { OnOk result
-        (length bytes.new.items ≡ next_size least limit (vec_len bytes.old)) }
+        (length bytes.new.items ≡ next_size 1 limit (vec_len bytes.old)) }
     ensures same { OnErr result (bytes.new.items ≡ bytes.old.items) }
     ensures error { IfErr result (IsFullFault limit (vec_len bytes.old)) }
     ensures memory { OnErr result (limit ≢ Some (vec_len bytes.old)
-        → vec_capacity bytes.old < next_size least limit (vec_len bytes.old)) }
+        → vec_capacity bytes.old < next_size 1 limit (vec_len bytes.old)) }
 {
-    let Some(wanted) = larger_size(bytes.len(), least, limit) else {
+    let Some(wanted) = larger_size(bytes.len(), 1, limit) else {
         return Err(FillError::HeapLimit);
     };
-    if grow(bytes, wanted).is_err() {
+    if show_zeros(bytes, wanted, wanted).is_err() {
         return Err(FillError::Memory);
     }
     Ok(())
 }
 
-// The size to which a full vector grows, twice its own or `least`; `None` at its limit.
+// The size to which a full vector grows: twice its own, at least `least` and at most the limit;
+// `None` at the limit.
 pub(crate) fn larger_size(size: usize, least: usize, limit: Option<usize>) -> Option<usize>
     requires some { 0 < least }
     requires within { IsWithin limit size }
@@ -60,16 +59,24 @@ pub(crate) fn larger_size(size: usize, least: usize, limit: Option<usize>) -> Op
     }
 }
 
-// Fills up with zeros to `wanted` bytes. An error leaves the bytes as they are.
-fn grow<A: Allocator>(bytes: &mut Vec<u8, A>, wanted: usize) -> Result<(), AllocError>
-    requires { vec_len bytes.old ≤ wanted }
+// Fills up with zeros to `wanted` bytes; if there is no room for them, room for `size` is made.
+// An error leaves the bytes as they are.
+pub(crate) fn show_zeros<A: Allocator>(
+    bytes: &mut Vec<u8, A>,
+    wanted: usize,
+    size: usize,
+) -> Result<(), AllocError>
+    requires larger { vec_len bytes.old ≤ wanted }
+    requires within { wanted ≤ size }
     ensures capacity { vec_capacity bytes.old ≤ vec_capacity bytes.new }
     ensures ok { OnOk result (bytes.new.items
         ≡ bytes.old.items ++ replicate (wanted - vec_len bytes.old) 0) }
     ensures err { OnErr result ((bytes.new.items ≡ bytes.old.items)
         × (vec_capacity bytes.old < wanted)) }
 {
-    bytes.reserve_exact(wanted - bytes.len())?;
+    if bytes.capacity() < wanted {
+        bytes.reserve_exact(size - bytes.len())?;
+    }
     bytes.resize(wanted, 0)
 }
 

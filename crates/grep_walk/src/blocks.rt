@@ -113,11 +113,7 @@ impl Config {
         if blocks.position >= bytes.len() || blocks.left == Some(0) {
             return Ok(None);
         }
-        let found = match matcher.find(&bytes[blocks.position..]) {
-            Ok(found) => found,
-            Err(error) => return Err(error),
-        };
-        let Some(found) = found else {
+        let Some(found) = matcher.find(&bytes[blocks.position..])? else {
             blocks.position = bytes.len();
             return Ok(None);
         };

@@ -1,5 +1,6 @@
 use Rattle.std.proofs.Common.{◌≡◌, ◌∙◌, ◌-◌, ℕ, List, Some, None, length, drop, sym, subst, arith, take, take_all}
 use Rattle.std.proofs.Common.{length-drop, rules}
+use Rattle.std.proofs.lemmas.Result.{err_from_is_err_and}
 use Rattle.grep_matcher.specs.FindResults.{IsWithin}
 use Rattle.grep_definitions.proofs.SuccessiveMatchLemmas.{matches_left-end, matches_left-full}
 use Rattle.grep_walk.proofs.FoundMatchLemmas.{no-more, no-more-missed, found-next, asked-next}
@@ -28,7 +29,7 @@ returns-in_default-clause-none g c =
     let bytes = c.args.bytes.now in
     let meaning = (g.M.Matcher.facts c.args.matcher.now).meaning in
     let none : meaning.first (take (length bytes - b.position) (drop b.position bytes)) ≡ None =
-    sym c.in-Ok.ensures.value ∙ c.in_default.is in
+    sym c.in_ok-found.ensures.value ∙ c.in_default.is in
     no-more-missed c.args.self.now meaning bytes b
     (subst (λ rest. meaning.first rest ≡ None) (rest-is bytes b.position) none)
 
@@ -39,9 +40,9 @@ returns-clause-some g c =
     let meaning = (g.M.Matcher.facts c.args.matcher.now).meaning in
     let whole = rest-is bytes b.position in
     let some : meaning.first (take (length bytes - b.position) (drop b.position bytes)) ≡ Some c.in-Some.found =
-    sym c.in-Ok.ensures.value ∙ c.in-Some.is in
+    sym c.in_ok-found.ensures.value ∙ c.in-Some.is in
     let inside = subst (IsWithin (take (length bytes - b.position) (drop b.position bytes))) c.in-Some.is
-    c.in-Ok.ensures.within in
+    c.in_ok-found.ensures.within in
     found-next c.args.self.now meaning bytes b c.in-Some.found
     c.offset-found.result c.position_after-blocks.result c.one_less-blocks.result
     (omega arith) (search rules)
@@ -49,14 +50,15 @@ returns-clause-some g c =
     (subst (λ rest. IsWithin rest (Some c.in-Some.found)) whole inside)
     c.offset-found.ensures c.position_after-blocks.ensures c.one_less-blocks.ensures
 
-pub returns-in-Err-clause-fault : goal.returns-in-Err-clause-fault
-returns-in-Err-clause-fault g c = λ asked so_far.
+pub returns-in_err-found-clause-fault : goal.returns-in_err-found-clause-fault
+returns-in_err-found-clause-fault g c =
+    let p = err_from_is_err_and c.from_residual.result c.from_residual.ensures.1 in
     let b = c.args.blocks.now in
     let bytes = c.args.bytes.now in
-    let meaning = (g.M.Matcher.facts c.args.matcher.now).meaning in (
+    let meaning = (g.M.Matcher.facts c.args.matcher.now).meaning in
+    rw (p.1, p.2) (λ asked so_far. (
       drop b.position bytes,
-      asked-next c.args.self.now meaning bytes b.position b.left asked so_far
-          (omega arith) (search rules),
-      subst (λ rest. (g.M.Matcher.facts c.args.matcher.now).fails rest c.in-Err.error) (rest-is bytes b.position)
-          c.in-Err.ensures.error,
-    )
+      asked-next c.args.self.now meaning bytes b.position b.left asked so_far (omega arith) (search rules),
+      subst (λ rest. (g.M.Matcher.facts c.args.matcher.now).fails rest c.in_err-found.field-0.0)
+          (rest-is bytes b.position) c.in_err-found.ensures.error,
+    ))
