@@ -70,9 +70,7 @@ pub fn read_contents<A: Allocator, B: Allocator, R: Source>(
     contents.clear();
     let mut len = 0;
     'reads: loop {
-        if let Err(e) = make_room(contents, len, limit) {
-            return Err(e);
-        }
+        make_room(contents, len, limit)?;
         match read_after(decoder, reader, contents, len) {
             Ok(0) => {
                 contents.truncate(len);

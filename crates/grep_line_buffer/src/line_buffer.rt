@@ -293,9 +293,7 @@ impl<A: Allocator> LineBuffer<A> {
             return Ok(self.end());
         }
         'reads: loop {
-            if let Err(e) = self.make_room() {
-                return Err(e);
-            }
+            self.make_room()?;
             let count = match self.read(decoder, reader) {
                 Ok(count) => count,
                 Err(e) => return Err(FillError::Read(e)),
@@ -394,13 +392,9 @@ impl<A: Allocator> LineBuffer<A> {
         ensures failed { IfErr result (λ e.
             FailsToRead R.remaining R.step decoder.old reader.old e decoder.new reader.new) }
     {
-        match read_after(decoder, reader, &mut self.bytes, self.end) {
-            Ok(count) => {
-                self.end += count;
-                Ok(count)
-            }
-            Err(e) => Err(e),
-        }
+        let count = read_after(decoder, reader, &mut self.bytes, self.end)?;
+        self.end += count;
+        Ok(count)
     }
 
     // Looks for binary bytes in the last `count` bytes that are held, and replaces them, or drops

@@ -1,5 +1,6 @@
 use Rattle.std.proofs.Common.{◌≡◌, length, take, drop, sym, ap, subst, ◌∙◌, arith, take_all, length-take, []}
 use Rattle.std.proofs.lemmas.List.{with_items_is}
+use Rattle.std.proofs.lemmas.Result.{err_from_is_err_and}
 use Rattle.grep_decode.proofs.DecoderLemmas.{Decodes-none, reads-fail}
 use Rattle.grep_line_buffer.specs.BufferStates.{IsWithin}
 use Rattle.grep_line_buffer.specs.Room.{IsLarge}
@@ -9,44 +10,46 @@ use Rattle.grep_line_buffer.proofs.FillLemmas.{if-read-full, unless-read}
 use Rattle.grep_line_buffer.proofs.ReadLemmas.{HasRead, HasRead-failed}
 use Rattle.grep_line_buffer.proofs.contents.read_contents.Goals as goal
 
-pub returns-in-Err : goal.returns-in-Err
-returns-in-Err g c =
+pub returns-in_err-make_room : goal.returns-in_err-make_room
+returns-in_err-make_room g c =
+    let p = err_from_is_err_and c.from_residual.result c.from_residual.ensures.1 in
+    let e = c.in_err-make_room.field-0.0 in
     let rem = g.R.Source.remaining in
     let step = g.R.Source.step in
     let before = c.reads.invariant in
-    let full = c.in-Err.ensures in
+    let full = c.in_err-make_room.ensures in
     let items = c.make_room.new.contents.items in
     let all : take c.reads.len c.reads.contents.items ≡ items =
     take_all c.reads.len c.reads.contents.items (omega (arith, full.full.1)) ∙ sym full.full.0 in
     let out : HasRead rem step c.args.decoder.now c.args.reader.now items c.reads.decoder c.reads.reader =
     subst (λ l. HasRead rem step c.args.decoder.now c.args.reader.now l c.reads.decoder c.reads.reader) all
     before.read in
-    record {
+    rw (p.1, p.2) (record {
       capacity = out.capacity;
       kept = omega (arith, before.kept, full.kept);
-      reads = unless-read (Unit {0}) c.in-Err.e out.decodes;
-      read = if-read-full (Unit {0}) c.args.limit c.reads.len c.in-Err.e _ full.error;
+      reads = unless-read (Unit {0}) e out.decodes;
+      read = if-read-full (Unit {0}) c.args.limit c.reads.len e _ full.error;
       gives = out.gives;
       done = tt;
       end = tt;
       below = tt;
-      error = contents-full c.args.limit c.reads.len c.args.contents.now.cap c.reads.contents.cap items c.in-Err.e
+      error = contents-full c.args.limit c.reads.len c.args.contents.now.cap c.reads.contents.cap items e
           (ap length full.full.0 ∙ full.full.1) (subst (IsWithin c.args.limit) full.full.1 before.within)
           (subst (IsLarge c.args.limit) full.full.1 before.large) before.kept full.error full.memory;
-      fault = if-read-full (Unit {0}) c.args.limit c.reads.len c.in-Err.e _ full.error;
-      ahead = unless-read (Unit {0}) c.in-Err.e out.ahead;
+      fault = if-read-full (Unit {0}) c.args.limit c.reads.len e _ full.error;
+      ahead = unless-read (Unit {0}) e out.ahead;
       settled = tt;
       stays = out.stays;
-      empty = if-read-full (Unit {0}) c.args.limit c.reads.len c.in-Err.e _ full.error;
-      waits = if-read-full (Unit {0}) c.args.limit c.reads.len c.in-Err.e _ full.error;
-    }
+      empty = if-read-full (Unit {0}) c.args.limit c.reads.len e _ full.error;
+      waits = if-read-full (Unit {0}) c.args.limit c.reads.len e _ full.error;
+    })
 
 pub returns-in-Ok-eq0 : goal.returns-in-Ok-eq0
 returns-in-Ok-eq0 g c =
     let rem = g.R.Source.remaining in
     let step = g.R.Source.step in
     let len = c.reads.len in
-    let made = c.in_default.ensures in
+    let made = c.in_ok-make_room.ensures in
     let w = c.make_room.new.contents in
     let bytes = c.read_after.new.bytes in
     let whole : length bytes ≡ w.len = omega arith in
@@ -85,12 +88,12 @@ returns-in-Ok-eq0 g c =
       waits = tt;
     }
 
-pub returns-in-Err-read_after : goal.returns-in-Err-read_after
-returns-in-Err-read_after g c =
+pub returns-in-Err : goal.returns-in-Err
+returns-in-Err g c =
     let rem = g.R.Source.remaining in
     let step = g.R.Source.step in
     let len = c.reads.len in
-    let made = c.in_default.ensures in
+    let made = c.in_ok-make_room.ensures in
     let w = c.make_room.new.contents in
     let bytes = c.read_after.new.bytes in
     let whole : length bytes ≡ w.len = omega arith in
@@ -98,20 +101,20 @@ returns-in-Err-read_after g c =
     c.args.decoder.now c.reads.decoder c.args.reader.now c.reads.reader c.reads.contents.items w.items c.reads.invariant
     made.front made.room
     made.within made.large made.kept in
-    let all = c.truncate-in-Err-read_after.ensures.items ∙ ap (take len) (with_items_is w bytes whole) in
+    let all = c.truncate-in-Err.ensures.items ∙ ap (take len) (with_items_is w bytes whole) in
     let front = c.read_after.ensures.front ∙ ap (take len) c.deref_mut.ensures.value in
-    let given = c.truncate-in-Err-read_after.new.self.items in
-    let failed = c.in-Err-read_after.ensures.failed in
+    let given = c.truncate-in-Err.new.self.items in
+    let failed = c.in-Err.ensures.failed in
     let before : HasRead rem step c.args.decoder.now c.args.reader.now given c.reads.decoder c.reads.reader =
     subst (λ l. HasRead rem step c.args.decoder.now c.args.reader.now l c.reads.decoder c.reads.reader)
     (sym (all ∙ front)) room.read in
     let out = HasRead-failed rem step c.args.decoder.now c.reads.decoder c.read_after.new.decoder c.args.reader.now
     c.reads.reader
-    c.read_after.new.reader given c.in-Err-read_after.e before failed
+    c.read_after.new.reader given c.in-Err.e before failed
     c.read_after.ensures.capacity in
     record {
       capacity = out.capacity;
-      kept = omega (arith, room.kept, c.truncate-in-Err-read_after.ensures.capacity);
+      kept = omega (arith, room.kept, c.truncate-in-Err.ensures.capacity);
       reads = tt;
       read = out.after;
       gives = out.gives;
@@ -137,7 +140,7 @@ reads-init g c = IsReading-first g.R.Source.remaining g.R.Source.step c.args.lim
 
 pub reads-preserved : goal.reads-preserved
 reads-preserved g c =
-    let made = c.in_default.ensures in
+    let made = c.in_ok-make_room.ensures in
     let w = c.make_room.new.contents in
     let bytes = c.read_after.new.bytes in
     let whole : length bytes ≡ w.len = omega arith in

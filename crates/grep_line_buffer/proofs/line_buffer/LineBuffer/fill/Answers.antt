@@ -1,6 +1,7 @@
 use Rattle.std.proofs.Common.{◌≡◌, ◌<◌, inl, Bool, length, true, false, refl, sym, ap, ◌∙◌, rules, arith}
 use Rattle.std.proofs.lemmas.Bool.{false≢true}
 use Rattle.std.proofs.lemmas.List.{nil_from_length}
+use Rattle.std.proofs.lemmas.Result.{err_from_is_err_and}
 use Rattle.grep_decode.proofs.DecoderLemmas.{Decodes-none, reads-fail}
 use Rattle.grep_line_buffer.specs.BufferStates.{held_bytes, is_cut, HasNoLine}
 use Rattle.grep_line_buffer.specs.Fills.{PassesOffsets}
@@ -88,29 +89,31 @@ returns-then-not-has_offsets g c =
       waits = tt;
     }
 
-pub returns-in-Err : goal.returns-in-Err
-returns-in-Err g c =
+pub returns-in_err-make_room : goal.returns-in_err-make_room
+returns-in_err-make_room g c =
+    let p = err_from_is_err_and c.from_residual.result c.from_residual.ensures.1 in
+    let e = c.in_err-make_room.field-0.0 in
     let was : c.args.self.now.has_ended ≡ false = sym c.has_ended.ensures.value ∙ c.if-has_ended.false in
     let before = c.reads.invariant in
-    let full = c.in-Err.ensures.err in
+    let full = c.in_err-make_room.ensures.err in
     let unended = ap ended_of full.0 ∙ before.filling.unended in
     let out = IsFilling-stopped g.R.Source.remaining g.R.Source.step _ _ _ _ _ _ _ before.filling full.0 in
-    let error = HasNone-full g.R.Source.remaining g.R.Source.step _ _ _ _ _ _ _ c.in-Err.e before full.0 full.1
+    let error = HasNone-full g.R.Source.remaining g.R.Source.step _ _ _ _ _ _ _ e before full.0 full.1
     full.2 in
-    record {
+    rw (p.1, p.2) (record {
       same = out.same;
       within = out.within;
       grows = out.grows;
       capacity = out.capacity;
-      reads = unless-read Bool c.in-Err.e out.reads;
-      read = if-read-full Bool c.reads.self.limit c.reads.self.size c.in-Err.e _ full.2;
+      reads = unless-read Bool e out.reads;
+      read = if-read-full Bool c.reads.self.limit c.reads.self.size e _ full.2;
       stream = out.stream;
       some = tt;
       filled = tt;
       error = error;
       limit = only-limit _ _ _ error tt;
-      fault = if-read-full Bool c.reads.self.limit c.reads.self.size c.in-Err.e _ full.2;
-      uncut = if-read-full Bool c.reads.self.limit c.reads.self.size c.in-Err.e _ full.2;
+      fault = if-read-full Bool c.reads.self.limit c.reads.self.size e _ full.2;
+      uncut = if-read-full Bool c.reads.self.limit c.reads.self.size e _ full.2;
       fits = tt;
       begins = λ _ _ _. tt;
       last = tt;
@@ -121,19 +124,19 @@ returns-in-Err g c =
       passing = tt;
       settled = tt;
       stays = out.stays;
-      empty = if-read-full Bool c.reads.self.limit c.reads.self.size c.in-Err.e _ full.2;
-      waits = if-read-full Bool c.reads.self.limit c.reads.self.size c.in-Err.e _ full.2;
-    }
+      empty = if-read-full Bool c.reads.self.limit c.reads.self.size e _ full.2;
+      waits = if-read-full Bool c.reads.self.limit c.reads.self.size e _ full.2;
+    })
 
-pub returns-in-Err-read : goal.returns-in-Err-read
-returns-in-Err-read g c =
+pub returns-in-Err : goal.returns-in-Err
+returns-in-Err g c =
     let was : c.args.self.now.has_ended ≡ false = sym c.has_ended.ensures.value ∙ c.if-has_ended.false in
     let made = c.make_room.ensures in
     let room = HasNone-room _ _ _ _ _ _ _ _ _ _ _ c.reads.invariant made.same made.free made.within made.grows in
-    let failed = c.in-Err-read.ensures.failed in
-    let out = HasNone-fault _ _ _ _ _ _ _ _ _ _ _ c.in-Err-read.e room failed
-    c.in_default.ensures.ok
-    c.read.ensures.capacity c.in-Err-read.ensures.same in
+    let failed = c.in-Err.ensures.failed in
+    let out = HasNone-fault _ _ _ _ _ _ _ _ _ _ _ c.in-Err.e room failed
+    c.in_ok-make_room.ensures.ok
+    c.read.ensures.capacity c.in-Err.ensures.same in
     let error : HasNoLine c.args.self.now c.read.new.self
     × (length (held_bytes c.read.new.self) < c.read.new.self.size) = (out.line, out.room) in
     record {
@@ -174,7 +177,7 @@ returns-then-count-eq0 g c =
     c.read.ensures.capacity in
     let none = nil_from_length came.given (came.counted ∙ c.if-count-eq0.true) in
     let out = IsFilling-ended _ _ _ _ _ _ _ _ _ next c.end-then-count-eq0.ensures.same in
-    let filled = HasNone-end _ _ _ _ _ _ _ _ _ _ _ _ _ room came c.if-count-eq0.true c.in_default.ensures.ok
+    let filled = HasNone-end _ _ _ _ _ _ _ _ _ _ _ _ _ room came c.if-count-eq0.true c.in_ok-make_room.ensures.ok
     c.end-then-count-eq0.ensures.same in
     record {
       same = out.same;
@@ -192,9 +195,9 @@ returns-then-count-eq0 g c =
       uncut = tt;
       fits = search rules;
       begins = λ _ _. HasNone-begun g.R.Source.remaining g.R.Source.step _ _ _ _ _ _ _ room
-          c.in_default.ensures.ok came.reads.begins came.reads.last;
+          c.in_ok-make_room.ensures.ok came.reads.begins came.reads.last;
       last = HasNone-waited g.R.Source.remaining g.R.Source.step _ _ _ _ _ _ _ room
-          c.in_default.ensures.ok came.reads.last;
+          c.in_ok-make_room.ensures.ok came.reads.last;
       done = λ _ _ going. came.reads.done none;
       end = λ _ _ going. came.reads.end none;
       ended = λ ended. absurd (false≢true (sym was ∙ ended));
@@ -275,9 +278,9 @@ returns-then-show_lines g c =
       uncut = tt;
       fits = search rules;
       begins = λ _ _. HasNone-begun g.R.Source.remaining g.R.Source.step _ _ _ _ _ _ _ room
-          c.in_default.ensures.ok came.reads.begins came.reads.last;
+          c.in_ok-make_room.ensures.ok came.reads.begins came.reads.last;
       last = HasNone-waited g.R.Source.remaining g.R.Source.step _ _ _ _ _ _ _ room
-          c.in_default.ensures.ok came.reads.last;
+          c.in_ok-make_room.ensures.ok came.reads.last;
       done = λ _ ended going. absurd (false≢true (sym unended ∙ ended));
       end = λ _ ended going. absurd (false≢true (sym unended ∙ ended));
       ended = λ ended. absurd (false≢true (sym was ∙ ended));
@@ -308,9 +311,9 @@ reads-preserved g c =
     let shows = c.if-show_lines.ensures in
     HasNone-more _ _ _ _ _ _ _ _ _ _ _ _ _ _ room comes came.counted going next shows.1 c.if-not-has_offsets-2.ensures
     shows.0
-    (HasNone-begun g.R.Source.remaining g.R.Source.step _ _ _ _ _ _ _ room c.in_default.ensures.ok came.reads.begins
+    (HasNone-begun g.R.Source.remaining g.R.Source.step _ _ _ _ _ _ _ room c.in_ok-make_room.ensures.ok came.reads.begins
     came.reads.last)
-    (HasNone-waited g.R.Source.remaining g.R.Source.step _ _ _ _ _ _ _ room c.in_default.ensures.ok came.reads.last)
+    (HasNone-waited g.R.Source.remaining g.R.Source.step _ _ _ _ _ _ _ room c.in_ok-make_room.ensures.ok came.reads.last)
 
 pub returns-then-is_cut-2 : goal.returns-then-is_cut-2
 returns-then-is_cut-2 g c =
@@ -342,9 +345,9 @@ returns-then-is_cut-2 g c =
       uncut = tt;
       fits = search rules;
       begins = λ _ _. HasNone-begun g.R.Source.remaining g.R.Source.step _ _ _ _ _ _ _ room
-          c.in_default.ensures.ok came.reads.begins came.reads.last;
+          c.in_ok-make_room.ensures.ok came.reads.begins came.reads.last;
       last = HasNone-waited g.R.Source.remaining g.R.Source.step _ _ _ _ _ _ _ room
-          c.in_default.ensures.ok came.reads.last;
+          c.in_ok-make_room.ensures.ok came.reads.last;
       done = λ _ _ going. absurd (false≢true (sym going ∙ still));
       end = λ _ _ going. absurd (false≢true (sym going ∙ still));
       ended = λ ended. absurd (false≢true (sym was ∙ ended));
