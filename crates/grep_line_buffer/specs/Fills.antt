@@ -60,7 +60,8 @@ module _ {R : Type 0} (remaining : R → Option (List ℕ)) (step : R → ReadRe
   pub record Fills (old : BufferState) (decoder : DecoderState) (reader : R) (new : BufferState)
       (decoder' : DecoderState) (reader' : R) : Type 0 where
     pub given : List ℕ
-    pub appended : held_bytes new ≡ held_bytes old ++ detected_bytes old.detection old.terminator given
+    pub appended : held_bytes new
+        ≡ held_bytes old ++ detected_bytes old.detection old.terminator given
     pub found : new.binary ≡ first_of old.binary
         (option_map (λ i. old.offset + length (held_bytes old) + i)
         (found_in old.detection old.terminator given))

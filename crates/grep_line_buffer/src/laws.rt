@@ -22,7 +22,8 @@ pub fn fills_continue<R: Source>()
         → old.offset ≡ length gone → old.binary ≡ found_in old.detection old.terminator given
         → is_cut old ≡ false → (fill : Fills R.remaining R.step old d1 r1 new d2 r2)
         → Decodes R.remaining R.step d r (given ++ fill.given) d2 r2
-        × (gone ++ held_bytes new ≡ detected_bytes old.detection old.terminator (given ++ fill.given))
+        × (gone ++ held_bytes new
+        ≡ detected_bytes old.detection old.terminator (given ++ fill.given))
         × (new.binary ≡ found_in old.detection old.terminator (given ++ fill.given)) }
     ensures consumed { (w : BufferState) (gone : List ℕ) (count : ℕ)
         → gone ++ held_bytes w ≡ (gone ++ take count w.shown) ++ (drop count w.shown ++ w.rest) }

@@ -272,7 +272,8 @@ impl<A: Allocator> LineBuffer<A> {
         // bytes pass unchanged
         ensures ahead { OnOk result (is_cut self.new ≡ false → decoder.new.mode ≡ Passing
             → TakesAtMost (R.remaining reader.old) (R.remaining reader.new)
-            (length (held_bytes self.new) - length (held_bytes self.old) + runs_ahead decoder.old.mode)) }
+            (length (held_bytes self.new) - length (held_bytes self.old)
+            + runs_ahead decoder.old.mode)) }
         ensures passing { OnOk result (self.old.has_ended ≡ false → is_cut self.old ≡ false
             → decoder.new.mode ≡ Passing
             → (length decoder.new.ready ≤ 3) × (decoder.new.held ≡ [])) }
