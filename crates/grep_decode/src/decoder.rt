@@ -45,8 +45,7 @@ impl<A: Allocator> Model for Decoder<A> {
 
 impl<A: Allocator> Decoder<A> {
     /// A decoder that keeps at most `capacity` bytes of its reader, which the caller ensures to be
-    /// at least 8. It is as one that was started with no label and without sniffing. The only error
-    /// is being out of memory.
+    /// at least 8. It begins as after `start(None, false)`. The only error is being out of memory.
     pub fn new(alloc: A, capacity: usize) -> Result<Decoder<A>, AllocError>
         requires { 8 ≤ capacity }
         ensures { IfOk result (λ d. d ≡ started capacity None false) }
@@ -69,12 +68,13 @@ impl<A: Allocator> Decoder<A> {
         self.mode = Mode::Fresh(label, sniff);
     }
 
-    /// Reads decoded bytes into the front of `buffer`, and returns how many. It returns 0 to a
-    /// buffer with room only if nothing is left. After the reader has returned no bytes it isn't
-    /// called.
+    /// Reads decoded bytes into the front of `buffer`, and returns how many. The caller passes the
+    /// same reader from one `start` to the next. It returns 0 to a buffer with room only if nothing
+    /// is left. Once the reader has returned no bytes, it isn't called again before the next
+    /// `start`.
     ///
-    /// An error is the reader's own, also one of kind `Interrupted`. Nothing is lost then: the
-    /// decoder is as if the call that failed had not been made.
+    /// An error is the reader's own, including one of kind `Interrupted`. No byte is lost: what
+    /// earlier calls of the reader returned is kept for the next `read`.
     pub fn read<R: Source>(&mut self, reader: &mut R, buffer: &mut [u8]) -> io::Result<usize>
         ensures bound { ReadsAtMost result buffer.new }
         ensures capacity { self.new.capacity ≡ self.old.capacity }
@@ -132,7 +132,7 @@ impl<A: Allocator> Decoder<A> {
         result
     }
 
-    // What is held if the bytes pass unchanged.
+    // Does nothing: its contract is what the invariant says of a decoder whose bytes pass unchanged.
     fn holds_few(&self)
         ensures { self.now.mode ≡ Mode.Passing → (length self.now.ready ≤ 3)
             × (self.now.held ≡ []) }
@@ -268,8 +268,9 @@ impl<A: Allocator> Decoder<A> {
             → self.new.mode ≡ Mode.Passing → self.new.ready ≡ take 3 input)) }
         ensures failed { IfErr result (λ e.
             FailsToDecode R.remaining R.step self.old reader.old e self.new reader.new) }
-        ensures begins { self.old.held ≡ [] → self.old.has_ended ≡ false → LooksForMark self.old.mode
-            → OnOk result (HasWaited R.remaining R.step self.old reader.old reader.new) }
+        ensures begins { self.old.held ≡ [] → self.old.has_ended ≡ false
+            → LooksForMark self.old.mode → OnOk result
+            (HasWaited R.remaining R.step self.old reader.old reader.new) }
         ensures unread { (LooksForMark self.old.mode → ⊥) → OnOk result
             ((reader.new ≡ reader.old) × (self.new.mode ≡ Mode.Passing)
             × (self.new.ready ≡ self.old.held) × (self.new.has_ended ≡ self.old.has_ended)) }

@@ -9,6 +9,7 @@ mod label;
 pub mod laws;
 mod mode;
 mod pending;
+mod progress;
 mod source;
 mod undecoded;
 mod utf16;

@@ -12,9 +12,10 @@ ghost use Rattle.grep_decode.specs.UndecodedBytes.{UndecodedBytes, Grows, holdin
 use crate::byte_order::ByteOrder;
 use crate::label::Label;
 use crate::mode::Mode;
+use crate::progress::Progress;
 use crate::source::Source;
 use crate::utf8::decode_utf8;
-use crate::utf16::transcode;
+use crate::utf16::decode_utf16;
 use std::alloc::{AllocError, Allocator};
 use std::io;
 use std::marker::Model;
@@ -22,7 +23,7 @@ use std::marker::Model;
 // The length of the longest mark.
 const LONGEST_MARK: usize = 3;
 
-// Bytes in a buffer.
+// The bytes that were read and not decoded yet: those of the buffer from `start` up to `end`.
 #[derive(Drop)]
 pub(crate) struct Undecoded<A: Allocator> {
     buffer: Vec<u8, A>,
@@ -117,13 +118,10 @@ impl<A: Allocator> Undecoded<A> {
         ensures capacity { self.new.capacity ≡ self.old.capacity }
         ensures ended { self.new.has_ended ≡ self.old.has_ended }
     {
-        let (taken, written) = match label {
-            Label::Utf8 => {
-                let progress = decode_utf8(self.has_ended, self.bytes(), output);
-                (progress.taken, progress.written)
-            }
-            Label::Utf16Le => transcode(ByteOrder::Little, self.has_ended, self.bytes(), output),
-            Label::Utf16Be => transcode(ByteOrder::Big, self.has_ended, self.bytes(), output),
+        let Progress { taken, written } = match label {
+            Label::Utf8 => decode_utf8(self.has_ended, self.bytes(), output),
+            Label::Utf16Le => decode_utf16(ByteOrder::Little, self.has_ended, self.bytes(), output),
+            Label::Utf16Be => decode_utf16(ByteOrder::Big, self.has_ended, self.bytes(), output),
         };
         self.skip(taken);
         written

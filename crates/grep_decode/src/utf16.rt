@@ -5,6 +5,7 @@ ghost use Rattle.grep_decode.specs.Decoded.{IsUnfinishedUtf16, utf16_text, unit_
 
 use crate::ascii::put_ascii;
 use crate::byte_order::ByteOrder;
+use crate::progress::Progress;
 
 // How many bytes a block has.
 const BLOCK: usize = 32;
@@ -89,18 +90,18 @@ fn put_scalar(code: u32, output: &mut [u8], at: usize) -> usize
 }
 
 // Writes some of the first scalar values of bytes of UTF-16 as UTF-8, as far as they are whole and
-// there is room for one of four bytes. It returns how many bytes it took and how many it wrote.
-fn transcode_few(order: ByteOrder, is_last: bool, input: &[u8], output: &mut [u8]) -> (usize, usize)
-    ensures taken { result.0 ≤ length input.now }
-    ensures written { result.1 ≤ length output.new }
+// there is room for one of four bytes.
+fn decode_few(order: ByteOrder, is_last: bool, input: &[u8], output: &mut [u8]) -> Progress
+    ensures taken { result.taken ≤ length input.now }
+    ensures written { result.written ≤ length output.new }
     ensures text { (more : List ℕ) → (IsTrue is_last → more ≡ []) →
-        utf16_text order (input.now ++ more) ≡ take result.1 output.new ++ utf16_text order
-        (drop result.0 input.now ++ more) }
-    ensures stops { result.1 ≡ 0 → (length output.new < 4) ⊎
+        utf16_text order (input.now ++ more) ≡ take result.written output.new ++ utf16_text order
+        (drop result.taken input.now ++ more) }
+    ensures stops { result.written ≡ 0 → (length output.new < 4) ⊎
         ((length input.now < 4) × (IsTrue is_last → input.now ≡ [])) }
-    ensures unfinished { result.1 ≡ 0 → (length output.new < 4)
+    ensures unfinished { result.written ≡ 0 → (length output.new < 4)
         ⊎ IsUnfinishedUtf16 order input.now }
-    ensures progress { result.1 ≡ 0 → result.0 ≡ 0 }
+    ensures progress { result.written ≡ 0 → result.taken ≡ 0 }
 {
     let mut taken = 0;
     let mut written = 0;
@@ -113,65 +114,63 @@ fn transcode_few(order: ByteOrder, is_last: bool, input: &[u8], output: &mut [u8
             }
         }
     }
-    (taken, written)
+    Progress { taken, written }
 }
 
 // The same, by a block if that is ASCII.
-fn transcode_some(
-    order: ByteOrder,
-    is_last: bool,
-    input: &[u8],
-    output: &mut [u8],
-) -> (usize, usize)
-    ensures taken { result.0 ≤ length input.now }
-    ensures written { result.1 ≤ length output.new }
+fn decode_some(order: ByteOrder, is_last: bool, input: &[u8], output: &mut [u8]) -> Progress
+    ensures taken { result.taken ≤ length input.now }
+    ensures written { result.written ≤ length output.new }
     ensures text { (more : List ℕ) → (IsTrue is_last → more ≡ []) →
-        utf16_text order (input.now ++ more) ≡ take result.1 output.new ++ utf16_text order
-        (drop result.0 input.now ++ more) }
-    ensures stops { result.1 ≡ 0 → (length output.new < 4) ⊎
+        utf16_text order (input.now ++ more) ≡ take result.written output.new ++ utf16_text order
+        (drop result.taken input.now ++ more) }
+    ensures stops { result.written ≡ 0 → (length output.new < 4) ⊎
         ((length input.now < 4) × (IsTrue is_last → input.now ≡ [])) }
-    ensures unfinished { result.1 ≡ 0 → (length output.new < 4)
+    ensures unfinished { result.written ≡ 0 → (length output.new < 4)
         ⊎ IsUnfinishedUtf16 order input.now }
-    ensures progress { result.1 ≡ 0 → result.0 ≡ 0 }
+    ensures progress { result.written ≡ 0 → result.taken ≡ 0 }
 {
     if input.len() >= BLOCK
         && output.len() >= BLOCK / 2
         && put_ascii(order, &input[..BLOCK], &mut output[..BLOCK / 2])
     {
-        return (BLOCK, BLOCK / 2);
+        return Progress {
+            taken: BLOCK,
+            written: BLOCK / 2,
+        };
     }
-    transcode_few(order, is_last, input, output)
+    decode_few(order, is_last, input, output)
 }
 
 // Writes bytes of UTF-16 as UTF-8, as far as they are whole and there is room for a scalar value of
-// four bytes. It returns how many bytes it took and how many it wrote.
-pub(crate) fn transcode(
+// four bytes.
+pub(crate) fn decode_utf16(
     order: ByteOrder,
     is_last: bool,
     input: &[u8],
     output: &mut [u8],
-) -> (usize, usize)
-    ensures taken { result.0 ≤ length input.now }
-    ensures written { result.1 ≤ length output.new }
+) -> Progress
+    ensures taken { result.taken ≤ length input.now }
+    ensures written { result.written ≤ length output.new }
     ensures text { (more : List ℕ) → (IsTrue is_last → more ≡ []) →
-        utf16_text order (input.now ++ more) ≡ take result.1 output.new ++ utf16_text order
-        (drop result.0 input.now ++ more) }
-    ensures stops { (length output.new < result.1 + 4)
-        ⊎ ((length (drop result.0 input.now) < 4)
-        × (IsTrue is_last → drop result.0 input.now ≡ [])) }
-    ensures unfinished { (length output.new < result.1 + 4)
-        ⊎ IsUnfinishedUtf16 order (drop result.0 input.now) }
-    ensures progress { result.1 ≡ 0 → result.0 ≡ 0 }
+        utf16_text order (input.now ++ more) ≡ take result.written output.new ++ utf16_text order
+        (drop result.taken input.now ++ more) }
+    ensures stops { (length output.new < result.written + 4)
+        ⊎ ((length (drop result.taken input.now) < 4)
+        × (IsTrue is_last → drop result.taken input.now ≡ [])) }
+    ensures unfinished { (length output.new < result.written + 4)
+        ⊎ IsUnfinishedUtf16 order (drop result.taken input.now) }
+    ensures progress { result.written ≡ 0 → result.taken ≡ 0 }
 {
     let mut taken = 0;
     let mut written = 0;
     while written + 4 <= output.len() {
-        let (more, count) = transcode_some(order, is_last, &input[taken..], &mut output[written..]);
-        if count == 0 {
+        let step = decode_some(order, is_last, &input[taken..], &mut output[written..]);
+        if step.written == 0 {
             break;
         }
-        taken += more;
-        written += count;
+        taken += step.taken;
+        written += step.written;
     }
-    (taken, written)
+    Progress { taken, written }
 }

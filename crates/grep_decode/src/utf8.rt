@@ -5,18 +5,11 @@ ghost use Rattle.std.specs.Str.Lossy.{utf8_lossy};
 ghost use Rattle.grep_decode.specs.Utf8.{IsUnfinishedUtf8};
 ghost use Rattle.grep_decode.specs.Utf8.{IsReplaced};
 
+use crate::progress::Progress;
 use std::str;
 
 // The bytes of U+FFFD.
 const REPLACEMENT: [u8; 3] = [0xEF, 0xBF, 0xBD];
-
-/// How far a decoder came: how many bytes it took from its input, and how many it wrote to its
-/// output.
-#[derive(Clone, Copy)]
-pub(crate) struct Progress {
-    pub(crate) taken: usize,
-    pub(crate) written: usize,
-}
 
 // The front of some bytes: how many are well-formed, and how many after them are the ill-formed
 // part that one U+FFFD replaces. That part has no bytes at the end, and where more bytes are needed
@@ -138,8 +131,7 @@ fn copy_front(input: &[u8], output: &mut [u8]) -> usize
     count
 }
 
-/// Decodes UTF-8 from the front of `input` into `output`, and returns how many bytes it took and
-/// how many it wrote.
+/// Decodes UTF-8 from the front of `input` into `output`.
 ///
 /// Well-formed parts are copied, and each maximal ill-formed part becomes one U+FFFD, as in Table
 /// 3-7 of the Unicode Standard. If `is_last`, no more input follows. Otherwise a sequence of at

@@ -1,6 +1,6 @@
 use Rattle.std.proofs.Common.{◌≡◌, ◌+◌, ◌-◌, ◌≤◌, ◌++◌, ℕ, List, [], length, take, drop, IsTrue}
 use Rattle.grep_decode.specs.Decoded.{utf16_text}
-use Rattle.grep_decode.proofs.utf16.transcode_few.Given as goal
+use Rattle.grep_decode.proofs.utf16.decode_few.Given as goal
 
 abbrev pub invariant-loop-written : goal.invariant-loop-written
 invariant-loop-written l = record {

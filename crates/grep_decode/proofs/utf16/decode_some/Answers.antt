@@ -1,7 +1,7 @@
 use Rattle.std.proofs.Common.{drop, refl}
 use Rattle.grep_decode.specs.Decoded.{utf16_text}
 use Rattle.grep_decode.proofs.PieceLemmas.{text-front}
-use Rattle.grep_decode.proofs.utf16.transcode_some.Goals as goal
+use Rattle.grep_decode.proofs.utf16.decode_some.Goals as goal
 
 pub returns-then-put_ascii-clause-text : goal.returns-then-put_ascii-clause-text
 returns-then-put_ascii-clause-text c = λ more when.
