@@ -1,4 +1,4 @@
--- The first line of some bytes, by its length.
+-- The first line of some bytes, by its length, and the last line start up to a position.
 use Rattle.std.specs.Prelude.{◌≡◌, ◌≢◌, ℕ, ◌+◌, ◌-◌, ◌<◌, ◌≤◌, List, length, slice_index}
 
 -- the first e bytes are the first line

@@ -8,11 +8,11 @@ use std::simd::prelude::*;
 // How many bytes are compared at once.
 const WIDE: usize = 64;
 
-// The same if fewer are left.
+// How many bytes are compared at once in fewer than WIDE bytes.
 const NARROW: usize = 16;
 
-// From how many bytes on what is equal is summed lane by lane: adding up the lanes costs as much as
-// a few parts.
+// From this length on matches are summed lane by lane: adding up the lanes costs as much as
+// comparing a few parts.
 const LONG: usize = 512;
 
 // How many bytes are summed before the lanes are added up: a lane is full at 255.
@@ -107,8 +107,8 @@ fn count_short(bytes: &[u8], terminator: u8) -> u64
     count_wide_parts(bytes, terminator)
 }
 
-// How many of the bytes are `terminator`, part by part. What is left of them at last is the end of
-// a part that begins earlier.
+// How many of the bytes are `terminator`, part by part. The bytes after the last whole part are
+// counted in the last WIDE bytes, without those already counted.
 #[inline(always)]
 fn count_wide_parts(bytes: &[u8], terminator: u8) -> u64
     requires { WIDE ≤ length bytes.now }
@@ -128,7 +128,7 @@ fn count_wide_parts(bytes: &[u8], terminator: u8) -> u64
     total + count_wide(last, terminator, WIDE - rest.len())
 }
 
-// How many of the bytes of a wide part are `terminator`, but for the first ones, so many of them.
+// How many bytes of a wide part are `terminator`, not counting the first `skipped` ones.
 #[inline(always)]
 fn count_wide(part: &[u8], terminator: u8, skipped: usize) -> u64
     requires whole { length part.now ≡ WIDE }
@@ -138,7 +138,7 @@ fn count_wide(part: &[u8], terminator: u8, skipped: usize) -> u64
     count_wide_vector(u8x64::from_slice(part), terminator, skipped)
 }
 
-// How many of a wide vector's bytes are `terminator`, but for the first ones.
+// How many of a wide vector's bytes are `terminator`, not counting the first `skipped` ones.
 #[inline(always)]
 fn count_wide_vector(bytes: u8x64, terminator: u8, skipped: usize) -> u64
     requires { skipped < WIDE }
@@ -168,7 +168,7 @@ fn count_narrow_parts(bytes: &[u8], terminator: u8) -> u64
     total + count_narrow(last, terminator, NARROW - rest.len())
 }
 
-// How many of the bytes of a narrow part are `terminator`, but for the first ones, so many of them.
+// How many bytes of a narrow part are `terminator`, not counting the first `skipped` ones.
 #[inline(always)]
 fn count_narrow(part: &[u8], terminator: u8, skipped: usize) -> u64
     requires whole { length part.now ≡ NARROW }
@@ -178,7 +178,7 @@ fn count_narrow(part: &[u8], terminator: u8, skipped: usize) -> u64
     count_narrow_vector(u8x16::from_slice(part), terminator, skipped)
 }
 
-// How many of a narrow vector's bytes are `terminator`, but for the first ones.
+// How many of a narrow vector's bytes are `terminator`, not counting the first `skipped` ones.
 #[inline(always)]
 fn count_narrow_vector(bytes: u8x16, terminator: u8, skipped: usize) -> u64
     requires { skipped < NARROW }

@@ -46,8 +46,8 @@ impl LineStep {
     /// The start and the end of the next line with its terminator, as positions in `bytes`; `None`
     /// if no bytes are left. The caller ensures that the walk ends within `bytes`.
     ///
-    /// If the walk is at the start of line i of all the bytes and goes up to their end, the result
-    /// is line i, and `None` means that there are i lines.
+    /// If the walk is at the start of line i, counted from 0, of all the bytes and goes up to their
+    /// end, the result is line i, and `None` means that there are i lines.
     #[inline]
     pub fn next(&mut self, bytes: &[u8]) -> Option<(usize, usize)>
         requires { self.old.end ≤ length bytes.now }

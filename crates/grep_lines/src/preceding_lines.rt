@@ -20,8 +20,8 @@ pub fn preceding(bytes: &[u8], terminator: u8, count: usize) -> usize
 /// The start of the line `count` lines before the line with `start < pos <= end`; 0 if there are
 /// fewer lines, or `pos` is 0. The caller ensures that `pos` lies within the bytes.
 ///
-/// If line i starts at `pos`, or `pos` is the end of the bytes and they have i lines, that is line
-/// `i - 1 - count`. Unless the result is 0, a terminator is right before it.
+/// If line i, counted from 0, starts at `pos`, or `pos` is the end of the bytes and they have i
+/// lines, that is line `i - 1 - count`. Unless the result is 0, a terminator is right before it.
 pub fn preceding_by_pos(bytes: &[u8], pos: usize, terminator: u8, count: usize) -> usize
     requires { pos ≤ length bytes.now }
     ensures line { (i : ℕ) → i < length (lines terminator bytes.now)

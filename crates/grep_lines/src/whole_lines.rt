@@ -34,9 +34,8 @@ pub fn locate(bytes: &[u8], terminator: u8, found: Match) -> Match
 /// length.
 ///
 /// It starts right after the last terminator before the position, or at 0, and ends right after the
-/// first terminator at the position or later, or at the end of the bytes: as `locate` has it of an
-/// empty match. At the end of bytes that end in the terminator it is empty. In a first line, less
-/// than 64 bytes from its start, it takes one search for a terminator.
+/// first terminator at the position or later, or at the end of the bytes: as `locate` does for an
+/// empty match there. At the end of bytes that end in the terminator it is empty.
 #[inline]
 pub fn line_of(bytes: &[u8], terminator: u8, position: usize) -> Match
     requires { position ≤ length bytes.now }

@@ -16,7 +16,7 @@ use std::alloc::{AllocError, Global};
 use std::io;
 use std::marker::Model;
 
-// Up to this length the finder searches a haystack by itself, as a line alone.
+// Haystacks up to this length, such as one line, are searched by the finder alone.
 const SHORT: usize = 512;
 
 /// A pattern that matches a literal: some bytes, exactly. The empty literal matches every haystack,

@@ -74,11 +74,10 @@ pub trait Matcher {
     /// and says that no line matches.
     ///
     /// A search asks this only if the matcher declares the search's line terminator, or has its
-    /// byte among the non-matching bytes, and trusts it for the terminators for which the matcher
-    /// is lawful. A matcher that does neither is never asked.
+    /// byte among the non-matching bytes. Which lines it then reports is promised only if the
+    /// matcher is lawful for that terminator.
     ///
-    /// The default finds the first line as a `Candidate`, which says nothing of any line. It asks
-    /// nothing and never fails.
+    /// The default returns `Candidate(0)`: the first line may match. It never fails.
     fn find_candidate_line(&self, haystack: &[u8]) -> Result<Option<LineMatchKind>, Self::Error>
         ensures inside { IfOk result (IsInside haystack.now) }
         ensures trusted { IfOk result

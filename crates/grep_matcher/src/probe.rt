@@ -22,11 +22,10 @@ const FREQUENT: u8 = 220;
 // Below which rank a byte is rare in text: capitals, most digits and most punctuation.
 const RARE: u8 = 195;
 
-// How many bytes a step with the bytes has to save at least: the finder is faster than steps that
-// are searched more often than once in so many bytes.
+// The finder alone is faster if a step has to be searched more than once in this many bytes.
 const SAVED: usize = 1024;
 
-// How many steps are searched before it is seen whether they save that.
+// How many steps are searched before that is checked.
 const TRIED: usize = 4;
 
 // The length of the longest literal that is searched for in this way. Each step that has the bytes
@@ -158,7 +157,7 @@ fn skip<B: Bytes>(haystack: &[u8], literal: &[u8], from: usize, bytes: &B) -> us
     position
 }
 
-// Whether the literal can't begin at any position of a step.
+// Whether the bytes never occur together in a step; then the literal begins nowhere in it.
 #[inline(always)]
 fn is_quiet<B: Bytes>(bytes: &B, position: usize) -> bool
     requires within { position + STEP + length (B.literal bytes.now)

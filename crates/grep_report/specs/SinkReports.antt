@@ -3,7 +3,7 @@ use Rattle.std.specs.Prelude.{ℕ, List, Option, slice_range}
 use Rattle.grep_report.specs.declared.sink_context.SinkContextKind.{SinkContextKind}
 
 -- a match: the byte at which its lines are split, the number of its first line, its offset in the
--- whole input, and the buffer with the positions at which it starts and ends there
+-- whole decoded input, and the buffer with the positions at which it starts and ends there
 pub record MatchReport : Type 0 where
   pub terminator : ℕ
   pub line_number : Option ℕ
@@ -16,7 +16,8 @@ pub record MatchReport : Type 0 where
 abbrev pub match_bytes : MatchReport → List ℕ
 match_bytes m = slice_range m.buffer m.start m.end
 
--- a line that isn't a match: its kind, its number, its offset in the whole input and its bytes
+-- a line that isn't a match: its kind, its number, its offset in the whole decoded input and its
+-- bytes
 pub record ContextReport : Type 0 where
   pub kind : SinkContextKind
   pub line_number : Option ℕ

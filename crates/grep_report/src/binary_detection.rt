@@ -8,7 +8,10 @@ ghost use Rattle.grep_report.specs.BinaryDetections.{convert_byte_of, quit_byte_
 pub enum BinaryDetection {
     /// No byte marks an input as binary: all bytes are searched as text.
     None,
-    /// The search ends at the first such byte, and no line that holds it is reported.
+    /// The search ends at the first such byte that it finds, and no line that holds it is reported.
+    /// In an input that is searched line by line as it is read, each byte is looked at. In a slice
+    /// that is searched as it is, and across lines, only the first 65,536 bytes are looked at, and
+    /// then the bytes of each report.
     Quit(u8),
     /// Each such byte is replaced by the line terminator's byte, in an input that is searched line
     /// by line as it is read. Elsewhere, and if it is that byte itself, it means nothing.
@@ -23,14 +26,14 @@ impl BinaryDetection {
         BinaryDetection::None
     }
 
-    /// A search ends at the first `binary_byte`.
+    /// A search ends at the first `binary_byte` that it finds, as `Quit` says.
     pub fn quit(binary_byte: u8) -> BinaryDetection
         ensures { result ≡ BinaryDetection.Quit binary_byte }
     {
         BinaryDetection::Quit(binary_byte)
     }
 
-    /// Each `binary_byte` is replaced by the line terminator's byte.
+    /// Each `binary_byte` is replaced by the line terminator's byte, as `Convert` says.
     pub fn convert(binary_byte: u8) -> BinaryDetection
         ensures { result ≡ BinaryDetection.Convert binary_byte }
     {

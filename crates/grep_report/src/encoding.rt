@@ -8,8 +8,7 @@ use grep_decode::{Label, label_of};
 use std::alloc::Global;
 use std::marker::Model;
 
-/// The encoding that input is said to have: UTF-8, or UTF-16 of either byte order. It is a byte
-/// that is copied.
+/// The encoding that input is said to have: UTF-8, or UTF-16 of either byte order. It is `Copy`.
 #[derive(Clone, Copy, Debug, PartialEq, Eq)]
 pub struct Encoding {
     label: Label,

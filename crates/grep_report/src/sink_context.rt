@@ -55,7 +55,8 @@ impl<'b> Clone for SinkContext<'b> {
 
 impl<'b> SinkContext<'b> {
     /// The report of the line with these bytes. `line_number` is counted from 1, and
-    /// `absolute_byte_offset` is the offset of the line's first byte in the whole input, in bytes.
+    /// `absolute_byte_offset` is the offset of the line's first byte in the whole decoded input, in
+    /// bytes.
     #[inline]
     pub fn new(
         kind: SinkContextKind,
@@ -94,7 +95,7 @@ impl<'b> SinkContext<'b> {
         self.bytes
     }
 
-    /// The offset of the line's first byte in the whole input, in bytes.
+    /// The offset of the line's first byte in the whole decoded input, in bytes.
     #[inline]
     pub fn absolute_byte_offset(&self) -> u64
         ensures { result ≡ self.now.offset }

@@ -76,7 +76,8 @@ impl<A: Allocator + Copy> SinkError<A> for SearchError<A> {
 }
 
 /// An `io::Error` is kept as it is. Of a message, and of a configuration that no search can run
-/// with, the error is of the kind `Other` and has the text; std keeps the first 80 bytes of it.
+/// with, the error is of the kind `Other` and has the text; std shortens one of over 80 bytes, and
+/// ends it in three dots.
 impl<A: Allocator + Copy> SinkError<A> for io::Error {
     ghost use Rattle.std.specs.IoError.{error_kind};
     ghost use Rattle.std.specs.declared.io.ErrorKind.TheVariants.{Other};

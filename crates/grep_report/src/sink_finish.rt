@@ -3,7 +3,7 @@ ghost use Rattle.std.specs.Prelude.{◌≡◌};
 
 use std::marker::Model;
 
-/// The end of a search: how much of the input it has been through.
+/// The end of a search: how much of the decoded input it has been through.
 #[derive(Clone, Copy, Debug)]
 pub struct SinkFinish {
     byte_count: u64,
@@ -27,8 +27,9 @@ impl Model for SinkFinish {
 }
 
 impl SinkFinish {
-    /// The end of a search that has been through the input's first `byte_count` bytes and found its
-    /// first binary byte at the offset `binary_byte_offset`, in bytes, if it found one.
+    /// The end of a search that has been through the first `byte_count` bytes of the decoded input
+    /// and found its first binary byte at the offset `binary_byte_offset`, in bytes, if it found
+    /// one.
     #[inline]
     pub fn new(byte_count: u64, binary_byte_offset: Option<u64>) -> SinkFinish
         ensures { result ≡ record {
@@ -42,8 +43,14 @@ impl SinkFinish {
         }
     }
 
-    /// How many bytes of the input the search has been through: up to the end of the last line that
-    /// it considered, or of the line at whose call the sink returned false.
+    /// How many bytes of the decoded input the search has been through: up to the end of the last
+    /// line that may be reported.
+    ///
+    /// If the sink returned false, up to the end of what that call reports; for a line before a
+    /// match it is the end of the match, for a break the same as for the report after it, and for
+    /// `begin` 0. If the search ended at a binary byte, the length of the lines that were searched
+    /// before it; where only the first 65,536 bytes and the reports are looked at (see
+    /// `BinaryDetection::Quit`), the byte's offset, or 0 if that is below 65,536.
     #[inline]
     pub fn byte_count(&self) -> u64
         ensures { result ≡ self.now.byte_count }
@@ -51,8 +58,8 @@ impl SinkFinish {
         self.byte_count
     }
 
-    /// The offset in the whole input, in bytes, of the first binary byte that the search found, if
-    /// it found one.
+    /// The offset in the whole decoded input, in bytes, of the first binary byte that the search
+    /// found, if it found one.
     #[inline]
     pub fn binary_byte_offset(&self) -> Option<u64>
         ensures { result ≡ self.now.binary_byte_offset }

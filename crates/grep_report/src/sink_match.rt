@@ -61,7 +61,7 @@ impl<'b> SinkMatch<'b> {
     ///
     /// `terminator` is the byte at which `lines` splits, `line_number` is the number of the match's
     /// first line, counted from 1, and `absolute_byte_offset` is the offset of its first byte in
-    /// the whole input, in bytes.
+    /// the whole decoded input, in bytes.
     #[inline]
     pub fn new(
         terminator: u8,
@@ -108,7 +108,7 @@ impl<'b> SinkMatch<'b> {
         LineIter::new(self.terminator, self.bytes())
     }
 
-    /// The offset of the match's first byte in the whole input, in bytes.
+    /// The offset of the match's first byte in the whole decoded input, in bytes.
     #[inline]
     pub fn absolute_byte_offset(&self) -> u64
         ensures { result ≡ self.now.offset }
