@@ -10,6 +10,7 @@ use Rattle.grep_matcher.specs.Meanings.{MatcherFacts}
 use Rattle.grep_definitions.specs.Plans.{Settings, Planned, begins, Steps, Outcome, all_true}
 use Rattle.grep_definitions.specs.Plans.{stopped, failed, AreMade, counted, is_binary_data, planned}
 
+-- each call may come between `begin` and `finish`
 abbrev pub AreInner : Settings → List Planned → Type 0
 AreInner settings turns =
     All (λ turn. comes_between (is_detecting settings.binary_detection) turn.call ≡ true) turns

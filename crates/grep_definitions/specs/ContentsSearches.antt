@@ -1,4 +1,4 @@
--- What a search does to its sink, and what it returns.
+-- How a loop over contents ends: along its calls, at a binary byte, or in an error.
 use Rattle.std.specs.Prelude.{◌≡◌, ℕ, List, Option, Some, None, Result, Ok, Err}
 use Rattle.grep_definitions.specs.Plans.{Settings, Planned, Steps, all_true, AreMade, IsRun}
 use Rattle.grep_report.specs.declared.binary_detection.BinaryDetection.TheVariants.{Quit}

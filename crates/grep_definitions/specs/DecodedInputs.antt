@@ -1,4 +1,4 @@
--- The bytes that are searched.
+-- What is decoded so far of an input, and whether the input passes unchanged.
 use Rattle.std.specs.Prelude.{ℕ, ◌<◌, ◌≤◌, Bool, true, false, not, List, [], ◌≡◌, ◌++◌, length}
 use Rattle.std.specs.Prelude.{Option, Some, None, is_some}
 use Rattle.std.specs.List.{concat}

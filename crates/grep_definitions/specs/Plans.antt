@@ -159,7 +159,7 @@ abbrev pub first_below : (ℕ → Bool) → ℕ → Option ℕ
 first_below p zero = None
 first_below p (suc n) = if some_below p n then first_below p n else (if p n then Some n else None)
 
--- n, or less if there is a lower bound
+-- n, or the bound if there is one and it is smaller
 abbrev pub at_most : Option ℕ → ℕ → ℕ
 at_most None n = n
 at_most (Some m) n = min m n
@@ -173,7 +173,7 @@ abbrev pub is_at : ℕ → Option ℕ → Bool
 is_at n None = false
 is_at n (Some m) = n == m
 
--- whether so many lines are fewer than the limit of a search has
+-- whether this many lines are below the search's limit, if it has one
 abbrev pub has_room : Settings → ℕ → Bool
 has_room settings n = is_below n settings.max_matches
 

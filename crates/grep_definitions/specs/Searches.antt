@@ -28,6 +28,7 @@ use Rattle.grep_definitions.specs.Plans.{line_count, line, start, reports_end, i
 use Rattle.grep_definitions.specs.Plans.{refusal_of, IsLawful, selection_in, search_plan}
 use Rattle.grep_definitions.specs.Plans.{IsAskedWith, has_room}
 
+-- where a byte first is
 abbrev pub position_of : ℕ → List ℕ → Option ℕ
 position_of b bytes = position (λ x. x == b) bytes
 

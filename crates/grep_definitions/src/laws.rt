@@ -28,37 +28,37 @@ pub fn unchanged_is_searched()
     ensures marked { MarkedPasses }
 {}
 
-/// The reports ascend, and no byte is reported twice: each report has a byte, and ends by the
-/// offset of each later one.
+/// By line, the reports ascend, and no byte is reported twice: each report has a byte, and ends at
+/// or before the offset of each later one.
 pub fn reports_ascend()
     ensures { ReportsAscend }
 {}
 
-/// A line in reach of an earlier selected line is reported as the line after it, even if it is also
-/// before a later one; as a match, if it hits past the limit.
+/// By line, a line that may be reported, isn't selected and is in reach of an earlier selected line
+/// is reported as the line after it, even if it is also before a later one; as a match if it hits
+/// past the limit.
 pub fn after_wins()
     ensures { AfterWins }
 {}
 
-/// Without limit and stop, a search and its inversion select complementary lines.
+/// By line, without limit and stop, a search and its inversion select complementary lines.
 pub fn inversion_complements()
     ensures { InversionComplements }
 {}
 
-/// The calls over some first lines, but `finish`, begin those over all lines, under settings as
-/// they are built.
+/// By line, the calls over some first lines, except `finish`, begin those over all lines, under
+/// settings as they are built.
 pub fn first_lines_begin()
     ensures { FirstLinesBegin }
 {}
 
-/// No more matches are reported than the limit has and, if that isn't 0, those in the context after
-/// the last of them.
+/// By line, at most `max_matches + after_context` matches are reported, and none at limit 0.
 pub fn at_most_limit()
     ensures { AtMostLimit }
 {}
 
-/// If every line may be reported, the byte count is the length: that of a search in which every call
-/// returns true.
+/// By line, if every line may be reported, the byte count of a search in which every call returns
+/// true is the length.
 pub fn whole_count()
     ensures { WholeCount }
 {}
@@ -77,24 +77,24 @@ pub fn lines_are_numbered()
     grep_lines::laws::lines_are_numbered();
 }
 
-/// The matches that are reported are the selected lines and those that hit past the limit in the
-/// context after them, in order: each with its number, its offset and its bytes.
+/// By line, the matches that are reported are the selected lines and those that hit past the limit
+/// in the context after them, in order: each with its number, its offset and its bytes.
 pub fn matches_are_matched_lines()
     ensures { MatchesAreMatchedLines }
 {}
 
-/// As many matches are reported as there are such lines.
+/// By line, as many matches are reported as there are such lines.
 pub fn matches_are_counted()
     ensures { MatchesAreCounted }
 {}
 
-/// The first match that is reported is the first selected line; if no line is selected, there is
-/// none.
+/// By line, the first match that is reported is the first selected line; if no line is selected,
+/// there is none.
 pub fn first_match_is_first()
     ensures { FirstMatchIsFirst }
 {}
 
-/// At most as many matches are reported as there are bytes.
+/// By line, at most as many matches are reported as there are bytes.
 pub fn matches_are_few()
     ensures { MatchesAreFew }
 {}
@@ -139,8 +139,8 @@ pub fn reports_ascend_across()
     ensures { AcrossLaws.ReportsAscend }
 {}
 
-/// Across lines too, a line in reach of an earlier selected line is reported as the line after it,
-/// even if it is also before a later one.
+/// Across lines too, a line that isn't selected and is in reach of an earlier selected line is
+/// reported as the line after it, even if it is also before a later one.
 pub fn after_wins_across()
     ensures { AcrossLaws.AfterWins }
 {}
@@ -162,9 +162,9 @@ pub fn reports_are_apart_across()
     ensures { ReportsAreApart }
 {}
 
-/// Across lines contexts, breaks and counts are as by line: if a search under inversion selects the
-/// lines that a search by line does, and each line may be reported in that too, their calls are the
-/// same.
+/// Across lines, contexts, breaks and counts are as by line: if a search under inversion selects the
+/// lines that a search by line does, and in that search by line each line may be reported and none
+/// is trailing, both make the same calls.
 pub fn reports_are_as_by_line()
     ensures { ReportsAreAsByLine }
 {}
@@ -185,9 +185,9 @@ pub fn quit_reports_are_clear()
     ensures { QuitReportsAreClear }
 {}
 
-/// By line, if a byte isn't among the first `count` bytes, no report after which the count is within
-/// them holds it. Nor does a report over lines at the front of an input, if the byte that ends the
-/// search isn't among these.
+/// By line, if a byte isn't among the first `count` bytes, no report whose own count is at most
+/// `count` holds it. Nor does a report over lines at the front of an input, if the byte that ends
+/// the search isn't among these.
 pub fn counted_reports_are_clear()
     ensures first { CountedReportsAreClear }
     ensures seen { SeenLinesAreClear }
