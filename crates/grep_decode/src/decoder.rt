@@ -132,7 +132,8 @@ impl<A: Allocator> Decoder<A> {
         result
     }
 
-    // Does nothing: its contract is what the invariant says of a decoder whose bytes pass unchanged.
+    // Does nothing: its contract is what the invariant says of a decoder whose bytes pass
+    // unchanged.
     fn holds_few(&self)
         ensures { self.now.mode ≡ Mode.Passing → (length self.now.ready ≤ 3)
             × (self.now.held ≡ []) }

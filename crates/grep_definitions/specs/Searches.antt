@@ -179,7 +179,8 @@ IsInput settings ended pieces bytes = (more : List ℕ) × (ended ≡ true → m
 -- What is decoded of an input of which these pieces came, whatever else would come: nothing while a
 -- mark is looked for in fewer than three bytes; else all but the last bytes that came if they wait,
 -- and the text goes on with theirs and what follows. Of bytes that pass unchanged it is all.
-pub record IsDecodedSoFar (settings : Settings) (pieces : List (List ℕ)) (came : List ℕ) : Type 0 where
+pub record IsDecodedSoFar (settings : Settings) (pieces : List (List ℕ)) (came : List ℕ)
+    : Type 0 where
   pub none : looks_for_mark settings ≡ true → length (concat pieces) < 3 → came ≡ []
   pub all : (looks_for_mark settings ≡ true → 3 ≤ length (concat pieces))
       → (front waiting : List ℕ) × (concat pieces ≡ front ++ waiting)

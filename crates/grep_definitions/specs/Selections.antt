@@ -1,6 +1,6 @@
 -- How lines are reported, given which of them are selected: this is the same by line and across
 -- lines. What a walk over lines knows of the lines before it. The contracts of private functions
--- cite these definitions, and a public law of grep_searcher, `matches_are_units`, cites `continues`.
+-- cite these definitions; a public law of grep_searcher, `matches_are_units`, cites `continues`.
 use Rattle.std.specs.Prelude.{◌≡◌, ℕ, ◌-◌, ◌<◌, ◌≤◌, Bool, true, false, ◌&&◌, if◌then◌else◌, nat_lt}
 use Rattle.std.specs.Prelude.{nat_le, Option, Some, None, is_some, ◌+◌, List}
 use Rattle.grep_report.specs.declared.sink_context.SinkContextKind.TheVariants.{Before, After}

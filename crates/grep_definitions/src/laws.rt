@@ -63,9 +63,9 @@ pub fn whole_count()
     ensures { WholeCount }
 {}
 
-/// By line the plan depends on a matcher's matches alone, not on the terminator or the bytes that it
-/// excludes: a search by line with `Plain` of a matcher, which asks about one line at a time, makes
-/// the same calls as one with the matcher, with the same byte counts.
+/// By line, the plan depends on a matcher's matches alone, not on the terminator or the bytes that
+/// it excludes: a search by line with `Plain` of a matcher, which asks about one line at a time,
+/// makes the same calls as one with the matcher, with the same byte counts.
 pub fn matches_decide()
     ensures { MatchesDecide }
 {}
@@ -162,9 +162,9 @@ pub fn reports_are_apart_across()
     ensures { ReportsAreApart }
 {}
 
-/// Across lines, contexts, breaks and counts are as by line: if a search under inversion selects the
-/// lines that a search by line does, and in that search by line each line may be reported and none
-/// is trailing, both make the same calls.
+/// Across lines, contexts, breaks and counts are as by line: if a search under inversion selects
+/// the lines that a search by line does, and in that search by line each line may be reported and
+/// none is trailing, both make the same calls.
 pub fn reports_are_as_by_line()
     ensures { ReportsAreAsByLine }
 {}

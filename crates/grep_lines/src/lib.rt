@@ -1,6 +1,6 @@
-//! The lines of some bytes: steps from line to line by positions, an iterator over the lines, counts
-//! of terminators and of lines, the whole lines that a match extends over, the lines before a
-//! position, a line without its terminator, and replacing a byte. The functions follow
+//! The lines of some bytes: steps from line to line by positions, an iterator over the lines,
+//! counts of terminators and of lines, the whole lines that a match extends over, the lines before
+//! a position, a line without its terminator, and replacing a byte. The functions follow
 //! grep-searcher's module `lines`.
 #![tactic(auto)]
 

@@ -42,8 +42,8 @@ pub(crate) enum Probe {
 }
 
 impl Probe {
-    /// The rarest byte of a literal if it is rare, or the three rarest if all are frequent and three
-    /// of them differ; none if the literal is long or has one byte.
+    /// The rarest byte of a literal if it is rare, or the three rarest if all are frequent and
+    /// three of them differ; none if the literal is long or has one byte.
     pub(crate) fn new(literal: &[u8]) -> Option<Probe>
         ensures { IfSome result (λ probe. IsProbeOf probe literal.now) }
     {

@@ -5,7 +5,8 @@ use Rattle.grep_regex.specs.Patterns.{first_match_at, leftmost_match_at, written
 use Rattle.grep_regex.specs.Patterns.{excluded_bytes}
 use Rattle.grep_regex.specs.declared.options.Options.{Options}
 
--- where no excluded byte follows a position, the first match from it on is that of the pattern itself
+-- where no excluded byte follows a position, the first match from it on is that of the pattern
+-- itself
 abbrev pub MatchesAsWritten : Type 0
 MatchesAsWritten = (o : Options) (patterns : List (List ℕ)) (haystack : List ℕ) (from : ℕ) →
     is_clear (excluded_bytes o.line_terminator) haystack from (length haystack) ≡ true →

@@ -87,7 +87,7 @@ framed o re =
     else between WordStartHalfAscii WordEndHalfAscii re)
     else re
 
--- the first of the patterns that works, within what the options put around it
+-- the alternation of the patterns, within what the options put around it
 abbrev pub written_re : Options → List (List ℕ) → Re
 written_re o patterns = framed o (alt_all (map (read_re o) patterns))
 

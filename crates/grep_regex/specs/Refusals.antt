@@ -22,11 +22,12 @@ pub record IsSyntax (config : Config) (text pattern : List ℕ) (error : parser.
   pub start : IsCharBoundary pattern error.span.start
   pub end : IsCharBoundary pattern error.span.end
 
--- the error for one of the parser at a pattern: of memory, or else that error at that pattern
+-- the error for one of the parser at a pattern: `Memory` for one of memory, or else that error at
+-- that pattern
 abbrev pub IsOfParser : ℕ → parser.Error → Error → Type 0
 IsOfParser index given (Syntax pattern error) =
     (pattern ≡ index) × (error ≡ given) × (given.kind ≢ OutOfMemory)
-IsOfParser index given Memory = Unit {0}
+IsOfParser index given Memory = given.kind ≡ OutOfMemory
 IsOfParser index given _ = ⊥
 
 -- the error for one of the compiler: the patterns are too big, or there is no memory
@@ -52,7 +53,8 @@ IsTextsError o patterns TooBig = Unit {0}
 IsTextsError o patterns Memory = Unit {0}
 IsTextsError o patterns _ = ⊥
 
--- the error of a pattern that isn't without the bytes: it needs one of them, or there is no memory
+-- the error of taking bytes out of a pattern: a literal has one of them, a class has some of them
+-- and no other member, or there is no memory
 abbrev pub IsStripError : List ℕ → Error → Type 0
 IsStripError bytes (NotAllowed byte) = is_among bytes byte ≡ true
 IsStripError bytes Memory = Unit {0}

@@ -8,4 +8,5 @@ use Rattle.grep_regex.specs.Patterns.{leftmost_match_at}
 -- the pattern finds in each haystack, from each position on, where the literal first occurs
 pub record IsSpelled (re : Re) (literal : List ℕ) : Type 0 where
   pub at : (haystack : List ℕ) (start : ℕ) → All (λ x. x < 256) haystack → start ≤ length haystack →
-      leftmost_match_at re haystack start ≡ match_from start (literal_match literal (drop start haystack))
+      leftmost_match_at re haystack start
+      ≡ match_from start (literal_match literal (drop start haystack))

@@ -36,7 +36,7 @@ fn are_plain(options: &Options, patterns: &[&str]) -> bool
         AreAlike (map (read_re options.now) (map (λ p. p.now) patterns.now))
         (map literal (map (λ p. p.now) patterns.now)) }
 {
-    if !are_texts(options) {
+    if !leave_texts(options) {
         return false;
     }
     for i in 0..patterns.len() {
@@ -47,8 +47,9 @@ fn are_plain(options: &Options, patterns: &[&str]) -> bool
     true
 }
 
-// Whether the options leave patterns that are read as their own texts as they are written.
-fn are_texts(options: &Options) -> bool
+// Whether no line terminator is declared, and no option makes a pattern that is read as its own
+// text match anything else.
+fn leave_texts(options: &Options) -> bool
     ensures { result ≡ (not (is_some options.now.line_terminator)
         && (not options.now.case_insensitive && not options.now.whole_line)) }
 {

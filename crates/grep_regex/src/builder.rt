@@ -12,8 +12,8 @@ use grep_matcher::LineTerminator;
 use std::alloc::{AllocError, Global};
 use std::marker::Model;
 
-/// The options of regular expressions that are to be compiled. Each setter changes its own option
-/// alone, and returns the builder.
+/// The options of regular expressions to be compiled. Each setter changes only its own option,
+/// except that `crlf` also sets the line terminator, and returns the builder.
 #[derive(Debug, Drop)]
 pub struct RegexMatcherBuilder {
     options: Options,
@@ -53,8 +53,8 @@ impl Clone for RegexMatcherBuilder {
 
 impl RegexMatcherBuilder {
     /// The default options: case matters, the pattern is a regular expression, read as Unicode's,
-    /// `^` and `$` match at the ends of the haystack alone, `.` doesn't match a line feed, and no
-    /// line terminator is declared.
+    /// `^` and `$` match only at the start and the end of the haystack, `.` doesn't match a line
+    /// feed, and no line terminator is declared.
     pub fn new() -> RegexMatcherBuilder
         ensures { result ≡ default_options }
     {
@@ -88,11 +88,12 @@ impl RegexMatcherBuilder {
         Regex::new(alloc, self.options, &[pattern])
     }
 
-    /// Compiles patterns, of which the first that works matches at a position. Of none there is no
-    /// match. An error is `InvalidLineTerminator` if the line terminator isn't ASCII, `Syntax` if a
-    /// text isn't a pattern or is nested too deep, `NotAllowed` if a pattern needs a byte of the
-    /// line terminator, `TooBig` if the compiled patterns are larger than the limit or have too
-    /// many groups, and `Memory` if there is none for them.
+    /// Compiles patterns as alternatives: at a position the first one that matches wins. With no
+    /// patterns nothing matches. An error is `InvalidLineTerminator` if the line terminator isn't
+    /// ASCII, `Syntax` if a text isn't a pattern or is nested too deep, `NotAllowed` if a literal
+    /// has a byte of the line terminator or a class has some of its bytes and no other member,
+    /// `TooBig` if the compiled patterns are larger than the limit or have too many groups, and
+    /// `Memory` if there is none for them.
     pub fn build_many(&self, alloc: Global, patterns: &[&str]) -> Result<Regex, Error>
         ensures options { IfOk result (λ regex. regex_options regex ≡ self.now) }
         ensures patterns { IfOk result
@@ -143,8 +144,8 @@ impl RegexMatcherBuilder {
         self
     }
 
-    /// Whether a match has to begin and to end at the ends of lines; not by default. Then `word`
-    /// has no effect.
+    /// Whether a match has to begin at the start of a line and to end at the end of one; not by
+    /// default. Then `word` has no effect.
     pub fn whole_line(&mut self, yes: bool) -> &mut RegexMatcherBuilder
         ensures reference { result.ghost_name ≡ self.entry.ghost_name }
         ensures set { result.now ≡ record self.old { whole_line = yes } }
@@ -153,7 +154,7 @@ impl RegexMatcherBuilder {
         self
     }
 
-    /// Whether `^` and `$` match at the ends of lines too; not by default.
+    /// Whether `^` and `$` match at the start and the end of each line; not by default.
     pub fn multi_line(&mut self, yes: bool) -> &mut RegexMatcherBuilder
         ensures reference { result.ghost_name ≡ self.entry.ghost_name }
         ensures set { result.now ≡ record self.old { multi_line = yes } }
@@ -180,7 +181,7 @@ impl RegexMatcherBuilder {
         self
     }
 
-    /// Whether a repetition prefers fewer and one with `?` more; not by default.
+    /// Whether `a*` prefers fewer repetitions and `a*?` more; not by default.
     pub fn swap_greed(&mut self, yes: bool) -> &mut RegexMatcherBuilder
         ensures reference { result.ghost_name ≡ self.entry.ghost_name }
         ensures set { result.now ≡ record self.old { swap_greed = yes } }
@@ -211,7 +212,7 @@ impl RegexMatcherBuilder {
 
     /// How deep groups, repetitions, classes and sequences of patterns may nest, in levels; 250 by
     /// default. A pattern that nests deeper is a syntax error. The calls that compile a pattern
-    /// nest as deep as it does, so that a higher limit needs a stack to match.
+    /// nest as deep as it does, so a higher limit needs a larger stack.
     pub fn nest_limit(&mut self, levels: u32) -> &mut RegexMatcherBuilder
         ensures reference { result.ghost_name ≡ self.entry.ghost_name }
         ensures set { result.now ≡ record self.old { nest_limit = levels } }
@@ -236,10 +237,10 @@ impl RegexMatcherBuilder {
         self
     }
 
-    /// Whether lines end in a carriage return and a line feed, which is then the line terminator,
-    /// and otherwise none is; not by default. `^` and `$` match around both under `multi_line`, and
-    /// `.` matches neither. While the terminator is declared, neither byte is in a match; a call of
-    /// `line_terminator` after this one declares another, or none.
+    /// Whether lines end in CRLF; not by default. This also sets the line terminator: to CRLF, or
+    /// to none if `yes` is false. Under `multi_line`, `^` and `$` match around the pair, and `.`
+    /// matches neither byte. While CRLF is the line terminator, neither byte is in a match; a later
+    /// call of `line_terminator` declares another one, or none.
     pub fn crlf(&mut self, yes: bool) -> &mut RegexMatcherBuilder
         ensures reference { result.ghost_name ≡ self.entry.ghost_name }
         ensures set { result.now ≡ record self.old {

@@ -84,7 +84,7 @@ impl<'r> Engine<'r> {
         ensures within { IfSome result (IsFrom start haystack.now) }
     {
         match &self.literal {
-            Some(literal) => occurrence(literal, haystack, start),
+            Some(literal) => Some(occurrence(literal, haystack, start)),
             None => None,
         }
     }

@@ -19,7 +19,8 @@ pub enum Error {
         /// is all of it.
         error: SyntaxError,
     },
-    /// A literal of a pattern has this byte of the line terminator, or a class has no other member.
+    /// A literal has this byte of the line terminator, or a class has this byte and no member
+    /// outside the terminator.
     #[error("a pattern matches the byte {0} of the line terminator")]
     NotAllowed(u8),
     /// The line terminator is this byte, which isn't ASCII.

@@ -8,7 +8,7 @@ use regex_hir::{Hir, Look};
 use std::alloc::{AllocError, Global};
 
 // The pattern within what the options put around it.
-pub(crate) fn framed(alloc: Global, options: &Options, hir: Hir) -> Result<Hir, AllocError>
+pub(crate) fn frame(alloc: Global, options: &Options, hir: Hir) -> Result<Hir, AllocError>
     ensures { IfOk result (λ whole. meaning whole ≡ framed options.now (meaning hir)) }
 {
     if options.whole_line {

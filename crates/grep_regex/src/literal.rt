@@ -30,21 +30,20 @@ pub(crate) fn matcher_of(regex: &Regex) -> Option<LiteralMatcher<'_>>
     }
 }
 
-// Where a literal first occurs from a position on. It is `None` if its matcher fails, which it
-// never does.
+// Where a literal first occurs from a position on.
 pub(crate) fn occurrence(
     literal: &LiteralMatcher<'_>,
     haystack: &[u8],
     start: usize,
-) -> Option<Option<(usize, usize)>>
+) -> Option<(usize, usize)>
     requires { start ≤ length haystack.now }
-    ensures value { IfSome result (λ found.
-        found ≡ match_from start (literal_match literal.now (drop start haystack.now))) }
-    ensures within { IfSome result (IsFrom start haystack.now) }
+    ensures value { result
+        ≡ match_from start (literal_match literal.now (drop start haystack.now)) }
+    ensures within { IsFrom start haystack.now result }
 {
     match literal.find_at(haystack, start) {
-        Ok(Some(found)) => Some(Some((found.start(), found.end()))),
-        Ok(None) => Some(None),
-        Err(_) => None,
+        Ok(Some(found)) => Some((found.start(), found.end())),
+        Ok(None) => None,
+        Err(_) => unreachable!(),
     }
 }

@@ -10,11 +10,11 @@ use grep_matcher::{ByteSet, FindAt, LineMatchKind, LineTerminator, Match, Matche
 use std::alloc::{AllocError, Global};
 use std::cell::RefCell;
 
-/// The matcher of a regular expression. It keeps what its engines write to in a cell, so that it is
-/// asked by `&self`.
+/// The matcher of a regular expression. What its engines write to is in a cell, so that `&self` is
+/// enough to search.
 ///
-/// It never fails while it isn't asked within one of its own calls. If it is, it makes new engines
-/// for that call, and the only error is being out of memory for them.
+/// The only error is being out of memory for new engines. They are made only for a call within
+/// another call of the same matcher; no contract says so.
 #[derive(Drop)]
 pub struct RegexMatcher<'r> {
     alloc: Global,

@@ -10,11 +10,11 @@ pub struct Options {
     pub case_insensitive: bool,
     /// The texts are literals.
     pub fixed_strings: bool,
-    /// A match is a whole word.
+    /// A match begins and ends where no word goes on.
     pub word: bool,
-    /// A match is a whole line; then `word` has no effect.
+    /// A match begins at the start of a line and ends at the end of one; then `word` has no effect.
     pub whole_line: bool,
-    /// `^` and `$` match at the ends of lines.
+    /// `^` and `$` match at the start and the end of each line.
     pub multi_line: bool,
     /// `.` matches a line feed.
     pub dot_matches_new_line: bool,
@@ -22,7 +22,7 @@ pub struct Options {
     pub unicode: bool,
     /// `^` and `$` match around a carriage return and a line feed, and `.` matches neither.
     pub crlf: bool,
-    /// `a*` prefers fewer and `a*?` more.
+    /// `a*` prefers fewer repetitions and `a*?` more.
     pub swap_greed: bool,
     /// White space and comments in patterns are ignored.
     pub ignore_whitespace: bool,
@@ -30,7 +30,7 @@ pub struct Options {
     pub octal: bool,
     /// How deep patterns may nest, in levels.
     pub nest_limit: u32,
-    /// What matchers declare as their line terminator, of which no match holds a byte.
+    /// What matchers declare as their line terminator; no match holds a byte of it.
     pub line_terminator: Option<LineTerminator>,
     /// About how large the compiled patterns may be, in bytes.
     pub size_limit: usize,

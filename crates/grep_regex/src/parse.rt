@@ -13,7 +13,7 @@ use regex_hir::Hir;
 use regex_syntax::{Config, Error as SyntaxError, Flags, Parsed, Span};
 use std::alloc::Global;
 
-// The first of some patterns that works.
+// The alternation of some patterns.
 #[derive(Drop)]
 pub(crate) struct Choice {
     pub(crate) hir: Hir,
@@ -21,7 +21,7 @@ pub(crate) struct Choice {
     pub(crate) groups: u32,
 }
 
-// The pattern that the texts are read as.
+// The alternation of what the texts are read as.
 pub(crate) fn read_choice(
     alloc: Global,
     options: &Options,
@@ -67,7 +67,7 @@ fn read_all(alloc: Global, options: &Options, patterns: &[&str]) -> Result<Branc
     Ok(Branches { hirs, groups })
 }
 
-// The first of the patterns that works; of one, that pattern.
+// The alternation of the patterns; of one, that pattern itself.
 fn choice_of(mut hirs: Vec<Hir>) -> Hir
     ensures { SameCaptures (meaning result) (alt_all (map meaning hirs.items)) }
 {

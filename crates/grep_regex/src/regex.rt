@@ -6,13 +6,13 @@ ghost use Rattle.grep_matcher.specs.FindResults.{holds_if_some};
 ghost use Rattle.grep_regex.specs.AbsentBytes.{is_absent};
 ghost use Rattle.grep_regex.specs.Locality.{is_by_line};
 ghost use Rattle.grep_regex.specs.Patterns.{excluded_bytes, AvoidsAbsent, FindsAs};
-ghost use Rattle.grep_regex.specs.Refusals.{IsOfCompiler, IsRefusal, IsTerminatorError};
+ghost use Rattle.grep_regex.specs.Refusals.{IsRefusal, IsTerminatorError};
 ghost use Rattle.grep_regex.specs.Spelled.{IsSpelled};
 ghost use Rattle.grep_regex.specs.Stripped.{AreAscii};
 
 use crate::absent::absent_bytes;
 use crate::error::Error;
-use crate::frame::framed;
+use crate::frame::frame;
 use crate::literal::literal_of;
 use crate::locality::is_by_line;
 use crate::options::Options;
@@ -117,7 +117,7 @@ impl Regex {
     ghost use Rattle.grep_regex.specs.Views.{regex_options, regex_patterns, program_re};
     ghost use Rattle.grep_regex.specs.Views.{regex_program, searcher_program};
 
-    // Compiles the first of the patterns that works.
+    // Compiles the alternation of the patterns.
     pub(crate) fn new(alloc: Global, options: Options, patterns: &[&str]) -> Result<Regex, Error>
         ensures options { IfOk result (λ r. regex_options r ≡ options) }
         ensures patterns { IfOk result (λ r. regex_patterns r ≡ map (λ p. p.now) patterns.now) }
@@ -150,7 +150,7 @@ impl Regex {
         self.shared.options
     }
 
-    // Whether what it finds in many lines it finds in one of them alone.
+    // Whether a match found in many lines lies within one of them, which then matches by itself.
     pub(crate) fn is_by_line(&self) -> bool
         ensures local { IsTrue result →
             IsTrue (is_by_line (regex_options self.now).line_terminator (program_re self.now)) }
@@ -192,7 +192,7 @@ impl Regex {
     }
 }
 
-// What finds the first of the patterns that works.
+// The program of the alternation of the patterns, within what the options put around it.
 fn program_of(alloc: Global, options: &Options, patterns: &[&str]) -> Result<Program, Error>
     ensures ok { IfOk result (λ program.
         FindsAs options.now (map (λ p. p.now) patterns.now) (meaning program.hir)) }
@@ -200,11 +200,11 @@ fn program_of(alloc: Global, options: &Options, patterns: &[&str]) -> Result<Pro
 {
     check_terminator(options.line_terminator)?;
     let Choice { hir, groups } = read_choice(alloc, options, patterns)?;
-    let whole = framed(alloc, options, hir)?;
+    let whole = frame(alloc, options, hir)?;
     let stripped = without_bytes(alloc, &whole, excluded_bytes(&options.line_terminator))?;
-    match compiled(alloc, stripped, groups, options.size_limit) {
+    match Program::new(alloc, stripped, groups, options.size_limit) {
         Ok(program) => Ok(program),
-        Err(error) => Err(error),
+        Err(error) => Err(Error::of_compiler(error)),
     }
 }
 
@@ -219,17 +219,18 @@ fn check_terminator(terminator: Option<LineTerminator>) -> Result<(), Error>
     }
 }
 
-// Whether what the pattern finds in many lines is in a line of them, by itself.
+// Whether a match found in many lines lies within one of them, which then matches by itself, also
+// if a carriage return is stripped from it.
 fn confirms(terminator: Option<LineTerminator>, absent: &Option<ByteSet>, hir: &Hir) -> bool
     ensures local { IsTrue result → IsTrue (is_by_line terminator (meaning hir.now)) }
     ensures strips { IsTrue result → terminator ≡ None → IsTrue (holds_if_some absent.now 13) }
 {
-    is_by_line(terminator, hir) && is_stripped(terminator, absent)
+    is_by_line(terminator, hir) && avoids_carriage_return(terminator, absent)
 }
 
-// Whether the line terminator is declared, or no match holds a carriage return: it may be stripped
-// from a line with its line feed.
-fn is_stripped(terminator: Option<LineTerminator>, absent: &Option<ByteSet>) -> bool
+// Whether no match holds a carriage return that a search may strip from a line: the terminator is
+// declared, or the byte is known to be absent.
+fn avoids_carriage_return(terminator: Option<LineTerminator>, absent: &Option<ByteSet>) -> bool
     ensures { IsTrue result → terminator ≡ None → IsTrue (holds_if_some absent.now 13) }
 {
     match absent {
@@ -245,16 +246,5 @@ fn excluded_bytes(terminator: &Option<LineTerminator>) -> &[u8]
     match terminator {
         Some(terminator) => terminator.as_bytes(),
         None => &[],
-    }
-}
-
-// The program of a pattern.
-fn compiled(alloc: Global, hir: Hir, groups: u32, size_limit: usize) -> Result<Program, Error>
-    ensures ok { IfOk result (λ program. program.hir ≡ hir) }
-    ensures error { IfErr result IsOfCompiler }
-{
-    match Program::new(alloc, hir, groups, size_limit) {
-        Ok(program) => Ok(program),
-        Err(error) => Err(Error::of_compiler(error)),
     }
 }

@@ -16,5 +16,5 @@ loop-i-preserved c = record {
       c.loop-i.invariant.plain (sym c.is_plain.ensures.value ∙ c.if-not-is_plain.false);
   alike = alike-texts-more c.args.patterns.now c.loop-i.i _ (omega arith) (read_re c.args.options.now) literal
       c.loop-i.invariant.alike (c.is_plain.ensures.read c.if-not-is_plain.false
-      (exact-texts c.args.options.now (sym c.are_texts.ensures ∙ c.if-not-are_texts.false)));
+      (exact-texts c.args.options.now (sym c.leave_texts.ensures ∙ c.if-not-leave_texts.false)));
 }

@@ -9,7 +9,7 @@ pub returns-in-Ok-clause-ok : goal.returns-in-Ok-clause-ok
 returns-in-Ok-clause-ok c =
     let o = c.args.options.now in
     let texts = map (λ p. p.now) c.args.patterns.now in
-    subst (λ h. FindsAs o texts (meaning h)) (sym c.in-Ok.ensures.ok)
+    subst (λ h. FindsAs o texts (meaning h)) (sym c.in-Ok.ensures.pattern)
     (finds-as o texts (meaning c.in_ok-hir.field-0.hir) (meaning c.in_ok-whole.whole)
     (meaning c.in_ok-stripped.stripped) c.in_ok-hir.ensures.ok c.in_ok-whole.ensures
     (subst (λ bytes. IsStripped bytes (meaning c.in_ok-whole.whole) (meaning c.in_ok-stripped.stripped))
