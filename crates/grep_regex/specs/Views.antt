@@ -1,5 +1,5 @@
 -- What contracts see of a compiled expression.
-use Rattle.std.specs.Prelude.{◌≡◌, ℕ, Bool, true, false, List, Option, is_some}
+use Rattle.std.specs.Prelude.{◌≡◌, ℕ, List, Option, is_some}
 use Rattle.std.specs.Arc.{arc_value}
 use Rattle.regex_hir.specs.Meaning.{meaning}
 use Rattle.regex_hir.specs.Re.{Re}
@@ -7,6 +7,8 @@ use Rattle.regex_meta.specs.declared.program.Program.{Program}
 use Rattle.regex_meta.specs.declared.searcher.Searcher.{Searcher}
 use Rattle.grep_matcher.specs.Meanings.{Meaning}
 use Rattle.grep_regex.specs.Patterns.{first_match_at, meaning_of}
+use Rattle.grep_regex.specs.declared.asked.Asked.{Asked}
+use Rattle.grep_regex.specs.declared.asked.Asked.TheVariants.{FirstMatch, AnyMatch}
 use Rattle.grep_regex.specs.declared.engine.Engine.{Engine}
 use Rattle.grep_regex.specs.declared.matcher.RegexMatcher.{RegexMatcher}
 use Rattle.grep_regex.specs.declared.options.Options.{Options}
@@ -38,10 +40,10 @@ regex_first_at r = first_match_at (regex_options r) (regex_patterns r)
 abbrev pub regex_first : Regex → List ℕ → Option (ℕ × ℕ)
 regex_first r haystack = regex_first_at r haystack 0
 
--- what is found is the first match; under `earliest` it is some exactly if there is a match
-abbrev pub IsTold : Bool → Option (ℕ × ℕ) → Option (ℕ × ℕ) → Type 0
-IsTold false first found = found ≡ first
-IsTold true first found = is_some found ≡ is_some first
+-- what is found is the first match; for `AnyMatch` it is some pair exactly if there is a match
+abbrev pub IsTold : Asked → Option (ℕ × ℕ) → Option (ℕ × ℕ) → Type 0
+IsTold FirstMatch first found = found ≡ first
+IsTold AnyMatch first found = is_some found ≡ is_some first
 
 -- the expression for which an engine was made
 abbrev pub engine_regex : Engine → Regex

@@ -4,6 +4,7 @@ ghost use Rattle.std.specs.Arc.{arc_value};
 ghost use Rattle.regex_hir.specs.Meaning.{meaning};
 ghost use Rattle.grep_regex.specs.Spelled.{IsSpelled};
 
+use crate::asked::Asked;
 use crate::finder::Finder;
 use crate::literal::{matcher_of, occurrence};
 use crate::regex::Regex;
@@ -50,15 +51,15 @@ impl<'r> Engine<'r> {
         }
     }
 
-    // The first match from a position on; if `earliest`, any position if there is a match.
+    // The first match from a position on; for `AnyMatch` some pair exactly if there is a match.
     pub(crate) fn find_at(
         &mut self,
         haystack: &[u8],
         start: usize,
-        earliest: bool,
+        asked: Asked,
     ) -> Option<(usize, usize)>
         requires { start ≤ length haystack.now }
-        ensures value { IsTold earliest
+        ensures value { IsTold asked
             (regex_first_at (engine_regex self.old) haystack.now start) result }
         ensures within { IsFrom start haystack.now result }
         ensures same { self.new.regex.now ≡ self.old.regex.now }
@@ -66,13 +67,15 @@ impl<'r> Engine<'r> {
         if let Some(found) = self.occurrence(haystack, start) {
             return found;
         }
-        if !earliest {
-            return self.searcher.find(haystack, start);
-        }
-        if self.searcher.is_match(haystack, start) {
-            Some((start, start))
-        } else {
-            None
+        match asked {
+            Asked::FirstMatch => self.searcher.find(haystack, start),
+            Asked::AnyMatch => {
+                if self.searcher.is_match(haystack, start) {
+                    Some((start, start))
+                } else {
+                    None
+                }
+            }
         }
     }
 
@@ -89,21 +92,21 @@ impl<'r> Engine<'r> {
         }
     }
 
-    // The first match from a position on, by a new engine.
+    // The same, by a new engine.
     pub(crate) fn find_anew(
         alloc: Global,
         regex: &'r Regex,
         haystack: &[u8],
         start: usize,
-        earliest: bool,
+        asked: Asked,
     ) -> Result<Option<(usize, usize)>, AllocError>
         requires { start ≤ length haystack.now }
         ensures value { IfOk result
-            (IsTold earliest (regex_first_at regex.now haystack.now start)) }
+            (IsTold asked (regex_first_at regex.now haystack.now start)) }
         ensures within { IfOk result (IsFrom start haystack.now) }
     {
         match Engine::new(alloc, regex) {
-            Ok(mut engine) => Ok(engine.find_at(haystack, start, earliest)),
+            Ok(mut engine) => Ok(engine.find_at(haystack, start, asked)),
             Err(error) => Err(error),
         }
     }
@@ -118,11 +121,11 @@ impl<'r> Finder for Engine<'r> {
         regex: &Regex,
         haystack: &[u8],
         start: usize,
-        earliest: bool,
+        asked: Asked,
     ) -> Option<Option<(usize, usize)>> {
         if !self.regex.is_equal(regex) {
             return None;
         }
-        Some(self.find_at(haystack, start, earliest))
+        Some(self.find_at(haystack, start, asked))
     }
 }

@@ -2,6 +2,7 @@
 #![tactic(auto)]
 
 mod absent;
+mod asked;
 mod builder;
 mod engine;
 mod error;

@@ -3,6 +3,7 @@ ghost use Rattle.std.specs.Prelude.{◌≡◌, ◌≤◌, length, IfOk};
 ghost use Rattle.grep_matcher.specs.FindResults.{IsFrom};
 ghost use Rattle.grep_regex.specs.Views.{regex_first_at, IsTold};
 
+use crate::asked::Asked;
 use crate::engine::Engine;
 use crate::finder::find_by;
 use crate::regex::Regex;
@@ -44,26 +45,19 @@ impl Regex {
 impl RegexMatcher<'_> {
     ghost use Rattle.grep_regex.specs.Views.{matcher_regex};
 
-    // The first match from a position on; if `earliest`, any position if there is a match.
-    fn find_by(
+    // The first match from a position on; for `AnyMatch` some pair exactly if there is a match.
+    fn search(
         &self,
         haystack: &[u8],
         start: usize,
-        earliest: bool,
+        asked: Asked,
     ) -> Result<Option<(usize, usize)>, AllocError>
         requires { start ≤ length haystack.now }
         ensures value { IfOk result
-            (IsTold earliest (regex_first_at (matcher_regex self.now) haystack.now start)) }
+            (IsTold asked (regex_first_at (matcher_regex self.now) haystack.now start)) }
         ensures within { IfOk result (IsFrom start haystack.now) }
     {
-        find_by(
-            self.alloc,
-            self.regex,
-            &self.engine,
-            haystack,
-            start,
-            earliest,
-        )
+        find_by(self.alloc, self.regex, &self.engine, haystack, start, asked)
     }
 }
 
@@ -85,7 +79,7 @@ impl Matcher for RegexMatcher<'_> {
     }
 
     fn is_match(&self, haystack: &[u8]) -> Result<bool, AllocError> {
-        match self.find_by(haystack, 0, true) {
+        match self.search(haystack, 0, Asked::AnyMatch) {
             Ok(found) => Ok(found.is_some()),
             Err(error) => Err(error),
         }
@@ -95,7 +89,7 @@ impl Matcher for RegexMatcher<'_> {
         if !self.regex.is_by_line() {
             return Ok(Some(LineMatchKind::Candidate(0)));
         }
-        match self.find_by(haystack, 0, false) {
+        match self.search(haystack, 0, Asked::FirstMatch) {
             Ok(Some((start, _))) => Ok(Some(LineMatchKind::Confirmed(start))),
             Ok(None) => Ok(None),
             Err(error) => Err(error),
@@ -123,7 +117,7 @@ impl FindAt for RegexMatcher<'_> {
         first-matches (regex_options (matcher_regex m)) (regex_patterns (matcher_regex m)) };
 
     fn find_at(&self, haystack: &[u8], start: usize) -> Result<Option<Match>, AllocError> {
-        match self.find_by(haystack, start, false) {
+        match self.search(haystack, start, Asked::FirstMatch) {
             Ok(Some((from, end))) => Ok(Some(Match::new(from, end))),
             Ok(None) => Ok(None),
             Err(error) => Err(error),

@@ -3,6 +3,7 @@ ghost use Rattle.std.specs.Prelude.{◌≡◌, ◌≤◌, length, IfOk};
 ghost use Rattle.grep_matcher.specs.FindResults.{IsFrom};
 ghost use Rattle.grep_regex.specs.Views.{regex_first_at, IsNamed, IsTold};
 
+use crate::asked::Asked;
 use crate::engine::Engine;
 use crate::finder::{Finder, find_by};
 use crate::regex::Regex;
@@ -50,9 +51,9 @@ impl<'r, N: Naming> Finder for NamedEngine<'r, N> {
         _regex: &Regex,
         haystack: &[u8],
         start: usize,
-        earliest: bool,
+        asked: Asked,
     ) -> Option<Option<(usize, usize)>> {
-        Some(self.engine.find_at(haystack, start, earliest))
+        Some(self.engine.find_at(haystack, start, asked))
     }
 }
 
@@ -91,26 +92,19 @@ impl Regex {
 impl<N: Naming> NamedMatcher<'_, N> {
     ghost use Rattle.grep_regex.specs.NamedViews.{named_regex};
 
-    // The first match from a position on; if `earliest`, any position if there is a match.
-    fn find_by(
+    // The first match from a position on; for `AnyMatch` some pair exactly if there is a match.
+    fn search(
         &self,
         haystack: &[u8],
         start: usize,
-        earliest: bool,
+        asked: Asked,
     ) -> Result<Option<(usize, usize)>, AllocError>
         requires { start ≤ length haystack.now }
         ensures value { IfOk result
-            (IsTold earliest (regex_first_at (named_regex self.now) haystack.now start)) }
+            (IsTold asked (regex_first_at (named_regex self.now) haystack.now start)) }
         ensures within { IfOk result (IsFrom start haystack.now) }
     {
-        find_by(
-            self.alloc,
-            self.regex,
-            &self.engine,
-            haystack,
-            start,
-            earliest,
-        )
+        find_by(self.alloc, self.regex, &self.engine, haystack, start, asked)
     }
 }
 
@@ -133,7 +127,7 @@ impl<N: Naming> Matcher for NamedMatcher<'_, N> {
     }
 
     fn is_match(&self, haystack: &[u8]) -> Result<bool, AllocError> {
-        match self.find_by(haystack, 0, true) {
+        match self.search(haystack, 0, Asked::AnyMatch) {
             Ok(found) => Ok(found.is_some()),
             Err(error) => Err(error),
         }
@@ -143,7 +137,7 @@ impl<N: Naming> Matcher for NamedMatcher<'_, N> {
         if !self.regex.is_by_line() {
             return Ok(Some(LineMatchKind::Candidate(0)));
         }
-        match self.find_by(haystack, 0, false) {
+        match self.search(haystack, 0, Asked::FirstMatch) {
             Ok(Some((start, _))) => Ok(Some(LineMatchKind::Confirmed(start))),
             Ok(None) => Ok(None),
             Err(error) => Err(error),
@@ -171,7 +165,7 @@ impl<N: Naming> FindAt for NamedMatcher<'_, N> {
         first-matches (regex_options (named_regex m)) (regex_patterns (named_regex m)) };
 
     fn find_at(&self, haystack: &[u8], start: usize) -> Result<Option<Match>, AllocError> {
-        match self.find_by(haystack, start, false) {
+        match self.search(haystack, start, Asked::FirstMatch) {
             Ok(Some((from, end))) => Ok(Some(Match::new(from, end))),
             Ok(None) => Ok(None),
             Err(error) => Err(error),

@@ -4,25 +4,25 @@ use Rattle.grep_regex.proofs.EngineLemmas.{engine-finds, engine-tells}
 use Rattle.grep_regex.proofs.TrustLemmas.{first-within}
 use Rattle.grep_regex.proofs.engine.Engine.find_at.Goals as goal
 
-pub returns-then-not-earliest : goal.returns-then-not-earliest
-returns-then-not-earliest c =
+pub returns-in-FirstMatch : goal.returns-in-FirstMatch
+returns-in-FirstMatch c =
     let r = c.args.self.now.regex.now in
     let found = c.find.ensures.found
     ∙ engine-finds _ r c.args.haystack.now c.args.start c.args.self.now.same
     (λ k. (c.type_inv.haystack k).fits) c.requires in
     record {
-      value = rw c.if-not-earliest.true found;
+      value = rw c.in-FirstMatch.is found;
       within = subst (IsFrom c.args.start c.args.haystack.now) (sym found)
           (first-within r c.args.haystack.now c.args.start (λ k. (c.type_inv.haystack k).fits) c.requires);
       same = refl;
     }
 
 pub returns-then-is_match-clause-value : goal.returns-then-is_match-clause-value
-returns-then-is_match-clause-value c = rw c.if-not-earliest.false (sym c.if-is_match.true ∙ (c.is_match.ensures.found
+returns-then-is_match-clause-value c = rw c.in-AnyMatch.is (sym c.if-is_match.true ∙ (c.is_match.ensures.found
     ∙ engine-tells _ c.args.self.now.regex.now c.args.haystack.now c.args.start c.args.self.now.same
     (λ k. (c.type_inv.haystack k).fits) c.requires))
 
 pub returns-else-is_match-clause-value : goal.returns-else-is_match-clause-value
-returns-else-is_match-clause-value c = rw c.if-not-earliest.false (sym c.if-is_match.false ∙ (c.is_match.ensures.found
+returns-else-is_match-clause-value c = rw c.in-AnyMatch.is (sym c.if-is_match.false ∙ (c.is_match.ensures.found
     ∙ engine-tells _ c.args.self.now.regex.now c.args.haystack.now c.args.start c.args.self.now.same
     (λ k. (c.type_inv.haystack k).fits) c.requires))
