@@ -1,11 +1,13 @@
 //! Asking what is in a cell for matches.
-ghost use Rattle.std.specs.Prelude.{◌≤◌, length, IfOk, IfSome};
-ghost use Rattle.grep_matcher.specs.FindResults.{IsFrom};
-ghost use Rattle.grep_regex.specs.Views.{regex_first_at, IsTold};
+ghost use Rattle.std.specs.Prelude.{◌≡◌, ◌≤◌, length, is_some, IfOk, IfSome};
+ghost use Rattle.grep_matcher.specs.FindResults.{Avoids, IsFrom};
+ghost use Rattle.grep_matcher.specs.Lawful.{IsInside, IsTrusted};
+ghost use Rattle.grep_regex.specs.Views.{regex_first, regex_first_at, regex_meaning, IsTold};
 
 use crate::asked::Asked;
 use crate::engine::Engine;
 use crate::regex::Regex;
+use grep_matcher::{LineMatchKind, Match};
 use std::alloc::{AllocError, Global};
 use std::cell::RefCell;
 
@@ -34,7 +36,7 @@ pub(crate) trait Finder {
 
 // The first match from a position on; for `AnyMatch` some pair exactly if there is a match. It is
 // found by what is in the cell if that is for this expression, and otherwise by a new engine.
-pub(crate) fn find_by<F: Finder>(
+fn find_by<F: Finder>(
     alloc: Global,
     regex: &Regex,
     cell: &RefCell<F>,
@@ -53,4 +55,64 @@ pub(crate) fn find_by<F: Finder>(
         }
     }
     Engine::find_anew(alloc, regex, haystack, start, asked)
+}
+
+// The first match of an expression that starts at a position or after it.
+pub(crate) fn match_at<F: Finder>(
+    alloc: Global,
+    regex: &Regex,
+    cell: &RefCell<F>,
+    haystack: &[u8],
+    start: usize,
+) -> Result<Option<Match>, AllocError>
+    requires start { start ≤ length haystack.now }
+    requires known { F.is_known regex.now }
+    ensures value { IfOk result (λ m. m ≡ regex_first_at regex.now haystack.now start) }
+    ensures within { IfOk result (IsFrom start haystack.now) }
+    ensures avoids { IfOk result (Avoids (regex_meaning regex.now).absent haystack.now) }
+{
+    match find_by(alloc, regex, cell, haystack, start, Asked::FirstMatch) {
+        Ok(Some((from, end))) => Ok(Some(Match::new(from, end))),
+        Ok(None) => Ok(None),
+        Err(error) => Err(error),
+    }
+}
+
+// Whether the haystack has a match of an expression.
+pub(crate) fn has_match<F: Finder>(
+    alloc: Global,
+    regex: &Regex,
+    cell: &RefCell<F>,
+    haystack: &[u8],
+) -> Result<bool, AllocError>
+    requires { F.is_known regex.now }
+    ensures { IfOk result (λ found. found ≡ is_some (regex_first regex.now haystack.now)) }
+{
+    match find_by(alloc, regex, cell, haystack, 0, Asked::AnyMatch) {
+        Ok(found) => Ok(found.is_some()),
+        Err(error) => Err(error),
+    }
+}
+
+// The first line that may match an expression. It is that of the first match, confirmed, if such a
+// match lies within one line, which then matches by itself; and otherwise the first line.
+pub(crate) fn candidate_line<F: Finder>(
+    alloc: Global,
+    regex: &Regex,
+    cell: &RefCell<F>,
+    haystack: &[u8],
+) -> Result<Option<LineMatchKind>, AllocError>
+    requires { F.is_known regex.now }
+    ensures inside { IfOk result (IsInside haystack.now) }
+    ensures trusted { IfOk result
+        (IsTrusted (regex_meaning regex.now) (λ _. Unit {0}) haystack.now) }
+{
+    if !regex.is_by_line() {
+        return Ok(Some(LineMatchKind::Candidate(0)));
+    }
+    match find_by(alloc, regex, cell, haystack, 0, Asked::FirstMatch) {
+        Ok(Some((start, _))) => Ok(Some(LineMatchKind::Confirmed(start))),
+        Ok(None) => Ok(None),
+        Err(error) => Err(error),
+    }
 }

@@ -1,11 +1,8 @@
 //! The matcher of a regular expression.
-ghost use Rattle.std.specs.Prelude.{◌≡◌, ◌≤◌, length, IfOk};
-ghost use Rattle.grep_matcher.specs.FindResults.{IsFrom};
-ghost use Rattle.grep_regex.specs.Views.{regex_first_at, IsTold};
+ghost use Rattle.std.specs.Prelude.{◌≡◌, IfOk};
 
-use crate::asked::Asked;
 use crate::engine::Engine;
-use crate::finder::find_by;
+use crate::finder::{candidate_line, has_match, match_at};
 use crate::regex::Regex;
 use grep_matcher::{ByteSet, FindAt, LineMatchKind, LineTerminator, Match, Matcher};
 use std::alloc::{AllocError, Global};
@@ -42,30 +39,9 @@ impl Regex {
     }
 }
 
-impl RegexMatcher<'_> {
-    ghost use Rattle.grep_regex.specs.Views.{matcher_regex};
-
-    // The first match from a position on; for `AnyMatch` some pair exactly if there is a match.
-    fn search(
-        &self,
-        haystack: &[u8],
-        start: usize,
-        asked: Asked,
-    ) -> Result<Option<(usize, usize)>, AllocError>
-        requires { start ≤ length haystack.now }
-        ensures value { IfOk result
-            (IsTold asked (regex_first_at (matcher_regex self.now) haystack.now start)) }
-        ensures within { IfOk result (IsFrom start haystack.now) }
-    {
-        find_by(self.alloc, self.regex, &self.engine, haystack, start, asked)
-    }
-}
-
 impl Matcher for RegexMatcher<'_> {
     type Error = AllocError;
 
-    ghost use Rattle.std.specs.Prelude.{IfErr};
-    ghost use Rattle.grep_matcher.specs.Lawful.{IsInside, IsTrusted};
     ghost use Rattle.grep_regex.specs.Views.{matcher_regex, regex_meaning};
 
     ghost facts = { λ m. record {
@@ -79,21 +55,11 @@ impl Matcher for RegexMatcher<'_> {
     }
 
     fn is_match(&self, haystack: &[u8]) -> Result<bool, AllocError> {
-        match self.search(haystack, 0, Asked::AnyMatch) {
-            Ok(found) => Ok(found.is_some()),
-            Err(error) => Err(error),
-        }
+        has_match(self.alloc, self.regex, &self.engine, haystack)
     }
 
     fn find_candidate_line(&self, haystack: &[u8]) -> Result<Option<LineMatchKind>, AllocError> {
-        if !self.regex.is_by_line() {
-            return Ok(Some(LineMatchKind::Candidate(0)));
-        }
-        match self.search(haystack, 0, Asked::FirstMatch) {
-            Ok(Some((start, _))) => Ok(Some(LineMatchKind::Confirmed(start))),
-            Ok(None) => Ok(None),
-            Err(error) => Err(error),
-        }
+        candidate_line(self.alloc, self.regex, &self.engine, haystack)
     }
 
     fn line_terminator(&self) -> Option<LineTerminator> {
@@ -117,10 +83,6 @@ impl FindAt for RegexMatcher<'_> {
         first-matches (regex_options (matcher_regex m)) (regex_patterns (matcher_regex m)) };
 
     fn find_at(&self, haystack: &[u8], start: usize) -> Result<Option<Match>, AllocError> {
-        match self.search(haystack, start, Asked::FirstMatch) {
-            Ok(Some((from, end))) => Ok(Some(Match::new(from, end))),
-            Ok(None) => Ok(None),
-            Err(error) => Err(error),
-        }
+        match_at(self.alloc, self.regex, &self.engine, haystack, start)
     }
 }

@@ -1,28 +1,24 @@
 use Rattle.std.proofs.Common.{◌∙◌, Some, ap, subst, sym}
 use Rattle.grep_matcher.specs.FindResults.{Avoids, IsFrom}
-use Rattle.grep_regex.specs.AbsentBytes.{is_absent}
-use Rattle.grep_regex.specs.NamedViews.{named_regex}
-use Rattle.grep_regex.specs.Views.{regex_options, regex_patterns}
+use Rattle.grep_regex.specs.Views.{regex_meaning}
 use Rattle.grep_regex.proofs.TrustLemmas.{avoids-of}
-use Rattle.grep_regex.proofs.named.NamedMatcherFindAt.find_at.Goals as goal
+use Rattle.grep_regex.proofs.finder.match_at.Goals as goal
 
 pub returns-in-Ok-None : goal.returns-in-Ok-None
 returns-in-Ok-None g c = record {
   value = sym c.in-Ok-None.field-0-is ∙ c.in-Ok-None.ensures.value;
   within = (tt, tt);
   avoids = tt;
-  error = tt;
 }
 
 pub returns-in-Ok-Some : goal.returns-in-Ok-Some
 returns-in-Ok-Some g c =
-    let r = named_regex c.args.self.now in
+    let r = c.args.regex.now in
     let found = c.in-Ok-Some.field-0-is ∙ ap Some (sym c.new.ensures) in
     record {
       value = sym found ∙ c.in-Ok-Some.ensures.value;
       within = subst (IsFrom c.args.start c.args.haystack.now) found c.in-Ok-Some.ensures.within;
-      avoids = subst (Avoids (is_absent (regex_options r) (regex_patterns r)) c.args.haystack.now)
+      avoids = subst (Avoids (regex_meaning r).absent c.args.haystack.now)
           (sym c.in-Ok-Some.ensures.value ∙ found)
-          (avoids-of r c.args.haystack.now c.args.start (λ k. (c.type_inv.haystack k).fits) c.requires);
-      error = tt;
+          (avoids-of r c.args.haystack.now c.args.start (λ k. (c.type_inv.haystack k).fits) c.requires.start);
     }
