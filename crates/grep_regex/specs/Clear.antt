@@ -18,7 +18,7 @@ abbrev pub if_clear : List ℕ → List ℕ → ℕ → Rest → Rest
 if_clear bytes hay start rest end = if is_clear bytes hay start end then rest end else None
 
 -- the leftmost match that starts at a position or after it and holds none of the bytes: at the
--- first position that has one, the first way that works
+-- first position that has one, the one that the pattern prefers
 unfoldable pub find_clear : List ℕ → Re → List ℕ → ℕ → Option Match
 find_clear bytes re hay start =
     first_between (λ i. attempt hay re (if_clear bytes hay i accept) i) start (length hay)
