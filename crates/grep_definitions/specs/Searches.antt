@@ -473,7 +473,7 @@ module _ {R : Type 0} (remaining : R → Option (List ℕ))
       pub first : S
       pub begin : step old settings begins (Ok begun) first
       pub unread : (begun && reads_lines settings) ≡ false → reader' ≡ reader
-      -- and a search that reads lines and may report none reads once
+      -- and a search that reads lines and may report none fills the buffer once
       pub once : (begun && reads_lines settings) ≡ true → reports_nothing settings ≡ true
           → IsReadForLine settings reader reader'
       -- under a heap limit, of bytes that pass unchanged: three more may be read to look for a mark
