@@ -41,9 +41,9 @@ abbrev pub regex_first : Regex → List ℕ → Option (ℕ × ℕ)
 regex_first r haystack = regex_first_at r haystack 0
 
 -- what is found is the first match; for `AnyMatch` it is some pair exactly if there is a match
-abbrev pub IsTold : Asked → Option (ℕ × ℕ) → Option (ℕ × ℕ) → Type 0
-IsTold FirstMatch first found = found ≡ first
-IsTold AnyMatch first found = is_some found ≡ is_some first
+abbrev pub IsAnswer : Asked → Option (ℕ × ℕ) → Option (ℕ × ℕ) → Type 0
+IsAnswer FirstMatch first found = found ≡ first
+IsAnswer AnyMatch first found = is_some found ≡ is_some first
 
 -- the expression for which an engine was made
 abbrev pub engine_regex : Engine → Regex

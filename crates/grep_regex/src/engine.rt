@@ -36,7 +36,7 @@ impl<'r> Drop for Engine<'r> {
 
 impl<'r> Engine<'r> {
     ghost use Rattle.grep_matcher.specs.FindResults.{IsFrom};
-    ghost use Rattle.grep_regex.specs.Views.{engine_regex, regex_first_at, IsTold};
+    ghost use Rattle.grep_regex.specs.Views.{engine_regex, regex_first_at, IsAnswer};
 
     pub(crate) fn new(alloc: Global, regex: &'r Regex) -> Result<Engine<'r>, AllocError>
         ensures { IfOk result (λ engine. engine.regex.now ≡ regex.now) }
@@ -59,7 +59,7 @@ impl<'r> Engine<'r> {
         asked: Asked,
     ) -> Option<(usize, usize)>
         requires { start ≤ length haystack.now }
-        ensures value { IsTold asked
+        ensures value { IsAnswer asked
             (regex_first_at (engine_regex self.old) haystack.now start) result }
         ensures within { IsFrom start haystack.now result }
         ensures same { self.new.regex.now ≡ self.old.regex.now }
@@ -102,7 +102,7 @@ impl<'r> Engine<'r> {
     ) -> Result<Option<(usize, usize)>, AllocError>
         requires { start ≤ length haystack.now }
         ensures value { IfOk result
-            (IsTold asked (regex_first_at regex.now haystack.now start)) }
+            (IsAnswer asked (regex_first_at regex.now haystack.now start)) }
         ensures within { IfOk result (IsFrom start haystack.now) }
     {
         match Engine::new(alloc, regex) {

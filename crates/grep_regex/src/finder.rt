@@ -2,7 +2,7 @@
 ghost use Rattle.std.specs.Prelude.{◌≡◌, ◌≤◌, length, is_some, IfOk, IfSome};
 ghost use Rattle.grep_matcher.specs.FindResults.{Avoids, IsFrom};
 ghost use Rattle.grep_matcher.specs.Lawful.{IsInside, IsTrusted};
-ghost use Rattle.grep_regex.specs.Views.{regex_first, regex_first_at, regex_meaning, IsTold};
+ghost use Rattle.grep_regex.specs.Views.{regex_first, regex_first_at, regex_meaning, IsAnswer};
 
 use crate::asked::Asked;
 use crate::engine::Engine;
@@ -30,7 +30,7 @@ pub(crate) trait Finder {
         requires start { start ≤ length haystack.now }
         requires known { is_known regex.now }
         ensures value { IfSome result
-            (IsTold asked (regex_first_at regex.now haystack.now start)) }
+            (IsAnswer asked (regex_first_at regex.now haystack.now start)) }
         ensures within { IfSome result (IsFrom start haystack.now) };
 }
 
@@ -46,7 +46,7 @@ fn find_by<F: Finder>(
 ) -> Result<Option<(usize, usize)>, AllocError>
     requires start { start ≤ length haystack.now }
     requires known { F.is_known regex.now }
-    ensures value { IfOk result (IsTold asked (regex_first_at regex.now haystack.now start)) }
+    ensures value { IfOk result (IsAnswer asked (regex_first_at regex.now haystack.now start)) }
     ensures within { IfOk result (IsFrom start haystack.now) }
 {
     if let Ok(mut borrowed) = cell.try_borrow_mut() {

@@ -3,7 +3,7 @@ use std::fmt::Display;
 use std::io;
 use std::process::ExitCode;
 
-/// An error that standard error has been told of. The program ends with the status 2.
+/// An error that was reported on standard error. The program ends with the status 2.
 #[derive(Clone, Copy)]
 pub struct ErrorReported;
 
