@@ -1,11 +1,15 @@
 -- Blocks of ASCII in UTF-16.
-use Rattle.std.proofs.Common.{◌≡◌, ℕ, suc, zero, ◌+◌, ◌*◌, ◌<◌, Bool, true, false, cond, List, [], ◌∷◌, ◌++◌, length}
-use Rattle.std.proofs.Common.{drop, map, ltb}
-use Rattle.std.proofs.Common.{nat_eq, IsTrue, slice_index_or, encode_utf8, refl, sym, ap, subst, ◌∙◌, arith, inl}
+use Rattle.std.proofs.Common.{◌≡◌, ℕ, suc, zero, ◌+◌, ◌-◌, ◌*◌, ◌%◌, ◌^◌, ◌<◌, ◌≤◌, Bool, true, false, not, cond}
+use Rattle.std.proofs.Common.{List, [], ◌∷◌, ◌++◌, length, take, drop, map, leb, w8, replicate, if◌then◌else◌}
+use Rattle.std.proofs.Common.{nat_eq, slice_index_or, encode_utf8, refl, sym, ap, subst, ◌∙◌, arith, inl}
 use Rattle.std.proofs.lemmas.Bool.Decides.{nat_tests}
 use Rattle.std.proofs.lemmas.List.{drop-drop, get_or-drop, length-map, take_all}
 use Rattle.std.proofs.Math.Seq.{take-add}
-use Rattle.std.specs.Simd.Lanes.{chunk, mask_l}
+use Rattle.std.proofs.lemmas.Simd.{first_set_mask_l, mask_l-mod, tops_compared, zip2_splat_left}
+use Rattle.std.specs.Int.Count.{count_trailing_zeros}
+use Rattle.std.specs.List.{prefix_len}
+use Rattle.std.specs.Simd.Lanes.{chunk, mask_l, top, zip2}
+use mir.Val.{bits, hbits}
 use Rattle.grep_decode.specs.declared.byte_order.ByteOrder.{ByteOrder}
 use Rattle.grep_decode.specs.declared.byte_order.ByteOrder.TheVariants.{Little, Big}
 use Rattle.grep_decode.specs.Decoded.{utf16_text, unit_of}
@@ -13,35 +17,32 @@ use Rattle.grep_decode.specs.UnitBytes.{AreBelow, evens, odds}
 use Rattle.grep_decode.proofs.EncodeLemmas.{encode-one}
 use Rattle.grep_decode.proofs.Utf16Lemmas.{text-alone, alone-plain, not_high}
 
--- two to this power
-abbrev pub doubled : ℕ → ℕ
-doubled zero = 1
-doubled (suc n) = 2 * doubled n
+-- the bytes before the first that isn't below a bound are below it
+below-step : (bound byte n rest : ℕ) (b : Bool) → leb bound byte ≡ b → suc n ≤ cond (not b) (1 + rest) 0
+    → (byte < bound) × (n ≤ rest)
+below-step bound byte n rest true is within = absurd (omega (arith, within))
+below-step bound byte n rest false is within = (grind (arith, nat_tests), omega (arith, within))
 
-mask-below : (ms : List Bool) → mask_l ms < doubled (length ms)
-mask-below [] = omega arith
-mask-below (true ∷ ms) = omega (arith, mask-below ms)
-mask-below (false ∷ ms) = omega (arith, mask-below ms)
+pub below-front : (bound : ℕ) (bytes : List ℕ) (n : ℕ) → n ≤ prefix_len (λ b. not (leb bound b)) bytes
+    → AreBelow bound (take n bytes)
+below-front bound bytes zero within = tt
+below-front bound [] (suc n) within = tt
+below-front bound (byte ∷ bytes) (suc n) within =
+    let step = below-step bound byte n (prefix_len (λ b. not (leb bound b)) bytes) (leb bound byte) refl within in
+    (step.0, below-front bound bytes n step.1)
 
-below-step : (bound byte mask most : ℕ) (b : Bool) → ltb byte bound ≡ b → mask < most → (cond b 1 0 + 2 * mask) + 1
-    ≡ 2 * most
-    → (byte < bound) × (mask + 1 ≡ most)
-below-step bound byte mask most true is less full = (grind (arith, nat_tests), omega arith)
-below-step bound byte mask most false is less full = absurd (omega (arith, full))
-
--- all bits of a mask are set: each comparison holds
-pub all-below : (bound : ℕ) (bytes : List ℕ) → mask_l (map (λ b. ltb b bound) bytes) + 1 ≡ doubled (length bytes)
-    → AreBelow bound bytes
-all-below bound [] full = tt
-all-below bound (byte ∷ bytes) full =
-    let tests = map (λ b. ltb b bound) bytes in
-    let less : mask_l tests < doubled (length bytes) =
-    subst (λ n. mask_l tests < doubled n) (length-map bytes (λ b. ltb b bound)) (mask-below tests) in
-    let step = below-step bound byte (mask_l tests) (doubled (length bytes)) (ltb byte bound) refl less full in
-    (step.0, all-below bound bytes step.1)
-
-pub is-equal : (x y : ℕ) → IsTrue (nat_eq x y) → x ≡ y
-is-equal x y same = grind (arith, nat_tests)
+-- how many bytes these are, by the lowest bit of the mask of the others
+pub front-length : (bound : ℕ) (bytes : List ℕ) (mask : ℕ) → length bytes ≡ 16
+    → mask ≡ mask_l (map (top (hbits w8)) (zip2 (λ a b. cond (leb a b) (2 ^ bits w8 - 1) 0) (replicate 16 bound) bytes)) % 2 ^ 64
+    → (if nat_eq mask 0 then 16 else count_trailing_zeros 64 mask) ≡ prefix_len (λ b. not (leb bound b)) bytes
+front-length bound bytes mask long is =
+    let tests = map (λ b. leb bound b) bytes in
+    let plain : mask ≡ mask_l tests =
+    is ∙ ap (λ ms. mask_l ms % 2 ^ 64) (tops_compared w8 leb (replicate 16 bound) bytes
+    ∙ zip2_splat_left leb bound 16 bytes long)
+    ∙ mask_l-mod tests 64 (omega (arith, length-map bytes (λ b. leb bound b), long)) in
+    ap (λ n. if nat_eq n 0 then 16 else count_trailing_zeros 64 n) plain
+    ∙ first_set_mask_l (λ b. leb bound b) bytes 16 long (omega arith)
 
 -- ---- the bytes of units, apart
 
@@ -92,47 +93,54 @@ ascii-unit order first second u bytes is small =
     ∙ ap (λ l. l ++ utf16_text order bytes) (ap encode_utf8 (alone-plain u (inl (omega (arith, small))))
     ∙ encode-one u small)
 
-pub little-text : (n : ℕ) (bytes more : List ℕ) → length bytes ≡ 2 * n → AreBelow 128 (evens bytes)
-    → AreBelow 1 (odds bytes)
-    → utf16_text Little (bytes ++ more) ≡ evens bytes ++ utf16_text Little more
-little-text zero [] more long small none = refl
-little-text zero (x ∷ bytes) more long small none = absurd (omega (arith, long))
+two-each : (n : ℕ) → 2 * suc n ≡ suc (suc (2 * n))
+two-each n = omega arith
+
+pub little-text : (n : ℕ) (bytes more : List ℕ) → 2 * n ≤ length bytes → AreBelow 128 (take n (evens bytes))
+    → AreBelow 1 (take n (odds bytes))
+    → utf16_text Little (bytes ++ more) ≡ take n (evens bytes) ++ utf16_text Little (drop (2 * n) bytes ++ more)
+little-text zero bytes more long small none = refl
 little-text (suc n) [] more long small none = absurd (omega (arith, long))
 little-text (suc n) (x ∷ []) more long small none = absurd (omega (arith, long))
 little-text (suc n) (x ∷ y ∷ bytes) more long (low, smaller) (high, nothing) =
     ascii-unit Little x y x (bytes ++ more) (omega (arith, high)) low
-    ∙ ap (λ l. x ∷ l) (little-text n bytes more (omega (arith, long)) smaller nothing)
+    ∙ (ap (λ l. x ∷ l) (little-text n bytes more (omega (arith, long)) smaller nothing)
+    ∙ ap (λ k. x ∷ (take n (evens bytes) ++ utf16_text Little (drop k (x ∷ y ∷ bytes) ++ more))) (sym (two-each n)))
 
-pub big-text : (n : ℕ) (bytes more : List ℕ) → length bytes ≡ 2 * n → AreBelow 128 (odds bytes)
-    → AreBelow 1 (evens bytes)
-    → utf16_text Big (bytes ++ more) ≡ odds bytes ++ utf16_text Big more
-big-text zero [] more long small none = refl
-big-text zero (x ∷ bytes) more long small none = absurd (omega (arith, long))
+pub big-text : (n : ℕ) (bytes more : List ℕ) → 2 * n ≤ length bytes → AreBelow 128 (take n (odds bytes))
+    → AreBelow 1 (take n (evens bytes))
+    → utf16_text Big (bytes ++ more) ≡ take n (odds bytes) ++ utf16_text Big (drop (2 * n) bytes ++ more)
+big-text zero bytes more long small none = refl
 big-text (suc n) [] more long small none = absurd (omega (arith, long))
 big-text (suc n) (x ∷ []) more long small none = absurd (omega (arith, long))
 big-text (suc n) (x ∷ y ∷ bytes) more long (low, smaller) (high, nothing) =
     ascii-unit Big x y y (bytes ++ more) (omega (arith, high)) low
-    ∙ ap (λ l. y ∷ l) (big-text n bytes more (omega (arith, long)) smaller nothing)
+    ∙ (ap (λ l. y ∷ l) (big-text n bytes more (omega (arith, long)) smaller nothing)
+    ∙ ap (λ k. y ∷ (take n (odds bytes) ++ utf16_text Big (drop k (x ∷ y ∷ bytes) ++ more))) (sym (two-each n)))
 
 whole-chunks : (input : List ℕ) → length input ≡ 32 → chunk 0 16 input ++ chunk 16 16 input ≡ input
 whole-chunks input long = sym (take-add 16 16 input) ∙ take_all 32 input (omega (arith, long))
 
-pub little-block : (input lows highs output more : List ℕ) → length input ≡ 32 → lows
+pub little-block : (input lows highs output more : List ℕ) (n : ℕ) → length input ≡ 32 → n ≤ 16 → lows
     ≡ evens (chunk 0 16 input ++ chunk 16 16 input)
-    → highs ≡ odds (chunk 0 16 input ++ chunk 16 16 input) → output ≡ lows → AreBelow 128 lows → AreBelow 1 highs
-    → utf16_text Little (input ++ more) ≡ output ++ utf16_text Little more
-little-block input lows highs output more long first second same small none =
+    → highs ≡ odds (chunk 0 16 input ++ chunk 16 16 input) → output ≡ lows → AreBelow 128 (take n lows)
+    → AreBelow 1 (take n highs)
+    → utf16_text Little (input ++ more) ≡ take n output ++ utf16_text Little (drop (2 * n) input ++ more)
+little-block input lows highs output more n long few first second same small none =
     let firsts : lows ≡ evens input = first ∙ ap evens (whole-chunks input long) in
     let seconds : highs ≡ odds input = second ∙ ap odds (whole-chunks input long) in
-    little-text 16 input more long (subst (AreBelow 128) firsts small) (subst (AreBelow 1) seconds none)
-    ∙ ap (λ l. l ++ utf16_text Little more) (sym (same ∙ firsts))
+    little-text n input more (omega (arith, long, few)) (subst (λ (l : List ℕ). AreBelow 128 (take n l)) firsts small)
+    (subst (λ (l : List ℕ). AreBelow 1 (take n l)) seconds none)
+    ∙ ap (λ l. take n l ++ utf16_text Little (drop (2 * n) input ++ more)) (sym (same ∙ firsts))
 
-pub big-block : (input lows highs output more : List ℕ) → length input ≡ 32 → highs
+pub big-block : (input lows highs output more : List ℕ) (n : ℕ) → length input ≡ 32 → n ≤ 16 → highs
     ≡ evens (chunk 0 16 input ++ chunk 16 16 input)
-    → lows ≡ odds (chunk 0 16 input ++ chunk 16 16 input) → output ≡ lows → AreBelow 128 lows → AreBelow 1 highs
-    → utf16_text Big (input ++ more) ≡ output ++ utf16_text Big more
-big-block input lows highs output more long first second same small none =
+    → lows ≡ odds (chunk 0 16 input ++ chunk 16 16 input) → output ≡ lows → AreBelow 128 (take n lows)
+    → AreBelow 1 (take n highs)
+    → utf16_text Big (input ++ more) ≡ take n output ++ utf16_text Big (drop (2 * n) input ++ more)
+big-block input lows highs output more n long few first second same small none =
     let firsts : highs ≡ evens input = first ∙ ap evens (whole-chunks input long) in
     let seconds : lows ≡ odds input = second ∙ ap odds (whole-chunks input long) in
-    big-text 16 input more long (subst (AreBelow 128) seconds small) (subst (AreBelow 1) firsts none)
-    ∙ ap (λ l. l ++ utf16_text Big more) (sym (same ∙ seconds))
+    big-text n input more (omega (arith, long, few)) (subst (λ (l : List ℕ). AreBelow 128 (take n l)) seconds small)
+    (subst (λ (l : List ℕ). AreBelow 1 (take n l)) firsts none)
+    ∙ ap (λ l. take n l ++ utf16_text Big (drop (2 * n) input ++ more)) (sym (same ∙ seconds))

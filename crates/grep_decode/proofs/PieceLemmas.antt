@@ -2,7 +2,7 @@
 use Rattle.std.proofs.Common.{◌≡◌, ℕ, ◌+◌, ◌-◌, ◌≤◌, List, ◌++◌, length, take, drop, sym, ap, ◌∙◌, append_assoc, arith}
 use Rattle.std.proofs.Math.Seq.{take-append-add, take-add}
 use Rattle.std.proofs.lemmas.List.{take-append-drop, take-append-le, length-take-le, length-drop, take_at, drop-drop}
-use Rattle.std.proofs.lemmas.List.{drop-take}
+use Rattle.std.proofs.lemmas.List.{drop-append-le, drop-take}
 use Rattle.std.proofs.lemmas.List.Edits.{take-paste, length-paste}
 use Rattle.std.specs.List.{copy_within}
 use borrow.Rule.Slice.PartMut.{put_mid}
@@ -76,15 +76,24 @@ text-more text input output buffer more taken written next count size within par
     ∙ (sym (append_assoc (take written output) (take count buffer) rest)
     ∙ ap (λ l. l ++ rest) (sym (take-put_mid_into written size count output buffer within part))))
 
--- a text whose first part was written to the front
-pub text-front : (text : List ℕ → List ℕ) (input output after more : List ℕ) (size count : ℕ) → length output ≡ count
-    → ((later : List ℕ) → text (take size input ++ later) ≡ output ++ text later)
+-- what is made of some front of a block of the input is made of the input
+pub text-front : (text : List ℕ → List ℕ) (input output after more : List ℕ) (block size count : ℕ)
+    → count ≤ length output → size ≤ length (take block input)
+    → ((later : List ℕ) → text (take block input ++ later)
+    ≡ take count output ++ text (drop size (take block input) ++ later))
     → text (input ++ more) ≡ take count (output ++ after) ++ text (drop size input ++ more)
-text-front text input output after more size count long written =
-    let whole : take size input ++ (drop size input ++ more) ≡ input ++ more =
-    sym (append_assoc (take size input) (drop size input) more) ∙ ap (λ l. l ++ more) (take-append-drop size input) in
-    ap text (sym whole) ∙ (written (drop size input ++ more)
-    ∙ ap (λ l. l ++ text (drop size input ++ more)) (sym (take_at output after count long)))
+text-front text input output after more block size count few within written =
+    let front = take block input in
+    let back = drop block input in
+    let split : front ++ back ≡ input = take-append-drop block input in
+    let whole : front ++ (back ++ more) ≡ input ++ more = sym (append_assoc front back more) ∙ ap (λ l. l ++ more) split in
+    let left : drop size front ++ back ≡ drop size input =
+    sym (drop-append-le size front back within) ∙ ap (drop size) split in
+    let rest : drop size front ++ (back ++ more) ≡ drop size input ++ more =
+    sym (append_assoc (drop size front) back more) ∙ ap (λ l. l ++ more) left in
+    ap text (sym whole) ∙ (written (back ++ more)
+    ∙ (ap (λ l. take count output ++ text l) rest
+    ∙ ap (λ l. l ++ text (drop size input ++ more)) (sym (take-append-le count output after few))))
 
 -- what is left of some bytes once the first are dropped, and then some more
 pub dropped : (head rest : List ℕ) (n : ℕ) → rest ≡ drop n head → (front : List ℕ) × (head ≡ front ++ rest)

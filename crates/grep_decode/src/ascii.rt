@@ -1,41 +1,45 @@
 //! ASCII as UTF-16, by blocks.
-ghost use Rattle.std.specs.Prelude.{◌≡◌, ◌<◌, ◌++◌, ℕ, List, length, IsTrue};
+ghost use Rattle.std.specs.Prelude.{◌≡◌, ◌≤◌, ◌*◌, ◌++◌, ℕ, List, length, take, drop, nat_eq};
+ghost use Rattle.std.specs.Prelude.{if◌then◌else◌};
+ghost use Rattle.std.specs.Int.Count.{count_trailing_zeros};
 ghost use Rattle.grep_decode.specs.Decoded.{utf16_text};
 ghost use Rattle.grep_decode.specs.UnitBytes.{AreBelow, evens, odds};
 
 use crate::byte_order::ByteOrder;
 use std::simd::prelude::*;
 
-// Writes a block of units as UTF-8, if each is ASCII, and returns whether it did.
+// How many units a block has.
+const UNITS: usize = 16;
+
+// Writes the units at the front of a block that are ASCII as UTF-8, and returns how many these are.
+// The bytes after them may be anything.
 #[inline(always)]
-pub(crate) fn put_ascii(order: ByteOrder, input: &[u8], output: &mut [u8]) -> bool
+pub(crate) fn put_ascii(order: ByteOrder, input: &[u8], output: &mut [u8]) -> usize
     requires input { length input.now ≡ 32 }
     requires output { length output.old ≡ 16 }
     ensures length { length output.new ≡ 16 }
-    ensures text { IsTrue result → (more : List ℕ) →
-        utf16_text order (input.now ++ more) ≡ output.new ++ utf16_text order more }
+    ensures within { result ≤ 16 }
+    ensures text { (more : List ℕ) → utf16_text order (input.now ++ more)
+        ≡ take result output.new ++ utf16_text order (drop (2 * result) input.now ++ more) }
 {
-    let (firsts, seconds) = halves(u8x16::from_slice(input), u8x16::from_slice(&input[16..]));
+    let (firsts, seconds) = halves(u8x16::from_slice(input), u8x16::from_slice(&input[UNITS..]));
     match order {
         ByteOrder::Little => put_lows(firsts, seconds, output),
         ByteOrder::Big => put_lows(seconds, firsts, output),
     }
 }
 
-// Writes the lower bytes of units, if each unit is ASCII, and returns whether it did.
+// Writes the lower bytes of units, and returns how many units at the front are ASCII.
 #[inline(always)]
-fn put_lows(lows: u8x16, highs: u8x16, output: &mut [u8]) -> bool
+fn put_lows(lows: u8x16, highs: u8x16, output: &mut [u8]) -> usize
     requires { length output.old ≡ 16 }
-    ensures length { length output.new ≡ 16 }
-    ensures bytes { IsTrue result → output.new ≡ lows }
-    ensures lows { IsTrue result → AreBelow 128 lows }
-    ensures highs { IsTrue result → AreBelow 1 highs }
+    ensures within { result ≤ 16 }
+    ensures bytes { output.new ≡ lows }
+    ensures lows { AreBelow 128 (take result lows) }
+    ensures highs { AreBelow 1 (take result highs) }
 {
-    if !are_below(lows, 128) || !are_below(highs, 1) {
-        return false;
-    }
     lows.copy_to_slice(output);
-    true
+    front_below(lows, 128).min(front_below(highs, 1))
 }
 
 // The first bytes of the units, and the second ones.
@@ -47,10 +51,23 @@ fn halves(front: u8x16, back: u8x16) -> (u8x16, u8x16)
     front.deinterleave(back)
 }
 
-// Whether all bytes are below a bound.
+// How many bytes at the front are below a bound.
 #[inline(always)]
-fn are_below(bytes: u8x16, bound: u8) -> bool
-    ensures { IsTrue result → AreBelow bound bytes }
+fn front_below(bytes: u8x16, bound: u8) -> usize
+    ensures within { result ≤ 16 }
+    ensures below { (n : ℕ) → n ≤ result → AreBelow bound (take n bytes) }
 {
-    bytes.simd_lt(u8x16::splat(bound)).to_bitmask() == 0xFFFF
+    first_set(bytes.simd_ge(u8x16::splat(bound)).to_bitmask())
+}
+
+// The index of the lowest bit of 16 that is set, or 16 if none is.
+#[inline(always)]
+fn first_set(mask: u64) -> usize
+    ensures { result ≡ (if nat_eq mask 0 then 16 else count_trailing_zeros 64 mask) }
+{
+    if mask == 0 {
+        UNITS
+    } else {
+        mask.trailing_zeros() as usize
+    }
 }

@@ -10,6 +10,9 @@ use crate::progress::Progress;
 // How many bytes a block has.
 const BLOCK: usize = 32;
 
+// How many bytes are decoded one unit after another before a block is tried again.
+const FEW: usize = 256;
+
 // The unit of two bytes.
 fn unit_at(order: ByteOrder, first: u8, second: u8) -> u32
     ensures value { result ≡ unit_of order first second }
@@ -90,7 +93,9 @@ fn put_scalar(code: u32, output: &mut [u8], at: usize) -> usize
 }
 
 // Writes some of the first scalar values of bytes of UTF-16 as UTF-8, as far as they are whole and
-// there is room for one of four bytes.
+// there is room for one of four bytes: those at the front of a block that are ASCII, or else one
+// after another, up to the second of two that are ASCII.
+#[inline(never)]
 fn decode_few(order: ByteOrder, is_last: bool, input: &[u8], output: &mut [u8]) -> Progress
     ensures taken { result.taken ≤ length input.now }
     ensures written { result.written ≤ length output.new }
@@ -103,12 +108,24 @@ fn decode_few(order: ByteOrder, is_last: bool, input: &[u8], output: &mut [u8]) 
         ⊎ IsUnfinishedUtf16 order input.now }
     ensures progress { result.written ≡ 0 → result.taken ≡ 0 }
 {
+    if input.len() >= BLOCK && output.len() >= BLOCK / 2 {
+        let count = put_ascii(order, &input[..BLOCK], &mut output[..BLOCK / 2]);
+        if count > 0 {
+            return Progress {
+                taken: 2 * count,
+                written: count,
+            };
+        }
+    }
     let mut taken = 0;
     let mut written = 0;
-    while written + 4 <= output.len() && taken < BLOCK {
+    let mut was_ascii = false;
+    while written + 4 <= output.len() && taken < FEW {
         match next_scalar(order, is_last, &input[taken..]) {
             None => break,
+            Some((code, _)) if was_ascii && code < 0x80 => break,
             Some((code, size)) => {
+                was_ascii = code < 0x80;
                 written += put_scalar(code, output, written);
                 taken += size;
             }
@@ -117,7 +134,8 @@ fn decode_few(order: ByteOrder, is_last: bool, input: &[u8], output: &mut [u8]) 
     Progress { taken, written }
 }
 
-// The same, by a block if that is ASCII.
+// Writes some of the first scalar values of bytes of UTF-16 as UTF-8: a block if all of it is ASCII,
+// or else as `decode_few` does. A block is taken by a branch, so that the next one needn't wait.
 fn decode_some(order: ByteOrder, is_last: bool, input: &[u8], output: &mut [u8]) -> Progress
     ensures taken { result.taken ≤ length input.now }
     ensures written { result.written ≤ length output.new }
@@ -130,14 +148,14 @@ fn decode_some(order: ByteOrder, is_last: bool, input: &[u8], output: &mut [u8])
         ⊎ IsUnfinishedUtf16 order input.now }
     ensures progress { result.written ≡ 0 → result.taken ≡ 0 }
 {
-    if input.len() >= BLOCK
-        && output.len() >= BLOCK / 2
-        && put_ascii(order, &input[..BLOCK], &mut output[..BLOCK / 2])
-    {
-        return Progress {
-            taken: BLOCK,
-            written: BLOCK / 2,
-        };
+    if input.len() >= BLOCK && output.len() >= BLOCK / 2 {
+        let count = put_ascii(order, &input[..BLOCK], &mut output[..BLOCK / 2]);
+        if count == BLOCK / 2 {
+            return Progress {
+                taken: BLOCK,
+                written: BLOCK / 2,
+            };
+        }
     }
     decode_few(order, is_last, input, output)
 }

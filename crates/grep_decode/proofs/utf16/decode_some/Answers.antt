@@ -1,9 +1,16 @@
-use Rattle.std.proofs.Common.{drop, refl}
+use Rattle.std.proofs.Common.{◌≡◌, ◌*◌, ◌++◌, take, drop, arith, subst}
+use Rattle.std.proofs.lemmas.List.{length-take-le}
 use Rattle.grep_decode.specs.Decoded.{utf16_text}
 use Rattle.grep_decode.proofs.PieceLemmas.{text-front}
 use Rattle.grep_decode.proofs.utf16.decode_some.Goals as goal
 
-pub returns-then-put_ascii-clause-text : goal.returns-then-put_ascii-clause-text
-returns-then-put_ascii-clause-text c = λ more when.
-    text-front (utf16_text c.args.order) c.args.input.now c.put_ascii.new.output (drop 16 c.args.output.now) more 32 16
-    c.put_ascii.ensures.length (c.if-put_ascii.ensures.text refl)
+pub returns-then-count-clause-text : goal.returns-then-count-clause-text
+returns-then-count-clause-text c = λ more when.
+    let made = c.put_ascii-count.ensures in
+    let count = c.put_ascii-count.result in
+    let output = c.put_ascii-count.new.output ++ drop 16 c.args.output.now in
+    subst (λ n. utf16_text c.args.order (c.args.input.now ++ more)
+    ≡ take n output ++ utf16_text c.args.order (drop (2 * n) c.args.input.now ++ more)) c.if-count.true
+    (text-front (utf16_text c.args.order) c.args.input.now c.put_ascii-count.new.output (drop 16 c.args.output.now) more
+    32 (2 * count) count (omega (arith, made.length, made.within))
+    (omega (arith, made.within, length-take-le 32 c.args.input.now c.if-input-ge-BLOCK.true)) made.text)
