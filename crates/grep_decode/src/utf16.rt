@@ -95,7 +95,6 @@ fn put_scalar(code: u32, output: &mut [u8], at: usize) -> usize
 // Writes some of the first scalar values of bytes of UTF-16 as UTF-8, as far as they are whole and
 // there is room for one of four bytes: those at the front of a block that are ASCII, or else one
 // after another, up to the second of two that are ASCII.
-#[inline(never)]
 fn decode_few(order: ByteOrder, is_last: bool, input: &[u8], output: &mut [u8]) -> Progress
     ensures taken { result.taken ≤ length input.now }
     ensures written { result.written ≤ length output.new }
@@ -135,7 +134,7 @@ fn decode_few(order: ByteOrder, is_last: bool, input: &[u8], output: &mut [u8]) 
 }
 
 // Writes some of the first scalar values of bytes of UTF-16 as UTF-8: a block if all of it is ASCII,
-// or else as `decode_few` does. A block is taken by a branch, so that the next one needn't wait.
+// or else as `decode_few` does.
 fn decode_some(order: ByteOrder, is_last: bool, input: &[u8], output: &mut [u8]) -> Progress
     ensures taken { result.taken ≤ length input.now }
     ensures written { result.written ≤ length output.new }
