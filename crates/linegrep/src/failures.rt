@@ -60,30 +60,35 @@ fn words_of(cause: &str) -> &str {
     }
 }
 
-/// Says why a pattern can't be compiled, with a mark below the place if there is one. The text is
-/// empty if the pattern may be one of several.
-pub fn report_pattern(rt: &HostRuntime, text: &str, error: &grep_regex::Error) -> ErrorReported {
+/// Says why patterns can't be compiled, with the text of the one that is wrong if that is known, and
+/// a mark below the place if there is one.
+pub fn report_pattern(
+    rt: &HostRuntime,
+    texts: &[&str],
+    error: &grep_regex::Error,
+) -> ErrorReported {
     match error {
-        grep_regex::Error::Syntax { pattern: _, error } => {
+        grep_regex::Error::Syntax { pattern, error } => {
+            let text = texts.get(*pattern).copied().unwrap_or("");
             report(rt, &error.kind.message());
             let _ = eprintln!(rt; "    {text}");
             report_mark(rt, text, error.span.start);
         }
         grep_regex::Error::NotAllowed(_) => {
             let _ = eprintln!(rt; "linegrep: {error}, which needs -U");
-            report_text(rt, text);
+            report_only(rt, texts);
         }
         other => {
             report(rt, other);
-            report_text(rt, text);
+            report_only(rt, texts);
         }
     }
     ErrorReported
 }
 
-// Writes the text of a pattern, unless it isn't known.
-fn report_text(rt: &HostRuntime, text: &str) {
-    if !text.is_empty() {
+// Writes the text of the pattern, unless it may be any of several.
+fn report_only(rt: &HostRuntime, texts: &[&str]) {
+    if let [text] = texts {
         let _ = eprintln!(rt; "    {text}");
     }
 }

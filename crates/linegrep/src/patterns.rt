@@ -5,7 +5,7 @@ use crate::failures::{
 use crate::option_id::OptionId;
 use crate::options::Options;
 use clap::ArgMatches;
-use grep_regex::{Error, Regex, RegexMatcherBuilder};
+use grep_regex::{Regex, RegexMatcherBuilder};
 use grep_searcher::LineTerminator;
 use std::alloc::{AllocError, Global};
 use std::fs;
@@ -104,7 +104,7 @@ pub fn compile(
     };
     match builder(options, patterns).build_many(rt.alloc(), &texts) {
         Ok(regex) => Ok(regex),
-        Err(error) => Err(report_pattern(rt, text_of(&texts, &error), &error)),
+        Err(error) => Err(report_pattern(rt, &texts, &error)),
     }
 }
 
@@ -165,14 +165,4 @@ fn has_capital(pattern: &str, escape: Option<char>) -> bool {
         is_escaped = !is_escaped && Some(letter) == escape;
     }
     false
-}
-
-// The text of the pattern that is wrong, or none if that isn't known.
-fn text_of<'t>(texts: &[&'t str], error: &Error) -> &'t str {
-    let index = match error {
-        Error::Syntax { pattern, error: _ } => *pattern,
-        _ if texts.len() == 1 => 0,
-        _ => texts.len(),
-    };
-    texts.get(index).copied().unwrap_or("")
 }

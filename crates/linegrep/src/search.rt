@@ -59,20 +59,18 @@ fn search_matcher<'e, M: FindAt, R: Source, W: Output>(
     printer: &'e mut Printer<W>,
     input: &mut R,
 ) -> Result<ExitCode, ErrorReported> {
-    let mut globs = Globs::read(rt, options.globs.unwrap_or(&[]))?;
     let mut engine = PrintingEngine::new(rt, searcher, matcher, printer);
-    let scope = Scope::new(rt, options);
-    search_chosen(rt, scope, options.paths(), &mut globs, &mut engine, input)
+    search_by_engine(rt, options, &mut engine, input)
 }
 
-// Searches what globs choose.
-fn search_chosen<E: Engine, R: Source>(
+// Searches by an engine what the options choose.
+fn search_by_engine<E: Engine, R: Source>(
     rt: &HostRuntime,
-    scope: Scope,
-    paths: &[&str],
-    globs: &mut Globs,
+    options: &Options<'_, '_>,
     engine: &mut E,
     input: &mut R,
 ) -> Result<ExitCode, ErrorReported> {
-    Run::new(rt, engine, globs, input, scope).complete(paths)
+    let mut globs = Globs::read(rt, options.globs.unwrap_or(&[]))?;
+    let scope = Scope::new(rt, options);
+    Run::new(rt, engine, &mut globs, input, scope).complete(options.paths())
 }
