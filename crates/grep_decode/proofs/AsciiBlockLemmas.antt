@@ -93,7 +93,7 @@ ascii-unit order first second u bytes is small =
     ∙ ap (λ l. l ++ utf16_text order bytes) (ap encode_utf8 (alone-plain u (inl (omega (arith, small))))
     ∙ encode-one u small)
 
-two-each : (n : ℕ) → 2 * suc n ≡ suc (suc (2 * n))
+pub two-each : (n : ℕ) → 2 * suc n ≡ suc (suc (2 * n))
 two-each n = omega arith
 
 pub little-text : (n : ℕ) (bytes more : List ℕ) → 2 * n ≤ length bytes → AreBelow 128 (take n (evens bytes))
@@ -118,7 +118,7 @@ big-text (suc n) (x ∷ y ∷ bytes) more long (low, smaller) (high, nothing) =
     ∙ (ap (λ l. y ∷ l) (big-text n bytes more (omega (arith, long)) smaller nothing)
     ∙ ap (λ k. y ∷ (take n (odds bytes) ++ utf16_text Big (drop k (x ∷ y ∷ bytes) ++ more))) (sym (two-each n)))
 
-whole-chunks : (input : List ℕ) → length input ≡ 32 → chunk 0 16 input ++ chunk 16 16 input ≡ input
+pub whole-chunks : (input : List ℕ) → length input ≡ 32 → chunk 0 16 input ++ chunk 16 16 input ≡ input
 whole-chunks input long = sym (take-add 16 16 input) ∙ take_all 32 input (omega (arith, long))
 
 pub little-block : (input lows highs output more : List ℕ) (n : ℕ) → length input ≡ 32 → n ≤ 16 → lows

@@ -1,4 +1,5 @@
 pub mod AsciiBlockLemmas
+pub mod BlockLemmas
 pub mod DecodedTextLemmas
 pub mod DecoderLemmas
 pub mod EncodeLemmas

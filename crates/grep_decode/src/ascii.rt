@@ -9,7 +9,7 @@ use crate::byte_order::ByteOrder;
 use std::simd::prelude::*;
 
 // How many units a block has.
-const UNITS: usize = 16;
+pub(crate) const UNITS: usize = 16;
 
 // Writes the units at the front of a block that are ASCII as UTF-8, and returns how many these are.
 // The bytes after them may be anything.
@@ -44,7 +44,7 @@ fn put_lows(lows: u8x16, highs: u8x16, output: &mut [u8]) -> usize
 
 // The first bytes of the units, and the second ones.
 #[inline(always)]
-fn halves(front: u8x16, back: u8x16) -> (u8x16, u8x16)
+pub(crate) fn halves(front: u8x16, back: u8x16) -> (u8x16, u8x16)
     ensures firsts { result.0 ≡ evens (front ++ back) }
     ensures seconds { result.1 ≡ odds (front ++ back) }
 {
@@ -53,7 +53,7 @@ fn halves(front: u8x16, back: u8x16) -> (u8x16, u8x16)
 
 // How many bytes at the front are below a bound.
 #[inline(always)]
-fn front_below(bytes: u8x16, bound: u8) -> usize
+pub(crate) fn front_below(bytes: u8x16, bound: u8) -> usize
     ensures within { result ≤ 16 }
     ensures below { (n : ℕ) → n ≤ result → AreBelow bound (take n bytes) }
 {

@@ -3,6 +3,7 @@
 #![tactic(auto)]
 
 mod ascii;
+mod block;
 mod byte_order;
 mod decoder;
 mod label;

@@ -3,15 +3,9 @@ ghost use Rattle.std.specs.Prelude.{◌≡◌, ◌⊎◌, ◌<◌, ◌≤◌, �
 ghost use Rattle.std.specs.Prelude.{drop, IsTrue, IfSome, IfNone, encode_utf8};
 ghost use Rattle.grep_decode.specs.Decoded.{IsUnfinishedUtf16, utf16_text, unit_of};
 
-use crate::ascii::put_ascii;
+use crate::block::{BLOCK, ROOM, put_block};
 use crate::byte_order::ByteOrder;
 use crate::progress::Progress;
-
-// How many bytes a block has.
-const BLOCK: usize = 32;
-
-// How many bytes are decoded one unit after another before a block is tried again.
-const FEW: usize = 256;
 
 // The unit of two bytes.
 fn unit_at(order: ByteOrder, first: u8, second: u8) -> u32
@@ -93,8 +87,8 @@ fn put_scalar(code: u32, output: &mut [u8], at: usize) -> usize
 }
 
 // Writes some of the first scalar values of bytes of UTF-16 as UTF-8, as far as they are whole and
-// there is room for one of four bytes: those at the front of a block that are ASCII, or else one
-// after another, up to the second of two that are ASCII.
+// there is room for one of four bytes: one after another, up to the second of two that are spelled
+// by one unit.
 fn decode_few(order: ByteOrder, is_last: bool, input: &[u8], output: &mut [u8]) -> Progress
     ensures taken { result.taken ≤ length input.now }
     ensures written { result.written ≤ length output.new }
@@ -107,24 +101,15 @@ fn decode_few(order: ByteOrder, is_last: bool, input: &[u8], output: &mut [u8]) 
         ⊎ IsUnfinishedUtf16 order input.now }
     ensures progress { result.written ≡ 0 → result.taken ≡ 0 }
 {
-    if input.len() >= BLOCK && output.len() >= BLOCK / 2 {
-        let count = put_ascii(order, &input[..BLOCK], &mut output[..BLOCK / 2]);
-        if count > 0 {
-            return Progress {
-                taken: 2 * count,
-                written: count,
-            };
-        }
-    }
     let mut taken = 0;
     let mut written = 0;
-    let mut was_ascii = false;
-    while written + 4 <= output.len() && taken < FEW {
+    let mut was_one = false;
+    while written + 4 <= output.len() {
         match next_scalar(order, is_last, &input[taken..]) {
             None => break,
-            Some((code, _)) if was_ascii && code < 0x80 => break,
+            Some((code, _)) if was_one && code < 0x1_0000 => break,
             Some((code, size)) => {
-                was_ascii = code < 0x80;
+                was_one = code < 0x1_0000;
                 written += put_scalar(code, output, written);
                 taken += size;
             }
@@ -133,8 +118,8 @@ fn decode_few(order: ByteOrder, is_last: bool, input: &[u8], output: &mut [u8]) 
     Progress { taken, written }
 }
 
-// Writes some of the first scalar values of bytes of UTF-16 as UTF-8: a block if all of it is ASCII,
-// or else as `decode_few` does.
+// Writes some of the first scalar values of bytes of UTF-16 as UTF-8: those of the units of a block
+// up to the first surrogate, or else as `decode_few` does.
 fn decode_some(order: ByteOrder, is_last: bool, input: &[u8], output: &mut [u8]) -> Progress
     ensures taken { result.taken ≤ length input.now }
     ensures written { result.written ≤ length output.new }
@@ -147,13 +132,10 @@ fn decode_some(order: ByteOrder, is_last: bool, input: &[u8], output: &mut [u8])
         ⊎ IsUnfinishedUtf16 order input.now }
     ensures progress { result.written ≡ 0 → result.taken ≡ 0 }
 {
-    if input.len() >= BLOCK && output.len() >= BLOCK / 2 {
-        let count = put_ascii(order, &input[..BLOCK], &mut output[..BLOCK / 2]);
-        if count == BLOCK / 2 {
-            return Progress {
-                taken: BLOCK,
-                written: BLOCK / 2,
-            };
+    if input.len() >= BLOCK && output.len() >= ROOM {
+        let step = put_block(order, &input[..BLOCK], &mut output[..ROOM]);
+        if step.written > 0 {
+            return step;
         }
     }
     decode_few(order, is_last, input, output)

@@ -1,4 +1,4 @@
-use Rattle.std.proofs.Common.{ℕ, leb, not, arith, refl, ◌≤◌, ◌≡◌, ◌∙◌}
+use Rattle.std.proofs.Common.{leb, not, arith, refl, ◌≡◌, ◌∙◌}
 use Rattle.std.specs.List.{prefix_len}
 use Rattle.std.proofs.lemmas.List.Sums.{prefix_len-le-length}
 use Rattle.grep_decode.proofs.AsciiBlockLemmas.{below-front, front-length}

@@ -7,7 +7,7 @@ invariant-loop-written l = record {
   taken : l.taken ≤ length l.input;
   written : l.written ≤ length l.output;
   progress : l.written ≡ 0 → l.taken ≡ 0;
-  ascii : l.was_ascii ≡ true → 0 < l.written;
+  one : l.was_one ≡ true → 0 < l.written;
   text : (more : List ℕ) → (IsTrue l.is_last → more ≡ [])
       → utf16_text l.order (l.input ++ more) ≡ take l.written l.output
       ++ utf16_text l.order (drop l.taken l.input ++ more);
