@@ -1,5 +1,6 @@
 pub mod UnitBytes
 pub mod Decoded
+pub mod DecodedFronts
 pub mod DecoderStates
 pub mod Labels
 pub mod Reading

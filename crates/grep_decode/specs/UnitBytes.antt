@@ -1,4 +1,4 @@
--- Bytes of units, apart.
+-- Bytes of units, apart, and the bytes that spell the units in UTF-8.
 use Rattle.std.specs.Prelude.{◌≡◌, ◌⊎◌, ℕ, ◌+◌, ◌*◌, ◌<◌, ◌≤◌, List, [], ◌∷◌, take, slice_index_or, encode_utf8, encode_utf8_all}
 
 -- the bytes at even places

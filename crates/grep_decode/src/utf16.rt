@@ -2,6 +2,7 @@
 ghost use Rattle.std.specs.Prelude.{◌≡◌, ◌⊎◌, ◌<◌, ◌≤◌, ◌+◌, ◌++◌, ◌^◌, ℕ, List, [], length, take};
 ghost use Rattle.std.specs.Prelude.{drop, IsTrue, IfSome, IfNone, encode_utf8};
 ghost use Rattle.grep_decode.specs.Decoded.{IsUnfinishedUtf16, utf16_text, unit_of};
+ghost use Rattle.grep_decode.specs.DecodedFronts.{IsDecodedFront};
 
 use crate::block::{BLOCK, ROOM, put_block};
 use crate::byte_order::ByteOrder;
@@ -90,16 +91,7 @@ fn put_scalar(code: u32, output: &mut [u8], at: usize) -> usize
 // there is room for one of four bytes: one after another, up to the second of two that are spelled
 // by one unit.
 fn decode_few(order: ByteOrder, is_last: bool, input: &[u8], output: &mut [u8]) -> Progress
-    ensures taken { result.taken ≤ length input.now }
-    ensures written { result.written ≤ length output.new }
-    ensures text { (more : List ℕ) → (IsTrue is_last → more ≡ []) →
-        utf16_text order (input.now ++ more) ≡ take result.written output.new ++ utf16_text order
-        (drop result.taken input.now ++ more) }
-    ensures stops { result.written ≡ 0 → (length output.new < 4) ⊎
-        ((length input.now < 4) × (IsTrue is_last → input.now ≡ [])) }
-    ensures unfinished { result.written ≡ 0 → (length output.new < 4)
-        ⊎ IsUnfinishedUtf16 order input.now }
-    ensures progress { result.written ≡ 0 → result.taken ≡ 0 }
+    ensures { IsDecodedFront order is_last input.now output.new result.taken result.written }
 {
     let mut taken = 0;
     let mut written = 0;
@@ -121,16 +113,7 @@ fn decode_few(order: ByteOrder, is_last: bool, input: &[u8], output: &mut [u8]) 
 // Writes some of the first scalar values of bytes of UTF-16 as UTF-8: those of the units of a block
 // up to the first surrogate, or else as `decode_few` does.
 fn decode_some(order: ByteOrder, is_last: bool, input: &[u8], output: &mut [u8]) -> Progress
-    ensures taken { result.taken ≤ length input.now }
-    ensures written { result.written ≤ length output.new }
-    ensures text { (more : List ℕ) → (IsTrue is_last → more ≡ []) →
-        utf16_text order (input.now ++ more) ≡ take result.written output.new ++ utf16_text order
-        (drop result.taken input.now ++ more) }
-    ensures stops { result.written ≡ 0 → (length output.new < 4) ⊎
-        ((length input.now < 4) × (IsTrue is_last → input.now ≡ [])) }
-    ensures unfinished { result.written ≡ 0 → (length output.new < 4)
-        ⊎ IsUnfinishedUtf16 order input.now }
-    ensures progress { result.written ≡ 0 → result.taken ≡ 0 }
+    ensures { IsDecodedFront order is_last input.now output.new result.taken result.written }
 {
     if input.len() >= BLOCK && output.len() >= ROOM {
         let step = put_block(order, &input[..BLOCK], &mut output[..ROOM]);

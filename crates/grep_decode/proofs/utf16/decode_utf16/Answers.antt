@@ -17,11 +17,11 @@ loop-written-preserved c =
     let Written : List ℕ → List ℕ → Type 0 = λ more bytes. utf16_text c.args.order (bytes ++ more)
     ≡ take count c.decode_some-step.new.output ++ utf16_text c.args.order (drop next bytes ++ more) in
     record {
-      taken = omega (arith, made.taken, l.invariant.taken, length-drop l.taken c.args.input.now);
+      taken = omega (arith, made.taken_within, l.invariant.taken, length-drop l.taken c.args.input.now);
       written = grind (arith, places);
       progress = λ none. absurd (omega (arith, none, some));
       text = λ more when. text-more (utf16_text c.args.order) c.args.input.now l.output c.decode_some-step.new.output
           more l.taken l.written
-          next count (length l.output - l.written) l.invariant.written made.written (l.invariant.text more when)
+          next count (length l.output - l.written) l.invariant.written made.written_within (l.invariant.text more when)
           (subst (Written more) whole (made.text more when));
     }
