@@ -90,6 +90,7 @@ fn put_scalar(code: u32, output: &mut [u8], at: usize) -> usize
 // Writes some of the first scalar values of bytes of UTF-16 as UTF-8, as far as they are whole and
 // there is room for one of four bytes: one after another, up to the second of two that are spelled
 // by one unit.
+#[inline(never)]
 fn decode_few(order: ByteOrder, is_last: bool, input: &[u8], output: &mut [u8]) -> Progress
     ensures { IsDecodedFront order is_last input.now output.new result.taken result.written }
 {
