@@ -50,7 +50,7 @@ abbrev pub picked : ℕ → ℕ → List ℕ → List ℕ
 picked zero at xs = []
 picked (suc n) at xs = slice_index_or xs at 0 ∷ picked n (2 + at) xs
 
-first-is : (xs rest : List ℕ) (at x : ℕ) → drop at xs ≡ x ∷ rest → slice_index_or xs at 0 ≡ x
+pub first-is : (xs rest : List ℕ) (at x : ℕ) → drop at xs ≡ x ∷ rest → slice_index_or xs at 0 ≡ x
 first-is xs rest at x e =
     let zero-more : at + 0 ≡ at = omega arith in
     sym (ap (λ k. slice_index_or xs k 0) zero-more) ∙ (sym (get_or-drop at xs 0 0) ∙ ap (λ l. slice_index_or l 0 0) e)

@@ -1,18 +1,20 @@
 -- Blocks of units in UTF-16 that are no surrogates.
 use Rattle.std.proofs.Common.{◌≡◌, ◌⊎◌, ℕ, suc, zero, ◌+◌, ◌-◌, ◌*◌, ◌/◌, ◌%◌, ◌^◌, ◌<◌, ◌≤◌, Bool, true, false, cond}
 use Rattle.std.proofs.Common.{List, [], ◌∷◌, ◌++◌, length, take, drop, map, leb, w8, Fits, replicate}
-use Rattle.std.proofs.Common.{slice_index_or, encode_utf8, encode_utf8_all, refl, sym, ap, subst, set, ◌∙◌, arith, inl, inr, append_assoc}
-use Rattle.std.proofs.Math.Seq.{take-append-add}
-use Rattle.std.proofs.lemmas.List.{append-nil, length-take-le, take-take}
+use Rattle.std.proofs.Common.{slice_index_or, encode_utf8, encode_utf8_all, refl, sym, ap, subst, ◌∙◌, arith, inl, inr, append_assoc}
+use Rattle.std.proofs.Math.Seq.{drop-append_seam}
+use borrow.Rule.Slice.PartMut.{put_mid}
+use Rattle.grep_decode.proofs.PieceLemmas.{take-put_mid_into}
+use Rattle.std.proofs.lemmas.List.{append-nil, drop-drop, length-take, take-take}
 use Rattle.std.proofs.lemmas.Bool.Decides.{nat_tests}
 use Rattle.std.specs.Simd.Lanes.{Each1, chunk, sel_l, top, zip2}
 use mir.Val.{bits, hbits}
 use Rattle.grep_decode.specs.declared.byte_order.ByteOrder.{ByteOrder}
 use Rattle.grep_decode.specs.declared.byte_order.ByteOrder.TheVariants.{Little, Big}
 use Rattle.grep_decode.specs.Decoded.{utf16_text, unit_of}
-use Rattle.grep_decode.specs.UnitBytes.{AreBelow, IsSpelled, IsPut, NoneIsSurrogate, evens, odds, joined}
-use Rattle.grep_decode.proofs.AsciiBlockLemmas.{two-each, whole-chunks}
-use Rattle.grep_decode.proofs.EncodeLemmas.{encode-one, encode-two, encode-three, put-three}
+use Rattle.grep_decode.specs.UnitBytes.{AreBelow, AreSpelled, AreInFours, IsSpelled, IsPut, NoneIsSurrogate, evens, odds, joined}
+use Rattle.grep_decode.proofs.AsciiBlockLemmas.{first-is, two-each, whole-chunks}
+use Rattle.grep_decode.proofs.EncodeLemmas.{encode-one, encode-two, encode-three}
 use Rattle.grep_decode.proofs.Utf16Lemmas.{text-alone, alone-plain, not_high}
 
 -- ---- what is done to one lane
@@ -239,31 +241,94 @@ text-next (unit ∷ units) (suc i) within =
     ap (λ l. encode_utf8 unit ++ l) (text-next units i (omega (arith, within)))
     ∙ sym (append_assoc (encode_utf8 unit) (encode_utf8_all (take i units)) (encode_utf8 (slice_index_or units i 0)))
 
-put-some : (output : List ℕ) (at size x y z : ℕ) → at + 3 ≤ length output → size ≤ 3
-    → take (at + size) (set (set (set output at x) (at + 1) y) (at + 2) z) ≡ take at output ++ take size (x ∷ y ∷ z ∷ [])
-put-some output at size x y z room few =
-    let after = set (set (set output at x) (at + 1) y) (at + 2) z in
-    let bytes = x ∷ y ∷ z ∷ [] in
-    let here : length (take at output) ≡ at = length-take-le at output (omega (arith, room)) in
-    let less : at + size ≤ at + 3 = omega (arith, few) in
-    sym (take-take (at + size) (at + 3) after less)
-    ∙ (ap (take (at + size)) (put-three output at x y z room)
-    ∙ (ap (λ n. take (n + size) (take at output ++ bytes)) (sym here)
-    ∙ take-append-add (take at output) bytes size))
+-- ---- the bytes of units, one unit after another
 
-pub put-unit : (lows highs output : List ℕ) (i written first second third size : ℕ) → length lows ≡ 16
-    → length highs ≡ 16 → i < 16 → written + 3 ≤ length output
-    → IsSpelled (slice_index_or lows i 0) (slice_index_or highs i 0) first second third size
+-- the bytes at one place after another, of the third list twice
+abbrev fours : List ℕ → List ℕ → List ℕ → List ℕ
+fours [] seconds thirds = []
+fours (first ∷ firsts) [] thirds = []
+fours (first ∷ firsts) (second ∷ seconds) [] = []
+fours (first ∷ firsts) (second ∷ seconds) (third ∷ thirds) =
+    first ∷ second ∷ third ∷ third ∷ fours firsts seconds thirds
+
+abbrev picked_fours : ℕ → ℕ → List ℕ → List ℕ → List ℕ
+picked_fours zero at both thirds = []
+picked_fours (suc n) at both thirds = slice_index_or both at 0 ∷ slice_index_or both (16 + at) 0
+    ∷ slice_index_or thirds at 0 ∷ slice_index_or thirds at 0 ∷ picked_fours n (1 + at) both thirds
+
+one-more : (xs rest : List ℕ) (at next x : ℕ) → next ≡ at + 1 → drop at xs ≡ x ∷ rest → drop next xs ≡ rest
+one-more xs rest at next x is e = ap (λ k. drop k xs) is ∙ (sym (drop-drop 1 at xs) ∙ ap (drop 1) e)
+
+fours-picked : (n at : ℕ) (both twice fs ss ts more tail : List ℕ) → drop at both ≡ fs ++ more
+    → drop (16 + at) both ≡ ss → drop at twice ≡ ts ++ tail → length fs ≡ n → length ss ≡ n → length ts ≡ n
+    → picked_fours n at both twice ≡ fours fs ss ts
+fours-picked zero at both twice [] ss ts more tail first second third a b c = refl
+fours-picked zero at both twice (x ∷ fs) ss ts more tail first second third a b c = absurd (omega (arith, a))
+fours-picked (suc n) at both twice [] ss ts more tail first second third a b c = absurd (omega (arith, a))
+fours-picked (suc n) at both twice (x ∷ fs) [] ts more tail first second third a b c = absurd (omega (arith, b))
+fours-picked (suc n) at both twice (x ∷ fs) (y ∷ ss) [] more tail first second third a b c = absurd (omega (arith, c))
+fours-picked (suc n) at both twice (x ∷ fs) (y ∷ ss) (z ∷ ts) more tail first second third a b c =
+    let one = first-is both (fs ++ more) at x first in
+    let two = first-is both ss (16 + at) y second in
+    let three = first-is twice (ts ++ tail) at z third in
+    let rest = fours-picked n (1 + at) both twice fs ss ts more tail
+    (one-more both (fs ++ more) at (1 + at) x (omega arith) first)
+    (one-more both ss (16 + at) (16 + (1 + at)) y (omega arith) second)
+    (one-more twice (ts ++ tail) at (1 + at) z (omega arith) third)
+    (omega (arith, a)) (omega (arith, b)) (omega (arith, c)) in
+    cc (one, two, three, rest)
+
+four-each : (n : ℕ) → 4 * suc n ≡ suc (suc (suc (suc (4 * n))))
+four-each n = omega arith
+
+fours-at : (firsts seconds thirds : List ℕ) (i : ℕ) → i < length firsts → length seconds ≡ length firsts
+    → length thirds ≡ length firsts
+    → take 3 (drop (4 * i) (fours firsts seconds thirds))
+    ≡ slice_index_or firsts i 0 ∷ slice_index_or seconds i 0 ∷ slice_index_or thirds i 0 ∷ []
+fours-at [] seconds thirds i within same same' = absurd (omega (arith, within))
+fours-at (x ∷ firsts) [] thirds i within same same' = absurd (omega (arith, same))
+fours-at (x ∷ firsts) (y ∷ seconds) [] i within same same' = absurd (omega (arith, same'))
+fours-at (x ∷ firsts) (y ∷ seconds) (z ∷ thirds) zero within same same' = refl
+fours-at (x ∷ firsts) (y ∷ seconds) (z ∷ thirds) (suc i) within same same' =
+    ap (λ k. take 3 (drop k (x ∷ y ∷ z ∷ z ∷ fours firsts seconds thirds))) (four-each i)
+    ∙ fours-at firsts seconds thirds i (omega (arith, within)) (omega (arith, same)) (omega (arith, same'))
+
+pub fours-found : (firsts seconds thirds : List ℕ) → length firsts ≡ 16 → length seconds ≡ 16 → length thirds ≡ 16
+    → AreInFours firsts seconds thirds (picked_fours 16 0 (firsts ++ seconds) (thirds ++ thirds))
+fours-found firsts seconds thirds a b c = λ i within.
+    let behind : drop 16 (firsts ++ seconds) ≡ seconds =
+    ap (λ k. drop k (firsts ++ seconds)) (sym a) ∙ drop-append_seam firsts seconds in
+    ap (λ l. take 3 (drop (4 * i) l)) (fours-picked 16 0 (firsts ++ seconds) (thirds ++ thirds) firsts seconds thirds
+    seconds thirds refl behind refl a b c)
+    ∙ fours-at firsts seconds thirds i (omega (arith, within, a)) (b ∙ sym a) (c ∙ sym a)
+
+put-some : (output bytes : List ℕ) (at size part x y z : ℕ) → at ≤ length output → size ≤ 3
+    → take 3 bytes ≡ x ∷ y ∷ z ∷ []
+    → take (at + size) (put_mid at part output bytes) ≡ take at output ++ take size (x ∷ y ∷ z ∷ [])
+put-some output bytes at size part x y z room few is =
+    let long : 3 ≤ length bytes = omega (arith, ap length is, length-take 3 bytes) in
+    take-put_mid_into at part size output bytes room (omega (arith, long, few))
+    ∙ ap (λ l. take at output ++ l) (sym (take-take size 3 bytes few) ∙ ap (take size) is)
+
+pub put-unit : (lows highs firsts seconds thirds sizes quads output : List ℕ) (i written part count : ℕ)
+    → length lows ≡ 16 → length highs ≡ 16 → AreInFours firsts seconds thirds quads → count ≡ 4 → i < 16
+    → written ≤ length output
+    → AreSpelled lows highs firsts seconds thirds sizes
     → take written output ≡ encode_utf8_all (take i (joined lows highs))
-    → take (written + size) (set (set (set output written first) (written + 1) second) (written + 2) third)
+    → take (written + slice_index_or sizes i 0) (put_mid written part output (take count (drop (4 * i) quads)))
     ≡ encode_utf8_all (take (i + 1) (joined lows highs))
-put-unit lows highs output i written first second third size long long' within room spelling before =
+put-unit lows highs firsts seconds thirds sizes quads output i written part count a b are four within room spelled before =
     let units = joined lows highs in
-    let same : length highs ≡ length lows = long' ∙ sym long in
-    let all : length units ≡ 16 = length-joined lows highs same ∙ long in
+    let spelling = spelled i within in
+    let same : length highs ≡ length lows = b ∙ sym a in
+    let all : length units ≡ 16 = length-joined lows highs same ∙ a in
     let next : suc i ≡ i + 1 = omega arith in
-    put-some output written size first second third room spelling.few
-    ∙ (ap (λ l. l ++ take size (first ∷ second ∷ third ∷ [])) before
+    let bytes : take 3 (take count (drop (4 * i) quads))
+    ≡ slice_index_or firsts i 0 ∷ slice_index_or seconds i 0 ∷ slice_index_or thirds i 0 ∷ [] =
+    take-take 3 count (drop (4 * i) quads) (omega (arith, four)) ∙ are i within in
+    put-some output (take count (drop (4 * i) quads)) written (slice_index_or sizes i 0) part _ _ _ room spelling.few bytes
+    ∙ (ap (λ l. l ++ take (slice_index_or sizes i 0) (slice_index_or firsts i 0 ∷ slice_index_or seconds i 0
+    ∷ slice_index_or thirds i 0 ∷ [])) before
     ∙ (ap (λ l. encode_utf8_all (take i units) ++ l) (spelling.spells
-    ∙ ap encode_utf8 (sym (joined-at lows highs i (omega (arith, within, long)) same)))
+    ∙ ap encode_utf8 (sym (joined-at lows highs i (omega (arith, within, a)) same)))
     ∙ (sym (text-next units i (omega (arith, within, all))) ∙ ap (λ k. encode_utf8_all (take k units)) next)))

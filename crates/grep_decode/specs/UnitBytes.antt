@@ -1,5 +1,5 @@
 -- Bytes of units, apart, and the bytes that spell the units in UTF-8.
-use Rattle.std.specs.Prelude.{◌≡◌, ◌⊎◌, ℕ, ◌+◌, ◌*◌, ◌<◌, ◌≤◌, List, [], ◌∷◌, take, slice_index_or, encode_utf8, encode_utf8_all}
+use Rattle.std.specs.Prelude.{◌≡◌, ◌⊎◌, ℕ, ◌+◌, ◌*◌, ◌<◌, ◌≤◌, List, [], ◌∷◌, take, drop, slice_index_or, encode_utf8, encode_utf8_all}
 
 -- the bytes at even places
 abbrev pub evens : List ℕ → List ℕ
@@ -29,6 +29,11 @@ abbrev pub AreSpelled : List ℕ → List ℕ → List ℕ → List ℕ → List
 AreSpelled lows highs firsts seconds thirds sizes = (i : ℕ) → i < 16
     → IsSpelled (slice_index_or lows i 0) (slice_index_or highs i 0) (slice_index_or firsts i 0)
     (slice_index_or seconds i 0) (slice_index_or thirds i 0) (slice_index_or sizes i 0)
+
+-- the three bytes of the unit at each place stand from four times the place on
+abbrev pub AreInFours : List ℕ → List ℕ → List ℕ → List ℕ → Type 0
+AreInFours firsts seconds thirds quads = (i : ℕ) → i < 16 → take 3 (drop (4 * i) quads)
+    ≡ slice_index_or firsts i 0 ∷ slice_index_or seconds i 0 ∷ slice_index_or thirds i 0 ∷ []
 
 -- no unit with one of these higher bytes is a surrogate
 abbrev pub NoneIsSurrogate : List ℕ → Type 0
