@@ -109,7 +109,7 @@ middle-is low high l = omega arith
 third-is : (low : ℕ) → plus (right (left low 2) 2) 0x80 ≡ low % 64 + 128
 third-is low = omega arith
 
--- each lane is spelled by the bytes of its place
+-- each lane is spelled by the bytes at its index
 pub spelled : (n : ℕ) (lows highs : List ℕ) → length lows ≡ n → length highs ≡ n → Each1 (Fits w8) lows
     → Each1 (Fits w8) highs → (i : ℕ) → i < n
     → IsSpelled (slice_index_or lows i 0) (slice_index_or highs i 0) (slice_index_or (firsts n lows highs) i 0)
@@ -243,7 +243,7 @@ text-next (unit ∷ units) (suc i) within =
 
 -- ---- the bytes of units, one unit after another
 
--- the bytes at one place after another, of the third list twice
+-- the bytes at one index after another, those of the third list twice
 abbrev fours : List ℕ → List ℕ → List ℕ → List ℕ
 fours [] seconds thirds = []
 fours (first ∷ firsts) [] thirds = []
