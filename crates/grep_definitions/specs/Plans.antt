@@ -1,7 +1,7 @@
 -- The plan of a search: the calls that it makes of its sink, by its settings, by what its matcher
 -- means and by the bytes. Lines are counted from 0 here, and the numbers that are reported from 1.
-use Rattle.std.specs.Prelude.{◌≡◌, ◌⊎◌, ℕ, zero, suc, ◌+◌, ◌-◌, ◌<◌, ◌≤◌, ◌==◌, nat_lt, nat_le, min}
-use Rattle.std.specs.Prelude.{Bool, true, false, not, ◌&&◌, ◌||◌, if◌then◌else◌, List, [], ◌∷◌}
+use Rattle.std.specs.Prelude.{◌≡◌, ◌≢◌, ◌⊎◌, ℕ, zero, suc, ◌+◌, ◌-◌, ◌<◌, ◌≤◌, ◌==◌, nat_lt, nat_le}
+use Rattle.std.specs.Prelude.{min, Bool, true, false, not, ◌&&◌, ◌||◌, if◌then◌else◌, List, [], ◌∷◌}
 use Rattle.std.specs.Prelude.{◌++◌, length, take, drop, filter, count_by, slice_index_or}
 use Rattle.std.specs.Prelude.{slice_range, Option, None, Some, is_some, Result, Ok, Err}
 use Rattle.std.specs.List.{list_any}
@@ -450,10 +450,12 @@ is_across settings meaning =
     settings.multi_line && not (is_declared meaning.terminator settings.line_terminator)
     && not (meaning.absent (byte_of settings.line_terminator))
 
--- a search may ask about many lines at once: not all are reported, no match has the terminator
+-- a search may ask about many lines at once: not all are reported, no match has the terminator, and
+-- the matcher doesn't declare the byte 0. One that does is asked about each line alone
 pub record AsksAhead (settings : Settings) (meaning : Meaning) : Type 0 where
   pub selects : settings.passthru ≡ false
   pub excludes : ExcludesTerminator settings.line_terminator meaning
+  pub declares : meaning.terminator ≢ Some (Byte 0)
 
 -- if it may, the matcher is lawful for the search's terminator
 abbrev pub IsLawful : {F : Type 0} → MatcherFacts F → Settings → Type 0

@@ -14,7 +14,7 @@ ghost use Rattle.grep_walk.specs.Walks.{skip_unmatched, IsOrdered};
 use crate::config::Config;
 use crate::walk::Walk;
 use grep_lines::{LineStep, line_of};
-use grep_matcher::{LineMatchKind, Matcher};
+use grep_matcher::{LineMatchKind, LineTerminator, Matcher};
 
 /// What a search by line may ask a matcher about.
 #[derive(Clone, Copy)]
@@ -75,11 +75,15 @@ impl Ahead {
 }
 
 impl Config {
-    /// What a search by line may ask this matcher about.
+    /// What a search by line may ask this matcher about. One that declares the byte 0 as its line
+    /// terminator is asked about each line alone, as in grep-searcher.
     pub fn questions<M: Matcher>(&self, matcher: &M) -> Questions
         ensures { AreQuestions self.now (M.facts matcher.now).meaning result }
     {
-        if !self.passthru && self.excludes_terminator(matcher) {
+        if self.passthru || matcher.line_terminator() == Some(LineTerminator::Byte(0)) {
+            return Questions::OneLine;
+        }
+        if self.excludes_terminator(matcher) {
             Questions::ManyLines
         } else {
             Questions::OneLine
