@@ -1,7 +1,7 @@
 -- What a matcher finds in many lines can be trusted.
 use Rattle.std.proofs.Common.{◌≡◌, ℕ, ◌<◌, ◌≤◌, true, List, length, slice_index, Some, None, is_some, option_map}
 use Rattle.std.proofs.Common.{sym, ap, ◌∙◌, subst, inl, inr, ⊎_elim, arith, get_or, true≢false, Option, nat_lt}
-use Rattle.std.proofs.Common.{lit<, refl, Bool, [], ◌∷◌, ◌⊎◌}
+use Rattle.std.proofs.Common.{lit<, refl, Bool, false, cond, [], ◌∷◌, ◌⊎◌}
 use Rattle.std.proofs.Math.Logic.{∥∥₁_elim}
 use Rattle.std.proofs.lemmas.Bool.{and_from, and_parts, false_from_ne_true, not-true}
 use Rattle.std.proofs.lemmas.Bool.Decides.{nat_tests}
@@ -24,13 +24,13 @@ use Rattle.grep_matcher.specs.declared.line_terminator.LineTerminator.{LineTermi
 use Rattle.grep_matcher.specs.declared.line_match_kind.LineMatchKind.{LineMatchKind}
 use Rattle.grep_matcher.specs.declared.line_terminator.LineTerminator.TheVariants.{Byte, Crlf}
 use Rattle.grep_matcher.proofs.StrippedLineLemmas.{line-is}
-use Rattle.grep_regex.specs.AbsentBytes.{is_absent}
 use Rattle.grep_regex.specs.Clear.{is_among}
 use Rattle.grep_regex.specs.Locality.{is_local, is_by_line, is_crlf, is_separator}
-use Rattle.grep_regex.specs.Patterns.{leftmost_match_at, excluded_bytes, written_re}
+use Rattle.grep_regex.specs.AbsentBytes.{is_absent, is_nul}
+use Rattle.grep_regex.specs.Patterns.{leftmost_match_at, excluded_bytes, named_terminator, written_re}
 use Rattle.grep_regex.specs.Views.{regex_first, regex_first_at, regex_meaning, regex_options, regex_patterns, program_re}
 use Rattle.grep_regex.specs.declared.regex.Regex.{Regex}
-use Rattle.grep_regex.proofs.AbsentLemmas.{absent-separator, absent-undeclared}
+use Rattle.grep_regex.proofs.AbsentLemmas.{absent-cases}
 use Rattle.grep_regex.proofs.ClearLemmas.{clear-at}
 use Rattle.grep_regex.proofs.EdgeLemmas.{IsSeparated}
 use Rattle.grep_regex.proofs.EngineLemmas.{finds-of, finds-at}
@@ -100,6 +100,15 @@ among-byte b x is = grind (arith, nat_tests, is)
 among-crlf : (x : ℕ) → is_among (13 ∷ 10 ∷ []) x ≡ true → (x ≡ 13) ⊎ (x ≡ 10)
 among-crlf x is = grind (arith, nat_tests, is)
 
+-- a named terminator is the declared one
+named-is : (t : Option LineTerminator) (terminator : LineTerminator) → named_terminator t ≡ Some terminator
+    → t ≡ Some terminator
+named-is t terminator = by-cases (is_nul t)
+  where
+    by-cases : (b : Bool) → cond b None t ≡ Some terminator → t ≡ Some terminator
+    by-cases true named = absurd (none-some terminator named)
+    by-cases false named = named
+
 module _ (r : Regex) (is_lawful : LineTerminator → Type 0) (bytes : List ℕ)
     (small : (k : ℕ) → get_or bytes k 0 < 256) where
   -- what is found in a haystack holds no byte of the terminator
@@ -164,18 +173,28 @@ module _ (r : Regex) (is_lawful : LineTerminator → Type 0) (bytes : List ℕ)
     undeclared : (regex_options r).line_terminator ≡ None → is_by_line None (program_re r) ≡ true
     undeclared none = subst (λ o. is_by_line o (program_re r) ≡ true) none by_line
 
+    -- under the declared one
+    by-declared : (terminator : LineTerminator) → (regex_options r).line_terminator ≡ Some terminator
+        → AreClear terminator × IsConfirmed terminator (program_re r)
+    by-declared terminator is = (
+      declared-clear terminator is,
+      confirmed terminator (program_re r) (subst (λ o. is_by_line o (program_re r) ≡ true) is by_line),
+    )
+
     by-absent : (terminator : LineTerminator) → absent (byte_of terminator) ≡ true
         → AreClear terminator × IsConfirmed terminator (program_re r)
-    by-absent (Byte b) has =
-        let both = and_parts (always_reads (program_re r)) _
-        (undeclared (absent-undeclared (regex_options r) (regex_patterns r) b has)) in (
+    by-absent (Byte b) has = ⊎_elim
+        (λ nul. by-declared (Byte b) (nul.0 ∙ ap (λ x. Some (Byte x)) (sym nul.1)))
+        (λ apart.
+        let both = and_parts (always_reads (program_re r)) _ (undeclared apart.0) in (
           absent-clear (Byte b) (λ x is. ap absent (among-byte b x is) ∙ has),
-          confirmed (Byte b) (program_re r) (and_from _ _
-              (absent-separator (regex_options r) (regex_patterns r) b has)
-              (local-anywhere (Byte b) (program_re r) both.1)),
-        )
+          confirmed (Byte b) (program_re r)
+              (and_from _ _ apart.1 (local-anywhere (Byte b) (program_re r) both.1)),
+        ))
+        (absent-cases (regex_options r) (regex_patterns r) b has)
     by-absent Crlf has =
-        let none = absent-undeclared (regex_options r) (regex_patterns r) 10 has in
+        let none : (regex_options r).line_terminator ≡ None = ⊎_elim (λ nul. absurd (omega (arith, nul.1)))
+        (λ apart. apart.0) (absent-cases (regex_options r) (regex_patterns r) 10 has) in
         let both = and_parts (always_reads (program_re r)) _ (undeclared none) in (
           absent-clear Crlf (λ x is. ⊎_elim
               (λ (return : x ≡ 13). ap absent return ∙ strips none)
@@ -189,8 +208,8 @@ module _ (r : Regex) (is_lawful : LineTerminator → Type 0) (bytes : List ℕ)
         → ((terminator : LineTerminator) → AreClear terminator
         → IsConfirmed terminator (program_re r) → IsLawfulResult terminator (regex_meaning r) bytes found)
         → IsTrusted (regex_meaning r) is_lawful bytes found
-    trusted found each other lawful (inl declared) = each other (declared-clear other declared)
-        (confirmed other (program_re r) (subst (λ o. is_by_line o (program_re r) ≡ true) declared by_line))
+    trusted found each other lawful (inl named) =
+        let both = by-declared other (named-is (regex_options r).line_terminator other named) in each other both.0 both.1
     trusted found each other lawful (inr has) =
         let both = by-absent other has in each other both.0 both.1
 

@@ -1,7 +1,10 @@
--- The bytes that no match of literals holds.
-use Rattle.std.specs.Prelude.{ℕ, Bool, ◌&&◌, ◌||◌, not, List, is_some, chars}
+-- The bytes that a matcher knows no match to hold.
+use Rattle.std.specs.Prelude.{ℕ, Bool, false, ◌&&◌, ◌||◌, not, ◌==◌, List, Option, None, Some, is_some}
+use Rattle.std.specs.Prelude.{chars}
 use Rattle.std.specs.List.{list_all, list_any}
 use Rattle.regex_syntax.specs.Verdict.{is_meta}
+use Rattle.grep_matcher.specs.declared.line_terminator.LineTerminator.{LineTerminator}
+use Rattle.grep_matcher.specs.declared.line_terminator.LineTerminator.TheVariants.{Byte, Crlf}
 use Rattle.grep_regex.specs.Clear.{is_among}
 use Rattle.grep_regex.specs.Locality.{is_separator}
 use Rattle.grep_regex.specs.declared.options.Options.{Options}
@@ -17,8 +20,18 @@ abbrev pub are_plain : Options → List (List ℕ) → Bool
 are_plain o patterns = not (is_some o.line_terminator)
     && (not o.case_insensitive && (not o.whole_line && list_all (is_plain o) patterns))
 
--- the bytes that a matcher knows no match to hold: where the patterns are such, those ASCII bytes
--- that aren't in words and that none of the patterns has
-unfoldable pub is_absent : Options → List (List ℕ) → ℕ → Bool
-is_absent o patterns byte = are_plain o patterns
+-- where the patterns are such: the ASCII bytes that aren't in words and that none of them has
+abbrev pub is_unwritten : Options → List (List ℕ) → ℕ → Bool
+is_unwritten o patterns byte = are_plain o patterns
     && (is_separator byte && not (list_any (λ p. is_among p byte) patterns))
+
+-- the line terminator is the byte 0
+abbrev pub is_nul : Option LineTerminator → Bool
+is_nul None = false
+is_nul (Some (Byte b)) = b == 0
+is_nul (Some Crlf) = false
+
+-- the bytes that a matcher knows no match to hold: the byte 0 if it is the line terminator, and
+-- those that such patterns don't have
+unfoldable pub is_absent : Options → List (List ℕ) → ℕ → Bool
+is_absent o patterns byte = (is_nul o.line_terminator && byte == 0) || is_unwritten o patterns byte

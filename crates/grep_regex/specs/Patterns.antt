@@ -17,7 +17,7 @@ use Rattle.grep_matcher.specs.FindResults.{Avoids}
 use Rattle.grep_matcher.specs.Meanings.{Meaning}
 use Rattle.grep_matcher.specs.Lines.{bytes_of}
 use Rattle.grep_matcher.specs.declared.line_terminator.LineTerminator.{LineTerminator}
-use Rattle.grep_regex.specs.AbsentBytes.{is_absent}
+use Rattle.grep_regex.specs.AbsentBytes.{is_absent, is_nul}
 use Rattle.grep_regex.specs.Clear.{find_clear}
 use Rattle.grep_regex.specs.declared.options.Options.{Options}
 
@@ -107,11 +107,15 @@ first_match_at o patterns haystack start = option_map span
 abbrev pub first_match : Options → List (List ℕ) → List ℕ → Option (ℕ × ℕ)
 first_match o patterns haystack = first_match_at o patterns haystack 0
 
+-- the line terminator that a matcher names: none for the byte 0, which is absent from its matches
+abbrev pub named_terminator : Option LineTerminator → Option LineTerminator
+named_terminator terminator = if is_nul terminator then None else terminator
+
 -- what a matcher of the patterns means
 abbrev pub meaning_of : Options → List (List ℕ) → Meaning
 meaning_of o patterns = record {
   first = first_match o patterns;
-  terminator = o.line_terminator;
+  terminator = named_terminator o.line_terminator;
   absent = is_absent o patterns;
 }
 

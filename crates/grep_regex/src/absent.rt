@@ -1,12 +1,12 @@
-//! Which bytes no match of literals holds.
-ghost use Rattle.std.specs.Prelude.{◌≡◌, ◌&&◌, ℕ, chars, false, is_some, map, not, IsTrue};
+//! Which bytes a matcher knows no match to hold.
+ghost use Rattle.std.specs.Prelude.{◌≡◌, ◌&&◌, ◌==◌, ℕ, chars, false, is_some, map, not, IsTrue};
 ghost use Rattle.std.specs.List.{list_any};
 ghost use Rattle.regex_hir.specs.Re.{literal};
 ghost use Rattle.regex_syntax.specs.Captures.{SameCaptures};
 ghost use Rattle.regex_syntax.specs.Verdict.{is_meta};
 ghost use Rattle.grep_matcher.specs.ByteSets.{holds};
 ghost use Rattle.grep_matcher.specs.FindResults.{holds_if_some};
-ghost use Rattle.grep_regex.specs.AbsentBytes.{is_plain, are_plain, is_absent};
+ghost use Rattle.grep_regex.specs.AbsentBytes.{is_plain, are_plain, is_absent, is_nul};
 ghost use Rattle.grep_regex.specs.Alike.{AreAlike};
 ghost use Rattle.grep_regex.specs.Clear.{is_among};
 ghost use Rattle.grep_regex.specs.Locality.{is_separator};
@@ -14,7 +14,7 @@ ghost use Rattle.grep_regex.specs.Patterns.{read_re, AvoidsAbsent};
 
 use crate::locality::is_separator;
 use crate::options::Options;
-use grep_matcher::ByteSet;
+use grep_matcher::{ByteSet, LineTerminator};
 use regex_syntax::is_meta_character;
 
 // The bytes that a matcher of the patterns knows no match to hold, if it knows of any.
@@ -23,10 +23,32 @@ pub(crate) fn absent_bytes(options: &Options, patterns: &[&str]) -> Option<ByteS
         ≡ holds_if_some result byte }
     ensures avoids { AvoidsAbsent options.now (map (λ p. p.now) patterns.now) }
 {
+    if is_nul(options.line_terminator) {
+        return Some(nul());
+    }
     if !are_plain(options, patterns) {
         return None;
     }
     Some(separators_without(patterns))
+}
+
+// Whether the line terminator is the byte 0.
+pub(crate) fn is_nul(terminator: Option<LineTerminator>) -> bool
+    ensures { result ≡ is_nul terminator }
+{
+    match terminator {
+        Some(LineTerminator::Byte(byte)) => byte == 0,
+        _ => false,
+    }
+}
+
+// The byte 0 alone.
+fn nul() -> ByteSet
+    ensures { (byte : ℕ) → holds result byte ≡ byte == 0 }
+{
+    let mut set = ByteSet::empty();
+    set.add(0);
+    set
 }
 
 // Whether no line terminator is declared, and each match is one of the patterns as it is written.

@@ -223,8 +223,8 @@ impl RegexMatcherBuilder {
 
     /// What matchers declare as their line terminator, none by default. Its byte is taken out of
     /// the classes of patterns and refused in literals, so that no match holds it, and a search
-    /// runs line by line and may ask about many lines at once. What `crlf` says of `^`, `$` and `.`
-    /// stays.
+    /// runs line by line and may ask about many lines at once. Of the byte 0 matchers declare no
+    /// more than that no match holds it. What `crlf` says of `^`, `$` and `.` stays.
     pub fn line_terminator(&mut self, terminator: Option<u8>) -> &mut RegexMatcherBuilder
         ensures reference { result.ghost_name ≡ self.entry.ghost_name }
         ensures set { result.now

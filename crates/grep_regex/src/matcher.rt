@@ -63,7 +63,7 @@ impl Matcher for RegexMatcher<'_> {
     }
 
     fn line_terminator(&self) -> Option<LineTerminator> {
-        self.regex.options().line_terminator
+        self.regex.named_terminator()
     }
 
     fn non_matching_bytes(&self) -> Option<&ByteSet> {

@@ -113,7 +113,7 @@ impl<N: Naming> Matcher for NamedMatcher<'_, N> {
     }
 
     fn line_terminator(&self) -> Option<LineTerminator> {
-        self.regex.options().line_terminator
+        self.regex.named_terminator()
     }
 
     fn non_matching_bytes(&self) -> Option<&ByteSet> {

@@ -30,7 +30,8 @@ pub struct Options {
     pub octal: bool,
     /// How deep patterns may nest, in levels.
     pub nest_limit: u32,
-    /// What matchers declare as their line terminator; no match holds a byte of it.
+    /// What matchers declare as their line terminator, but for the byte 0; no match holds a byte
+    /// of it.
     pub line_terminator: Option<LineTerminator>,
     /// About how large the compiled patterns may be, in bytes.
     pub size_limit: usize,

@@ -5,12 +5,13 @@ ghost use Rattle.regex_hir.specs.Meaning.{meaning};
 ghost use Rattle.grep_matcher.specs.FindResults.{holds_if_some};
 ghost use Rattle.grep_regex.specs.AbsentBytes.{is_absent};
 ghost use Rattle.grep_regex.specs.Locality.{is_by_line};
-ghost use Rattle.grep_regex.specs.Patterns.{excluded_bytes, AvoidsAbsent, FindsAs};
+ghost use Rattle.grep_regex.specs.Patterns.{excluded_bytes, named_terminator, AvoidsAbsent};
+ghost use Rattle.grep_regex.specs.Patterns.{FindsAs};
 ghost use Rattle.grep_regex.specs.Refusals.{IsRefusal, IsTerminatorError};
 ghost use Rattle.grep_regex.specs.Spelled.{IsSpelled};
 ghost use Rattle.grep_regex.specs.Stripped.{AreAscii};
 
-use crate::absent::absent_bytes;
+use crate::absent::{absent_bytes, is_nul};
 use crate::error::Error;
 use crate::frame::frame;
 use crate::literal::literal_of;
@@ -148,6 +149,14 @@ impl Regex {
         ensures { result ≡ regex_options self.now }
     {
         self.shared.options
+    }
+
+    // The line terminator that its matchers name: none for the byte 0.
+    pub(crate) fn named_terminator(&self) -> Option<LineTerminator>
+        ensures { result ≡ named_terminator (regex_options self.now).line_terminator }
+    {
+        let terminator = self.shared.options.line_terminator;
+        if is_nul(terminator) { None } else { terminator }
     }
 
     // Whether a match found in many lines lies within one of them, which then matches by itself.

@@ -63,10 +63,16 @@ fn candidates(rt: HostRuntime) -> Result<(), usize> {
     Ok(())
 }
 
-// Whether the matcher of a pattern declares this terminator.
-fn declares(alloc: Global, letters: &str, terminator: Option<LineTerminator>) -> bool {
+// Whether the matcher of a pattern declares this terminator, and that no match holds the byte 0
+// exactly if `lacks_nul`.
+fn declares(
+    alloc: Global,
+    letters: &str,
+    terminator: Option<LineTerminator>,
+    lacks_nul: bool,
+) -> bool {
     match answer_of(alloc, letters, &["a"], b"") {
-        Some(answer) => answer.terminator == terminator,
+        Some(answer) => answer.terminator == terminator && answer.lacks_nul == lacks_nul,
         None => false,
     }
 }
@@ -75,9 +81,11 @@ fn declares(alloc: Global, letters: &str, terminator: Option<LineTerminator>) ->
 fn terminators(rt: HostRuntime) {
     let alloc = rt.alloc();
     assert!(rt;
-        declares(alloc, "", None)
-            && declares(alloc, "n", Some(LineTerminator::byte(b'\n')))
-            && declares(alloc, "r", Some(LineTerminator::crlf()))
-            && declares(alloc, "z", Some(LineTerminator::byte(0)))
+        declares(alloc, "", None, true)
+            && declares(alloc, "i", None, false)
+            && declares(alloc, "n", Some(LineTerminator::byte(b'\n')), false)
+            && declares(alloc, "r", Some(LineTerminator::crlf()), false)
+            && declares(alloc, "z", None, true)
+            && declares(alloc, "zi", None, true)
     );
 }

@@ -3,7 +3,7 @@
 ghost use Rattle.grep_regex.specs.Views.{IsNamed};
 
 use crate::texts::debugs;
-use grep_matcher::{FindAt, LineTerminator};
+use grep_matcher::{FindAt, LineTerminator, Matcher};
 use grep_regex::{Error, Naming, Regex, RegexMatcherBuilder};
 use std::alloc::Global;
 use std::marker::Brand;
@@ -19,6 +19,8 @@ pub struct Answer {
     // The position that is found in lines, with whether it is confirmed.
     pub position: Option<(usize, bool)>,
     pub terminator: Option<LineTerminator>,
+    // Whether the byte 0 is one that no match holds.
+    pub lacks_nul: bool,
 }
 
 // The builder with the options that the letters name: case-insensitive, fixed strings, word, whole
@@ -96,6 +98,14 @@ fn ask_from<M: FindAt>(
     )
 }
 
+// Whether the byte 0 is one that the matcher knows no match to hold.
+fn lacks_nul<M: Matcher>(matcher: &M) -> bool {
+    match matcher.non_matching_bytes() {
+        Some(set) => set.contains(0),
+        None => false,
+    }
+}
+
 // What the matcher of an expression returns for a haystack and a position in it.
 fn ask<M: FindAt>(matcher: &M, haystack: &[u8], start: usize) -> Result<Answer, M::Error> {
     Ok(Answer {
@@ -108,6 +118,7 @@ fn ask<M: FindAt>(matcher: &M, haystack: &[u8], start: usize) -> Result<Answer, 
             .find_candidate_line(haystack)?
             .map(|found| (found.position(), found.is_confirmed())),
         terminator: matcher.line_terminator(),
+        lacks_nul: lacks_nul(matcher),
     })
 }
 
@@ -173,6 +184,7 @@ fn is_same(answer: &Answer, other: &Answer) -> bool {
         && answer.is_match == other.is_match
         && answer.position == other.position
         && answer.terminator == other.terminator
+        && answer.lacks_nul == other.lacks_nul
 }
 
 // Whether this is the debug form of a clone of the expression of patterns.
