@@ -283,6 +283,7 @@ pub fn command<'a>(alloc: Global) -> Result<Command<'a>, AllocError> {
             "linegrep [OPTIONS] PATTERN [PATH ...]\n       linegrep [OPTIONS] -e PATTERN ... [PATH ...]",
         )
         .disable_help_flag(true)
+        .no_binary_name(true)
         .args_override_self(true)
         .arg(operands);
     for row in rows() {

@@ -1,6 +1,6 @@
 //! The searcher and the printer that the options ask for.
 use crate::colors::color_specs;
-use crate::failures::{ErrorReported, report};
+use crate::failures::Failure;
 use crate::json_run::JsonRun;
 use crate::option_id::OptionId;
 use crate::options::Options;
@@ -15,13 +15,13 @@ use std::alloc::Global;
 /// The searcher that the options ask for. Lines are numbered for a terminal, if nothing else is
 /// asked for. An error is that of a setting, or that there is no memory.
 pub fn build_searcher(
-    rt: &HostRuntime,
+    alloc: Global,
     options: &Options<'_, '_>,
     is_terminal: bool,
-) -> Result<Searcher, ErrorReported> {
-    match try_searcher(rt.alloc(), options, is_terminal) {
+) -> Result<Searcher, Failure> {
+    match try_searcher(alloc, options, is_terminal) {
         Ok(searcher) => Ok(searcher),
-        Err(error) => Err(report(rt, &error)),
+        Err(error) => Err(Failure::new(alloc, &error)),
     }
 }
 

@@ -1,14 +1,23 @@
 //! A searcher, a matcher and a printer, which search as one.
+use crate::failures::say;
+use crate::haystacks::Haystack;
 use crate::printers::{Printer, Searched};
 use grep_output::Output;
 use grep_searcher::{BinaryDetection, FindAt, SearchError, Searcher, Source};
+use std::fs::File;
 use std::io;
 
-/// What searches haystacks, and writes what is found. A run over files is generic in it, and so
-/// is proved without what a searcher and a printer consist of.
+/// What searches files and standard input, writes what is found, and says what goes wrong. A run
+/// over files is generic in it, and so is proved without what a searcher and a printer consist of.
 pub trait Engine {
-    /// Searches a haystack, and writes what is found in it, with a path if there is one.
-    fn search<H: Source>(&mut self, haystack: &mut H, path: Option<&str>) -> Searched;
+    /// Searches a file, and writes what is found in it, with a path if there is one.
+    fn search_file(&mut self, file: &mut File, path: Option<&str>) -> Searched;
+
+    /// Searches standard input, and writes what is found in it, with a path if there is one.
+    fn search_input(&mut self, path: Option<&str>) -> Searched;
+
+    /// Writes a text to standard error.
+    fn say(&mut self, text: &str);
 
     /// From now on the search of a binary file ends where that shows, or goes on as it did at
     /// first.
@@ -22,40 +31,58 @@ pub trait Engine {
     fn finish(&mut self) -> io::Result<()>;
 }
 
-/// The engine of a searcher, a matcher and a printer.
+/// The engine of a searcher, a matcher and a printer, over standard input and standard error.
 #[derive(Drop)]
-pub struct PrintingEngine<'e, M, W> {
+pub struct PrintingEngine<'e, M, R, W, E> {
     rt: &'e HostRuntime,
     searcher: &'e mut Searcher,
     matcher: M,
     printer: &'e mut Printer<W>,
+    input: &'e mut R,
+    errors: &'e mut E,
     // What the searcher did at first about binary files.
     detection: BinaryDetection,
 }
 
-impl<'e, M, W> PrintingEngine<'e, M, W> {
+impl<'e, M, R, W, E> PrintingEngine<'e, M, R, W, E> {
     /// An engine of these. The times in messages are by the clock of `rt`.
     pub fn new(
         rt: &'e HostRuntime,
         searcher: &'e mut Searcher,
         matcher: M,
         printer: &'e mut Printer<W>,
-    ) -> PrintingEngine<'e, M, W> {
+        input: &'e mut R,
+        errors: &'e mut E,
+    ) -> PrintingEngine<'e, M, R, W, E> {
         let detection = *searcher.binary_detection();
         PrintingEngine {
             rt,
             searcher,
             matcher,
             printer,
+            input,
+            errors,
             detection,
         }
     }
 }
 
-impl<'e, M: FindAt + Copy, W: Output> Engine for PrintingEngine<'e, M, W> {
-    fn search<H: Source>(&mut self, haystack: &mut H, path: Option<&str>) -> Searched {
+impl<'e, M: FindAt + Copy, R: Source, W: Output, E: Output> Engine
+    for PrintingEngine<'e, M, R, W, E> {
+    fn search_file(&mut self, file: &mut File, path: Option<&str>) -> Searched {
+        let mut haystack: Haystack<'_, File, R> = Haystack::File(file);
         self.printer
-            .search(self.rt, self.searcher, self.matcher, haystack, path)
+            .search(self.rt, self.searcher, self.matcher, &mut haystack, path)
+    }
+
+    fn search_input(&mut self, path: Option<&str>) -> Searched {
+        let mut haystack: Haystack<'_, File, R> = Haystack::Reader(&mut *self.input);
+        self.printer
+            .search(self.rt, self.searcher, self.matcher, &mut haystack, path)
+    }
+
+    fn say(&mut self, text: &str) {
+        say(self.errors, text);
     }
 
     fn set_quits(&mut self, quits: bool) {

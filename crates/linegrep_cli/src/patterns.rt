@@ -1,24 +1,23 @@
 //! The patterns that are searched for.
-use crate::failures::{
-    ErrorReported, report_arguments, report_cause, report_out_of_memory, report_pattern,
-};
+use crate::failures::{Failure, pattern_failure};
 use crate::option_id::OptionId;
 use crate::options::Options;
 use clap::ArgMatches;
 use grep_regex::{Regex, RegexMatcherBuilder};
-use grep_searcher::LineTerminator;
+use grep_searcher::{LineTerminator, Source};
 use std::alloc::{AllocError, Global};
-use std::fs;
+use std::{fs, io};
 
-/// Reads the texts of the patterns: those of `-e`, then those in the lines of the files of `-f`, or
-/// if neither is used the first operand. An error is that there is no pattern, that a file can't be
-/// read, or that there is no memory.
-pub fn read_patterns(
+/// Reads the texts of the patterns: those of `-e`, then those in the lines of the files of `-f`, of
+/// which `-` is standard input, or if neither is used the first operand. An error is that there is
+/// no pattern, that a file can't be read, or that there is no memory.
+pub fn read_patterns<R: Source>(
     rt: &HostRuntime,
     matches: &ArgMatches<'_>,
-) -> Result<Vec<String>, ErrorReported> {
+    input: &mut R,
+) -> Result<Vec<String>, Failure> {
     let mut patterns = Vec::new(rt.alloc());
-    add_patterns(rt, matches, &mut patterns)?;
+    add_patterns(rt, matches, &mut patterns, input)?;
     Ok(patterns)
 }
 
@@ -28,63 +27,84 @@ pub fn names_patterns(matches: &ArgMatches<'_>) -> bool {
 }
 
 // Adds the texts of the patterns.
-fn add_patterns(
+fn add_patterns<R: Source>(
     rt: &HostRuntime,
     matches: &ArgMatches<'_>,
     patterns: &mut Vec<String>,
-) -> Result<(), ErrorReported> {
+    input: &mut R,
+) -> Result<(), Failure> {
     if names_patterns(matches) {
-        add_texts(rt, patterns, matches.get_strs("regexp").unwrap_or(&[]))?;
-        return add_files(rt, patterns, matches.get_strs("file").unwrap_or(&[]));
+        add_texts(
+            rt.alloc(),
+            patterns,
+            matches.get_strs("regexp").unwrap_or(&[]),
+        )?;
+        return add_files(rt, patterns, matches.get_strs("file").unwrap_or(&[]), input);
     }
     match matches.get_str("operands") {
-        Some(pattern) => add_text(rt, patterns, pattern),
-        None => Err(report_arguments(rt, "there is no pattern")),
+        Some(pattern) => add_text(rt.alloc(), patterns, pattern),
+        None => Err(Failure::of_arguments(rt.alloc(), "there is no pattern")),
     }
 }
 
 // Adds the lines of files.
-fn add_files(
+fn add_files<R: Source>(
     rt: &HostRuntime,
     patterns: &mut Vec<String>,
     files: &[&str],
-) -> Result<(), ErrorReported> {
+    input: &mut R,
+) -> Result<(), Failure> {
     for file in files {
-        match fs::read_to_string(rt, path_of(file)) {
-            Ok(text) => add_lines(rt, patterns, text.as_str())?,
-            Err(error) => return Err(report_cause(rt, file, &error)),
+        match read_file(rt, file, input) {
+            Ok(text) => add_lines(rt.alloc(), patterns, text.as_str())?,
+            Err(error) => return Err(Failure::of_cause(rt.alloc(), file, &error)),
         }
     }
     Ok(())
 }
 
-// The path of a file of patterns, of which `-` is standard input.
-fn path_of(file: &str) -> &str {
-    if file == "-" { "/dev/stdin" } else { file }
+// The text of a file, of which `-` is standard input.
+fn read_file<R: Source>(rt: &HostRuntime, file: &str, input: &mut R) -> io::Result<String> {
+    if file != "-" {
+        return fs::read_to_string(rt, file);
+    }
+    match String::from_utf8(read_input(rt.alloc(), input)?) {
+        Ok(text) => Ok(text),
+        Err(_) => Err(io::Error::from(io::ErrorKind::InvalidData)),
+    }
 }
 
-fn add_lines(rt: &HostRuntime, texts: &mut Vec<String>, text: &str) -> Result<(), ErrorReported> {
+// What standard input gives up to its end.
+fn read_input<R: Source>(alloc: Global, input: &mut R) -> io::Result<Vec<u8>> {
+    let mut contents = Vec::new(alloc);
+    let mut buffer = [0u8; 4096];
+    for _ in 0..u64::MAX {
+        match input.pull(&mut buffer)? {
+            0 => break,
+            count => contents.extend_from_slice(&buffer[..count])?,
+        }
+    }
+    Ok(contents)
+}
+
+fn add_lines(alloc: Global, texts: &mut Vec<String>, text: &str) -> Result<(), Failure> {
     for line in text.lines() {
-        add_text(rt, texts, line)?;
+        add_text(alloc, texts, line)?;
     }
     Ok(())
 }
 
-fn add_texts(
-    rt: &HostRuntime,
-    texts: &mut Vec<String>,
-    added: &[&str],
-) -> Result<(), ErrorReported> {
+fn add_texts(alloc: Global, texts: &mut Vec<String>, added: &[&str]) -> Result<(), Failure> {
     for text in added {
-        add_text(rt, texts, text)?;
+        add_text(alloc, texts, text)?;
     }
     Ok(())
 }
 
-fn add_text(rt: &HostRuntime, texts: &mut Vec<String>, text: &str) -> Result<(), ErrorReported> {
-    match push_text(rt.alloc(), texts, text) {
+fn add_text(alloc: Global, texts: &mut Vec<String>, text: &str) -> Result<(), Failure> {
+    match push_text(alloc, texts, text) {
         Ok(()) => Ok(()),
-        Err(_) => Err(report_out_of_memory(rt)),
+        Err(_) => Err(Failure::out_of_memory()),
     }
 }
 
@@ -95,16 +115,16 @@ fn push_text(alloc: Global, texts: &mut Vec<String>, text: &str) -> Result<(), A
 
 /// Compiles patterns as the options say. An error is that of a pattern, or that there is no memory.
 pub fn compile(
-    rt: &HostRuntime,
+    alloc: Global,
     options: &Options<'_, '_>,
     patterns: &[String],
-) -> Result<Regex, ErrorReported> {
-    let Ok(texts) = texts_of(rt.alloc(), patterns) else {
-        return Err(report_out_of_memory(rt));
+) -> Result<Regex, Failure> {
+    let Ok(texts) = texts_of(alloc, patterns) else {
+        return Err(Failure::out_of_memory());
     };
-    match builder(options, patterns).build_many(rt.alloc(), &texts) {
+    match builder(options, patterns).build_many(alloc, &texts) {
         Ok(regex) => Ok(regex),
-        Err(error) => Err(report_pattern(rt, &texts, &error)),
+        Err(error) => Err(pattern_failure(alloc, &texts, &error)),
     }
 }
 

@@ -1,16 +1,13 @@
 //! A run over files.
 use crate::engine::{Engine, written_error};
-use crate::failures::{ErrorReported, report, report_cause, report_output};
+use crate::failures::Failure;
 use crate::globs::Globs;
-use crate::haystacks::Haystack;
 use crate::option_id::OptionId;
 use crate::options::Options;
 use crate::printers::Searched;
 use crate::walk::{Entry, Walk};
-use grep_searcher::Source;
 use std::fmt::Display;
 use std::fs::File;
-use std::process::ExitCode;
 use std::{fs, io};
 
 // The name of standard input.
@@ -49,11 +46,10 @@ impl Scope {
 
 /// A run over files: what it searches with, and what came of those that it has searched.
 #[derive(Drop)]
-pub struct Run<'r, E, R> {
+pub struct Run<'r, E> {
     rt: &'r HostRuntime,
     engine: &'r mut E,
     globs: &'r mut Globs,
-    input: &'r mut R,
     scope: Scope,
     has_match: bool,
     has_error: bool,
@@ -61,24 +57,18 @@ pub struct Run<'r, E, R> {
     failure: Option<io::Error>,
 }
 
-impl<'r, E, R> Run<'r, E, R>
-where
-    E: Engine,
-    R: Source,
-{
+impl<'r, E: Engine> Run<'r, E> {
     /// A run that has searched nothing yet.
     pub fn new(
         rt: &'r HostRuntime,
         engine: &'r mut E,
         globs: &'r mut Globs,
-        input: &'r mut R,
         scope: Scope,
-    ) -> Run<'r, E, R> {
+    ) -> Run<'r, E> {
         Run {
             rt,
             engine,
             globs,
-            input,
             scope,
             has_match: false,
             has_error: false,
@@ -87,8 +77,8 @@ where
     }
 
     /// Searches the files at some paths, writes what is left, and gives the status. What can't be
-    /// read is reported, and gives the status 2. The only error is being out of memory.
-    pub fn complete(&mut self, paths: &[&str]) -> Result<ExitCode, ErrorReported> {
+    /// read is reported, and gives the status 2.
+    pub fn complete(&mut self, paths: &[&str]) -> u8 {
         self.search_paths(paths);
         match self.failure.take() {
             None => self.finish(),
@@ -177,15 +167,13 @@ where
     }
 
     fn search_file(&mut self, path: &str, file: &mut File) {
-        let mut haystack: Haystack<'_, File, R> = Haystack::File(file);
-        let searched = self.engine.search(&mut haystack, self.scope.path_of(path));
+        let searched = self.engine.search_file(file, self.scope.path_of(path));
         self.keep(path, searched);
     }
 
     // Searches standard input.
     fn search_input(&mut self) {
-        let mut haystack: Haystack<'_, File, R> = Haystack::Reader(&mut *self.input);
-        let searched = self.engine.search(&mut haystack, self.scope.path_of(STDIN));
+        let searched = self.engine.search_input(self.scope.path_of(STDIN));
         self.keep(STDIN, searched);
     }
 
@@ -203,25 +191,33 @@ where
     fn report<D: Display>(&mut self, path: &str, error: &D) {
         self.has_error = true;
         if !self.scope.is_silent {
-            report_cause(self.rt, path, error);
+            let failure = Failure::of_cause(self.rt.alloc(), path, error);
+            self.engine.say(failure.text());
         }
     }
 
     // Writes what is left, and gives the status.
-    fn finish(&mut self) -> Result<ExitCode, ErrorReported> {
+    fn finish(&mut self) -> u8 {
         match self.engine.finish() {
-            Ok(()) => Ok(ExitCode::from(self.status())),
+            Ok(()) => self.status(),
             Err(error) => self.fail(&error),
         }
     }
 
-    // Says why the run ends early: by the writer's error, or one of being out of memory.
-    fn fail(&self, error: &io::Error) -> Result<ExitCode, ErrorReported> {
-        if self.engine.has_failed() {
-            Ok(report_output(self.rt, error))
-        } else {
-            Err(report(self.rt, error))
+    // Says why the run ends early: by the writer's error, of which nothing is said if nobody reads
+    // what is written, or by one of being out of memory.
+    fn fail(&mut self, error: &io::Error) -> u8 {
+        let has_failed = self.engine.has_failed();
+        if has_failed && error.kind() == io::ErrorKind::BrokenPipe {
+            return 0;
         }
+        let failure = if has_failed {
+            Failure::of_output(self.rt.alloc(), error)
+        } else {
+            Failure::new(self.rt.alloc(), error)
+        };
+        self.engine.say(failure.text());
+        2
     }
 
     fn status(&self) -> u8 {

@@ -1,5 +1,5 @@
 //! Globs, which choose among the files of folders.
-use crate::failures::{ErrorReported, report_out_of_memory};
+use crate::failures::Failure;
 use crate::wildcards::{Error, Wildcards};
 use std::alloc::{AllocError, Global};
 
@@ -34,14 +34,14 @@ struct Glob {
 impl Globs {
     /// Reads globs, of which an empty one is left out. An error is that one isn't well formed, or
     /// that there is no memory.
-    pub fn read(rt: &HostRuntime, texts: &[&str]) -> Result<Globs, ErrorReported> {
+    pub fn read(alloc: Global, texts: &[&str]) -> Result<Globs, Failure> {
         let mut globs = Globs {
-            globs: Vec::new(rt.alloc()),
+            globs: Vec::new(alloc),
             are_exclusions: true,
         };
         for text in texts {
-            if let Err(error) = globs.add(rt.alloc(), text) {
-                return Err(report_glob(rt, text, error));
+            if let Err(error) = globs.add(alloc, text) {
+                return Err(glob_failure(alloc, text, error));
             }
         }
         Ok(globs)
@@ -123,11 +123,12 @@ fn letters(alloc: Global, text: &str) -> Result<Vec<char>, AllocError> {
     Ok(text.chars().collect(alloc)?)
 }
 
-// Says what is wrong with a glob.
-fn report_glob(rt: &HostRuntime, text: &str, error: Error) -> ErrorReported {
-    let Error::Malformed(cause) = error else {
-        return report_out_of_memory(rt);
-    };
-    let _ = eprintln!(rt; "linegrep: the glob {text}: {cause}");
-    ErrorReported
+// What is wrong with a glob.
+fn glob_failure(alloc: Global, text: &str, error: Error) -> Failure {
+    match error {
+        Error::Malformed(cause) => {
+            Failure::of_text(format!(in alloc; "linegrep: the glob {text}: {cause}\n"))
+        }
+        Error::OutOfMemory => Failure::out_of_memory(),
+    }
 }

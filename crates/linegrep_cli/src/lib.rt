@@ -1,0 +1,26 @@
+//! A search of files, or of standard input, for the lines that match a pattern, as a program makes
+//! it: the options that its arguments ask for, what is written, what is said on standard error, and
+//! the status that the program exits with.
+//!
+//! `CALLING.md` has an example.
+#![tactic(auto)]
+
+mod colors;
+mod command;
+mod engine;
+mod failures;
+mod file_run;
+mod globs;
+mod haystacks;
+mod json_run;
+mod option_id;
+mod options;
+mod patterns;
+mod printers;
+mod program;
+mod search;
+mod settings;
+mod walk;
+mod wildcards;
+
+pub use program::{Streams, run};

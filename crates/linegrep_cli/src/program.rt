@@ -1,0 +1,123 @@
+//! The program, by its arguments.
+use crate::command::command;
+use crate::failures::{Failure, say, usage_text};
+use crate::options::Options;
+use crate::patterns::read_patterns;
+use crate::search::search_all;
+use crate::settings::{build_printer, build_searcher};
+use clap::ArgMatches;
+use grep_output::{Output, write_all};
+use grep_searcher::Source;
+use std::alloc::Global;
+use std::io;
+
+const CONFLICT: &str = "--json can't be used with -c, --count-matches, -l or -L";
+
+/// What a run knows of its standard streams besides their bytes.
+#[derive(Clone, Copy)]
+pub struct Streams {
+    /// Whether the output is a terminal.
+    pub is_terminal: bool,
+}
+
+/// Does what the arguments ask for, which are without the program's name: searches the files at
+/// their paths or, if there are none, what `input` gives or, with `-r`, the files of the current
+/// folder, writes to `output` what is found, and says on `errors` what goes wrong.
+///
+/// The result is the status that the program exits with: 0 if a line matches, or help or the version
+/// is written; 1 if none does; and 2 if something can't be read or written, or the arguments are
+/// wrong. If nobody reads the output any more, it is 0.
+pub fn run<R: Source, W: Output + Drop, E: Output>(
+    rt: &HostRuntime,
+    streams: Streams,
+    arguments: &[String],
+    input: &mut R,
+    output: W,
+    errors: &mut E,
+) -> u8 {
+    let ended = match parse(rt.alloc(), arguments) {
+        Ok(matches) => search_parsed(rt, streams, &matches, input, output, errors),
+        Err(error) => answer(rt.alloc(), &error, output),
+    };
+    match ended {
+        Ok(status) => status,
+        Err(failure) => {
+            say(errors, failure.text());
+            2
+        }
+    }
+}
+
+// Parses the arguments.
+fn parse<'w>(alloc: Global, arguments: &'w [String]) -> Result<ArgMatches<'w>, clap::Error> {
+    match command(alloc) {
+        Ok(command) => command.try_get_matches_from(arguments),
+        Err(error) => Err(clap::Error::from(error)),
+    }
+}
+
+// Writes help or the version, if that is what was asked for. Otherwise the failure is what is wrong
+// with the arguments.
+fn answer<W: Output + Drop>(
+    alloc: Global,
+    error: &clap::Error,
+    mut output: W,
+) -> Result<u8, Failure> {
+    let Ok(text) = usage_text(alloc, error) else {
+        return Err(Failure::out_of_memory());
+    };
+    if error.use_stderr() {
+        return Err(Failure::of_text(Ok(text)));
+    }
+    match write_whole(&mut output, text.as_str()) {
+        Err(error) if error.kind() != io::ErrorKind::BrokenPipe => {
+            Err(Failure::of_output(alloc, &error))
+        }
+        _ => Ok(0),
+    }
+}
+
+fn write_whole<W: Output>(output: &mut W, text: &str) -> io::Result<()> {
+    write_all(output, text.as_bytes())?;
+    output.flush()
+}
+
+// Searches what parsed arguments name.
+fn search_parsed<R: Source, W: Output + Drop, E: Output>(
+    rt: &HostRuntime,
+    streams: Streams,
+    matches: &ArgMatches<'_>,
+    input: &mut R,
+    output: W,
+    errors: &mut E,
+) -> Result<u8, Failure> {
+    let options = Options::read(matches);
+    if options.has_conflict() {
+        return Err(Failure::of_arguments(rt.alloc(), CONFLICT));
+    }
+    let patterns = read_patterns(rt, matches, input)?;
+    search_patterns(rt, streams, &options, &patterns, input, output, errors)
+}
+
+// Searches for patterns, and writes what is found to `output`.
+fn search_patterns<R: Source, W: Output + Drop, E: Output>(
+    rt: &HostRuntime,
+    streams: Streams,
+    options: &Options<'_, '_>,
+    patterns: &[String],
+    input: &mut R,
+    output: W,
+    errors: &mut E,
+) -> Result<u8, Failure> {
+    let mut printer = build_printer(rt, options, streams.is_terminal, output);
+    let mut searcher = build_searcher(rt.alloc(), options, streams.is_terminal)?;
+    search_all(
+        rt,
+        options,
+        patterns,
+        &mut searcher,
+        &mut printer,
+        input,
+        errors,
+    )
+}
