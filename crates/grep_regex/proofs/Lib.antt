@@ -11,6 +11,7 @@ pub mod ClearLemmas
 pub mod SpelledLemmas
 pub mod StrippedLemmas
 pub mod StrippedTreeLemmas
+pub mod NamedByteLemmas
 pub mod FindLemmas
 pub mod EdgeLemmas
 pub mod MatchedLineLemmas

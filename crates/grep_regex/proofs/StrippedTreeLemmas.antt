@@ -10,6 +10,7 @@ use Rattle.regex_class.specs.declared.Class.{Class}
 use Rattle.regex_class.specs.Ranges.{in_ranges, HasExactly}
 use Rattle.regex_class.proofs.RangesLemmas.{in_ranges-append}
 use Rattle.regex_hir.specs.Meaning.{meaning}
+use Rattle.regex_hir.specs.Re.{empty}
 use Rattle.regex_hir.specs.declared.look.Look as look_type
 use Rattle.regex_hir.specs.declared.hir.Hir.{Hir}
 use Rattle.regex_hir.specs.declared.hir.Hir.TheVariants.{Empty, Literal, Bytes, Chars, Look}
@@ -35,6 +36,9 @@ AreTrees bytes h g = IsStripped bytes (meaning h) (meaning g)
 pub tree-Empty : (bytes : List ℕ) (h : Hir) → h ≡ Empty → IsStripped bytes (meaning h) (meaning Empty)
 tree-Empty bytes h is = subst (λ x. AreTrees bytes x Empty) (sym is)
     (subst (λ x. IsStripped bytes x x) (sym meaning-Empty) (stripped-empty bytes))
+
+pub tree-never : (bytes : List ℕ) (h : Hir) → meaning h ≡ empty → IsStripped bytes (meaning h) (meaning Empty)
+tree-never bytes h is = rw (is, meaning-Empty) (stripped-empty bytes)
 
 pub tree-Look : (bytes : List ℕ) (h : Hir) (l : look_type.Look) → h ≡ Look l
     → IsStripped bytes (meaning h) (meaning (Look l))

@@ -116,11 +116,17 @@ alike-only (x ∷ front) only hirs e one = absurd (omega (arith, ap length e, le
 
 -- ---- what is compiled
 
--- the pattern that was read, in its frame and without the bytes, finds what the texts say
+-- the pattern that was read, in its frame, matches as the texts say
+pub written-alike : (o : Options) (patterns : List (List ℕ)) (hir whole : Re)
+    → SameCaptures hir (alt_all (map (read_re o) patterns)) → whole ≡ framed o hir
+    → SameCaptures whole (written_re o patterns)
+written-alike o patterns hir whole read is = alike_of_eq is also framed-alike o read
+
+-- and without the bytes it finds what they say
 pub finds-as : (o : Options) (patterns : List (List ℕ)) (hir whole stripped : Re) →
     SameCaptures hir (alt_all (map (read_re o) patterns)) → whole ≡ framed o hir →
     IsStripped (excluded_bytes o.line_terminator) whole stripped → FindsAs o patterns stripped
 finds-as o patterns hir whole stripped read is thin = record {
   at = λ haystack start small from. find-stripped (excluded_bytes o.line_terminator) whole stripped
-      (written_re o patterns) thin (alike_of_eq is also framed-alike o read) haystack start small from;
+      (written_re o patterns) thin (written-alike o patterns hir whole read is) haystack start small from;
 }

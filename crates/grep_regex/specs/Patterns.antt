@@ -1,6 +1,7 @@
 -- What patterns mean under their options.
-use Rattle.std.specs.Prelude.{◌≡◌, ◌<◌, ◌≤◌, ℕ, true, false, if◌then◌else◌, List, [], map}
-use Rattle.std.specs.Prelude.{length, Option, None, Some, All, option_map, chars, encode_utf8_all}
+use Rattle.std.specs.Prelude.{◌≡◌, ◌<◌, ◌≤◌, ℕ, max, true, false, if◌then◌else◌, List, [], ◌∷◌, map}
+use Rattle.std.specs.Prelude.{length, Option, None, Some, IsSomeAnd, All, option_map, chars}
+use Rattle.std.specs.Prelude.{encode_utf8_all}
 use Rattle.regex_hir.specs.Find.{find}
 use Rattle.regex_hir.specs.Meaning.{alt_all}
 use Rattle.regex_hir.specs.Re.{Re, empty, byte_in, look, cat}
@@ -72,6 +73,28 @@ re_of (Some (re, names)) = re.value
 
 abbrev pub read_re : Options → List ℕ → Re
 read_re o pattern = re_of (read (config_of o) (chars (text_of o pattern)))
+
+-- the text is a pattern, nested no deeper than the limit
+abbrev pub IsPattern : Config → List ℕ → Type 0
+IsPattern config text =
+    IsSomeAnd (read config (chars text)) (λ (re, names). re.depth ≤ config.nest_limit)
+
+-- so is what is read of each of the texts
+abbrev pub ArePatterns : Options → List (List ℕ) → Type 0
+ArePatterns o patterns = All (λ p. IsPattern (config_of o) (text_of o p)) patterns
+
+-- how many groups were read, group 0 included
+abbrev pub groups_in : Option (Nested Re × Names) → ℕ
+groups_in None = 0
+groups_in (Some (re, names)) = length names
+
+abbrev pub groups_of : Options → List ℕ → ℕ
+groups_of o pattern = groups_in (read (config_of o) (chars (text_of o pattern)))
+
+-- the most groups that one of the patterns has, group 0 included
+abbrev pub most_groups : Options → List (List ℕ) → ℕ
+most_groups o [] = 1
+most_groups o (p ∷ patterns) = max (groups_of o p) (most_groups o patterns)
 
 -- a pattern between two assertions
 abbrev pub between : Look → Look → Re → Re

@@ -1,5 +1,9 @@
 -- Which error patterns get that can't be compiled.
-use Rattle.std.specs.Prelude.{◌≡◌, ◌≢◌, ℕ, ◌≤◌, true, List, Option, Some, slice_get, IsCharBoundary}
+use Rattle.std.specs.Prelude.{◌≡◌, ◌≢◌, ℕ, ◌≤◌, true, List, take, Option, Some, slice_get}
+use Rattle.std.specs.Prelude.{IsCharBoundary}
+use Rattle.regex_compile.specs.declared.error.Error as compiler
+use Rattle.regex_compile.specs.declared.error.Error.TheVariants.{OutOfMemory as NoMemory}
+use Rattle.regex_hir.specs.Re.{Re}
 use Rattle.regex_syntax.specs.Verdict.{Refuses}
 use Rattle.regex_syntax.specs.declared.Config.{Config}
 use Rattle.regex_syntax.specs.declared.error.Error as parser
@@ -7,15 +11,18 @@ use Rattle.regex_syntax.specs.declared.error.ErrorKind.TheVariants.{OutOfMemory}
 use Rattle.grep_matcher.specs.declared.line_terminator.LineTerminator.{LineTerminator}
 use Rattle.grep_matcher.specs.declared.line_terminator.LineTerminator.TheVariants.{Byte}
 use Rattle.grep_regex.specs.Clear.{is_among}
-use Rattle.grep_regex.specs.Patterns.{config_of, text_of, excluded_bytes}
+use Rattle.grep_regex.specs.NamedBytes.{HasByte, HasTerminator, HasNoTerminator}
+use Rattle.grep_regex.specs.Patterns.{config_of, text_of, excluded_bytes, IsPattern, ArePatterns}
+use Rattle.grep_regex.specs.Stripped.{AreAscii}
 use Rattle.grep_regex.specs.declared.error.Error.{Error}
 use Rattle.grep_regex.specs.declared.error.Error.TheVariants.{Syntax, NotAllowed}
 use Rattle.grep_regex.specs.declared.error.Error.TheVariants.{InvalidLineTerminator, TooBig, Memory}
 use Rattle.grep_regex.specs.declared.options.Options.{Options}
 
--- the parser's error says of the text that is read what the grammar says, where in the pattern, and
--- isn't one of memory
+-- the text that is read is no pattern, or is nested too deep, and the parser's error says so, and
+-- where in the pattern; it isn't one of memory
 pub record IsSyntax (config : Config) (text pattern : List ℕ) (error : parser.Error) : Type 0 where
+  pub wrong : IsPattern config text → ⊥
   pub refused : Refuses config text error.kind
   pub kind : error.kind ≢ OutOfMemory
   pub ordered : error.span.start ≤ error.span.end
@@ -30,11 +37,10 @@ IsOfParser index given (Syntax pattern error) =
 IsOfParser index given Memory = given.kind ≡ OutOfMemory
 IsOfParser index given _ = ⊥
 
--- the error for one of the compiler: the patterns are too big, or there is no memory
-abbrev pub IsOfCompiler : Error → Type 0
-IsOfCompiler TooBig = Unit {0}
-IsOfCompiler Memory = Unit {0}
-IsOfCompiler _ = ⊥
+-- the error for one of the compiler: there is no memory, or else the patterns are too big
+abbrev pub of_compiler : compiler.Error → Error
+of_compiler NoMemory = Memory
+of_compiler _ = TooBig
 
 -- the error of a pattern that is read as a text: it is no pattern, or nested too deep, or there is
 -- no memory
@@ -44,21 +50,21 @@ IsTextError config index text pattern (Syntax of error) = (of ≡ index)
 IsTextError config index text pattern Memory = Unit {0}
 IsTextError config index text pattern _ = ⊥
 
--- the error of some texts: that of one of them, or there are too many groups
+-- the error of some texts: that of the first that is no pattern, or there is no memory
 abbrev pub IsTextsError : Options → List (List ℕ) → Error → Type 0
 IsTextsError o patterns (Syntax index error) =
     (pattern : List ℕ) × (slice_get patterns index ≡ Some pattern)
+    × ArePatterns o (take index patterns)
     × IsSyntax (config_of o) (text_of o pattern) pattern error
-IsTextsError o patterns TooBig = Unit {0}
 IsTextsError o patterns Memory = Unit {0}
 IsTextsError o patterns _ = ⊥
 
--- the error of taking bytes out of a pattern: a literal has one of them, a class has some of them
--- and no other member, or there is no memory
-abbrev pub IsStripError : List ℕ → Error → Type 0
-IsStripError bytes (NotAllowed byte) = is_among bytes byte ≡ true
-IsStripError bytes Memory = Unit {0}
-IsStripError bytes _ = ⊥
+-- the error of taking bytes out of a pattern: a literal has one of them, a class has it and none but
+-- them, or there is no memory
+abbrev pub IsStripError : List ℕ → Re → Error → Type 0
+IsStripError bytes re (NotAllowed byte) = (is_among bytes byte ≡ true) × HasByte bytes byte re
+IsStripError bytes re Memory = Unit {0}
+IsStripError bytes re _ = ⊥
 
 -- the error of a terminator that isn't ASCII
 abbrev pub IsTerminatorError : Option LineTerminator → Error → Type 0
@@ -69,8 +75,15 @@ IsTerminatorError terminator _ = ⊥
 -- the error of patterns under options
 abbrev pub IsRefusal : Options → List (List ℕ) → Error → Type 0
 IsRefusal o patterns (Syntax index error) = IsTextsError o patterns (Syntax index error)
-IsRefusal o patterns (NotAllowed byte) = is_among (excluded_bytes o.line_terminator) byte ≡ true
+IsRefusal o patterns (NotAllowed byte) = ArePatterns o patterns × HasTerminator o patterns byte
 IsRefusal o patterns (InvalidLineTerminator byte) =
     (o.line_terminator ≡ Some (Byte byte)) × (128 ≤ byte)
-IsRefusal o patterns TooBig = Unit {0}
+IsRefusal o patterns TooBig = ArePatterns o patterns
 IsRefusal o patterns Memory = Unit {0}
+
+-- what is so of patterns that are compiled: each text is a pattern, the terminator is ASCII, and no
+-- byte of it is in the way
+pub record AreAccepted (o : Options) (patterns : List (List ℕ)) : Type 0 where
+  pub read : ArePatterns o patterns
+  pub ascii : AreAscii (excluded_bytes o.line_terminator)
+  pub allowed : HasNoTerminator o patterns

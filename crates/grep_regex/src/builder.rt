@@ -2,8 +2,9 @@
 ghost use Rattle.std.specs.Prelude.{◌≡◌, if◌then◌else◌, true, [], ◌∷◌, map, option_map, IfOk};
 ghost use Rattle.std.specs.Prelude.{IfErr};
 ghost use Rattle.grep_regex.specs.Patterns.{default_options};
-ghost use Rattle.grep_regex.specs.Refusals.{IsRefusal};
-ghost use Rattle.grep_regex.specs.Views.{regex_options, regex_patterns};
+ghost use Rattle.grep_regex.specs.Refusals.{AreAccepted, IsRefusal};
+ghost use Rattle.grep_regex.specs.Sizes.{IsSized};
+ghost use Rattle.grep_regex.specs.Views.{regex_options, regex_patterns, regex_program};
 
 use crate::error::Error;
 use crate::options::Options;
@@ -83,6 +84,9 @@ impl RegexMatcherBuilder {
     pub fn build(&self, alloc: Global, pattern: &str) -> Result<Regex, Error>
         ensures options { IfOk result (λ regex. regex_options regex ≡ self.now) }
         ensures patterns { IfOk result (λ regex. regex_patterns regex ≡ pattern.now ∷ []) }
+        ensures accepted { IfOk result (λ _. AreAccepted self.now (pattern.now ∷ [])) }
+        ensures sized { IfOk result
+            (λ regex. IsSized self.now (pattern.now ∷ []) (regex_program regex)) }
         ensures error { IfErr result (IsRefusal self.now (pattern.now ∷ [])) }
     {
         Regex::new(alloc, self.options, &[pattern])
@@ -98,6 +102,9 @@ impl RegexMatcherBuilder {
         ensures options { IfOk result (λ regex. regex_options regex ≡ self.now) }
         ensures patterns { IfOk result
             (λ regex. regex_patterns regex ≡ map (λ p. p.now) patterns.now) }
+        ensures accepted { IfOk result (λ _. AreAccepted self.now (map (λ p. p.now) patterns.now)) }
+        ensures sized { IfOk result
+            (λ regex. IsSized self.now (map (λ p. p.now) patterns.now) (regex_program regex)) }
         ensures error { IfErr result (IsRefusal self.now (map (λ p. p.now) patterns.now)) }
     {
         Regex::new(alloc, self.options, patterns)
@@ -109,6 +116,10 @@ impl RegexMatcherBuilder {
             (λ regex. regex_options regex ≡ record self.now { fixed_strings = true }) }
         ensures patterns { IfOk result
             (λ regex. regex_patterns regex ≡ map (λ p. p.now) literals.now) }
+        ensures accepted { IfOk result (λ _.
+            AreAccepted (record self.now { fixed_strings = true }) (map (λ p. p.now) literals.now)) }
+        ensures sized { IfOk result (λ regex. IsSized (record self.now { fixed_strings = true })
+            (map (λ p. p.now) literals.now) (regex_program regex)) }
         ensures error { IfErr result
             (IsRefusal (record self.now { fixed_strings = true }) (map (λ p. p.now) literals.now)) }
     {

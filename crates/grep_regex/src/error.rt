@@ -1,6 +1,6 @@
 //! Why patterns can't be compiled.
 ghost use Rattle.std.specs.Prelude.{◌≡◌};
-ghost use Rattle.grep_regex.specs.Refusals.{IsOfParser, IsOfCompiler};
+ghost use Rattle.grep_regex.specs.Refusals.{IsOfParser, of_compiler};
 
 use regex_compile::Error as CompileError;
 use regex_syntax::{Error as SyntaxError, ErrorKind};
@@ -48,7 +48,7 @@ impl Error {
 
     // The error for one of the compiler.
     pub(crate) fn of_compiler(error: CompileError) -> Error
-        ensures { IsOfCompiler result }
+        ensures { result ≡ of_compiler error }
     {
         match error {
             CompileError::TooBig | CompileError::Malformed => Error::TooBig,

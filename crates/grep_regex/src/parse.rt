@@ -1,9 +1,11 @@
 //! Reading patterns.
-ghost use Rattle.std.specs.Prelude.{◌≡◌, IfOk, IfErr, map, option_map, string_bytes};
+ghost use Rattle.std.specs.Prelude.{◌≡◌, ◌-◌, ◌^◌, IfOk, IfErr, map, min, option_map};
+ghost use Rattle.std.specs.Prelude.{string_bytes};
 ghost use Rattle.regex_hir.specs.Meaning.{meaning, alt_all};
 ghost use Rattle.regex_syntax.specs.Captures.{SameCaptures};
 ghost use Rattle.regex_syntax.specs.Verdict.{Reads};
 ghost use Rattle.grep_regex.specs.Patterns.{config_of, escape_of, text_of, read_re};
+ghost use Rattle.grep_regex.specs.Patterns.{ArePatterns, most_groups};
 ghost use Rattle.grep_regex.specs.Alike.{AreAlike};
 ghost use Rattle.grep_regex.specs.Refusals.{IsTextError, IsTextsError};
 
@@ -17,7 +19,7 @@ use std::alloc::Global;
 #[derive(Drop)]
 pub(crate) struct Choice {
     pub(crate) hir: Hir,
-    // How many groups there are at most, group 0 included.
+    // The most groups that one of them has, group 0 included; `u32::MAX` if it has more.
     pub(crate) groups: u32,
 }
 
@@ -29,19 +31,19 @@ pub(crate) fn read_choice(
 ) -> Result<Choice, Error>
     ensures ok { IfOk result (λ choice. SameCaptures (meaning choice.hir)
         (alt_all (map (read_re options.now) (map (λ p. p.now) patterns.now)))) }
+    ensures read { IfOk result (λ _. ArePatterns options.now (map (λ p. p.now) patterns.now)) }
+    ensures groups { IfOk result (λ choice. choice.groups
+        ≡ min (most_groups options.now (map (λ p. p.now) patterns.now)) (2 ^ 32 - 1)) }
     ensures error { IfErr result (IsTextsError options.now (map (λ p. p.now) patterns.now)) }
 {
     let Branches { hirs, groups } = read_all(alloc, options, patterns)?;
-    let Ok(groups) = u32::try_from(groups) else {
-        return Err(Error::TooBig);
-    };
     Ok(Choice {
         hir: choice_of(hirs),
-        groups,
+        groups: u32::try_from(groups).unwrap_or(u32::MAX),
     })
 }
 
-// Some patterns, and how many groups there are at most, group 0 included.
+// Some patterns, and the most groups that one of them has, group 0 included.
 #[derive(Drop)]
 struct Branches {
     hirs: Vec<Hir>,
@@ -52,6 +54,9 @@ struct Branches {
 fn read_all(alloc: Global, options: &Options, patterns: &[&str]) -> Result<Branches, Error>
     ensures ok { IfOk result (λ branches. AreAlike (map meaning branches.hirs.items)
         (map (read_re options.now) (map (λ p. p.now) patterns.now))) }
+    ensures read { IfOk result (λ _. ArePatterns options.now (map (λ p. p.now) patterns.now)) }
+    ensures groups { IfOk result (λ branches. branches.groups
+        ≡ most_groups options.now (map (λ p. p.now) patterns.now)) }
     ensures error { IfErr result (IsTextsError options.now (map (λ p. p.now) patterns.now)) }
 {
     let mut hirs = Vec::new(alloc);

@@ -7,7 +7,8 @@ ghost use Rattle.grep_regex.specs.AbsentBytes.{is_absent};
 ghost use Rattle.grep_regex.specs.Locality.{is_by_line};
 ghost use Rattle.grep_regex.specs.Patterns.{excluded_bytes, named_terminator, AvoidsAbsent};
 ghost use Rattle.grep_regex.specs.Patterns.{FindsAs};
-ghost use Rattle.grep_regex.specs.Refusals.{IsRefusal, IsTerminatorError};
+ghost use Rattle.grep_regex.specs.Refusals.{AreAccepted, IsRefusal, IsTerminatorError};
+ghost use Rattle.grep_regex.specs.Sizes.{IsSized};
 ghost use Rattle.grep_regex.specs.Spelled.{IsSpelled};
 ghost use Rattle.grep_regex.specs.Stripped.{AreAscii};
 
@@ -122,6 +123,10 @@ impl Regex {
     pub(crate) fn new(alloc: Global, options: Options, patterns: &[&str]) -> Result<Regex, Error>
         ensures options { IfOk result (λ r. regex_options r ≡ options) }
         ensures patterns { IfOk result (λ r. regex_patterns r ≡ map (λ p. p.now) patterns.now) }
+        ensures accepted { IfOk result
+            (λ _. AreAccepted options (map (λ p. p.now) patterns.now)) }
+        ensures sized { IfOk result
+            (λ r. IsSized options (map (λ p. p.now) patterns.now) (regex_program r)) }
         ensures error { IfErr result (IsRefusal options (map (λ p. p.now) patterns.now)) }
     {
         let program = match program_of(alloc, &options, patterns) {
@@ -205,6 +210,9 @@ impl Regex {
 fn program_of(alloc: Global, options: &Options, patterns: &[&str]) -> Result<Program, Error>
     ensures ok { IfOk result (λ program.
         FindsAs options.now (map (λ p. p.now) patterns.now) (meaning program.hir)) }
+    ensures accepted { IfOk result
+        (λ _. AreAccepted options.now (map (λ p. p.now) patterns.now)) }
+    ensures sized { IfOk result (IsSized options.now (map (λ p. p.now) patterns.now)) }
     ensures error { IfErr result (IsRefusal options.now (map (λ p. p.now) patterns.now)) }
 {
     check_terminator(options.line_terminator)?;

@@ -1,7 +1,11 @@
 //! Taking bytes out of a pattern.
-ghost use Rattle.std.specs.Prelude.{◌≡◌, IfOk, IfErr, false, map};
+ghost use Rattle.std.specs.Prelude.{◌≡◌, IfOk, IfErr, IsTrue, MatchOption, Some, ℕ, false, map, true};
 ghost use Rattle.std.specs.List.{list_any};
-ghost use Rattle.regex_hir.specs.Meaning.{meaning};
+ghost use Rattle.regex_class.specs.Ranges.{in_ranges};
+ghost use Rattle.regex_hir.specs.Meaning.{meaning, cat_all};
+ghost use Rattle.regex_hir.specs.Re.{byte_in, empty, literal};
+ghost use Rattle.grep_regex.specs.NamedBytes.{HasNone};
+ghost use Rattle.grep_regex.specs.Repetitions.{Repeats};
 ghost use Rattle.grep_regex.specs.Clear.{is_among};
 ghost use Rattle.grep_regex.specs.Refusals.{IsStripError};
 ghost use Rattle.grep_regex.specs.Stripped.{IsStripped, AreStripped, AreAscii};
@@ -18,7 +22,8 @@ use std::alloc::{AllocError, Global};
 pub(crate) fn without_bytes(alloc: Global, hir: &Hir, bytes: &[u8]) -> Result<Hir, Error>
     requires { AreAscii bytes.now }
     ensures ok { IfOk result (λ new. IsStripped bytes.now (meaning hir.now) (meaning new)) }
-    ensures error { IfErr result (IsStripError bytes.now) }
+    ensures none { IfOk result (λ _. HasNone bytes.now (meaning hir.now)) }
+    ensures error { IfErr result (IsStripError bytes.now (meaning hir.now)) }
 {
     let class = class_of(alloc, bytes)?;
     strip(alloc, hir, bytes, &class)
@@ -42,8 +47,12 @@ fn strip(alloc: Global, hir: &Hir, bytes: &[u8], class: &Class) -> Result<Hir, E
     requires ascii { AreAscii bytes.now }
     requires members { IsClassOf bytes.now class.now.ranges.items }
     ensures ok { IfOk result (λ new. IsStripped bytes.now (meaning hir.now) (meaning new)) }
-    ensures error { IfErr result (IsStripError bytes.now) }
+    ensures none { IfOk result (λ _. HasNone bytes.now (meaning hir.now)) }
+    ensures error { IfErr result (IsStripError bytes.now (meaning hir.now)) }
 {
+    if is_never(hir) {
+        return Ok(Hir::Empty);
+    }
     match hir {
         Hir::Empty => Ok(Hir::Empty),
         Hir::Literal(literal) => Ok(Hir::Literal(strip_literal(alloc, literal, bytes)?)),
@@ -76,7 +85,8 @@ fn strip_all(alloc: Global, subs: &[Hir], bytes: &[u8], class: &Class) -> Result
     requires members { IsClassOf bytes.now class.now.ranges.items }
     ensures ok { IfOk result (λ new.
         AreStripped bytes.now (map meaning subs.now) (map meaning new.items)) }
-    ensures error { IfErr result (IsStripError bytes.now) }
+    ensures none { IfOk result (λ _. HasNone bytes.now (cat_all (map meaning subs.now))) }
+    ensures error { IfErr result (IsStripError bytes.now (cat_all (map meaning subs.now))) }
 {
     let mut all = Vec::new(alloc);
     for i in 0..subs.len() {
@@ -85,18 +95,29 @@ fn strip_all(alloc: Global, subs: &[Hir], bytes: &[u8], class: &Class) -> Result
     Ok(all)
 }
 
-// A copy of a literal that has none of the bytes.
-fn strip_literal(alloc: Global, literal: &[u8], bytes: &[u8]) -> Result<Vec<u8>, Error>
-    ensures same { IfOk result (λ copy. copy.items ≡ literal.now) }
-    ensures none { IfOk result (λ copy. list_any (is_among bytes.now) literal.now ≡ false) }
-    ensures error { IfErr result (IsStripError bytes.now) }
+// Whether it is a repetition of nothing, `a{0}`.
+fn is_never(hir: &Hir) -> bool
+    ensures never { IsTrue result → meaning hir.now ≡ empty }
+    ensures repeats { result ≡ false → Repeats hir.now }
 {
-    for byte in literal {
+    match hir {
+        Hir::Repetition { min, max, .. } => *min == 0 && *max == Some(0),
+        _ => false,
+    }
+}
+
+// A copy of a literal that has none of the bytes.
+fn strip_literal(alloc: Global, text: &[u8], bytes: &[u8]) -> Result<Vec<u8>, Error>
+    ensures same { IfOk result (λ copy. copy.items ≡ text.now) }
+    ensures none { IfOk result (λ copy. list_any (is_among bytes.now) text.now ≡ false) }
+    ensures error { IfErr result (IsStripError bytes.now (literal text.now)) }
+{
+    for byte in text {
         if is_one_of(*byte, bytes) {
             return Err(Error::NotAllowed(*byte));
         }
     }
-    Ok(Vec::from_slice(alloc, literal)?)
+    Ok(Vec::from_slice(alloc, text)?)
 }
 
 // Whether a byte is one of these.
@@ -111,15 +132,30 @@ fn strip_class(members: &Class, bytes: &[u8], class: &Class) -> Result<Class, Er
     requires { IsClassOf bytes.now class.now.ranges.items }
     ensures ok { IfOk result (λ new.
         IsThinned bytes.now members.now.ranges.items new.ranges.items) }
-    ensures error { IfErr result (IsStripError bytes.now) }
+    ensures none { IfOk result (λ _. HasNone bytes.now (byte_in members.now.ranges.items)) }
+    ensures error { IfErr result (IsStripError bytes.now (byte_in members.now.ranges.items)) }
 {
     let left = members.difference(class)?;
-    if left.bounds().is_none() {
-        for byte in bytes {
-            if members.contains(u32::from(*byte)) {
-                return Err(Error::NotAllowed(*byte));
-            }
+    if left.bounds().is_some() {
+        return Ok(left);
+    }
+    match first_member(members, bytes) {
+        Some(byte) => Err(Error::NotAllowed(byte)),
+        None => Ok(left),
+    }
+}
+
+// The first of the bytes that is in the class.
+fn first_member(members: &Class, bytes: &[u8]) -> Option<u8>
+    ensures { MatchOption result
+        (list_any (in_ranges members.now.ranges.items) bytes.now ≡ false)
+        (λ byte. (is_among bytes.now byte ≡ true)
+        × (in_ranges members.now.ranges.items byte ≡ true)) }
+{
+    for byte in bytes {
+        if members.contains(u32::from(*byte)) {
+            return Some(*byte);
         }
     }
-    Ok(left)
+    None
 }

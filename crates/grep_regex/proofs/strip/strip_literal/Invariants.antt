@@ -4,4 +4,4 @@ use Rattle.grep_regex.specs.Clear.{is_among}
 use Rattle.grep_regex.proofs.strip.strip_literal.Given as goal
 
 abbrev pub invariant-loop-byte : goal.invariant-loop-byte
-invariant-loop-byte l = list_any (is_among l.bytes) (take l.byte-index l.literal) ≡ false
+invariant-loop-byte l = list_any (is_among l.bytes) (take l.byte-index l.text) ≡ false

@@ -1,0 +1,12 @@
+-- How large what is compiled may be.
+use Rattle.std.specs.Prelude.{◌≡◌, ℕ, ◌+◌, ◌-◌, ◌*◌, ◌^◌, ◌≤◌, min, List}
+use Rattle.regex_meta.specs.declared.program.Program.{Program}
+use Rattle.regex_nfa.specs.Sizes.{table_bytes}
+use Rattle.grep_regex.specs.Patterns.{most_groups}
+use Rattle.grep_regex.specs.declared.options.Options.{Options}
+
+-- the tables take no more bytes than the limit and those of the two states with which they begin, and
+-- there are two slots for each group, as many as the patterns have
+pub record IsSized (o : Options) (patterns : List (List ℕ)) (program : Program) : Type 0 where
+  pub small : table_bytes program.dfa.nfa ≤ o.size_limit + 24
+  pub slots : program.dfa.nfa.slot_count ≡ 2 * min (most_groups o patterns) (2 ^ 32 - 1)
