@@ -7,4 +7,5 @@ pub mod PendingLemmas
 pub mod PrintLemmas
 pub mod PrinterLemmas
 pub mod PutLemmas
+pub mod RunLemmas
 pub mod SearchLemmas

@@ -136,3 +136,7 @@ AskFor arguments options = (request : Request) × (request_of (texts arguments) 
 -- the arguments are a usage error
 abbrev pub AskForNothing : List (String Global) → Type 0
 AskForNothing arguments = request_of (texts arguments) ≡ None
+
+-- the arguments ask for some options
+abbrev pub AskForSomething : List (String Global) → Type 0
+AskForSomething arguments = (request : Request) × (request_of (texts arguments) ≡ Some request)

@@ -15,7 +15,7 @@ use Rattle.grep_searcher.specs.declared.SearchError.{SearchError}
 use Rattle.grep_searcher.specs.declared.SearchError.TheVariants.{Io}
 use Rattle.grep_searcher.specs.Plans.{search_plan, Planned, SearcherState}
 use Rattle.grep_searcher.specs.Searches.{IsInput, Taken, IsUnread, searched_bytes}
-use Rattle.lgrep_cli.specs.CommandLine.{AskFor}
+use Rattle.lgrep_cli.specs.CommandLine.{AskFor, AskForNothing, AskForSomething}
 use Rattle.lgrep_cli.specs.OptionSettings.{searched_settings, settings_of_options}
 use Rattle.lgrep_cli.specs.PrintedTexts.{count_text, has_match, text}
 use Rattle.grep_output.specs.Outputs.{OutputCall, flushes, Writes}
@@ -150,18 +150,21 @@ module _ {R W : Type 0} (remaining : R → Option (List ℕ)) (read_step : R →
     -- a run that fails does so for one of these reasons
     pub failed : IfErr result (λ error. IsFailure options reader writer error reader' writer')
 
-module _ {F W : Type 0} (remaining : Reader F → Option (List ℕ))
+module _ {F W : Type 0} (opens : List ℕ → Result F Error → Type 0)
+    (remaining : Reader F → Option (List ℕ))
     (read_step : Reader F → ReadResult → Reader F → Type 0)
     (write_step : W → OutputCall → W → Type 0) (contents : W → Option (List ℕ)) where
   -- what a run over a path does, by its result
-  pub data IsPathRun (options : Options) (writer : W) : RunResult → W → Type 0 where
-    -- the file wasn't opened, for this error, and the writer had no call
-    of_opening : {error : Error} → IsPathRun options writer (Err (Io error)) writer
-    -- this file was opened, and all else is what a run over it does
+  pub data IsPathRun (path : List ℕ) (options : Options) (writer : W) : RunResult → W → Type 0 where
+    -- opening the file at this path returned this error, and the writer had no call
+    of_opening : {error : Error} → opens path (Err error)
+        → IsPathRun path options writer (Err (Io error)) writer
+    -- it returned this file, and all else is what a run over the file does
     of_file : {result : RunResult} {writer' : W} (file : F) (reader' : Reader F)
+        → opens path (Ok file)
         → IsProgramRun remaining read_step write_step contents options (opened file) writer result
         reader' writer'
-        → IsPathRun options writer result writer'
+        → IsPathRun path options writer result writer'
 
 -- the exit status of a run: 0 if it reported a match, 1 if it reported none, 2 if it failed
 abbrev pub status_of : RunResult → ℕ
@@ -169,7 +172,8 @@ status_of (Ok true) = 0
 status_of (Ok false) = 1
 status_of (Err error) = 2
 
-module _ {F R W : Type 0} (file_remaining : Reader F → Option (List ℕ))
+module _ {F R W : Type 0} (opens : List ℕ → Result F Error → Type 0)
+    (file_remaining : Reader F → Option (List ℕ))
     (file_step : Reader F → ReadResult → Reader F → Type 0) (remaining : R → Option (List ℕ))
     (read_step : R → ReadResult → R → Type 0) (write_step : W → OutputCall → W → Type 0)
     (contents : W → Option (List ℕ)) where
@@ -179,15 +183,17 @@ module _ {F R W : Type 0} (file_remaining : Reader F → Option (List ℕ))
       IsProgramRun remaining read_step write_step contents options input writer result input'
       writer'
   IsRunAt (Some path) options input writer result input' writer' =
-      IsPathRun file_remaining file_step write_step contents options writer result writer'
+      IsPathRun opens file_remaining file_step write_step contents (string_bytes path) options writer
+      result writer'
       × (input' ≡ input)
 
-  -- what the program does, by its exit status. Arguments that ask for no options are a usage error
+  -- what the program does, by its exit status
   pub data IsProgramEnd (arguments : List (String Global)) (input : R) (writer : W) : ℕ → R → W
       → Type 0 where
-    -- the arguments are a usage error, or there was no memory for the options, of which nothing can
-    -- be said here: neither the input nor the writer had a call
-    of_options : IsProgramEnd arguments input writer 2 input writer
+    -- the arguments ask for nothing, and neither the input nor the writer had a call
+    of_usage : AskForNothing arguments → IsProgramEnd arguments input writer 2 input writer
+    -- they ask for options, but there was no memory to keep them: neither had a call either
+    of_memory : AskForSomething arguments → IsProgramEnd arguments input writer 2 input writer
     -- the status is that of a run by the options that the arguments ask for
     of_run : {input' : R} {writer' : W} (options : Options) (result : RunResult)
         → AskFor arguments options

@@ -9,6 +9,7 @@
 mod exit;
 mod lines;
 mod numeral;
+mod open;
 mod options;
 mod pending;
 mod printer;
@@ -17,6 +18,7 @@ mod search;
 
 pub use exit::status;
 pub use grep_output::{LastCall, Output, Writing};
+pub use open::Open;
 pub use options::{Options, OptionsFault, USAGE};
 pub use program::{FAILED, run_arguments};
 pub use search::{run, run_options, run_path};

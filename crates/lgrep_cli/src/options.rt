@@ -6,6 +6,7 @@ ghost use Rattle.std.specs.List.{list_all};
 ghost use Rattle.lgrep_cli.specs.CommandLine.{bare, is_dashed, operands_in, operands_of, text_of};
 ghost use Rattle.lgrep_cli.specs.CommandLine.{texts};
 ghost use Rattle.lgrep_cli.specs.CommandLine.{AreLast, AreOptionsOf, AskFor, AskForNothing};
+ghost use Rattle.lgrep_cli.specs.CommandLine.{AskForSomething};
 ghost use Rattle.lgrep_cli.specs.Numerals.{is_numeral, number_of};
 
 use std::alloc::Global;
@@ -67,6 +68,7 @@ impl Options {
         ensures operands { IfOk result (λ options.
             AreLast (operands_in options) (texts arguments.now)) }
         ensures usage { (result ≡ Err OptionsFault.Usage) ↔ AskForNothing arguments.now }
+        ensures memory { (result ≡ Err OptionsFault.Memory) → AskForSomething arguments.now }
     {
         let mut options = Options::without_literal(alloc);
         let mut later = arguments.iter();

@@ -4,13 +4,13 @@ ghost use Rattle.std.specs.Process.{exit_status};
 ghost use Rattle.lgrep_cli.specs.ProgramRuns.{IsProgramEnd};
 
 use crate::exit::status;
+use crate::open::Open;
 use crate::options::{Options, OptionsFault, USAGE};
 use crate::search::run_options;
 use grep_output::Output;
 use grep_searcher::{Reading, Source};
 use std::alloc::Global;
 use std::process::ExitCode;
-use std::rt::Files;
 
 /// The message on standard error of any failure but a usage error.
 pub const FAILED: &str = "lgrep: search failed";
@@ -21,14 +21,14 @@ pub const FAILED: &str = "lgrep: search failed";
 /// `FAILED`.
 ///
 /// The status is 0 if a match was reported, 1 if none was, and 2 if anything failed.
-pub fn run_arguments<T: Files + Eprint, R: Source, W: Output>(
+pub fn run_arguments<T: Open + Eprint, R: Source, W: Output>(
     rt: &T,
     alloc: Global,
     arguments: &[String],
     input: &mut R,
     writer: &mut W,
 ) -> ExitCode
-    ensures { IsProgramEnd
+    ensures { IsProgramEnd (T.opens rt.now)
         ⟦<Reading<T::File> as Source>⟧.remaining ⟦<Reading<T::File> as Source>⟧.step
         R.remaining R.step W.step W.contents arguments.now input.old writer.old (exit_status result)
         input.new writer.new }

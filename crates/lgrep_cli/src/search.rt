@@ -1,6 +1,7 @@
 //! A search of a reader or a file, with the text of its lines written.
 ghost use Rattle.std.specs.Prelude.{◌≡◌, ◌∷◌, ◌++◌, [], true, false, decimal, nat_lt, string_bytes};
 ghost use Rattle.std.specs.Prelude.{Ok, Err, OnOk, IfOk, IfErr, MatchResult};
+ghost use Rattle.std.specs.Path.{path_bytes};
 ghost use Rattle.std.specs.declared.io.Error.{Error};
 ghost use Rattle.lgrep_cli.specs.OptionSettings.{searched_settings};
 ghost use Rattle.grep_searcher.specs.SearchErrors.{IsOutOfMemory};
@@ -9,6 +10,7 @@ ghost use Rattle.lgrep_cli.specs.ProgramRuns.{IsPrinted, IsFailure, IsProgramRun
 ghost use Rattle.lgrep_cli.specs.ProgramRuns.{IsRunAt};
 
 use crate::lines::write_number;
+use crate::open::Open;
 use crate::options::Options;
 use crate::pending::Pending;
 use crate::printer::Printer;
@@ -20,10 +22,8 @@ use grep_searcher::laws::{
 use grep_searcher::sinks::Count;
 use grep_searcher::{Reading, SearchError, Searcher, SearcherBuilder, Source};
 use std::alloc::Global;
-use std::fs::File;
 use std::io;
-use std::path::Path;
-use std::rt::Files;
+use std::path::{AsPath, Path};
 
 /// Searches what a reader gives, line by line as it comes, writes the text of what is found,
 /// flushes the writer, and returns whether a match was reported. The reader is read no further than
@@ -69,17 +69,18 @@ pub fn run<R: Source, W: Output>(
 ///
 /// If the file can't be opened, the error is a `SearchError::Io` with the error of opening it, and
 /// the writer has no call. Any other error is one of `run`.
-pub fn run_path<R: Files, W: Output>(
+pub fn run_path<R: Open, W: Output>(
     rt: &R,
     alloc: Global,
     options: &Options,
     path: Path<'_>,
     writer: &mut W,
 ) -> Result<bool, SearchError>
-    ensures { IsPathRun ⟦<Reading<R::File> as Source>⟧.remaining ⟦<Reading<R::File> as Source>⟧.step
-        W.step W.contents options.now writer.old result writer.new }
+    ensures { IsPathRun (R.opens rt.now)
+        ⟦<Reading<R::File> as Source>⟧.remaining ⟦<Reading<R::File> as Source>⟧.step
+        W.step W.contents (path_bytes path.entry) options.now writer.old result writer.new }
 {
-    let file = match File::open(rt, path) {
+    let file = match rt.open(path.path_text()) {
         Ok(file) => file,
         Err(error) => return Err(SearchError::Io(error)),
     };
@@ -88,14 +89,15 @@ pub fn run_path<R: Files, W: Output>(
 
 /// Searches the file at the options' path as `run_path` does or, if they have none, what `input`
 /// gives as `run` does. If they have a path, whatever it is, `input` has no call.
-pub fn run_options<F: Files, R: Source, W: Output>(
+pub fn run_options<F: Open, R: Source, W: Output>(
     rt: &F,
     alloc: Global,
     options: &Options,
     input: &mut R,
     writer: &mut W,
 ) -> Result<bool, SearchError>
-    ensures { IsRunAt ⟦<Reading<F::File> as Source>⟧.remaining ⟦<Reading<F::File> as Source>⟧.step
+    ensures { IsRunAt (F.opens rt.now)
+        ⟦<Reading<F::File> as Source>⟧.remaining ⟦<Reading<F::File> as Source>⟧.step
         R.remaining R.step W.step W.contents options.now.path
         options.now input.old writer.old result input.new writer.new }
 {
