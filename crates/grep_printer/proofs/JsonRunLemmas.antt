@@ -1,22 +1,21 @@
 -- What the sink of a printer of JSON has written after a run along a plan, and a call that fails.
-use Rattle.std.proofs.Common.{◌≡◌, ◌⊎◌, ◌∙◌, [], ap, inl, inr, refl, subst}
+use Rattle.std.proofs.Common.{◌≡◌, ◌∙◌, ap, inl, inr, refl, subst}
 use Rattle.std.specs.Global.{Global}
+use Rattle.std.specs.List.{fold}
 use Rattle.std.specs.Prelude.{Bool, Err, List, Ok, Option, ℕ, true}
 use Rattle.grep_output.proofs.OutputLemmas.{Writes-none, Writes-more}
 use Rattle.grep_output.specs.Outputs.{Begins, FailsToWrite, OutputCall, WritesAll}
 use Rattle.grep_matcher.specs.Meanings.{MatcherFacts}
 use Rattle.grep_searcher.specs.Plans.{Call, Plan, IsRun, reported_bytes, Settings}
-use Rattle.grep_searcher.specs.SearchErrors.{IsOutOfMemory}
 use Rattle.grep_searcher.specs.declared.SearchError.{SearchError}
 use Rattle.grep_printer.proofs.JsonStepLemmas.{same-json}
 use Rattle.grep_printer.proofs.RunFoldLemmas.{run-fails, run-keeps}
-use Rattle.grep_printer.proofs.TextFailureLemmas.{begins-before, begins-itself, fails-in, stops-in}
-use Rattle.grep_printer.specs.JsonSteps.{IsJsonError, IsSameJson, PrintsJson}
+use Rattle.grep_printer.proofs.TextFailureLemmas.{begins-before, begins-itself}
+use Rattle.grep_printer.specs.JsonSteps.{FailsAlongJson, IsSameJson, PrintsJson}
 use Rattle.grep_printer.specs.JsonSteps.{PrintsJsonCall, PrintsJsonPlan, json_frame, json_text_of}
-use Rattle.grep_printer.specs.JsonTexts.{JsonFrame, JsonPrinted, json_printed_of, json_printed_with, json_progress}
-use Rattle.grep_printer.specs.JsonTexts.{json_text}
+use Rattle.grep_printer.specs.JsonTexts.{JsonFrame, JsonPrinted, json_printed_with, json_progress, json_text}
+use Rattle.grep_printer.specs.JsonTexts.{nothing_json_printed}
 use Rattle.grep_printer.specs.ReportedParts.{FailsAtReport}
-use Rattle.grep_printer.specs.TextFailures.{IsCutShort}
 use Rattle.grep_printer.specs.declared.json_printer.JsonSink.{JsonSink}
 
 module _ {M W F : Type 0} (facts : M → MatcherFacts F) (first_at : M → List ℕ → ℕ → Option (ℕ × ℕ))
@@ -26,8 +25,8 @@ module _ {M W F : Type 0} (facts : M → MatcherFacts F) (first_at : M → List 
   same-frame old new same =
       let matcher = same.matcher in let path = same.path in let always_begin_end = same.always_begin_end in cc
 
-module _ {M W F : Type 0} (facts : M → MatcherFacts F) (first_at : M → List ℕ → ℕ → Option (ℕ × ℕ))
-    (write_step : W → OutputCall → W → Type 0) (settings : Settings) where
+module _ {M W F : Type 0} (output : F → Option (List ℕ)) (facts : M → MatcherFacts F)
+    (first_at : M → List ℕ → ℕ → Option (ℕ × ℕ)) (write_step : W → OutputCall → W → Type 0) (settings : Settings) where
   -- what a sink has written since a state of the writer, and what was reported to it
   record HasPrinted (frame : JsonFrame) (start : JsonSink M W) (printed : JsonPrinted) (now : JsonSink M W)
       : Type 0 where
@@ -47,7 +46,7 @@ module _ {M W F : Type 0} (facts : M → MatcherFacts F) (first_at : M → List 
   -- one more call
   printed-more : (frame : JsonFrame) (start : JsonSink M W) (printed : JsonPrinted) (old : JsonSink M W) (call : Call)
       (b : Bool) (new : JsonSink M W) → HasPrinted frame start printed old
-      → PrintsJson facts first_at write_step old settings call b new
+      → PrintsJson output facts first_at write_step old settings call b new
       → (b ≡ true) × HasPrinted frame start (json_printed_with frame printed call) new
   printed-more frame start printed old call b new before step = (
     step.goes_on,
@@ -66,7 +65,7 @@ module _ {M W F : Type 0} (facts : M → MatcherFacts F) (first_at : M → List 
 
   -- nothing is printed yet
   printed-none : (old : JsonSink M W)
-      → HasPrinted (json_frame facts first_at old settings) old (record { progress = old.progress; text = [] }) old
+      → HasPrinted (json_frame facts first_at old settings) old (nothing_json_printed old.progress) old
   printed-none old = record {
     same = record { printer = refl; matcher = refl; path = refl; always_begin_end = refl };
     framed = refl;
@@ -77,53 +76,55 @@ module _ {M W F : Type 0} (facts : M → MatcherFacts F) (first_at : M → List 
 
   -- a run along a plan that ended in `Ok`
   pub run-prints-json : (old : JsonSink M W) (plan : Plan) (new : JsonSink M W)
-      → IsRun (PrintsJsonCall facts first_at write_step) settings old plan (Ok tt) new
-      → PrintsJsonPlan facts first_at write_step old settings plan new
+      → IsRun (PrintsJsonCall output facts first_at write_step) settings old plan (Ok tt) new
+      → PrintsJsonPlan output facts first_at write_step old settings plan new
   run-prints-json old plan new run =
       let frame = json_frame facts first_at old settings in
-      let end = run-keeps (PrintsJsonCall facts first_at write_step) settings (HasPrinted frame old)
-      (λ printed call. true) (json_printed_with frame) (printed-more frame old) (record { progress = old.progress; text = [] }) old plan new
+      let end = run-keeps (PrintsJsonCall output facts first_at write_step) settings (HasPrinted frame old)
+      (λ printed call. true) (json_printed_with frame) (printed-more frame old) (nothing_json_printed old.progress) old plan new
       (printed-none old) run in
       record { same = end.same; written = end.written; progress = end.progress; has_failed = end.has_failed }
 
   -- a run along a plan that ended in an error
   pub run-fails-to-print-json : (old : JsonSink M W) (plan : Plan) (e : SearchError Global) (new : JsonSink M W)
-      → IsRun (PrintsJsonCall facts first_at write_step) settings old plan (Err e) new
-      → IsSameJson old new × IsCutShort write_step old.printer.now.writer old.printer.now.has_failed
-      (json_printed_of (json_frame facts first_at old settings) old.progress plan).text e
-      (IsOutOfMemory e ⊎ ((bytes : List ℕ) × IsJsonError facts old settings bytes e))
-      new.printer.now.writer new.printer.now.has_failed
+      → IsRun (PrintsJsonCall output facts first_at write_step) settings old plan (Err e) new
+      → IsSameJson old new × FailsAlongJson output facts first_at write_step old settings plan e new
   run-fails-to-print-json old plan e new run =
       let frame = json_frame facts first_at old settings in
-      let all = (json_printed_of frame old.progress plan).text in
-      let way = run-fails (PrintsJsonCall facts first_at write_step) settings (HasPrinted frame old)
+      let way = run-fails (PrintsJsonCall output facts first_at write_step) settings (HasPrinted frame old)
       (λ printed call. true) (json_printed_with frame) (printed-more frame old)
       (λ made end. Begins made.text end.text) (λ made. begins-itself made.text)
       (λ made end call later. begins-before made.text (json_text frame made.progress call) end.text later)
-      (record { progress = old.progress; text = [] }) old plan e new (printed-none old) run in
+      (nothing_json_printed old.progress) old plan e new (printed-none old) run in
       let has = way.has in
-      let text = json_text frame way.made.progress way.call in
-      let mid = way.mid.printer.now.writer in (
+      let made = fold (json_printed_with frame) (nothing_json_printed old.progress) way.before in (
         same-json old way.mid new has.same way.failed.same,
-        elim way.failed.cause [
-          | inl writing ↦ inl (
-            fails-in write_step old.printer.now.writer mid way.made.text text all has.written way.leads
-                new.printer.now.writer e writing.error writing.is_io
-                (subst (λ t. FailsToWrite write_step mid t writing.error new.printer.now.writer)
-                (text-same frame old way.made way.mid way.call has) writing.failed),
-            writing.has_failed,
-          )
-          | inr before ↦ inr (
-            stops-in write_step old.printer.now.writer mid way.made.text text all has.written way.leads
-                new.printer.now.writer before.unwritten,
-            before.has_failed ∙ has.has_failed,
-            elim before.cause [
-              | inl memory ↦ inl memory
-              | inr refused ↦ inr (
-                reported_bytes way.call,
-                subst (λ m. FailsAtReport (facts m) settings (reported_bytes way.call) e) has.same.matcher refused,
-              )
-            ],
-          )
-        ],
+        record {
+          before = way.before;
+          call = way.call;
+          comes = way.comes;
+          mid = way.mid.printer.now.writer;
+          written = has.written;
+          cut = elim way.failed.cause [
+            | inl writing ↦ inl (
+              record {
+                error = writing.error;
+                is_io = writing.is_io;
+                failed = subst (λ t. FailsToWrite write_step way.mid.printer.now.writer t writing.error
+                    new.printer.now.writer) (text-same frame old made way.mid way.call has) writing.failed;
+              },
+              writing.has_failed,
+            )
+            | inr kept ↦ inr (
+              kept.unwritten,
+              kept.has_failed ∙ has.has_failed,
+              elim kept.cause [
+                | inl memory ↦ inl memory
+                | inr refused ↦ inr (subst (λ m. FailsAtReport output (facts m) settings (reported_bytes way.call) e)
+                    has.same.matcher refused)
+              ],
+            )
+          ];
+          begins = way.leads;
+        },
       )

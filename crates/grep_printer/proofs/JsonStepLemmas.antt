@@ -77,8 +77,8 @@ pub record IsMade (made wanted : List ℕ) (progress reported : JsonProgress) : 
   pub text : made ≡ wanted
   pub reports : progress ≡ reported
 
-module _ {M W F : Type 0} (facts : M → MatcherFacts F) (first_at : M → List ℕ → ℕ → Option (ℕ × ℕ))
-    (write_step : W → OutputCall → W → Type 0) where
+module _ {M W F : Type 0} (output : F → Option (List ℕ)) (facts : M → MatcherFacts F)
+    (first_at : M → List ℕ → ℕ → Option (ℕ × ℕ)) (write_step : W → OutputCall → W → Type 0) where
   -- a call with a text
   pub json-made : (old mid new : JsonSink M W) (settings : Settings) (call : Call)
       (made : Result (Unit {0}) (SearchError Global)) (progress : JsonProgress)
@@ -86,9 +86,9 @@ module _ {M W F : Type 0} (facts : M → MatcherFacts F) (first_at : M → List 
       → IsComposingJson old mid
       → OnOk made (IsMade mid.printer.now.draft.text.bytes.items (json_text_of facts first_at old settings call) progress
       (json_progress (json_frame facts first_at old settings) old.progress call))
-      → IfErr made (λ e. IsOutOfMemory e ⊎ IsJsonError facts old settings (reported_bytes call) e)
+      → IfErr made (λ e. IsOutOfMemory e ⊎ IsJsonError output facts old settings (reported_bytes call) e)
       → WritesJsonMade write_step mid made progress result new
-      → PrintsJsonCall facts first_at write_step old settings call result new
+      → PrintsJsonCall output facts first_at write_step old settings call result new
   json-made old mid new settings call made progress (Ok goes) composing text error (going, is, written) =
       let all = subst (λ m. OnOk m (IsMade mid.printer.now.draft.text.bytes.items (json_text_of facts first_at old settings call)
       progress (json_progress (json_frame facts first_at old settings) old.progress call))) is text in
@@ -124,7 +124,7 @@ module _ {M W F : Type 0} (facts : M → MatcherFacts F) (first_at : M → List 
       unwritten = kept.writer ∙ composing.writer;
       progress = kept.progress ∙ composing.progress;
       has_failed = kept.has_failed ∙ composing.has_failed;
-      cause = subst (λ m. IfErr m (λ e. IsOutOfMemory e ⊎ IsJsonError facts old settings (reported_bytes call) e))
+      cause = subst (λ m. IfErr m (λ e. IsOutOfMemory e ⊎ IsJsonError output facts old settings (reported_bytes call) e))
           is error;
     });
   }
@@ -140,11 +140,11 @@ module _ {M W F : Type 0} (facts : M → MatcherFacts F) (first_at : M → List 
       → OnOk made (mid.printer.now.draft.text.bytes.items
       ≡ opening_line old.path old.progress.is_begun
       ++ json_line (report_of old.path report mid.printer.now.draft.submatches.items))
-      → IfErr made (λ e. IsOutOfMemory e ⊎ FailsAtReport (facts old.matcher) settings report.bytes.now e)
+      → IfErr made (λ e. IsOutOfMemory e ⊎ FailsAtReport output (facts old.matcher) settings report.bytes.now e)
       → progress ≡ after_report old.progress (length mid.printer.now.draft.text.bytes.items) report
       (length mid.printer.now.draft.submatches.items) (byte_of settings.line_terminator)
       → WritesJsonMade write_step mid made progress result new
-      → PrintsJsonCall facts first_at write_step old settings (call_of report) result new
+      → PrintsJsonCall output facts first_at write_step old settings (call_of report) result new
   json-report old mid new settings report made progress result composing found text error after written =
       let frame = json_frame facts first_at old settings in
       let parts = matches_in frame old.progress report.kind report.bytes.now in
@@ -164,6 +164,6 @@ module _ {M W F : Type 0} (facts : M → MatcherFacts F) (first_at : M → List 
             (length (json_text frame old.progress (call_of report))) report (length ps) terminator) same
             ∙ json_progress-report frame old.progress report));
       }) found text)
-      (subst (λ (bytes : List ℕ). IfErr made (λ e. IsOutOfMemory e ⊎ FailsAtReport (facts old.matcher) settings bytes e))
+      (subst (λ (bytes : List ℕ). IfErr made (λ e. IsOutOfMemory e ⊎ FailsAtReport output (facts old.matcher) settings bytes e))
       (sym (reported_bytes-report report.kind report.number report.offset report.bytes.now)) error)
       written

@@ -1,5 +1,5 @@
 -- What the sink of a printer has written after a run along a plan.
-use Rattle.std.proofs.Common.{◌≡◌, ◌⊎◌, ◌∙◌, ap, inl, inr, refl, subst}
+use Rattle.std.proofs.Common.{◌≡◌, ◌∙◌, ap, inl, inr, refl, subst}
 use Rattle.std.specs.Global.{Global}
 use Rattle.std.specs.Prelude.{ℕ, List, Option, Bool, ◌||◌, Err, Ok}
 use Rattle.grep_output.proofs.OutputLemmas.{Writes-none, Writes-more}
@@ -7,19 +7,19 @@ use Rattle.grep_output.specs.Outputs.{Begins, FailsToWrite, OutputCall, WritesAl
 use Rattle.grep_matcher.specs.Meanings.{MatcherFacts}
 use Rattle.grep_searcher.specs.Plans.{Call, Plan, IsRun, reported_bytes, Settings}
 use Rattle.grep_searcher.specs.declared.SearchError.{SearchError}
-use Rattle.grep_printer.proofs.RunFoldLemmas.{FailsOnTheWay, run-fails, run-keeps}
+use Rattle.grep_printer.proofs.RunFoldLemmas.{run-fails, run-keeps}
 use Rattle.grep_printer.proofs.SomeTextLemmas.{text-more, text-none}
-use Rattle.grep_printer.proofs.TextFailureLemmas.{begins-before, begins-itself, fails-in, stops-in}
+use Rattle.grep_printer.proofs.TextFailureLemmas.{begins-before, begins-itself}
 use Rattle.grep_printer.proofs.StandardStepLemmas.{same-more}
 use Rattle.grep_printer.specs.ReportedParts.{FailsAtReport}
-use Rattle.grep_printer.specs.StandardSteps.{FailsAlongPlan, FailsToWritePlan, IsSameSink, Prints, PrintsCall}
+use Rattle.grep_printer.specs.StandardSteps.{FailsAlongPlan, IsSameSink, Prints, PrintsCall}
 use Rattle.grep_printer.specs.StandardSteps.{PrintsPlan, frame_of, text_of}
 use Rattle.grep_printer.specs.StandardTexts.{Frame, Printed, call_text, goes_on, is_text, nothing_printed}
-use Rattle.grep_printer.specs.StandardTexts.{printed_of, printed_with, progress_after}
+use Rattle.grep_printer.specs.StandardTexts.{printed_by, printed_with, progress_after}
 use Rattle.grep_printer.specs.declared.standard.StandardSink.{StandardSink}
 
-module _ {M W F : Type 0} (facts : M → MatcherFacts F) (first_at : M → List ℕ → ℕ → Option (ℕ × ℕ))
-    (write_step : W → OutputCall → W → Type 0) (settings : Settings) where
+module _ {M W F : Type 0} (output : F → Option (List ℕ)) (facts : M → MatcherFacts F)
+    (first_at : M → List ℕ → ℕ → Option (ℕ × ℕ)) (write_step : W → OutputCall → W → Type 0) (settings : Settings) where
   -- the texts of a sink's calls depend on the same
   same-frame : (old new : StandardSink M W) → IsSameSink old new
       → frame_of facts first_at new settings ≡ frame_of facts first_at old settings
@@ -46,7 +46,7 @@ module _ {M W F : Type 0} (facts : M → MatcherFacts F) (first_at : M → List 
   -- one more call, and whether the search goes on after it
   printed-more : (frame : Frame) (start : StandardSink M W) (printed : Printed) (old : StandardSink M W) (call : Call)
       (b : Bool) (new : StandardSink M W) → HasPrinted frame start printed old
-      → Prints facts first_at write_step old settings call b new
+      → Prints output facts first_at write_step old settings call b new
       → (b ≡ goes_on frame printed.progress call) × HasPrinted frame start (printed_with frame printed call) new
   printed-more frame start printed old call b new before step =
       let here = text-same frame start printed old call before in (
@@ -81,11 +81,11 @@ module _ {M W F : Type 0} (facts : M → MatcherFacts F) (first_at : M → List 
 
   -- a run along a plan that ended in `Ok`
   pub run-prints : (old : StandardSink M W) (plan : Plan) (new : StandardSink M W)
-      → IsRun (PrintsCall facts first_at write_step) settings old plan (Ok tt) new
-      → PrintsPlan facts first_at write_step old settings plan new
+      → IsRun (PrintsCall output facts first_at write_step) settings old plan (Ok tt) new
+      → PrintsPlan output facts first_at write_step old settings plan new
   run-prints old plan new run =
       let frame = frame_of facts first_at old settings in
-      let end = run-keeps (PrintsCall facts first_at write_step) settings (HasPrinted frame old)
+      let end = run-keeps (PrintsCall output facts first_at write_step) settings (HasPrinted frame old)
       (λ printed call. goes_on frame printed.progress call) (printed_with frame) (printed-more frame old)
       (nothing_printed old.progress) old plan new
       (printed-none old) run in
@@ -97,58 +97,52 @@ module _ {M W F : Type 0} (facts : M → MatcherFacts F) (first_at : M → List 
         has_failed = end.has_failed;
       }
 
-  -- a call that fails after others
-  call-fails : (start : StandardSink M W) (e : SearchError Global) (new : StandardSink M W) (plan : Plan)
-      → FailsOnTheWay (PrintsCall facts first_at write_step) settings
-      (HasPrinted (frame_of facts first_at start settings) start)
-      (λ printed call. goes_on (frame_of facts first_at start settings) printed.progress call)
-      (printed_with (frame_of facts first_at start settings))
-      (printed-more (frame_of facts first_at start settings) start)
-      (λ made end. Begins made.text end.text)
-      (printed_of (frame_of facts first_at start settings) start.progress plan) e new
-      → IsSameSink start new × (FailsToWritePlan facts first_at write_step start settings plan e new
-      ⊎ FailsAlongPlan facts first_at write_step start settings plan e new)
-  call-fails start e new plan way =
-      let has = way.has in
-      let all = (printed_of (frame_of facts first_at start settings) start.progress plan).text in
-      let here = text-same (frame_of facts first_at start settings) start way.made way.mid way.call has in (
-        same-more start way.mid new has.same way.failed.same,
-        elim way.failed.cause [
-          | inl writing ↦ inl (record {
-            failed = fails-in write_step start.printer.now.writer way.mid.printer.now.writer way.made.text
-                (call_text (frame_of facts first_at start settings) way.made.progress way.call) all has.written
-                way.leads new.printer.now.writer e writing.error writing.is_io
-                (subst (λ t. FailsToWrite write_step way.mid.printer.now.writer t writing.error new.printer.now.writer)
-                here writing.failed);
-            has_failed = writing.has_failed;
-          })
-          | inr before ↦ inr (record {
-            stopped = stops-in write_step start.printer.now.writer way.mid.printer.now.writer way.made.text
-                (call_text (frame_of facts first_at start settings) way.made.progress way.call) all has.written
-                way.leads new.printer.now.writer before.unwritten;
-            has_written = before.has_written ∙ has.has_written;
-            has_failed = before.has_failed ∙ has.has_failed;
-            cause = elim before.cause [
-              | inl memory ↦ inl memory
-              | inr refused ↦ inr (
-                reported_bytes way.call,
-                subst (λ m. FailsAtReport (facts m) settings (reported_bytes way.call) e) has.same.matcher refused,
-              )
-            ];
-          })
-        ],
-      )
-
   -- a run along a plan that ended in an error
   pub run-fails-to-print : (old : StandardSink M W) (plan : Plan) (e : SearchError Global) (new : StandardSink M W)
-      → IsRun (PrintsCall facts first_at write_step) settings old plan (Err e) new
-      → IsSameSink old new × (FailsToWritePlan facts first_at write_step old settings plan e new
-      ⊎ FailsAlongPlan facts first_at write_step old settings plan e new)
+      → IsRun (PrintsCall output facts first_at write_step) settings old plan (Err e) new
+      → IsSameSink old new × FailsAlongPlan output facts first_at write_step old settings plan e new
   run-fails-to-print old plan e new run =
       let frame = frame_of facts first_at old settings in
-      call-fails old e new plan
-      (run-fails (PrintsCall facts first_at write_step) settings (HasPrinted frame old)
+      let way = run-fails (PrintsCall output facts first_at write_step) settings (HasPrinted frame old)
       (λ printed call. goes_on frame printed.progress call) (printed_with frame) (printed-more frame old)
       (λ made end. Begins made.text end.text) (λ made. begins-itself made.text)
       (λ made end call later. begins-before made.text (call_text frame made.progress call) end.text later)
-      (nothing_printed old.progress) old plan e new (printed-none old) run)
+      (nothing_printed old.progress) old plan e new (printed-none old) run in
+      let has = way.has in
+      let made = printed_by frame old.progress way.before in (
+        same-more old way.mid new has.same way.failed.same,
+        record {
+          at_call = record {
+            before = way.before;
+            call = way.call;
+            comes = way.comes;
+            mid = way.mid.printer.now.writer;
+            written = has.written;
+            cut = elim way.failed.cause [
+              | inl writing ↦ inl (
+                record {
+                  error = writing.error;
+                  is_io = writing.is_io;
+                  failed = subst (λ t. FailsToWrite write_step way.mid.printer.now.writer t writing.error
+                      new.printer.now.writer) (text-same frame old made way.mid way.call has) writing.failed;
+                },
+                writing.has_failed,
+              )
+              | inr kept ↦ inr (
+                kept.unwritten,
+                kept.has_failed ∙ has.has_failed,
+                elim kept.cause [
+                  | inl memory ↦ inl memory
+                  | inr refused ↦ inr (subst (λ m. FailsAtReport output (facts m) settings (reported_bytes way.call) e)
+                      has.same.matcher refused)
+                ],
+              )
+            ];
+            begins = way.leads;
+          };
+          has_written = elim way.failed.cause [
+            | inl writing ↦ writing.has_written ∙ has.has_written
+            | inr kept ↦ kept.has_written ∙ has.has_written
+          ];
+        },
+      )

@@ -1,9 +1,34 @@
 -- What a fold over the calls of a plan has to do with a run along it.
-use Rattle.std.proofs.Common.{◌≡◌, List, [], ◌∷◌, inl, inr, sym, subst}
+use Rattle.std.proofs.Common.{◌≡◌, List, [], ◌∷◌, ap, inl, inr, refl, sym, subst}
+use Rattle.std.specs.List.{fold}
 use Rattle.std.specs.Prelude.{Bool, true, false, Err, Ok, if◌then◌else◌}
 use Rattle.grep_searcher.specs.Plans.{Call, Plan, Planned, Finish, Outcome, AreMade, IsFinished}
 use Rattle.grep_searcher.specs.Plans.{IsRun, Steps, finishes, Settings}
+use Rattle.grep_searcher.specs.SearchLaws.{calls_of}
 use Rattle.grep_searcher.specs.SinkFolds.{run_fold}
+use Rattle.grep_printer.specs.TextFailures.{ComesTo, IsNextCall}
+
+-- a run comes to a call after one more, after which the search goes on
+comes-more : {P : Type 0} (goes : P → Call → Bool) (next : P → Call → P) (made : P) (planned : Planned)
+    (later : List Planned) (finish : Finish) (before : List Call) (call : Call) → goes made planned.call ≡ true
+    → ComesTo goes next (next made planned.call) later finish before call
+    → ComesTo goes next made (planned ∷ later) finish (planned.call ∷ before) call
+comes-more {P} goes next made planned later finish before call on comes = record {
+  front = planned ∷ comes.front;
+  later = comes.later;
+  all = ap (λ calls. planned ∷ calls) comes.all;
+  go_on = (on, comes.go_on);
+  next_call = go comes.later comes.next_call;
+}
+  where
+    there : P
+    there = fold next (next made planned.call) (calls_of comes.front)
+
+    go : (left : List Planned) → IsNextCall goes next there (calls_of comes.front) left finish before call
+        → IsNextCall goes next there (planned.call ∷ calls_of comes.front) left finish (planned.call ∷ before) call
+    go [] (is, last) = (ap (λ calls. planned.call ∷ calls) is, last)
+    go (one ∷ left) (inl (is, same)) = inl (ap (λ calls. planned.call ∷ calls) is, same)
+    go (one ∷ left) (inr (stops, is, last)) = inr (stops, ap (λ calls. planned.call ∷ calls) is, last)
 
 -- What a sink has is what these functions of the calls make, and each call that succeeds keeps it so.
 module _ {S E P : Type 0} (step : Steps S E) (settings : Settings) (Has : P → S → Type 0) (goes : P → Call → Bool)
@@ -36,13 +61,15 @@ module _ {S E P : Type 0} (step : Steps S E) (settings : Settings) (Has : P → 
       keeps plan.finish new plan.calls made old run.mid run.outcome has run.made run.finished
 
   -- a call fails after others, and what is made with it leads to an end
-  pub record FailsOnTheWay (Leads : P → P → Type 0) (end : P) (e : E) (new : S) : Type 0 where
-    pub made : P
-    pub mid : S
+  pub record FailsOnTheWay (Leads : P → P → Type 0) (start : P) (calls : List Planned) (finish : Finish) (e : E)
+      (new : S) : Type 0 where
+    pub before : List Call
     pub call : Call
-    pub has : Has made mid
+    pub comes : ComesTo goes next start calls finish before call
+    pub mid : S
+    pub has : Has (fold next start before) mid
     pub failed : step mid settings call (Err e) new
-    pub leads : Leads (next made call) end
+    pub leads : Leads (next (fold next start before) call) (run_fold goes next start calls finish)
 
   -- what is made with more calls is led to
   module _ (Leads : P → P → Type 0) (here : (made : P) → Leads made made)
@@ -74,36 +101,58 @@ module _ {S E P : Type 0} (step : Steps S E) (settings : Settings) (Has : P → 
     fails : (finish : Finish) (e : E) (new : S) (calls : List Planned) (made : P) (old mid : S) (outcome : Outcome E)
         → Has made old → AreMade step settings old calls outcome mid
         → IsFinished step settings outcome mid finish (Err e) new
-        → FailsOnTheWay Leads (run_fold goes next made calls finish) e new
+        → FailsOnTheWay Leads made calls finish e new
     fails finish e new [] made old mid outcome has (is, same) finished =
         let last = subst (λ o. IsFinished step settings o mid finish (Err e) new) is finished in record {
-          made = made;
-          mid = mid;
+          before = [];
           call = finishes finish.count finish.binary;
+          comes = record { front = []; later = []; all = refl; go_on = tt; next_call = (refl, refl) };
+          mid = mid;
           has = subst (λ s. Has made s) (sym same) has;
           failed = last;
           leads = here (end_at made finish);
         }
     fails finish e new (planned ∷ later) made old mid outcome has (inl (between, step_here, rest)) finished =
         let one = more made old planned.call true between has step_here in
-        rw (← one.0) (fails finish e new later (next made planned.call) between mid outcome one.1 rest finished)
+        let way = fails finish e new later (next made planned.call) between mid outcome one.1 rest finished in record {
+          before = planned.call ∷ way.before;
+          call = way.call;
+          comes = comes-more goes next made planned later finish way.before way.call (sym one.0) way.comes;
+          mid = way.mid;
+          has = way.has;
+          failed = way.failed;
+          leads = rw (← one.0) way.leads;
+        }
     fails finish e new (planned ∷ later) made old mid outcome has (inr (inl (is, step_here))) finished =
         let one = more made old planned.call false mid has step_here in
-        let last = subst (λ o. IsFinished step settings o mid finish (Err e) new) is finished in
-        rw (← one.0) (record {
-          made = next made planned.call;
-          mid = mid;
+        let last = subst (λ o. IsFinished step settings o mid finish (Err e) new) is finished in record {
+          before = planned.call ∷ [];
           call = finishes planned.if_false.count planned.if_false.binary;
+          comes = record {
+            front = [];
+            later = planned ∷ later;
+            all = refl;
+            go_on = tt;
+            next_call = inr (sym one.0, refl, refl);
+          };
+          mid = mid;
           has = one.1;
           failed = last;
-          leads = here (end_at (next made planned.call) planned.if_false);
-        })
+          leads = rw (← one.0) (here (end_at (next made planned.call) planned.if_false));
+        }
     fails finish e new (planned ∷ later) made old mid outcome has (inr (inr (error, is, step_here))) finished =
         let last = subst (λ o. IsFinished step settings o mid finish (Err e) new) is finished in
         let same : error ≡ e = let given = last.0 in cc in record {
-          made = made;
-          mid = old;
+          before = [];
           call = planned.call;
+          comes = record {
+            front = [];
+            later = planned ∷ later;
+            all = refl;
+            go_on = tt;
+            next_call = inl (refl, refl);
+          };
+          mid = old;
           has = has;
           failed = subst (λ s. step old settings planned.call (Err e) s) (sym last.1)
               (subst (λ r. step old settings planned.call (Err r) mid) same step_here);
@@ -113,6 +162,6 @@ module _ {S E P : Type 0} (step : Steps S E) (settings : Settings) (Has : P → 
     -- a run along a plan that ended in an error fails at a call
     pub run-fails : (made : P) (old : S) (plan : Plan) (e : E) (new : S) → Has made old
         → IsRun step settings old plan (Err e) new
-        → FailsOnTheWay Leads (run_fold goes next made plan.calls plan.finish) e new
+        → FailsOnTheWay Leads made plan.calls plan.finish e new
     run-fails made old plan e new has run =
         fails plan.finish e new plan.calls made old run.mid run.outcome has run.made run.finished

@@ -29,18 +29,18 @@ same-more old mid new first later = record {
   config = later.config ∙ first.config;
 }
 
-module _ {M W F : Type 0} (facts : M → MatcherFacts F) (first_at : M → List ℕ → ℕ → Option (ℕ × ℕ))
-    (write_step : W → OutputCall → W → Type 0) where
+module _ {M W F : Type 0} (output : F → Option (List ℕ)) (facts : M → MatcherFacts F)
+    (first_at : M → List ℕ → ℕ → Option (ℕ × ℕ)) (write_step : W → OutputCall → W → Type 0) where
   -- a call with a text
   pub prints-made : (old mid new : StandardSink M W) (settings : Settings) (call : Call)
       (made : Result (Unit {0}) (SearchError Global)) (progress : Progress) (result : Result Bool (SearchError Global))
       → IsComposing old mid
       → OnOk made (mid.printer.now.draft.text.bytes.items ≡ text_of facts first_at old settings call)
-      → IfErr made (λ e. IsOutOfMemory e ⊎ IsErrorAt facts old settings (reported_bytes call) e)
+      → IfErr made (λ e. IsOutOfMemory e ⊎ IsErrorAt output facts old settings (reported_bytes call) e)
       → progress ≡ progress_after old.progress call
       → goes_on (frame_of facts first_at old settings) old.progress call ≡ true
       → WritesMade write_step mid made progress result new
-      → PrintsCall facts first_at write_step old settings call result new
+      → PrintsCall output facts first_at write_step old settings call result new
   prints-made old mid new settings call made progress (Ok goes) composing text error after on (going, is, written) =
       let text_is : mid.printer.now.draft.text.bytes.items ≡ text_of facts first_at old settings call =
       subst (λ m. OnOk m (mid.printer.now.draft.text.bytes.items ≡ text_of facts first_at old settings call)) is text in
@@ -80,7 +80,7 @@ module _ {M W F : Type 0} (facts : M → MatcherFacts F) (first_at : M → List 
       progress = kept.progress ∙ composing.progress;
       has_written = kept.has_written ∙ composing.has_written;
       has_failed = kept.has_failed ∙ composing.has_failed;
-      cause = subst (λ m. IfErr m (λ e. IsOutOfMemory e ⊎ IsErrorAt facts old settings (reported_bytes call) e)) is error;
+      cause = subst (λ m. IfErr m (λ e. IsOutOfMemory e ⊎ IsErrorAt output facts old settings (reported_bytes call) e)) is error;
     });
   }
 
@@ -90,18 +90,18 @@ module _ {M W F : Type 0} (facts : M → MatcherFacts F) (first_at : M → List 
       → IsComposing old mid → layout ≡ layout_of (frame_of facts first_at old settings)
       → OnOk made (mid.printer.now.draft.text.bytes.items ≡ composed_text layout old.progress settings
       (facts old.matcher).meaning (first_at old.matcher) report)
-      → IfErr made (λ e. IsOutOfMemory e ⊎ FailsAtReport (facts old.matcher) settings report.bytes.now e)
+      → IfErr made (λ e. IsOutOfMemory e ⊎ FailsAtReport output (facts old.matcher) settings report.bytes.now e)
       → progress ≡ progress_after old.progress (call_of report)
       → is_hidden (frame_of facts first_at old settings) old.progress ≡ false
       → WritesMade write_step mid made progress result new
-      → PrintsCall facts first_at write_step old settings (call_of report) result new
+      → PrintsCall output facts first_at write_step old settings (call_of report) result new
   prints-report old mid new settings report layout made progress result composing laid text error after shown written =
       let frame = frame_of facts first_at old settings in
       prints-made old mid new settings (call_of report) made progress result composing
       (on_ok_weaker made (λ is. is
       ∙ (ap (λ l. composed_text l old.progress settings (facts old.matcher).meaning (first_at old.matcher) report) laid
       ∙ call_text-shown frame old.progress report shown)) text)
-      (subst (λ (bytes : List ℕ). IfErr made (λ e. IsOutOfMemory e ⊎ FailsAtReport (facts old.matcher) settings bytes e))
+      (subst (λ (bytes : List ℕ). IfErr made (λ e. IsOutOfMemory e ⊎ FailsAtReport output (facts old.matcher) settings bytes e))
       (sym (reported_bytes-report report.kind report.number report.offset report.bytes.now)) error)
       after
       (goes_on-report frame old.progress report.kind report.number report.offset report.bytes.now ∙ ap not shown)
@@ -114,8 +114,8 @@ pub written-goes : {M W : Type 0} (write_step : W → OutputCall → W → Type 
 written-goes write_step old made progress (Ok goes) new (going, is, written) = going
 written-goes write_step old made progress (Err e) new failed = tt
 
-module _ {M W F : Type 0} (facts : M → MatcherFacts F) (first_at : M → List ℕ → ℕ → Option (ℕ × ℕ))
-    (write_step : W → OutputCall → W → Type 0) where
+module _ {M W F : Type 0} (output : F → Option (List ℕ)) (facts : M → MatcherFacts F)
+    (first_at : M → List ℕ → ℕ → Option (ℕ × ℕ)) (write_step : W → OutputCall → W → Type 0) where
   -- the end of a search, with the message about a binary byte if it found a match
   pub finish-made : (old mid new : StandardSink M W) (settings : Settings) (count : ℕ) (binary offset : Option ℕ)
       (made : Result (Unit {0}) (SearchError Global)) (result : Result Bool (SearchError Global))
@@ -125,12 +125,12 @@ module _ {M W F : Type 0} (facts : M → MatcherFacts F) (first_at : M → List 
       settings.binary_detection old.path offset)
       → IfErr made (λ e. IsOutOfMemory e)
       → WritesMade write_step mid made old.progress result new → finish_result end ≡ result
-      → PrintsCall facts first_at write_step old settings (finishes count binary) (finish_result end) new
+      → PrintsCall output facts first_at write_step old settings (finishes count binary) (finish_result end) new
   finish-made old mid new settings count binary offset made result end composing reported text error written ended =
-      subst (λ r. PrintsCall facts first_at write_step old settings (finishes count binary) r new) (sym ended)
-      (prints-made facts first_at write_step old mid new settings (finishes count binary) made old.progress result
+      subst (λ r. PrintsCall output facts first_at write_step old settings (finishes count binary) r new) (sym ended)
+      (prints-made output facts first_at write_step old mid new settings (finishes count binary) made old.progress result
       composing (on_ok_weaker made (λ is. is ∙ (ap message reported ∙ chosen old.progress.has_match)) text)
-      (IfErr-weaker made (λ e. IsOutOfMemory e) (λ e. IsOutOfMemory e ⊎ IsErrorAt facts old settings [] e)
+      (IfErr-weaker made (λ e. IsOutOfMemory e) (λ e. IsOutOfMemory e ⊎ IsErrorAt output facts old settings [] e)
       (λ e memory. inl memory) error) refl refl written)
     where
       message : Option ℕ → List ℕ

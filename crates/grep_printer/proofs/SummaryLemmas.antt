@@ -1,20 +1,20 @@
 -- What the sink of a printer of summaries has written after a run along a plan.
-use Rattle.std.proofs.Common.{◌≡◌, ◌⊎◌, ◌∙◌, [], ap, inl, inr, refl, subst, sym}
+use Rattle.std.proofs.Common.{◌≡◌, ◌∙◌, ap, inl, inr, refl, subst, sym}
 use Rattle.std.specs.Global.{Global}
-use Rattle.std.specs.Prelude.{Bool, true, Err, List, Ok, Option, ℕ}
+use Rattle.std.specs.List.{fold}
+use Rattle.std.specs.Prelude.{Bool, Err, List, Ok, Option, ℕ}
 use Rattle.grep_output.proofs.OutputLemmas.{Writes-none, Writes-more}
 use Rattle.grep_output.specs.Outputs.{Begins, FailsToWrite, OutputCall, WritesAll}
 use Rattle.grep_matcher.specs.Meanings.{MatcherFacts}
 use Rattle.grep_searcher.specs.Plans.{Call, Plan, IsRun, reported_bytes, Settings}
-use Rattle.grep_searcher.specs.SearchErrors.{IsOutOfMemory}
 use Rattle.grep_searcher.specs.declared.SearchError.{SearchError}
 use Rattle.grep_printer.proofs.RunFoldLemmas.{run-fails, run-keeps}
-use Rattle.grep_printer.proofs.TextFailureLemmas.{begins-before, begins-itself, fails-in, stops-in}
+use Rattle.grep_printer.proofs.TextFailureLemmas.{begins-before, begins-itself}
 use Rattle.grep_printer.specs.ReportedParts.{FailsAtReport}
-use Rattle.grep_printer.specs.SummarySteps.{IsSameSummary, SumsUpCall, SumsUp, SumsUpPlan, sum_of, summary_frame}
-use Rattle.grep_printer.specs.SummaryTexts.{SummaryFrame, Summed, counts_after, counts_parts, summary_text, summed_of}
-use Rattle.grep_printer.specs.SummaryTexts.{summed_with, sums_on}
-use Rattle.grep_printer.specs.TextFailures.{IsCutShort}
+use Rattle.grep_printer.specs.SummarySteps.{FailsAlongSummary, IsSameSummary, SumsUpCall, SumsUp, SumsUpPlan}
+use Rattle.grep_printer.specs.SummarySteps.{sum_of, summary_frame}
+use Rattle.grep_printer.specs.SummaryTexts.{SummaryFrame, Summed, counts_after, counts_parts, nothing_summed}
+use Rattle.grep_printer.specs.SummaryTexts.{summary_text, summed_with, sums_on}
 use Rattle.grep_printer.specs.declared.summary.SummarySink.{SummarySink}
 
 -- one step after another
@@ -27,8 +27,8 @@ same-more old mid new first later = record {
   config = later.config ∙ first.config;
 }
 
-module _ {M W F : Type 0} (facts : M → MatcherFacts F) (first_at : M → List ℕ → ℕ → Option (ℕ × ℕ))
-    (write_step : W → OutputCall → W → Type 0) (settings : Settings) where
+module _ {M W F : Type 0} (output : F → Option (List ℕ)) (facts : M → MatcherFacts F)
+    (first_at : M → List ℕ → ℕ → Option (ℕ × ℕ)) (write_step : W → OutputCall → W → Type 0) (settings : Settings) where
   -- the texts of a sink's calls depend on the same
   same-frame : (old new : SummarySink M W) → IsSameSummary old new
       → summary_frame facts first_at new settings ≡ summary_frame facts first_at old settings
@@ -54,7 +54,7 @@ module _ {M W F : Type 0} (facts : M → MatcherFacts F) (first_at : M → List 
   -- one more call, and whether the search goes on after it
   summed-more : (frame : SummaryFrame) (start : SummarySink M W) (summed : Summed) (old : SummarySink M W) (call : Call)
       (b : Bool) (new : SummarySink M W) → HasSummed frame start summed old
-      → SumsUpCall facts first_at write_step old settings call b new
+      → SumsUpCall output facts first_at write_step old settings call b new
       → (b ≡ sums_on frame.config.kind call) × HasSummed frame start (summed_with frame summed call) new
   summed-more frame start summed old call b new before step = (
     step.goes_on ∙ ap (λ f. sums_on f.config.kind call) before.framed,
@@ -73,7 +73,7 @@ module _ {M W F : Type 0} (facts : M → MatcherFacts F) (first_at : M → List 
 
   -- nothing is written yet
   summed-none : (old : SummarySink M W)
-      → HasSummed (summary_frame facts first_at old settings) old (record { counts = old.counts; text = [] }) old
+      → HasSummed (summary_frame facts first_at old settings) old (nothing_summed old.counts) old
   summed-none old = record {
     same = record { printer = refl; matcher = refl; path = refl; config = refl };
     framed = refl;
@@ -84,55 +84,57 @@ module _ {M W F : Type 0} (facts : M → MatcherFacts F) (first_at : M → List 
 
   -- a run along a plan that ended in `Ok`
   pub run-sums-up : (old : SummarySink M W) (plan : Plan) (new : SummarySink M W)
-      → IsRun (SumsUp facts first_at write_step) settings old plan (Ok tt) new
-      → SumsUpPlan facts first_at write_step old settings plan new
+      → IsRun (SumsUp output facts first_at write_step) settings old plan (Ok tt) new
+      → SumsUpPlan output facts first_at write_step old settings plan new
   run-sums-up old plan new run =
       let frame = summary_frame facts first_at old settings in
-      let end = run-keeps (SumsUp facts first_at write_step) settings (HasSummed frame old)
-      (λ summed call. sums_on frame.config.kind call) (summed_with frame) (summed-more frame old) (record { counts = old.counts; text = [] }) old plan new
+      let end = run-keeps (SumsUp output facts first_at write_step) settings (HasSummed frame old)
+      (λ summed call. sums_on frame.config.kind call) (summed_with frame) (summed-more frame old) (nothing_summed old.counts) old plan new
       (summed-none old) run in
       record { same = end.same; written = end.written; counts = end.counts; has_failed = end.has_failed }
 
   -- a run along a plan that ended in an error
   pub run-fails-to-sum-up : (old : SummarySink M W) (plan : Plan) (e : SearchError Global) (new : SummarySink M W)
-      → IsRun (SumsUp facts first_at write_step) settings old plan (Err e) new
-      → IsSameSummary old new × IsCutShort write_step old.printer.now.writer old.printer.now.has_failed
-      (summed_of (summary_frame facts first_at old settings) old.counts plan).text e
-      (IsOutOfMemory e ⊎ ((counts_parts old.printer.now.config.kind ≡ true)
-      × (bytes : List ℕ) × FailsAtReport (facts old.matcher) settings bytes e))
-      new.printer.now.writer new.printer.now.has_failed
+      → IsRun (SumsUp output facts first_at write_step) settings old plan (Err e) new
+      → IsSameSummary old new × FailsAlongSummary output facts first_at write_step old settings plan e new
   run-fails-to-sum-up old plan e new run =
       let frame = summary_frame facts first_at old settings in
-      let all = (summed_of frame old.counts plan).text in
-      let way = run-fails (SumsUp facts first_at write_step) settings (HasSummed frame old)
+      let way = run-fails (SumsUp output facts first_at write_step) settings (HasSummed frame old)
       (λ summed call. sums_on frame.config.kind call) (summed_with frame) (summed-more frame old)
       (λ made end. Begins made.text end.text) (λ made. begins-itself made.text)
       (λ made end call later. begins-before made.text (summary_text frame made.counts call) end.text later)
-      (record { counts = old.counts; text = [] }) old plan e new (summed-none old) run in
+      (nothing_summed old.counts) old plan e new (summed-none old) run in
       let has = way.has in
-      let text = summary_text frame way.made.counts way.call in
-      let mid = way.mid.printer.now.writer in (
+      let made = fold (summed_with frame) (nothing_summed old.counts) way.before in (
         same-more old way.mid new has.same way.failed.same,
-        elim way.failed.cause [
-          | inl writing ↦ inl (
-            fails-in write_step old.printer.now.writer mid way.made.text text all has.written way.leads
-                new.printer.now.writer e writing.error writing.is_io
-                (subst (λ t. FailsToWrite write_step mid t writing.error new.printer.now.writer)
-                (text-same frame old way.made way.mid way.call has) writing.failed),
-            writing.has_failed,
-          )
-          | inr before ↦ inr (
-            stops-in write_step old.printer.now.writer mid way.made.text text all has.written way.leads
-                new.printer.now.writer before.unwritten,
-            before.has_failed ∙ has.has_failed,
-            elim before.cause [
-              | inl memory ↦ inl memory
-              | inr refused ↦ inr (
-                ap (λ config. counts_parts config.kind) (sym has.same.config) ∙ refused.0,
-                reported_bytes way.call,
-                subst (λ m. FailsAtReport (facts m) settings (reported_bytes way.call) e) has.same.matcher refused.1,
-              )
-            ],
-          )
-        ],
+        record {
+          before = way.before;
+          call = way.call;
+          comes = way.comes;
+          mid = way.mid.printer.now.writer;
+          written = has.written;
+          cut = elim way.failed.cause [
+            | inl writing ↦ inl (
+              record {
+                error = writing.error;
+                is_io = writing.is_io;
+                failed = subst (λ t. FailsToWrite write_step way.mid.printer.now.writer t writing.error
+                    new.printer.now.writer) (text-same frame old made way.mid way.call has) writing.failed;
+              },
+              writing.has_failed,
+            )
+            | inr kept ↦ inr (
+              kept.unwritten,
+              kept.has_failed ∙ has.has_failed,
+              elim kept.cause [
+                | inl memory ↦ inl memory
+                | inr refused ↦ inr (
+                  ap (λ config. counts_parts config.kind) (sym has.same.config) ∙ refused.0,
+                  subst (λ m. FailsAtReport output (facts m) settings (reported_bytes way.call) e) has.same.matcher refused.1,
+                )
+              ],
+            )
+          ];
+          begins = way.leads;
+        },
       )

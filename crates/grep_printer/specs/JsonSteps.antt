@@ -9,9 +9,10 @@ use Rattle.grep_searcher.specs.Plans.{Call, Plan, IsRun, reported_bytes, Setting
 use Rattle.grep_searcher.specs.SearchErrors.{IsOutOfMemory}
 use Rattle.grep_searcher.specs.declared.SearchError.{SearchError}
 use Rattle.grep_searcher.specs.declared.SearchError.TheVariants.{Io}
-use Rattle.grep_printer.specs.JsonTexts.{JsonFrame, json_printed_of, json_progress, json_text}
+use Rattle.grep_printer.specs.JsonTexts.{JsonFrame, json_printed_of, json_printed_with}
+use Rattle.grep_printer.specs.JsonTexts.{json_progress, json_text, nothing_json_printed}
 use Rattle.grep_printer.specs.ReportedParts.{FailsAtReport}
-use Rattle.grep_printer.specs.TextFailures.{IsCutShort}
+use Rattle.grep_printer.specs.TextFailures.{FailsAtCall}
 use Rattle.grep_printer.specs.declared.json_printer.Json.{Json}
 use Rattle.grep_printer.specs.declared.json_printer.JsonProgress.{JsonProgress}
 use Rattle.grep_printer.specs.declared.json_printer.JsonSink.{JsonSink}
@@ -61,10 +62,11 @@ WritesJsonMade write_step old made progress (Err e) new =
     ((made ≡ Ok tt) × FailsToWriteJson write_step old progress e new)
     ⊎ ((made ≡ Err e) × IsComposingJson old new)
 
-module _ {M W F : Type 0} (facts : M → MatcherFacts F) where
+module _ {M W F : Type 0} (output : F → Option (List ℕ)) (facts : M → MatcherFacts F) where
   -- the error is the matcher's, for the bytes of a report, as a message
   abbrev pub IsJsonError : JsonSink M W → Settings → List ℕ → SearchError Global → Type 0
-  IsJsonError sink settings bytes = FailsAtReport (facts sink.matcher) settings bytes
+  IsJsonError sink settings bytes =
+      FailsAtReport output (facts sink.matcher) settings bytes
 
 module _ {M W F : Type 0} (facts : M → MatcherFacts F)
     (first_at : M → List ℕ → ℕ → Option (ℕ × ℕ)) where
@@ -82,7 +84,7 @@ module _ {M W F : Type 0} (facts : M → MatcherFacts F)
   abbrev pub json_text_of : JsonSink M W → Settings → Call → List ℕ
   json_text_of sink settings call = json_text (json_frame sink settings) sink.progress call
 
-module _ {M W F : Type 0} (facts : M → MatcherFacts F)
+module _ {M W F : Type 0} (output : F → Option (List ℕ)) (facts : M → MatcherFacts F)
     (first_at : M → List ℕ → ℕ → Option (ℕ × ℕ)) (write_step : W → OutputCall → W → Type 0) where
   -- a call succeeds: its text is written, and nothing else
   pub record PrintsJson (old : JsonSink M W) (settings : Settings) (call : Call) (goes : Bool)
@@ -112,7 +114,7 @@ module _ {M W F : Type 0} (facts : M → MatcherFacts F)
     pub unwritten : new.printer.now.writer ≡ old.printer.now.writer
     pub progress : new.progress ≡ old.progress
     pub has_failed : new.printer.now.has_failed ≡ old.printer.now.has_failed
-    pub cause : IsOutOfMemory e ⊎ IsJsonError facts old settings (reported_bytes call) e
+    pub cause : IsOutOfMemory e ⊎ IsJsonError output facts old settings (reported_bytes call) e
 
   -- a call fails
   pub record FailsToPrintJson (old : JsonSink M W) (settings : Settings) (call : Call)
@@ -144,18 +146,27 @@ module _ {M W F : Type 0} (facts : M → MatcherFacts F)
       (settings : Settings) (old : JsonSink M W) (plan : Plan) (new : JsonSink M W)
       → IsRun PrintsJsonCall settings old plan (Ok tt) new → PrintsJsonPlan old settings plan new
 
-  -- a run of the sink that ended in an error has written some first bytes of the text of its plan:
-  -- the writer failed, there was no memory, or the matcher failed at a report
+  -- a run along a plan failed at a call: the texts of the calls before it were written, and a front
+  -- of its own if the writer failed; else nothing of it was written, and there was no memory, or
+  -- the matcher failed at what the call reports
+  abbrev pub FailsAlongJson : JsonSink M W → Settings → Plan → SearchError Global → JsonSink M W
+      → Type 0
+  FailsAlongJson old settings plan e new =
+      FailsAtCall (λ printed call. true) (json_printed_with (json_frame facts first_at old settings))
+      (λ printed. printed.text)
+      (λ printed call. json_text (json_frame facts first_at old settings) printed.progress call)
+      write_step (nothing_json_printed old.progress) plan old.printer.now.writer
+      old.printer.now.has_failed e
+      (λ call. IsOutOfMemory e ⊎ IsJsonError output facts old settings (reported_bytes call) e)
+      new.printer.now.writer new.printer.now.has_failed
+
+  -- so fails each run of the sink that ended in an error
   abbrev pub RunsFailToPrintJson : Type 0
   RunsFailToPrintJson =
       (settings : Settings) (old : JsonSink M W) (plan : Plan) (e : SearchError Global)
       (new : JsonSink M W)
       → IsRun PrintsJsonCall settings old plan (Err e) new
-      → IsSameJson old new
-      × IsCutShort write_step old.printer.now.writer old.printer.now.has_failed
-      (json_printed_of (json_frame facts first_at old settings) old.progress plan).text e
-      (IsOutOfMemory e ⊎ ((bytes : List ℕ) × IsJsonError facts old settings bytes e))
-      new.printer.now.writer new.printer.now.has_failed
+      → IsSameJson old new × FailsAlongJson old settings plan e new
 
 module _ {W : Type 0} (write_step : W → OutputCall → W → Type 0) where
   -- a text is written, and nothing else

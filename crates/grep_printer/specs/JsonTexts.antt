@@ -152,8 +152,12 @@ json_printed_with frame printed call = record {
   text = printed.text ++ json_text frame printed.progress call;
 }
 
+-- before any call
+abbrev pub nothing_json_printed : JsonProgress → JsonPrinted
+nothing_json_printed progress = record { progress = progress; text = [] }
+
 -- what it makes of a search along a plan
 abbrev pub json_printed_of : JsonFrame → JsonProgress → Plan → JsonPrinted
 json_printed_of frame progress plan =
-    run_fold (λ printed call. true) (json_printed_with frame)
-    (record { progress = progress; text = [] }) plan.calls plan.finish
+    run_fold (λ printed call. true) (json_printed_with frame) (nothing_json_printed progress)
+    plan.calls plan.finish

@@ -1,10 +1,10 @@
 -- The parts of some bytes that match: the successive matches of a matcher in them.
 use Rattle.std.specs.Prelude.{◌≡◌, ℕ, zero, suc, ◌+◌, ◌≤◌, ◌&&◌, ◌==◌, Bool, false, if◌then◌else◌}
-use Rattle.std.specs.Prelude.{nat_lt, nat_le, List, [], ◌∷◌, length, Option, Some, None, String}
+use Rattle.std.specs.Prelude.{nat_lt, nat_le, List, [], ◌∷◌, length, Option, Some, None}
 use Rattle.std.specs.Global.{Global}
 use Rattle.std.specs.Option.{option_and_then, option_map_or}
+use Rattle.grep_searcher.specs.SearchErrors.{IsMessageOf}
 use Rattle.grep_searcher.specs.declared.SearchError.{SearchError}
-use Rattle.grep_searcher.specs.declared.SearchError.TheVariants.{Message}
 
 -- the parts lie between two positions, in order, and none overlaps another one
 abbrev pub AreInOrder : ℕ → ℕ → List (ℕ × ℕ) → Type 0
@@ -76,8 +76,9 @@ PartsAreSuccessive {M} first_at =
     → AreSuccessive (first_at matcher bytes) (length bytes) limit 0 None
     (parts_in (first_at matcher bytes) (length bytes) limit)
 
--- an error is the matcher's, for some bytes, as a message
-abbrev pub IsMessageOf : {F : Type 0} → (List ℕ → F → Type 0) → List ℕ → SearchError Global
-    → Type 0
-IsMessageOf {F} fails bytes e =
-    (error : F) × (text : String Global) × fails bytes error × (e ≡ Message text)
+-- an error is the matcher's, for some bytes, as a message with the text that its `Display` writes,
+-- if that is known, or with no text
+abbrev pub IsMatcherError : {F : Type 0} → (F → Option (List ℕ)) → (List ℕ → F → Type 0) → List ℕ
+    → SearchError Global → Type 0
+IsMatcherError {F} output fails bytes e =
+    (error : F) × fails bytes error × IsMessageOf (output error) e

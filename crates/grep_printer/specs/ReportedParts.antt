@@ -6,7 +6,7 @@ use Rattle.grep_searcher.specs.Plans.{is_across, Settings}
 use Rattle.grep_searcher.specs.Lines.{strip}
 use Rattle.grep_searcher.specs.Meanings.{Meaning}
 use Rattle.grep_searcher.specs.declared.SearchError.{SearchError}
-use Rattle.grep_printer.specs.MatchedParts.{IsMessageOf, parts_in}
+use Rattle.grep_printer.specs.MatchedParts.{IsMatcherError, parts_in}
 
 -- the bytes of a report about which the matcher is asked: a line without its terminator, or all of
 -- it in a search across lines
@@ -28,7 +28,7 @@ asked_parts is_asked first_at settings meaning bytes =
     if is_asked then reported_parts first_at settings meaning bytes else []
 
 -- an error is the matcher's, for the bytes of a report, as a message
-abbrev pub FailsAtReport : {F : Type 0} → MatcherFacts F → Settings → List ℕ → SearchError Global
-    → Type 0
-FailsAtReport facts settings bytes =
-    IsMessageOf facts.fails (asked_bytes settings facts.meaning bytes)
+abbrev pub FailsAtReport : {F : Type 0} → (F → Option (List ℕ)) → MatcherFacts F → Settings
+    → List ℕ → SearchError Global → Type 0
+FailsAtReport output facts settings bytes =
+    IsMatcherError output facts.fails (asked_bytes settings facts.meaning bytes)

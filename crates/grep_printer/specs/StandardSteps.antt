@@ -9,9 +9,9 @@ use Rattle.grep_searcher.specs.SearchErrors.{IsOutOfMemory}
 use Rattle.grep_searcher.specs.declared.SearchError.{SearchError}
 use Rattle.grep_searcher.specs.declared.SearchError.TheVariants.{Io}
 use Rattle.grep_printer.specs.ReportedParts.{FailsAtReport}
-use Rattle.grep_printer.specs.StandardTexts.{Frame, call_text, goes_on, is_text}
-use Rattle.grep_printer.specs.StandardTexts.{printed_of, progress_after}
-use Rattle.grep_printer.specs.TextFailures.{FailsInText, StopsInText}
+use Rattle.grep_printer.specs.StandardTexts.{Frame, call_text, goes_on, is_text, nothing_printed}
+use Rattle.grep_printer.specs.StandardTexts.{printed_by, printed_of, printed_with, progress_after}
+use Rattle.grep_printer.specs.TextFailures.{FailsAtCall}
 use Rattle.grep_printer.specs.declared.standard.Progress.{Progress}
 use Rattle.grep_printer.specs.declared.standard.StandardSink.{StandardSink}
 
@@ -64,10 +64,11 @@ WritesMade write_step old made progress (Err e) new =
     ((made ≡ Ok tt) × FailsToBeWritten write_step old progress e new)
     ⊎ ((made ≡ Err e) × IsComposing old new)
 
-module _ {M W F : Type 0} (facts : M → MatcherFacts F) where
+module _ {M W F : Type 0} (output : F → Option (List ℕ)) (facts : M → MatcherFacts F) where
   -- the error is the matcher's, for the bytes of a report, as a message
   abbrev pub IsErrorAt : StandardSink M W → Settings → List ℕ → SearchError Global → Type 0
-  IsErrorAt sink settings bytes = FailsAtReport (facts sink.matcher) settings bytes
+  IsErrorAt sink settings bytes =
+      FailsAtReport output (facts sink.matcher) settings bytes
 
 module _ {M W F : Type 0} (facts : M → MatcherFacts F)
     (first_at : M → List ℕ → ℕ → Option (ℕ × ℕ)) where
@@ -85,7 +86,7 @@ module _ {M W F : Type 0} (facts : M → MatcherFacts F)
   abbrev pub text_of : StandardSink M W → Settings → Call → List ℕ
   text_of sink settings call = call_text (frame_of sink settings) sink.progress call
 
-module _ {M W F : Type 0} (facts : M → MatcherFacts F)
+module _ {M W F : Type 0} (output : F → Option (List ℕ)) (facts : M → MatcherFacts F)
     (first_at : M → List ℕ → ℕ → Option (ℕ × ℕ)) (write_step : W → OutputCall → W → Type 0) where
   -- a call succeeds: its text is written, and nothing else
   pub record Prints (old : StandardSink M W) (settings : Settings) (call : Call) (goes : Bool)
@@ -117,7 +118,7 @@ module _ {M W F : Type 0} (facts : M → MatcherFacts F)
     pub progress : new.progress ≡ old.progress
     pub has_written : new.printer.now.has_written ≡ old.printer.now.has_written
     pub has_failed : new.printer.now.has_failed ≡ old.printer.now.has_failed
-    pub cause : IsOutOfMemory e ⊎ IsErrorAt facts old settings (reported_bytes call) e
+    pub cause : IsOutOfMemory e ⊎ IsErrorAt output facts old settings (reported_bytes call) e
 
   -- a call fails
   pub record FailsToPrint (old : StandardSink M W) (settings : Settings) (call : Call)
@@ -151,31 +152,27 @@ module _ {M W F : Type 0} (facts : M → MatcherFacts F)
       (settings : Settings) (old : StandardSink M W) (plan : Plan) (new : StandardSink M W)
       → IsRun PrintsCall settings old plan (Ok tt) new → PrintsPlan old settings plan new
 
-  -- the writer failed after some first bytes of the text of a plan
-  pub record FailsToWritePlan (old : StandardSink M W) (settings : Settings) (plan : Plan)
-      (e : SearchError Global) (new : StandardSink M W) : Type 0 where
-    pub failed : FailsInText write_step old.printer.now.writer
-        (printed_of (frame_of facts first_at old settings) old.progress plan).text e
-        new.printer.now.writer
-    pub has_failed : new.printer.now.has_failed ≡ true
-
-  -- some first bytes of it were written, and then there was no memory, or the matcher failed at a
-  -- report
+  -- a run along a plan failed at a call: the texts of the calls before it were written, and a front
+  -- of its own if the writer failed; else nothing of it was written, and there was no memory, or
+  -- the matcher failed at what the call reports
   pub record FailsAlongPlan (old : StandardSink M W) (settings : Settings) (plan : Plan)
       (e : SearchError Global) (new : StandardSink M W) : Type 0 where
-    pub stopped : StopsInText write_step old.printer.now.writer
-        (printed_of (frame_of facts first_at old settings) old.progress plan).text
-        new.printer.now.writer
+    pub at_call : FailsAtCall
+        (λ printed call. goes_on (frame_of facts first_at old settings) printed.progress call)
+        (printed_with (frame_of facts first_at old settings)) (λ printed. printed.text)
+        (λ printed call. call_text (frame_of facts first_at old settings) printed.progress call)
+        write_step (nothing_printed old.progress) plan old.printer.now.writer
+        old.printer.now.has_failed e
+        (λ call. IsOutOfMemory e ⊎ IsErrorAt output facts old settings (reported_bytes call) e)
+        new.printer.now.writer new.printer.now.has_failed
     pub has_written : new.printer.now.has_written
-        ≡ (old.printer.now.has_written || is_text stopped.part)
-    pub has_failed : new.printer.now.has_failed ≡ old.printer.now.has_failed
-    pub cause : IsOutOfMemory e ⊎ ((bytes : List ℕ) × IsErrorAt facts old settings bytes e)
+        ≡ (old.printer.now.has_written || is_text (printed_by
+        (frame_of facts first_at old settings) old.progress at_call.before).text)
 
-  -- a run of the sink that ended in an error has written some first bytes of the text of its plan
+  -- so fails each run of the sink that ended in an error
   abbrev pub RunsFailToPrint : Type 0
   RunsFailToPrint =
       (settings : Settings) (old : StandardSink M W) (plan : Plan) (e : SearchError Global)
       (new : StandardSink M W)
       → IsRun PrintsCall settings old plan (Err e) new
-      → IsSameSink old new
-      × (FailsToWritePlan old settings plan e new ⊎ FailsAlongPlan old settings plan e new)
+      → IsSameSink old new × FailsAlongPlan old settings plan e new

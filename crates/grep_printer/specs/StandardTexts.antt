@@ -3,6 +3,7 @@ use Rattle.std.specs.Prelude.{ℕ, Bool, true, false, not, ◌&&◌, ◌||◌, �
 use Rattle.std.specs.Prelude.{List, [], ◌∷◌, ◌++◌, length, codes, decimal, Option, Some, None}
 use Rattle.std.specs.Prelude.{is_some}
 use Rattle.std.specs.Borrow.{Bor}
+use Rattle.std.specs.List.{fold}
 use Rattle.grep_matcher.specs.Lines.{byte_of}
 use Rattle.grep_searcher.specs.Plans.{is_across, Call, begins, matches, context, breaks}
 use Rattle.grep_searcher.specs.Plans.{binary_data, finishes, Plan, Settings}
@@ -181,6 +182,10 @@ printed_with frame printed call = record {
   progress = progress_after printed.progress call;
   text = printed.text ++ call_text frame printed.progress call;
 }
+
+-- with some calls, in order
+abbrev pub printed_by : Frame → Progress → List Call → Printed
+printed_by frame progress calls = fold (printed_with frame) (nothing_printed progress) calls
 
 -- what it makes of a search along a plan: of the calls up to the first after which the search
 -- doesn't go on, and of `finish`

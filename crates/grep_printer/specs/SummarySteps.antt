@@ -10,8 +10,8 @@ use Rattle.grep_searcher.specs.declared.SearchError.{SearchError}
 use Rattle.grep_searcher.specs.declared.SearchError.TheVariants.{Io}
 use Rattle.grep_printer.specs.ReportedParts.{FailsAtReport}
 use Rattle.grep_printer.specs.SummaryTexts.{SummaryFrame, counts_after, counts_parts, summary_text}
-use Rattle.grep_printer.specs.SummaryTexts.{summed_of, sums_on}
-use Rattle.grep_printer.specs.TextFailures.{IsCutShort}
+use Rattle.grep_printer.specs.SummaryTexts.{nothing_summed, summed_of, summed_with, sums_on}
+use Rattle.grep_printer.specs.TextFailures.{FailsAtCall}
 use Rattle.grep_printer.specs.declared.summary.Summary.{Summary}
 use Rattle.grep_printer.specs.declared.summary.SummarySink.{SummarySink}
 
@@ -69,7 +69,7 @@ module _ {M W F : Type 0} (facts : M → MatcherFacts F)
   abbrev pub sum_of : SummarySink M W → Settings → Call → List ℕ
   sum_of sink settings call = summary_text (summary_frame sink settings) sink.counts call
 
-module _ {M W F : Type 0} (facts : M → MatcherFacts F)
+module _ {M W F : Type 0} (output : F → Option (List ℕ)) (facts : M → MatcherFacts F)
     (first_at : M → List ℕ → ℕ → Option (ℕ × ℕ)) (write_step : W → OutputCall → W → Type 0) where
   -- a call succeeds: its text is written, and what is reported counts
   pub record SumsUpCall (old : SummarySink M W) (settings : Settings) (call : Call) (goes : Bool)
@@ -99,7 +99,7 @@ module _ {M W F : Type 0} (facts : M → MatcherFacts F)
     pub has_failed : new.printer.now.has_failed ≡ old.printer.now.has_failed
     pub cause : IsOutOfMemory e
         ⊎ ((counts_parts old.printer.now.config.kind ≡ true)
-        × FailsAtReport (facts old.matcher) settings (reported_bytes call) e)
+        × FailsAtReport output (facts old.matcher) settings (reported_bytes call) e)
 
   -- a call fails
   pub record FailsToSumUp (old : SummarySink M W) (settings : Settings) (call : Call)
@@ -132,18 +132,25 @@ module _ {M W F : Type 0} (facts : M → MatcherFacts F)
       (settings : Settings) (old : SummarySink M W) (plan : Plan) (new : SummarySink M W)
       → IsRun SumsUp settings old plan (Ok tt) new → SumsUpPlan old settings plan new
 
-  -- a run of the sink that ended in an error has written some first bytes of the text of its plan:
-  -- the writer failed, there was no memory, or the matcher failed at a match of which the parts are
-  -- counted
+  -- a run along a plan failed at a call: the texts of the calls before it were written, and a front
+  -- of its own if the writer failed; else nothing of it was written, and there was no memory, or
+  -- the matcher failed at a match of which the parts are counted
+  abbrev pub FailsAlongSummary : SummarySink M W → Settings → Plan → SearchError Global
+      → SummarySink M W → Type 0
+  FailsAlongSummary old settings plan e new =
+      FailsAtCall (λ summed call. sums_on old.printer.now.config.kind call)
+      (summed_with (summary_frame facts first_at old settings)) (λ summed. summed.text)
+      (λ summed call. summary_text (summary_frame facts first_at old settings) summed.counts call)
+      write_step (nothing_summed old.counts) plan old.printer.now.writer
+      old.printer.now.has_failed e
+      (λ call. IsOutOfMemory e ⊎ ((counts_parts old.printer.now.config.kind ≡ true)
+      × FailsAtReport output (facts old.matcher) settings (reported_bytes call) e))
+      new.printer.now.writer new.printer.now.has_failed
+
+  -- so fails each run of the sink that ended in an error
   abbrev pub RunsFailToSumUp : Type 0
   RunsFailToSumUp =
       (settings : Settings) (old : SummarySink M W) (plan : Plan) (e : SearchError Global)
       (new : SummarySink M W)
       → IsRun SumsUp settings old plan (Err e) new
-      → IsSameSummary old new
-      × IsCutShort write_step old.printer.now.writer old.printer.now.has_failed
-      (summed_of (summary_frame facts first_at old settings) old.counts plan).text e
-      (IsOutOfMemory e
-      ⊎ ((counts_parts old.printer.now.config.kind ≡ true)
-      × (bytes : List ℕ) × FailsAtReport (facts old.matcher) settings bytes e))
-      new.printer.now.writer new.printer.now.has_failed
+      → IsSameSummary old new × FailsAlongSummary old settings plan e new

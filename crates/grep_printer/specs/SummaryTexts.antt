@@ -157,9 +157,13 @@ summed_with frame summed call = record {
   text = summed.text ++ summary_text frame summed.counts call;
 }
 
--- what it makes of a search along a plan, after what was reported: of the calls up to the first
--- after which the search doesn't go on, and of `finish`
+-- before any call, after what was reported
+abbrev pub nothing_summed : Counts → Summed
+nothing_summed counts = record { counts = counts; text = [] }
+
+-- what it makes of a search along a plan: of the calls up to the first after which the search
+-- doesn't go on, and of `finish`
 abbrev pub summed_of : SummaryFrame → Counts → Plan → Summed
 summed_of frame counts plan =
     run_fold (λ summed call. sums_on frame.config.kind call) (summed_with frame)
-    (record { counts = counts; text = [] }) plan.calls plan.finish
+    (nothing_summed counts) plan.calls plan.finish

@@ -56,8 +56,8 @@ impl Draft {
         ensures text { OnOk result (self.new.text.bytes.items ≡ composed_text layout.now
             progress.now searcher.now.settings (M.facts matcher.now).meaning
             (M.first_at matcher.now) report.now) }
-        ensures error { IfErr result (λ e. IsOutOfMemory e ⊎ FailsAtReport (M.facts matcher.now)
-            searcher.now.settings report.now.bytes.now e) }
+        ensures error { IfErr result (λ e. IsOutOfMemory e ⊎ FailsAtReport M.Error.output
+            (M.facts matcher.now) searcher.now.settings report.now.bytes.now e) }
     {
         let has_parts = report.kind.has_parts(searcher.invert_match());
         let is_asked = layout.config.asks_for_parts(has_parts);

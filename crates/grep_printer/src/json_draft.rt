@@ -58,8 +58,8 @@ impl JsonDraft {
             report.now.bytes.now) }
         ensures text { OnOk result (self.new.text.bytes.items ≡ opening_line path.entry is_begun
             ++ json_line (report_of path.entry report.now self.new.submatches.items)) }
-        ensures error { IfErr result (λ e. IsOutOfMemory e ⊎ FailsAtReport (M.facts matcher.now)
-            searcher.now.settings report.now.bytes.now e) }
+        ensures error { IfErr result (λ e. IsOutOfMemory e ⊎ FailsAtReport M.Error.output
+            (M.facts matcher.now) searcher.now.settings report.now.bytes.now e) }
     {
         let is_asked = report.kind.has_parts(searcher.invert_match());
         let bytes = report.bytes;

@@ -338,8 +338,8 @@ impl<'s, M: FindAt, W: Output> JsonSink<'s, M, W> {
         searcher: &Searcher<A>,
         report: &Report<'_>,
     ) -> Result<bool, SearchError>
-        ensures { PrintsJsonCall M.facts M.first_at W.step self.old searcher.now.settings
-            (call_of report.now) result self.new }
+        ensures { PrintsJsonCall M.Error.output M.facts M.first_at W.step self.old
+            searcher.now.settings (call_of report.now) result self.new }
     {
         let is_begun = self.progress.is_begun;
         let draft = &mut self.printer.draft;
@@ -357,7 +357,7 @@ impl<'s, M: FindAt, W: Output> Sink for JsonSink<'s, M, W> {
 
     ghost use Rattle.grep_printer.specs.JsonSteps.{PrintsJsonCall};
 
-    ghost step = { PrintsJsonCall M.facts M.first_at W.step };
+    ghost step = { PrintsJsonCall M.Error.output M.facts M.first_at W.step };
 
     ghost may_call = { λ _. Unit {0} };
 

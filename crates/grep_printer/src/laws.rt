@@ -13,10 +13,11 @@ use grep_searcher::{FindAt, Matcher};
 
 /// A run of the sink of a `Standard` that ended in `Ok` has written the text of its plan: of each
 /// call, in order, up to the first after which the search doesn't go on, and of `finish`. One that
-/// ended in an error has written some first bytes of that text.
+/// ended in an error failed at a call, and has written the texts of the calls before it, and some
+/// first bytes of its own if the writer failed.
 pub fn runs_print<M: FindAt, W: Output>()
-    ensures ok { RunsPrint M.facts M.first_at W.step }
-    ensures error { RunsFailToPrint M.facts M.first_at W.step }
+    ensures ok { RunsPrint M.Error.output M.facts M.first_at W.step }
+    ensures error { RunsFailToPrint M.Error.output M.facts M.first_at W.step }
 {}
 
 /// The parts that a printer writes or counts are successive matches of the matcher: each is the
@@ -28,17 +29,19 @@ pub fn parts_are_successive<M: FindAt>()
 
 /// A run of the sink of a `Summary` that ended in `Ok` has counted the matches up to the first
 /// after which the search doesn't go on, and their parts if those are counted, and has written the
-/// text for these counts. One that ended in an error has written some first bytes of that text.
+/// text for these counts. One that ended in an error failed at a call, and has written the texts of
+/// the calls before it, and some first bytes of its own if the writer failed.
 pub fn runs_sum_up<M: FindAt, W: Output>()
-    ensures ok { RunsSumUp M.facts M.first_at W.step }
-    ensures error { RunsFailToSumUp M.facts M.first_at W.step }
+    ensures ok { RunsSumUp M.Error.output M.facts M.first_at W.step }
+    ensures error { RunsFailToSumUp M.Error.output M.facts M.first_at W.step }
 {}
 
 /// A run of the sink of a `Json` that ended in `Ok` has written the text of its plan: of each call,
-/// in order. One that ended in an error has written some first bytes of that text.
+/// in order. One that ended in an error failed at a call, and has written the texts of the calls
+/// before it, and some first bytes of its own if the writer failed.
 pub fn runs_print_json<M: FindAt, W: Output>()
-    ensures ok { RunsPrintJson M.facts M.first_at W.step }
-    ensures error { RunsFailToPrintJson M.facts M.first_at W.step }
+    ensures ok { RunsPrintJson M.Error.output M.facts M.first_at W.step }
+    ensures error { RunsFailToPrintJson M.Error.output M.facts M.first_at W.step }
 {}
 
 /// The line of a message is a text without a line feed, which any reader of JSON reads as this

@@ -3,7 +3,7 @@ ghost use Rattle.std.specs.Prelude.{◌≡◌, ◌⊎◌, ◌<◌, ◌^◌, ◌+
 ghost use Rattle.std.specs.Prelude.{if◌then◌else◌, true};
 ghost use Rattle.grep_matcher.specs.FindResults.{IsFrom};
 ghost use Rattle.grep_searcher.specs.SearchErrors.{IsOutOfMemory};
-ghost use Rattle.grep_printer.specs.MatchedParts.{AreInOrder, IsMessageOf, found_from};
+ghost use Rattle.grep_printer.specs.MatchedParts.{AreInOrder, IsMatcherError, found_from};
 ghost use Rattle.grep_printer.specs.MatchedParts.{is_passed, parts_after, parts_in, position_after};
 ghost use Rattle.grep_printer.specs.ReportedParts.{FailsAtReport, asked_bytes, asked_parts};
 
@@ -24,7 +24,7 @@ pub(crate) fn find_asked_parts<M: FindAt, A: Allocator + Copy>(
         (M.facts matcher.now).meaning bytes.now) }
     ensures ordered { OnOk result (AreInOrder 0 (length bytes.now) parts.new.items) }
     ensures error { IfErr result (λ e. IsOutOfMemory e ⊎ ((is_asked ≡ true)
-        × FailsAtReport (M.facts matcher.now) searcher.now.settings bytes.now e)) }
+        × FailsAtReport M.Error.output (M.facts matcher.now) searcher.now.settings bytes.now e)) }
 {
     if !is_asked {
         parts.clear();
@@ -61,7 +61,7 @@ fn find_parts<M: FindAt>(
         ≡ parts_in (M.first_at matcher.now bytes.now) (length bytes.now) limit) }
     ensures ordered { OnOk result (AreInOrder 0 (length bytes.now) parts.new.items) }
     ensures error { IfErr result (λ e. IsOutOfMemory e
-        ⊎ IsMessageOf (M.facts matcher.now).fails bytes.now e) }
+        ⊎ IsMatcherError M.Error.output (M.facts matcher.now).fails bytes.now e) }
 {
     parts.clear();
     let mut position = 0;
@@ -106,7 +106,8 @@ fn find_from<M: FindAt>(
     ensures value { IfOk result (λ m. m
         ≡ found_from (M.first_at matcher.now bytes.now) (length bytes.now) limit position) }
     ensures within { IfOk result (IsFrom position bytes.now) }
-    ensures error { IfErr result (IsMessageOf (M.facts matcher.now).fails bytes.now) }
+    ensures error { IfErr result
+        (IsMatcherError M.Error.output (M.facts matcher.now).fails bytes.now) }
 {
     if position > bytes.len() {
         return Ok(None);

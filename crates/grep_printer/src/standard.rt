@@ -258,8 +258,8 @@ impl<'s, M: FindAt, W: Output> StandardSink<'s, M, W> {
         report: &Report<'_>,
     ) -> Result<bool, SearchError>
         requires { report.now.offset + length report.now.bytes.now < 2 ^ 64 }
-        ensures { PrintsCall M.facts M.first_at W.step self.old searcher.now.settings
-            (call_of report.now) result self.new }
+        ensures { PrintsCall M.Error.output M.facts M.first_at W.step self.old
+            searcher.now.settings (call_of report.now) result self.new }
     {
         let progress = self.progress.after(report);
         if self.is_hidden(searcher) {
@@ -278,7 +278,7 @@ impl<'s, M: FindAt, W: Output> Sink for StandardSink<'s, M, W> {
 
     ghost use Rattle.grep_printer.specs.StandardSteps.{PrintsCall};
 
-    ghost step = { PrintsCall M.facts M.first_at W.step };
+    ghost step = { PrintsCall M.Error.output M.facts M.first_at W.step };
 
     ghost may_call = { λ _. Unit {0} };
 

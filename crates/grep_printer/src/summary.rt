@@ -246,7 +246,7 @@ impl<'s, M: FindAt, W: Output> Sink for SummarySink<'s, M, W> {
 
     ghost use Rattle.grep_printer.specs.SummarySteps.{SumsUp};
 
-    ghost step = { SumsUp M.facts M.first_at W.step };
+    ghost step = { SumsUp M.Error.output M.facts M.first_at W.step };
 
     ghost may_call = { λ _. Unit {0} };
 

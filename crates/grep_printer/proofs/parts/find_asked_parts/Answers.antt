@@ -4,7 +4,7 @@ use Rattle.std.specs.Prelude.{IfErr}
 use Rattle.grep_printer.proofs.FoundPartLemmas.{ordered-within}
 use Rattle.grep_printer.proofs.PartTextLemmas.{asked-within}
 use Rattle.grep_searcher.specs.SearchErrors.{IsOutOfMemory}
-use Rattle.grep_printer.specs.MatchedParts.{IsMessageOf}
+use Rattle.grep_printer.specs.MatchedParts.{IsMatcherError}
 use Rattle.grep_printer.specs.ReportedParts.{asked_bytes}
 use Rattle.grep_printer.proofs.parts.find_asked_parts.Goals as goal
 
@@ -22,8 +22,9 @@ returns-clause-error g c =
     let is : c.args.is_asked ≡ true = search rules in
     let fails = (g.M.Matcher.facts c.args.matcher.now).fails in
     let asked = asked_bytes c.args.searcher.now.settings (g.M.Matcher.facts c.args.matcher.now).meaning c.args.bytes.now in
-    IfErr-weaker c.find_parts.result (λ e. IsOutOfMemory e ⊎ IsMessageOf fails asked e)
-    (λ e. IsOutOfMemory e ⊎ ((c.args.is_asked ≡ true) × IsMessageOf fails asked e))
+    IfErr-weaker c.find_parts.result (λ e. IsOutOfMemory e ⊎ IsMatcherError g.M.Error.Display.output fails asked e)
+    (λ e. IsOutOfMemory e ⊎ ((c.args.is_asked ≡ true) × IsMatcherError g.M.Error.Display.output fails asked e))
     (λ e cause. elim cause [ inl memory ↦ inl memory | inr refused ↦ inr (is, refused) ])
-    (subst (λ (asked : List ℕ). IfErr c.find_parts.result (λ e. IsOutOfMemory e ⊎ IsMessageOf fails asked e))
+    (subst (λ (asked : List ℕ). IfErr c.find_parts.result
+    (λ e. IsOutOfMemory e ⊎ IsMatcherError g.M.Error.Display.output fails asked e))
     c.asked_bytes-asked.ensures c.find_parts.ensures.error)

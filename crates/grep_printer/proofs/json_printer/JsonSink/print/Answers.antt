@@ -13,7 +13,7 @@ returns g c =
     let report = c.args.report.now in
     let after : c.after-progress.result ≡ after_report old.progress (length draft.text.bytes.items) report
     (length draft.submatches.items) (byte_of c.args.searcher.now.settings.line_terminator) = search rules in
-    json-report g.M.Matcher.facts g.M.FindAt.first_at g.W.Output.step old mid c.write.new.self
+    json-report g.M.Error.Display.output g.M.Matcher.facts g.M.FindAt.first_at g.W.Output.step old mid c.write.new.self
     c.args.searcher.now.settings report c.compose_report-made.result c.after-progress.result c.write.result
     (record {
       same = record { printer = refl; matcher = refl; path = refl; always_begin_end = refl };

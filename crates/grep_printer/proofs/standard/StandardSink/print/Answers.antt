@@ -9,7 +9,7 @@ returns g c =
     let mid = record old {
       printer = record old.printer { now = record printer { draft = c.compose-made.new.self } };
     } in
-    prints-report g.M.Matcher.facts g.M.FindAt.first_at g.W.Output.step old mid c.write.new.self
+    prints-report g.M.Error.Display.output g.M.Matcher.facts g.M.FindAt.first_at g.W.Output.step old mid c.write.new.self
     c.args.searcher.now.settings c.args.report.now c.layout-layout.result c.compose-made.result
     c.after-progress.result c.write.result
     (record {

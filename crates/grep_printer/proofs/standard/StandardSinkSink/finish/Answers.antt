@@ -20,7 +20,7 @@ returns-clause-step g c =
     let printer = old.printer.now in
     let draft = c.compose_message-made.new.self in
     let finish = c.args.finish.now in
-    finish-made g.M.Matcher.facts g.M.FindAt.first_at g.W.Output.step old
+    finish-made g.M.Error.Display.output g.M.Matcher.facts g.M.FindAt.first_at g.W.Output.step old
     (record old { printer = record old.printer { now = record printer { draft = draft } } }) c.write.new.self
     c.args.searcher.now.settings finish.byte_count finish.binary_byte_offset c.reported_offset-offset.result
     c.compose_message-made.result c.write.result c.finish_of.result

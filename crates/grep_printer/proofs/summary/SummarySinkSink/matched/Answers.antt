@@ -14,10 +14,10 @@ returns-in-Err-clause-step g c =
         unwritten = search rules;
         has_failed = search rules;
         cause = subst (λ asked. IsOutOfMemory e ⊎ ((asked ≡ true)
-            × FailsAtReport (g.M.Matcher.facts sink.matcher) c.args.searcher.now.settings
+            × FailsAtReport g.M.Error.Display.output (g.M.Matcher.facts sink.matcher) c.args.searcher.now.settings
             (match_bytes c.args.found.now) e)) c.counts_parts-is_asked.ensures
             (subst (λ bytes. IsOutOfMemory e ⊎ ((c.counts_parts-is_asked.result ≡ true)
-            × FailsAtReport (g.M.Matcher.facts sink.matcher) c.args.searcher.now.settings bytes e)) c.bytes.ensures
+            × FailsAtReport g.M.Error.Display.output (g.M.Matcher.facts sink.matcher) c.args.searcher.now.settings bytes e)) c.bytes.ensures
             c.in-Err.ensures.error);
       });
     }
