@@ -74,8 +74,8 @@ pub trait Matcher {
     /// and says that no line matches.
     ///
     /// A search asks this only if the matcher declares the search's line terminator, or has its
-    /// byte among the non-matching bytes. Which lines it then reports is promised only if the
-    /// matcher is lawful for that terminator.
+    /// byte among the non-matching bytes; and never if it declares the byte 0. Which lines it then
+    /// reports is promised only if the matcher is lawful for that terminator.
     ///
     /// The default returns `Candidate(0)`: the first line may match. It never fails.
     fn find_candidate_line(&self, haystack: &[u8]) -> Result<Option<LineMatchKind>, Self::Error>
