@@ -7,3 +7,4 @@ pub mod FromPositionLemmas
 pub mod LineLemmas
 pub mod LineStartLemmas
 pub mod LineLengthLemmas
+pub mod LineMatchLemmas

@@ -3,6 +3,7 @@ pub mod ByteSets
 pub mod FindResults
 pub mod FirstMatches
 pub mod Lawful
+pub mod LineMatches
 pub mod Lines
 pub mod LiteralFirstMatches
 pub mod Literals

@@ -24,6 +24,7 @@ pub use Rattle.grep_definitions.specs.SinkArguments
 pub use Rattle.grep_decode.specs.Labels
 pub use Rattle.grep_decode.specs.Source
 pub use Rattle.grep_matcher.specs.Lawful
+pub use Rattle.grep_matcher.specs.LineMatches
 pub use Rattle.grep_matcher.specs.Lines
 pub use Rattle.grep_matcher.specs.Meanings
 pub use Rattle.grep_matcher.specs.Literals
