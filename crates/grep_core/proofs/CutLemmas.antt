@@ -498,7 +498,7 @@ module _ {R : Type 0} {remaining : R → Option (List ℕ)} {read_step : R → R
           (record { count = w'.offset; binary = sink.binary }) r' last
       counted-shown ended =
           rw there.known
-          (quitting.counted-planned stream.by_line (passed-further ended.low there.passed)
+          (quitting.counted-planned stream.by_line stream.built (passed-further ended.low there.passed)
           (rolls.counted-filled stream there.rolling fill there.uncut busy ended))
 
       -- or it ended in an error
@@ -512,7 +512,7 @@ module _ {R : Type 0} {remaining : R → Option (List ℕ)} {read_step : R → R
           → IsReaderSearch remaining read_step step errors (record facts { meaning = meaning })
           (record { settings = k; has_buffers = has_buffers }) on_stream reader first (Err e) r' last
       fault-shown facts fails =
-          quitting.failed-planned _ stream.by_line there.passed
+          quitting.failed-planned _ stream.by_line there.passed stream.built
           (rolls.faulted-filled stream there.rolling fill there.uncut busy fails)
 
       -- or it reads on
@@ -544,7 +544,7 @@ module _ {R : Type 0} {remaining : R → Option (List ℕ)} {read_step : R → R
         let reads = reading.reads stream held_now in
         rw (zero, there.known) (quitting.counted-unseen _ _ step k meaning (reading.taken k reads)
         (λ bytes input. let text = reading.input-is k reads bytes input in (text.0, text.1)) stream.by_line
-        (rw zero at there.passed) all_true
+        stream.built (rw zero at there.passed) all_true
         (λ bytes. walks.counted-idle k meaning bytes step there.start sink.sink idle unread.begun)
         (λ limit is passes. omega (
           arith,

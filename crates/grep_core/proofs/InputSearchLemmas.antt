@@ -1,15 +1,14 @@
 -- A search of whole contents, by how it looks for a binary byte, and the searches of a reader by line and across lines.
-use Rattle.grep_core.specs.InputSearches.{IsBytesSearched, IsSearchedUntil, IsAcrossSearched, IsSourceSearchedIn}
+use Rattle.grep_core.specs.InputSearches.{IsBytesSearched, IsSearchedUntil}
 use Rattle.grep_core.specs.SearchBuffers.{IsMadeOf}
 use Rattle.grep_decode.specs.DecoderStates.{DecoderState, Decodes, IsDone, IsWaiting, started}
 use Rattle.grep_decode.specs.Source.{ReadResult}
 use Rattle.grep_definitions.proofs.FrontLemmas.{front-whole}
-use Rattle.grep_definitions.proofs.SearchModeLemmas.{look-quit}
-use Rattle.grep_definitions.proofs.SinkRunLemmas.{has-begun}
+use Rattle.grep_definitions.proofs.SearchModeLemmas.{look-plain, look-quit}
 use Rattle.grep_definitions.proofs.PlanLemmas.{plans-turns}
-use Rattle.grep_definitions.proofs.PlannedReaderLemmas.{contents-planned, plain-planned}
+use Rattle.grep_definitions.proofs.PlannedReaderLemmas.{contents-read}
 use Rattle.grep_definitions.proofs.PlannedStreamLemmas.{undetected-read}
-use Rattle.grep_definitions.proofs.PlannedSliceLemmas.{plain-fault, quit-fault, until-planned}
+use Rattle.grep_definitions.proofs.PlannedSliceLemmas.{plain-fault, quit-fault, until-planned, IsSearched}
 use Rattle.grep_definitions.specs.Plans.{
   search_plan,
   is_across,
@@ -25,32 +24,25 @@ use Rattle.grep_definitions.specs.Plans.{
 use Rattle.grep_definitions.specs.Searches.{
   in_contents,
   look_at,
+  nowhere,
   on_stream,
-  view_of,
   look_of,
-  IsFront,
+  view_in,
   IsInput,
   CutsContents,
   IsBelowLimit,
   of_full,
   of_no_memory,
   IsPoint,
-  IsSearchOf,
+  IsReaderSearch,
+  IsSeenOf,
+  Look,
   ran,
   IsRead,
 }
-use Rattle.grep_definitions.specs.ContentsSearches.{IsFaultIn, IsQuitFault, IsRunUntil, of_sink}
-use Rattle.grep_definitions.specs.ReaderRuns.{
-  IsPlainlySearched,
-  IsContentsSearched,
-  IsUnreadIn,
-  IsReaderFaultIn,
-  of_contents,
-  of_failed_read,
-  of_reading,
-  of_search,
-}
-use Rattle.grep_definitions.specs.SearchTurns.{calls_if, search_turns, search_byte_count, SearchCalls, calls_across}
+use Rattle.grep_definitions.specs.ReaderRuns.{IsUnreadIn, of_contents, of_failed_read}
+use Rattle.grep_definitions.specs.SearchTurns.{calls_across, calls_if, search_turns, search_byte_count}
+use Rattle.grep_definitions.specs.ContentsSearches.{IsFaultIn, IsSearchedAlong}
 use Rattle.grep_definitions.specs.SinkRuns.{plan_of}
 use Rattle.grep_definitions.specs.SliceSearches.{IsSliceSearch}
 use Rattle.grep_line_buffer.specs.Contents.{IsBelow, ContentsFail, FailsAfter}
@@ -60,6 +52,8 @@ use Rattle.grep_line_buffer.specs.declared.fill_error.FillError.TheVariants.{Rea
 use Rattle.grep_matcher.specs.Lines.{byte_of, lines}
 use Rattle.grep_matcher.specs.Meanings.{MatcherFacts, Meaning}
 use Rattle.grep_report.specs.BinaryDetections.{quit_byte_of}
+use Rattle.grep_walk.proofs.FinishLemmas.{searched-finish}
+use Rattle.grep_walk.specs.Walks.{Counted}
 use Rattle.grep_report.specs.ErrorMakers.{ErrorMakers}
 use Rattle.grep_report.specs.declared.binary_detection.BinaryDetection.{BinaryDetection}
 use Rattle.grep_report.specs.declared.binary_detection.BinaryDetection.TheVariants.{
@@ -67,8 +61,6 @@ use Rattle.grep_report.specs.declared.binary_detection.BinaryDetection.TheVarian
   Quit,
   Convert,
 }
-use Rattle.grep_walk.proofs.FinishLemmas.{finish-counted, run-finish}
-use Rattle.grep_walk.specs.Walks.{Counted}
 use Rattle.std.proofs.Common.{
   ◌≡◌,
   ℕ,
@@ -140,86 +132,44 @@ module _ {S E F : Type 0} (step : Steps S E) (errors : ErrorMakers F E) (matcher
     where
       go : (d : BinaryDetection) → k.binary_detection ≡ d → (result : Result (Unit {0}) E)
           → IsBytesSearched step errors matcher (look_at d false) k bytes old result new
-          → IsSearchOf step errors matcher k (IsPoint k matcher.meaning bytes (look_at d false) (length bytes))
-          (λ plan outcome. Unit {0}) bytes old result new
+          → IsSearched step errors matcher k bytes old
+          (IsPoint k matcher.meaning bytes (look_at d false) (length bytes)) result new
       go no_detection is (Ok u) run = ran None refl (along run) tt
-      go no_detection is (Err e) fault =
-          plain-fault step _ _ _ (λ calls. refl)
-          (λ plan outcome. Unit {0}) k bytes old e new fault
-      go (Quit b) is (Ok u) run =
-          until-planned step _ _ (λ plan outcome. Unit {0}) (λ p o. tt) b k is (length bytes) bytes old
-          _ new run
-      go (Quit b) is (Err e) fault =
-          quit-fault step _ _ (λ plan outcome. Unit {0}) (λ p o. tt) b k is (length bytes) bytes old e new
-          fault
+      go no_detection is (Err e) fault = plain-fault step errors matcher k bytes old _ (λ calls. refl) e new fault
+      go (Quit b) is (Ok u) run = until-planned step errors matcher k bytes old b is (length bytes) (Ok u) new run
+      go (Quit b) is (Err e) fault = quit-fault step errors matcher k bytes old b is (length bytes) e new fault
       go (Convert b) is (Ok u) run = ran None refl (along run) tt
-      go (Convert b) is (Err e) fault =
-          plain-fault _ _ _ _ (λ calls. refl)
-          _ k _ old e new fault
+      go (Convert b) is (Err e) fault = plain-fault step errors matcher k bytes old _ (λ calls. refl) e new fault
 
 module _ {R : Type 0} (remaining : R → Option (List ℕ)) (read_step : R → ReadResult → R → Type 0)
-    (state : SearcherState) where
-  module _ {S E F : Type 0} (step : Steps S E) (errors : ErrorMakers F E) (matcher : MatcherFacts F) (reader : R)
-      (old : S)
-      (result : Result (Unit {0}) E) (reader' : R) (new : S) where
-    -- along the calls of that mode
-    plainly-in : {mode : Bool} → is_across state.settings matcher.meaning ≡ mode
-        → IsSourceSearchedIn step errors matcher (calls_if state.settings matcher.meaning mode) remaining read_step
-        state reader old
-        result reader' new
-        → IsPlainlySearched remaining read_step step errors matcher state reader old result reader' new
-    plainly-in is searched = go result
-        (subst (λ m. IsSourceSearchedIn step errors matcher (calls_if state.settings matcher.meaning m) remaining
-        read_step state reader old
-        result reader' new) (sym is) searched)
-      where
-        go : (result : Result (Unit {0}) E)
-            → IsSourceSearchedIn step errors matcher (calls_if state.settings matcher.meaning
-            (is_across state.settings matcher.meaning))
-            remaining read_step state reader old result reader' new
-            → IsPlainlySearched remaining read_step step errors matcher state reader old result reader' new
-        go (Ok u) run = run
-        go (Err e) fault = fault
+    (state : SearcherState) {S E F : Type 0} (step : Steps S E) (errors : ErrorMakers F E) (matcher : MatcherFacts F)
+    (reader : R) (old : S) (result : Result (Unit {0}) E) (reader' : R) (new : S) where
+  -- a search across lines looks in whole contents, or nowhere
+  pub read-across : is_across state.settings matcher.meaning ≡ true
+      → IsRead remaining read_step step errors matcher state (look_at state.settings.binary_detection false) reader old
+      result reader' new
+      → IsRead remaining read_step step errors matcher state (look_of state.settings matcher.meaning false) reader old
+      result reader' new
+  read-across across searched =
+      subst (λ m. IsRead remaining read_step step errors matcher state
+      (look_at state.settings.binary_detection (not m)) reader old result reader' new) (sym across) searched
 
-    -- along its plan
-    pub read-across : is_across state.settings matcher.meaning ≡ true
-        → IsAcrossSearched remaining read_step step errors matcher (look_at state.settings.binary_detection false) state
-        reader old result
-        reader' new
-        → IsRead remaining read_step step errors matcher state (look_of state.settings matcher.meaning false) reader old
-        result reader' new
-    read-across across searched =
-        subst (λ m. IsRead remaining read_step step errors matcher state
-        (look_at state.settings.binary_detection (not m)) reader old result reader' new) (sym across)
-        (go state.settings.binary_detection refl searched)
-      where
-        go : (d : BinaryDetection) → state.settings.binary_detection ≡ d
-            → IsAcrossSearched remaining read_step step errors matcher (look_at d false) state reader old result reader'
-            new
-            → IsRead remaining read_step step errors matcher state (look_at d false) reader old result reader' new
-        go no_detection is searched = plain-planned _ _ step _ _ state
-            across _ old _ _ new (plainly-in across searched)
-        go (Quit b) is searched = contents-planned _ _ step _ _ b state is across _ old
-            _ _ new searched
-        go (Convert b) is searched = plain-planned _ _ step _ _ state
-            across _ old _ _ new (plainly-in across searched)
-
-    -- a search by line looks on the stream, or nowhere
-    pub read-by_line : is_across state.settings matcher.meaning ≡ false
-        → IsRead remaining read_step step errors matcher state on_stream reader old result reader' new
-        → IsRead remaining read_step step errors matcher state (look_of state.settings matcher.meaning false) reader old
-        result reader' new
-    read-by_line by_line searched =
-        subst (λ m. IsRead remaining read_step step errors matcher state
-        (look_at state.settings.binary_detection (not m)) reader old result reader' new) (sym by_line)
-        (go state.settings.binary_detection refl)
-      where
-        go : (d : BinaryDetection) → state.settings.binary_detection ≡ d
-            → IsRead remaining read_step step errors matcher state (look_at d true) reader old result reader' new
-        go no_detection is = undetected-read _ _ step _ _ state is _ old _ _
-            new searched
-        go (Quit b) is = searched
-        go (Convert b) is = searched
+  -- a search by line looks on the stream, or nowhere
+  pub read-by_line : is_across state.settings matcher.meaning ≡ false
+      → IsRead remaining read_step step errors matcher state on_stream reader old result reader' new
+      → IsRead remaining read_step step errors matcher state (look_of state.settings matcher.meaning false) reader old
+      result reader' new
+  read-by_line by_line searched =
+      subst (λ m. IsRead remaining read_step step errors matcher state
+      (look_at state.settings.binary_detection (not m)) reader old result reader' new) (sym by_line)
+      (go state.settings.binary_detection refl)
+    where
+      go : (d : BinaryDetection) → state.settings.binary_detection ≡ d
+          → IsRead remaining read_step step errors matcher state (look_at d true) reader old result reader' new
+      go no_detection is = undetected-read _ _ step _ _ state is _ old _ _
+          new searched
+      go (Quit b) is = searched
+      go (Convert b) is = searched
 
 -- why not all was read, by the error
 module _ {R : Type 0} (remaining : R → Option (List ℕ)) (read_step : R → ReadResult → R → Type 0) (k : Settings)
@@ -257,111 +207,79 @@ module _ {R : Type 0} (remaining : R → Option (List ℕ)) (read_step : R → R
   unread-read Offset made size never reads fails ready waits = absurd never
   unread-read Memory made size lacks reads fails ready waits = unread-contents reads (λ bytes enough. of_no_memory made)
 
--- all of it was read
+-- all of it was read, and searched across lines
 module _ {R : Type 0} {remaining : R → Option (List ℕ)} {read_step : R → ReadResult → R → Type 0} (k : Settings)
     {reader reader' : R} {given : List ℕ} {d d' : DecoderState} (start : d ≡ started d.capacity k.encoding k.bom_sniffing)
     (reads : Decodes remaining read_step d reader given d' reader') (done : IsDone d')
-    (below : IsBelow k.heap_limit (length given)) {S E F : Type 0} (step : Steps S E) (errors : ErrorMakers F E)
-    (matcher : MatcherFacts F) (has_buffers : Bool) (old : S) where
+    (below : IsBelow k.heap_limit (length given)) where
   abbrev from-start : Decodes remaining read_step (started d.capacity k.encoding k.bom_sniffing) reader given d' reader'
   from-start = subst (λ from. Decodes remaining read_step from reader given d' reader') start reads
-
-  abbrev calls : SearchCalls
-  calls = calls_across k matcher.meaning
-
-  abbrev state : SearcherState
-  state = record { settings = k; has_buffers = has_buffers }
 
   given-is : (bytes : List ℕ) → IsInput k d'.has_ended from-start.pieces bytes → given ≡ bytes
   given-is bytes input =
       let text = reading.input-is k from-start bytes input in
       sym (text.1 ∙ (ap (λ xs. given ++ xs) (text.2 done) ∙ append-nil given))
 
-  front-is : (bytes : List ℕ) → IsInput k d'.has_ended from-start.pieces bytes → IsFront k bytes given
-  front-is bytes input = subst (λ xs. IsFront k xs given) (given-is bytes input) (front-whole k given
-      (λ limit is. subst (λ l. IsBelow l (length given)) is below))
+  below-limit : IsBelowLimit k given
+  below-limit limit is = subst (λ l. IsBelow l (length given)) is below
 
-  below-limit : (bytes : List ℕ) → IsInput k d'.has_ended from-start.pieces bytes → IsBelowLimit k bytes
-  below-limit bytes input limit is =
-      subst (λ xs. length xs < limit) (given-is bytes input) (subst (λ l. IsBelow l (length given)) is below)
+  module _ {S E F : Type 0} (step : Steps S E) (errors : ErrorMakers F E) (matcher : MatcherFacts F)
+      (has_buffers : Bool) (old : S) (across : is_across k matcher.meaning ≡ true) where
+    abbrev state : SearcherState
+    state = record { settings = k; has_buffers = has_buffers }
 
-  pub contents-fault : {e : E} {new : S} → IsFaultIn step errors matcher calls k given old e new
-      → IsReaderFaultIn remaining read_step step errors matcher calls state reader old e reader' new
-  contents-fault {e} {new} fault = of_search (reading.taken k from-start) given (λ _. done.ended) fault
-      (λ bytes input. (
-        front-is bytes input,
-        subst (λ xs. IsFaultIn step errors matcher calls k xs old e new) (given-is bytes input) fault,
-        (λ _. below-limit bytes input),
-      ))
+    contents-searched : (result : Result (Unit {0}) E) (new : S)
+        → IsBytesSearched step errors matcher (look_at k.binary_detection false) k given old result new
+        → IsReaderSearch remaining read_step step errors matcher state (look_at k.binary_detection false) reader old
+        result reader' new
+    contents-searched result new searched =
+        go k.binary_detection (slice-search step errors matcher k given old result new searched)
+      where
+        read : (look : Look) → view_in k look given ≡ given → IsSeenOf k look given given
+            → IsSearched step errors matcher k given old (IsPoint k matcher.meaning given look (length given)) result new
+            → IsReaderSearch remaining read_step step errors matcher state look reader old result reader' new
+        read look view front = contents-read remaining read_step step errors matcher state look across
+            (reading.taken k from-start) done.ended given given-is below-limit view front result new
 
-  -- `finish` ends what was counted
-  pub contents-finished : {count : ℕ} {outcome : Outcome E} {mid : S} (result : Result (Unit {0}) E) {new : S}
-      → Counted step k old (calls.turns given) (calls.byte_count given) count outcome mid
+        go : (b : BinaryDetection)
+            → IsSearched step errors matcher k given old
+            (IsPoint k matcher.meaning given (look_at b false) (length given)) result new
+            → IsReaderSearch remaining read_step step errors matcher state (look_at b false) reader old result reader' new
+        go no_detection = read nowhere refl (front-whole k given below-limit)
+        go (Quit b) = read (in_contents b) refl refl
+        go (Convert b) = read nowhere refl (front-whole k given below-limit)
+
+    pub contents-read-all : (result : Result (Unit {0}) E) (new : S)
+        → IsBytesSearched step errors matcher (look_at k.binary_detection false) k given old result new
+        → IsRead remaining read_step step errors matcher state (look_at k.binary_detection false) reader old result
+        reader' new
+    contents-read-all (Ok u) new searched = contents-searched (Ok u) new searched
+    contents-read-all (Err e) new searched = inl (contents-searched (Err e) new searched)
+
+    -- where no byte ends it
+    pub contents-read-plain : ((b : ℕ) → quit_byte_of k.binary_detection ≡ Some b → ⊥) → (result : Result (Unit {0}) E)
+        (new : S) → IsSearchedAlong step errors matcher k given old result new
+        → IsRead remaining read_step step errors matcher state (look_at k.binary_detection false) reader old result
+        reader' new
+    contents-read-plain none result new searched = contents-read-all result new
+        (subst (λ look. IsBytesSearched step errors matcher look k given old result new)
+        (sym (look-plain k.binary_detection none)) searched)
+
+-- what the loop across lines says of itself
+module _ {S E F : Type 0} (step : Steps S E) (errors : ErrorMakers F E) (matcher : MatcherFacts F) (k : Settings)
+    (bytes : List ℕ) (old : S) (across : is_across k matcher.meaning ≡ true) where
+  pub finished-across : {count : ℕ} {outcome : Outcome E} {mid : S} (result : Result (Unit {0}) E) {new : S}
+      → Counted step k old ((calls_across k matcher.meaning).turns bytes) ((calls_across k matcher.meaning).byte_count bytes)
+      count outcome mid
       → step mid k (finishes count None) (finish_result result) new
-      → IsSourceSearchedIn step errors matcher calls remaining read_step state reader old result reader' new
-  contents-finished {count} {outcome} {mid} (Ok u) {new} counted finish =
-      let finished = finish-counted step k old (calls.turns given) (calls.byte_count given) count outcome mid (Ok u) new
-      counted.is_count finish in
-      let begun = has-begun step k old 0 _ (calls.byte_count given) outcome mid new counted.reported finished in
-      let run = run-finish step k old (calls.turns given) (calls.byte_count given) count outcome mid (Ok u) new
-      counted finish in
-      record {
-        taken = reading.taken k from-start;
-        seen = given;
-        outcome = outcome;
-        mid = mid;
-        reported = counted.reported;
-        finished = finished;
-        front = front-is;
-        run = λ bytes input. subst
-            (λ xs. IsRun step k old (plan_of (calls.turns xs) (calls.byte_count xs)) (Ok u) new) (given-is bytes input)
-            run;
-        all = λ bytes input all. subst
-            (λ xs. calls.turn_count xs ≤ length (lines (byte_of k.line_terminator) given)) (given-is bytes input)
-            (omega arith);
-        begun = begun.0;
-        first = begun.1;
-        begin = begun.2;
-        unread = λ by_line. absurd (false≢true (sym by_line));
-        whole = λ _. done.ended;
-        below = λ _. below-limit;
-        ahead = λ by_line. absurd (false≢true (sym by_line));
-      }
-  contents-finished {count} {outcome} {mid} (Err e) {new} counted finish = contents-fault
-      (of_sink (run-finish step k old (calls.turns given) (calls.byte_count given) count outcome mid (Err e) new
-      counted finish))
+      → IsSearchedAlong step errors matcher k bytes old result new
+  finished-across {count} {outcome} {mid} result {new} counted finish =
+      searched-finish step errors matcher k bytes old count outcome mid result new
+      (subst (λ m. Counted step k old ((calls_if k matcher.meaning m).turns bytes)
+      ((calls_if k matcher.meaning m).byte_count bytes) count outcome mid) (sym across) counted)
+      finish
 
-  -- a search of it ended at a byte, or might have
-  pub contents-until : (b : ℕ) (result : Result (Unit {0}) E) (new : S)
-      → IsSearchedUntil step errors matcher calls b k given old result new
-      → IsContentsSearched remaining read_step step errors matcher b state reader old result reader' new
-  contents-until b (Ok u) new run = record {
-    taken = reading.taken k from-start;
-    whole = done.ended;
-    run = λ bytes input. subst (λ xs. IsRunUntil step errors matcher calls b k xs old (Ok u) new)
-        (given-is bytes input) run;
-    below = below-limit;
-  }
-  contents-until b (Err e) new fault = inl (record {
-    taken = reading.taken k from-start;
-    whole = done.ended;
-    run = λ bytes input. subst (λ xs. IsQuitFault step errors matcher calls b k xs old e new) (given-is bytes input)
-        fault;
-    below = below-limit;
-  })
-
--- all wasn't read: the sink had no call, wherever the search looks for a byte
-pub across-unread : {R : Type 0} {remaining : R → Option (List ℕ)} {read_step : R → ReadResult → R → Type 0}
-    {S E F : Type 0}
-    (step : Steps S E) (errors : ErrorMakers F E) (matcher : MatcherFacts F) (d : BinaryDetection)
-    {state : SearcherState} {reader : R} (old : S) {error : Error} (e : E) {reader' : R}
-    → ((view : List ℕ → List ℕ) → IsUnreadIn remaining read_step true view state matcher.meaning reader None error
-    reader')
-    → errors.is_io error e
-    → IsAcrossSearched remaining read_step step errors matcher (look_at d false) state reader old (Err e) reader' old
-across-unread step errors matcher no_detection old {error} e unread made =
-    of_reading None error (unread (λ bytes. bytes)) made refl
-across-unread step errors matcher (Quit b) {state} old {error} e unread made =
-    inr (error, unread (view_of state.settings), made, refl)
-across-unread step errors matcher (Convert b) old {error} e unread made =
-    of_reading None error (unread (λ bytes. bytes)) made refl
+  pub failed-across : {e : E} {new : S} → IsFaultIn step errors matcher (calls_across k matcher.meaning) k bytes old e new
+      → IsSearchedAlong step errors matcher k bytes old (Err e) new
+  failed-across {e} {new} fault =
+      subst (λ m. IsFaultIn step errors matcher (calls_if k matcher.meaning m) k bytes old e new) (sym across) fault

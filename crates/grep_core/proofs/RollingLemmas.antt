@@ -545,8 +545,6 @@ module _ {R : Type 0} {remaining : R → Option (List ℕ)} {read_step : R → R
         ));
         over_seen = subst (λ xs. IsWalkFault step errors matcher k (so_far.gone ++ xs) first e now')
             (append-nil new.shown) (fault so_far.gone first ready [] nothing);
-        over_all = λ bytes input. rw (sym (after-is bytes input))
-            (fault so_far.gone first ready (after bytes input) (closes bytes input));
       }
 
       -- the search ended within what is shown, or with it
@@ -558,7 +556,6 @@ module _ {R : Type 0} {remaining : R → Option (List ℕ)} {read_step : R → R
         over_seen = subst (λ xs. IsCountedFor step k meaning first (so_far.gone ++ xs) w'.offset ended.outcome now')
             (append-nil new.shown)
             (ended.counted so_far.gone first so_far.between.opens ready [] nothing (λ _. refl));
-        over_all = over;
         all = λ bytes input all.
             let count = subst (λ o. IsCount o (LineSearch.byte_count k meaning (view_of k bytes)) w'.offset) all
             (over bytes input).is_count in

@@ -22,6 +22,8 @@ use Rattle.grep_definitions.proofs.FirstTurnLemmas.{turns-begin}
 use Rattle.grep_definitions.proofs.FrontLemmas.{turns-within, front-none}
 use Rattle.grep_definitions.proofs.PlannedReaderLemmas.{passes-unchanged}
 use Rattle.grep_definitions.proofs.PlannedStreamLemmas.{stream-point, binary-made}
+use Rattle.grep_definitions.proofs.SeenLineLemmas.{asked-begin, calls-begin, plan-same}
+use Rattle.grep_definitions.proofs.SeenSearchLemmas.{on-ok}
 use Rattle.grep_definitions.proofs.SearchModeLemmas.{asked-with, calls-are, finish-is, with-calls, with-finish}
 use Rattle.grep_definitions.proofs.SinkRunLemmas.{all-by, AreMade-append, outcome_by, made-binary, by-none, by-some}
 use Rattle.grep_definitions.specs.Plans.{
@@ -49,7 +51,7 @@ use Rattle.grep_definitions.specs.Plans.{
   Settings,
   SearcherState,
 }
-use Rattle.grep_definitions.specs.Searches.{quits, on_stream, binary_of, view_of, BinaryPoint, plan_with, calls_with, planned_binary, with_offset, IsInput, searched_bytes, Taken, reports_nothing, IsPoint, IsCutAt, IsReaderSearch, IsSearchOf, Points, ran, asked, IsStreamPoint, IsRead}
+use Rattle.grep_definitions.specs.Searches.{quits, on_stream, binary_of, view_of, BinaryPoint, plan_with, calls_with, planned_binary, with_offset, IsInput, searched_bytes, Taken, reports_nothing, IsPoint, IsCutAt, IsReaderSearch, IsSearchOf, EachPoint, EachAsked, ran, asked, IsStreamPoint, IsRead}
 use Rattle.grep_definitions.specs.SinkRuns.{after_binary}
 use Rattle.grep_definitions.specs.DecodedInputs.{passes_unchanged}
 use Rattle.grep_definitions.specs.LineSearch.{byte_count, turns, through}
@@ -323,71 +325,81 @@ module _ {S E : Type 0} {step : Steps S E} {k : Settings} {meaning : Meaning} (b
 
   -- a walk over it came to its end
   pub counted-planned : {R : Type 0} {remaining : R → Option (List ℕ)} {read_step : R → ReadResult → R → Type 0}
-      {reader reader' : R} {last : S} {found : Option ℕ} (start : IsStartAt step k meaning given at old next found)
+      {reader reader' : R} {last : S} {found : Option ℕ} → (k.passthru ≡ true → k.before_context ≡ 0)
+      → (start : IsStartAt step k meaning given at old next found)
       → HasCounted step k meaning remaining read_step reader next given found at reader' last
       → IsStreamCounted step k meaning remaining read_step reader old (record { count = at; binary = found }) reader'
       last
-  counted-planned {last} {found} start ended =
-      let to : (bytes : List ℕ) → IsCountedFor step k meaning next bytes at ended.outcome last
-      → IsMadeTo step k old (plan_with k.binary_detection (point_of start) (search_plan k meaning bytes))
-      (outcome_by found ended.outcome) (record { count = at; binary = found }) last =
-      λ bytes over. record {
-        made = made-along start bytes over.reported;
-        ending = ending-along start bytes at ended.outcome over.is_count;
-      } in
-      record {
-        taken = ended.input.taken;
-        seen = ended.input.seen;
-        point = point_of start;
-        outcome = outcome_by found ended.outcome;
-        front = ended.input.front;
-        at_seen = plan-point start ended.input _ ended.over_seen.reported;
-        over_seen = to ended.input.seen ended.over_seen;
-        at_each = λ bytes is. plan-point start ended.input _ (ended.over_all bytes is).reported bytes is;
-        over_each = λ bytes is. to (view_of k bytes) (ended.over_all bytes is);
-        all = λ all goes_on bytes is. ended.all bytes is (all-by found _ all);
-        ahead = ended.ahead;
-      }
+  counted-planned {last} {found} built start ended = record {
+    taken = ended.input.taken;
+    seen = ended.input.seen;
+    point = point_of start;
+    outcome = outcome_by found ended.outcome;
+    front = ended.input.front;
+    begins = λ bytes is. calls-begin meaning by_line (ended.input.front bytes is) built;
+    at_seen = plan-point start ended.input _ ended.over_seen.reported;
+    over_seen = record {
+      made = made-along start ended.input.seen ended.over_seen.reported;
+      ending = ending-along start ended.input.seen at ended.outcome ended.over_seen.is_count;
+    };
+    within = ended.input.within;
+    all = λ all goes_on bytes is. ended.all bytes is (all-by found _ all);
+    ahead = ended.ahead;
+  }
 
 -- such a walk, by what is known of the matcher
 module _ {S E F : Type 0} {step : Steps S E} {errors : ErrorMakers F E} (matcher : MatcherFacts F) {k : Settings}
     (by_line : is_across k matcher.meaning ≡ false) {given : List ℕ} {at : ℕ} {old : S} {next : Origin S}
     {found : Option ℕ} (begun : IsStartAt step k matcher.meaning given at old next found) where
-  -- a fault of the walk
-  fault-of : (IsAt : Points) (HasRead : Plan → Outcome E → Type 0) (bytes : List ℕ) {e : E} {last : S}
-      → ((made : List Planned) (outcome : Outcome E) → AreMadeFrom step k next made outcome last
-      → IsAt made (point_of begun))
-      → IsWalkFault step errors matcher k bytes next e last
-      → IsSearchOf step errors matcher k IsAt HasRead bytes old (Err e) last
-  fault-of IsAt HasRead bytes {e} {last} is_at (at_call so_far) =
-      ran (point_of begun)
-      (rw (calls-are k matcher.meaning by_line bytes) (is_at _ _ so_far))
-      (record { outcome = failed e; mid = last; made = made-along by_line begun bytes so_far; finished = (refl, refl) })
-      tt
-  fault-of IsAt HasRead bytes is_at (at_question haystack error made later asks first fails message so_far) =
-      asked haystack error made (asked-with k _ by_line asks) fails message (
-        point_of begun,
-        is_at _ _ so_far,
-        goes-on by_line begun,
-        made-with by_line begun so_far,
-      )
-
   -- it ended in an error
   pub failed-planned : {R : Type 0} {remaining : R → Option (List ℕ)} {read_step : R → ReadResult → R → Type 0}
-      {has_buffers : Bool} {reader reader' : R} {e : E} {last : S}
+      {has_buffers : Bool} {reader reader' : R} {e : E} {last : S} → (k.passthru ≡ true → k.before_context ≡ 0)
       → HasFailed step k matcher.meaning remaining read_step errors matcher reader next given found at e reader' last
       → IsReaderSearch remaining read_step step errors matcher (record { settings = k; has_buffers = has_buffers })
       on_stream reader old (Err e) reader' last
-  failed-planned ended = record {
-    taken = ended.input.taken;
-    seen = ended.input.seen;
-    front = ended.input.front;
-    over_seen = fault-of _ _ _ (λ _ _ so_far. point-at by_line begun ended.input so_far)
-        ended.over_seen;
-    each = λ bytes is. fault-of _ _ _ (λ _ _ so_far. point-at by_line begun ended.input so_far bytes is)
-        (ended.over_all bytes is);
-    whole = λ across. absurd (clash across by_line);
-  }
+  failed-planned {remaining = remaining} {read_step = read_step} {has_buffers = has_buffers} {e = e} {last = last} built
+      ended = record {
+        taken = ended.input.taken;
+        seen = seen;
+        each = λ bytes is.
+            let begins = calls-begin matcher.meaning by_line (ended.input.front bytes is) built in
+            record { front = ended.input.front bytes is; later = begins.0; calls = begins.1 };
+        over_seen = go (λ plan. ((λ all. cc), tt)) ended.over_seen;
+        whole = λ across. absurd (clash across by_line);
+      }
+    where
+      seen : List ℕ
+      seen = ended.input.seen
+
+      state : SearcherState
+      state = record { settings = k; has_buffers = has_buffers }
+
+      One : List ℕ → Type 0
+      One = IsInput k ended.input.taken.ended ended.input.taken.pieces
+
+      go : {HasRead : Plan → Outcome E → Result (Unit {0}) E → Type 0} → ((plan : Plan) → HasRead plan (failed e) (Err e))
+          → IsWalkFault step errors matcher k seen next e last
+          → IsSearchOf step errors matcher k
+          (EachPoint remaining read_step step errors matcher state on_stream One (length seen))
+          (EachAsked remaining read_step step errors matcher state on_stream One seen) HasRead
+          (search_plan k matcher.meaning seen) old (Err e) last
+      go far (at_call so_far) =
+          ran (point_of begun)
+          (rw (calls-are k matcher.meaning by_line seen) (point-at by_line begun ended.input so_far))
+          (record { outcome = failed e; mid = last; made = made-along by_line begun seen so_far; finished = (refl, refl) })
+          (far _)
+      go far (at_question haystack error made later asks first fails message so_far) =
+          asked haystack error made (
+            asked-with k _ by_line asks,
+            λ bytes is. asked-with k _ by_line
+                (asked-begin matcher.meaning by_line (ended.input.front bytes is) built asks),
+          )
+          fails message (
+            point_of begun,
+            point-at by_line begun ended.input so_far,
+            goes-on by_line begun,
+            made-with by_line begun so_far,
+          )
 
 module _ {R : Type 0} {remaining : R → Option (List ℕ)} {read_step : R → ReadResult → R → Type 0}
     {S E : Type 0} (step : Steps S E) {k : Settings} {meaning : Meaning} {decoder : DecoderState}
@@ -427,9 +439,9 @@ module _ {R : Type 0} {remaining : R → Option (List ℕ)} {read_step : R → R
   at-seen bytes one = stream-point k _ bytes seen _ (cut bytes one) front [] (sym (append-nil front))
 
   -- the calls for the lines that were seen come first
-  calls-begin : (bytes : List ℕ) → IsOne bytes → (later : List Planned) × ((plan (view_of k bytes)).calls ≡ front ++
+  calls-begun : (bytes : List ℕ) → IsOne bytes → (later : List Planned) × ((plan (view_of k bytes)).calls ≡ front ++
       later)
-  calls-begin bytes one =
+  calls-begun bytes one =
       let there = (cut bytes one).front in
       let begun = turns-begin k meaning seen _ there.closed stream.built in (
         begun.0,
@@ -437,11 +449,6 @@ module _ {R : Type 0} {remaining : R → Option (List ℕ)} {read_step : R → R
             ∙ (ap (LineSearch.turns k meaning) there.front.whole ∙ begun.1
             ∙ ap (λ cs. cs ++ begun.0) (sym (plan-calls seen))),
       )
-
-  abbrev at-each : (bytes : List ℕ) → IsOne bytes → IsStreamPoint k meaning bytes (plan (view_of k bytes)).calls point
-  at-each bytes one =
-      let later = calls-begin bytes one in
-      stream-point k _ bytes seen _ (cut bytes one) _ _ later.1
 
   module _ (outcome : Outcome E) (last : S) (called : AreMade step k mid (planned_binary point ∷ []) outcome last)
       (ends : outcome ≡ all_true → quits k.binary_detection ≡ true) where
@@ -467,10 +474,10 @@ module _ {R : Type 0} {remaining : R → Option (List ℕ)} {read_step : R → R
         record {
           taken = taken;
           seen = seen;
-          front = λ bytes one. (cut bytes one).front.front;
-          over_seen = ran (Some point) at-seen (along (plan seen) (at-seen some is-one).before) tt;
-          each = λ bytes one. ran (Some point) (at-each bytes one)
-              (along (plan (view_of k bytes)) (at-each bytes one).before) tt;
+          each = λ bytes one.
+              let begins = calls-begun bytes one in
+              record { front = (cut bytes one).front.front; later = begins.0; calls = begins.1 };
+          over_seen = ran (Some point) at-seen (along (plan seen) (at-seen some is-one).before) ((λ all. cc), tt);
           whole = λ across. absurd (clash across stream.by_line);
         }
 
@@ -501,17 +508,13 @@ module _ {R : Type 0} {remaining : R → Option (List ℕ)} {read_step : R → R
       point = Some point;
       outcome = outcome;
       front = λ bytes one. (cut bytes one).front.front;
+      begins = calls-begun;
       at_seen = at-seen;
       over_seen = record {
         made = made-quit (plan seen) (at-seen some is-one).before;
         ending = ending _ _ refl _ called ends succeeds (plan seen);
       };
-      at_each = at-each;
-      over_each = λ bytes one. record {
-        made = made-quit (plan (view_of k bytes)) (at-each bytes one).before;
-        ending = ending _ _ refl _ called ends succeeds
-            (plan (view_of k bytes));
-      };
+      within = omega arith;
       all = λ all goes_on bytes one. absurd (none-some offset (sym (goes_on (ends all))));
       ahead = ahead;
     }
@@ -547,18 +550,17 @@ module _ {R : Type 0} (remaining : R → Option (List ℕ)) (read_step : R → R
         }
 
         -- nor was any reported
-        pub counted-unseen : is_across k meaning ≡ false → {old new : S} {next : Origin S}
+        pub counted-unseen : is_across k meaning ≡ false → (k.passthru ≡ true → k.before_context ≡ 0) → {old new : S} {next : Origin S}
             → IsStartAt step k meaning given 0 old next found → (outcome : Outcome E)
             → ((bytes : List ℕ) → IsCountedFor step k meaning next bytes 0 outcome new)
             → ((limit : ℕ) → k.heap_limit ≡ Some limit → passes_unchanged k (concat taken.pieces) ≡ true
             → length (concat taken.pieces) ≤ 0 + limit + 3)
             → IsStreamCounted step k meaning remaining read_step reader old (record { count = 0; binary = found }) reader'
             new
-        counted-unseen by_line begun outcome over ahead = counted-planned by_line begun (record {
+        counted-unseen by_line built begun outcome over ahead = counted-planned by_line built begun (record {
           input = seen-none;
           outcome = outcome;
           over_seen = over [];
-          over_all = λ bytes input. over (view_of k bytes);
           all = λ bytes input all. turns-within k meaning [] (view_of k bytes)
               (λ more some. absurd (omega (arith, some)))
               (omega (
@@ -573,11 +575,12 @@ module _ {R : Type 0} (remaining : R → Option (List ℕ)) (read_step : R → R
     IsUnread reader old new =
         IsStreamCounted step k meaning remaining read_step reader old (record { count = 0; binary = None }) reader new
 
-    module _ (by_line : is_across k meaning ≡ false) {reader : R} {old new : S} where
+    module _ (by_line : is_across k meaning ≡ false) (built : k.passthru ≡ true → k.before_context ≡ 0) {reader : R}
+        {old new : S} where
       counted-unread : (outcome : Outcome E)
           → ((bytes : List ℕ) → IsCountedFor step k meaning (fresh old) bytes 0 outcome new) → IsUnread reader old new
       counted-unread outcome over = counted-unseen {given = []} (nothing-taken reader) (λ bytes input. (bytes, refl)) by_line
-          (not_passed refl) outcome over (λ limit is same. omega arith)
+          built (not_passed refl) outcome over (λ limit is same. omega arith)
 
       -- `begin` returned false
       pub counted-unbegun : step old k begins (Ok false) new → IsUnread reader old new
@@ -592,9 +595,9 @@ module _ {R : Type 0} (remaining : R → Option (List ℕ)) (read_step : R → R
   -- `begin` failed
   pub fault-begin : {S E F : Type 0} (step : Steps S E) (errors : ErrorMakers F E) (matcher : MatcherFacts F)
       {state : SearcherState} → is_across state.settings matcher.meaning ≡ false
-      → {reader : R} {old : S} (e : E) (new : S) → step old state.settings begins (Err e) new
+      → (state.settings.passthru ≡ true → state.settings.before_context ≡ 0) → {reader : R} {old : S} (e : E) (new : S) → step old state.settings begins (Err e) new
       → IsReaderSearch remaining read_step step errors matcher state on_stream reader old (Err e) reader new
-  fault-begin step errors matcher {state} by_line {reader} {old} e new fails =
+  fault-begin step errors matcher {state} by_line built {reader} {old} e new fails =
       let made : (bytes : List ℕ) → IsWalkFault step errors matcher state.settings bytes (fresh old) e new =
       λ bytes. at_call (record {
         later = turns state.settings matcher.meaning bytes;
@@ -605,10 +608,9 @@ module _ {R : Type 0} (remaining : R → Option (List ℕ)) (read_step : R → R
           fails,
         ));
       }) in
-      failed-planned _ by_line {given = []} (not_passed refl) (record {
+      failed-planned _ by_line {given = []} (not_passed refl) built (record {
         input = seen-none step _ _ (nothing-taken _) (λ bytes input. (bytes, refl));
         over_seen = made [];
-        over_all = λ bytes input. made (view_of state.settings bytes);
       })
 
 -- what `finish` has
@@ -659,38 +661,37 @@ module _ {S E F : Type 0} (step : Steps S E) (errors : ErrorMakers F E) (matcher
       record {
         taken = counted.taken;
         seen = counted.seen;
-        front = counted.front;
+        each = λ bytes input.
+            let begins = counted.begins bytes input in
+            record { front = counted.front bytes input; later = begins.0; calls = begins.1 };
         over_seen = ran counted.point counted.at_seen
-            (run-over counted.over_seen made)
-            (read result (
+            (run-over counted.over_seen made) (
               (λ all goes_on bytes input.
-                  subst (λ m. (selection_in k meaning (view_of k bytes) m).end ≤ line_count k counted.seen)
-                  (sym by_line)
-                  (counted.all all
+                  let few = counted.all all
                   (λ ends. ap (λ (f : Finish). f.binary)
                   (subst (λ o. IsEnding o plan.finish finish) all counted.over_seen.ending) ∙ goes_on ends)
-                  bytes input)),
-              (λ by_lines. record {
+                  bytes input in
+                  record {
+                    few = subst (λ m. (selection_in k meaning (view_of k bytes) m).end ≤ line_count k counted.seen)
+                        (sym by_line) few;
+                    plan = plan-same meaning by_line (counted.front bytes input) few;
+                  }),
+              on-ok result (λ by_lines. record {
                 begun = begun.begun;
                 first = begun.first;
                 begin = begun.begin;
                 unread = begun.unread;
                 once = begun.once;
+                counted = subst (λ (f : Finish). f.count ≤ length counted.seen)
+                    (sym (after-is _ _ _ counted.over_seen.ending)) counted.within;
                 ahead = λ limit limited passes.
                     subst (λ (f : Finish). length (concat counted.taken.pieces) ≤ f.count + limit + 3)
                     (sym (after-is _ _ _ counted.over_seen.ending))
                     (counted.ahead limit limited (passes-unchanged k _ passes));
               }),
-            ));
-        each = λ bytes input. ran counted.point (counted.at_each bytes input)
-            (run-over (counted.over_each bytes input) made)
-            (read result tt);
+            );
         whole = λ across. absurd (clash across by_line);
       }
-    where
-      read : {P : Type 0} (r : Result (Unit {0}) E) → P → OnOk r P
-      read (Ok u) p = p
-      read (Err e) p = tt
 
   pub stream-finished : (result : Result (Unit {0}) E) {new : S}
       → HasBegun step k matcher.meaning remaining read_step reader old reader'

@@ -9,7 +9,8 @@ use Rattle.grep_line_buffer.specs.BufferStates.{BufferState, is_cut, Lacks}
 use Rattle.grep_core.specs.HeldViews.{HoldsGiven}
 use Rattle.grep_matcher.specs.Lines.{byte_of, lines}
 use Rattle.grep_matcher.specs.Meanings.{Meaning, MatcherFacts}
-use Rattle.grep_definitions.specs.Plans.{search_plan, AreMade, Finish, Plan, begins, binary_data}
+use Rattle.grep_definitions.specs.Plans.{search_plan, AreMade, Finish, Plan, Planned, begins}
+use Rattle.grep_definitions.specs.Plans.{binary_data}
 use Rattle.grep_definitions.specs.Plans.{Steps, Outcome, all_true, stopped, failed, planned}
 use Rattle.grep_definitions.specs.Plans.{Settings}
 use Rattle.grep_definitions.specs.Searches.{binary_of, is_detecting, on_stream, view_of}
@@ -146,16 +147,13 @@ module _ {S E : Type 0} (step : Steps S E) (settings : Settings) (meaning : Mean
           → IsInput settings taken.ended taken.pieces bytes
           → binary_of settings (take (length seen) bytes) ≡ None
 
-    -- a walk over such an input came to its end with this count: over the lines that were seen, and
-    -- over the view of every input that begins with what was taken
+    -- a walk over the lines that were seen of such an input came to its end with this count
     pub record HasCounted (reader : R) (first : Origin S) (given : List ℕ) (found : Option ℕ) (count
         : ℕ)
         (reader' : R) (new : S) : Type 0 where
       pub input : HasSeen reader given found count reader'
       pub outcome : Outcome E
       pub over_seen : IsCountedFor first input.seen count outcome new
-      pub over_all : (bytes : List ℕ) → IsInput settings input.taken.ended input.taken.pieces bytes
-          → IsCountedFor first (view_of settings bytes) count outcome new
       pub all : (bytes : List ℕ) → IsInput settings input.taken.ended input.taken.pieces bytes
           → outcome ≡ all_true
           → turn_count settings meaning (view_of settings bytes)
@@ -170,8 +168,6 @@ module _ {S E : Type 0} (step : Steps S E) (settings : Settings) (meaning : Mean
         (reader' : R) (new : S) : Type 0 where
       pub input : HasSeen reader given found low reader'
       pub over_seen : IsWalkFault step errors matcher settings input.seen first e new
-      pub over_all : (bytes : List ℕ) → IsInput settings input.taken.ended input.taken.pieces bytes
-          → IsWalkFault step errors matcher settings (view_of settings bytes) first e new
 
     -- a search of a reader begins. It reads nothing unless `begin` returned true and it reads
     -- lines, and fills the buffer once if it may report nothing
@@ -238,18 +234,16 @@ pub record IsStreamCounted {S E : Type 0} (step : Steps S E) (settings : Setting
   pub outcome : Outcome E
   pub front : (bytes : List ℕ) → IsInput settings taken.ended taken.pieces bytes
       → IsFront settings (view_of settings bytes) seen
+  pub begins : (bytes : List ℕ) → IsInput settings taken.ended taken.pieces bytes
+      → (later : List Planned) × ((search_plan settings meaning (view_of settings bytes)).calls
+      ≡ (search_plan settings meaning seen).calls ++ later)
   pub at_seen : (bytes : List ℕ) → IsInput settings taken.ended taken.pieces bytes
       → IsPoint settings meaning bytes on_stream (length seen)
       (search_plan settings meaning seen).calls point
   pub over_seen : IsMadeTo step settings old
       (plan_with settings.binary_detection point (search_plan settings meaning seen)) outcome finish
       last
-  pub at_each : (bytes : List ℕ) → IsInput settings taken.ended taken.pieces bytes
-      → IsPoint settings meaning bytes on_stream (length seen)
-      (search_plan settings meaning (view_of settings bytes)).calls point
-  pub over_each : (bytes : List ℕ) → IsInput settings taken.ended taken.pieces bytes
-      → IsMadeTo step settings old (plan_with settings.binary_detection point
-      (search_plan settings meaning (view_of settings bytes))) outcome finish last
+  pub within : finish.count ≤ length seen
   -- unless a call returned false, or a byte ended the search, each line that may be reported was
   -- seen
   pub all : outcome ≡ all_true

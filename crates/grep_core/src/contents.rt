@@ -3,10 +3,9 @@ ghost use Rattle.std.specs.Prelude.{◌≡◌, ℕ, Bool, List, Option, true, fa
 ghost use Rattle.std.specs.declared.io.Error.{Error};
 ghost use Rattle.grep_matcher.specs.Meanings.{IsInfallible};
 ghost use Rattle.grep_decode.specs.DecoderStates.{started};
-ghost use Rattle.grep_definitions.specs.Searches.{look_at, view_of, IsReadingError, IsInOrder};
+ghost use Rattle.grep_definitions.specs.Searches.{look_at, view_of, IsRead, IsReadingError, IsInOrder};
 ghost use Rattle.grep_definitions.specs.ReaderRuns.{IsUnreadIn};
-ghost use Rattle.grep_definitions.specs.Plans.{NeverFails};
-ghost use Rattle.grep_core.specs.InputSearches.{IsAcrossSearched};
+ghost use Rattle.grep_definitions.specs.Plans.{is_across, NeverFails};
 ghost use Rattle.grep_core.specs.Configured.{IsConfigured};
 ghost use Rattle.grep_report.specs.ErrorMakers.{makers_of};
 
@@ -36,10 +35,11 @@ impl<'c, A: Allocator + Copy, T> Search<'c, A, T> {
             self.now.config.bom_sniffing }
         requires configured { IsConfigured (C.settings self.now.searcher.now) self.now.config }
         requires may_call { C.may_call sink.old }
-        ensures searched { (has_buffers : Bool) → IsAcrossSearched R.remaining R.step C.step
+        ensures searched { is_across self.now.config (M.facts matcher.now).meaning ≡ true
+            → (has_buffers : Bool) → IsRead R.remaining R.step C.step
             (makers_of M.Error.output C.Error.makers) (M.facts matcher.now)
-            (look_at self.now.config.binary_detection false)
             (record { settings = self.now.config; has_buffers = has_buffers })
+            (look_at self.now.config.binary_detection false)
             reader.old sink.old result reader.new sink.new }
         ensures in_order { IsInOrder C.step
             (makers_of M.Error.output C.Error.makers) (M.facts matcher.now) self.now.config

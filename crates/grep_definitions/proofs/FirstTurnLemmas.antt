@@ -98,30 +98,30 @@ first_below-far p n (suc m) is =
 module _ (k : Settings) (meaning : Meaning) (front back : List ℕ)
     (closed : IsClosed (byte_of k.line_terminator) front) where
   -- all bytes, and how many lines the front and they have
-  abbrev whole : List ℕ
+  abbrev pub whole : List ℕ
   whole = front ++ back
 
-  abbrev n : ℕ
+  abbrev pub n : ℕ
   n = LineSearch.line_count k meaning front
 
-  abbrev all : ℕ
+  abbrev pub all : ℕ
   all = LineSearch.line_count k meaning whole
 
   -- the whole has the lines of the front and those of the back
-  more_lines : all ≡ n + length (lines (byte_of k.line_terminator) back)
+  pub more_lines : all ≡ n + length (lines (byte_of k.line_terminator) back)
   more_lines = ap length (prefix.all_lines k meaning front back closed)
       ∙ length-append (lines (byte_of k.line_terminator) front) (lines (byte_of k.line_terminator) back)
 
   -- whether a line of the front is selected
-  abbrev selected : ℕ → Bool
+  abbrev pub selected : ℕ → Bool
   selected i = Plans.is_selected k meaning front i
 
   -- the whole selects the same lines there
-  same_selected : (i : ℕ) → i < n → Plans.is_selected k meaning whole i ≡ selected i
+  pub same_selected : (i : ℕ) → i < n → Plans.is_selected k meaning whole i ≡ selected i
   same_selected i below = prefix.is_selected-same k meaning front back closed i below
 
   -- a selected line that has line i in the reach before it
-  abbrev near_before : List ℕ → ℕ → ℕ → Bool
+  abbrev pub near_before : List ℕ → ℕ → ℕ → Bool
   near_before bytes i j = nat_lt i j && nat_le (j - i) k.before_context && Plans.is_selected k meaning bytes j
 
   -- what that says of the two lines
@@ -131,7 +131,7 @@ module _ (k : Settings) (meaning : Meaning) (front back : List ℕ)
     pub chosen : Plans.is_selected k meaning bytes j ≡ true
 
   -- what the test says
-  near-from : (bytes : List ℕ) (i j : ℕ) → near_before bytes i j ≡ true → IsNearMatch bytes i j
+  pub near-from : (bytes : List ℕ) (i j : ℕ) → near_before bytes i j ≡ true → IsNearMatch bytes i j
   near-from bytes i j is =
       let both = both_true (nat_lt i j && nat_le (j - i) k.before_context) (Plans.is_selected k meaning bytes j)
       is in
@@ -143,7 +143,7 @@ module _ (k : Settings) (meaning : Meaning) (front back : List ℕ)
       }
 
   -- the test, if that holds
-  near-to : (bytes : List ℕ) (i j : ℕ) → IsNearMatch bytes i j → near_before bytes i j ≡ true
+  pub near-to : (bytes : List ℕ) (i j : ℕ) → IsNearMatch bytes i j → near_before bytes i j ≡ true
   near-to bytes i j h = and-both (nat_lt i j && nat_le (j - i) k.before_context)
       (Plans.is_selected k meaning bytes j)
       (and-both (nat_lt i j) (nat_le (j - i) k.before_context) (lt-ltb i j h.beyond)
@@ -259,7 +259,7 @@ module _ (k : Settings) (meaning : Meaning) (front back : List ℕ)
 
   module _ (built : k.passthru ≡ true → k.before_context ≡ 0) where
     -- after a late line no line of the front is reported
-    late-kind : (i j : ℕ) → IsLate i → i ≤ j → j < n → LineSearch.kind k meaning front j ≡ None
+    pub late-kind : (i j : ℕ) → IsLate i → i ≤ j → j < n → LineSearch.kind k meaning front j ≡ None
     late-kind i j late low below =
         let near = near-from whole i _ (some_below-find (near_before whole i) all late.precedes).2 in
         let plain : k.passthru
@@ -274,7 +274,7 @@ module _ (k : Settings) (meaning : Meaning) (front back : List ℕ)
         ) refl
 
     -- after a late line no line of the front has a call
-    late-turns : (i j : ℕ) → IsLate i → i ≤ j → j < n → LineSearch.turns_at k meaning front j ≡ []
+    pub late-turns : (i j : ℕ) → IsLate i → i ≤ j → j < n → LineSearch.turns_at k meaning front j ≡ []
     late-turns i j late low below =
         let none = late-kind i j late low below in
         rw (none, and-false (nat_lt 0 (k.after_context + k.before_context))) refl
@@ -380,10 +380,10 @@ module _ (k : Settings) (meaning : Meaning) (front back : List ℕ)
       (LineSearch.line k meaning front i)) x ∷ []) end
 
   -- how many lines have a turn, in the front and in the whole
-  abbrev count_front : ℕ
+  abbrev pub count_front : ℕ
   count_front = LineSearch.turn_count k meaning front
 
-  abbrev count_whole : ℕ
+  abbrev pub count_whole : ℕ
   count_whole = LineSearch.turn_count k meaning whole
 
   -- a bound is the same, or there is none in the front and a far one in the whole
@@ -451,7 +451,7 @@ module _ (k : Settings) (meaning : Meaning) (front back : List ℕ)
       (bounded _ _ stop-bounds all ∙ ap (at_most (LineSearch.turns_by_stop k meaning front)) all_in)
 
   -- up to line i the kinds are the same
-  abbrev Same : ℕ → Type 0
+  abbrev pub Same : ℕ → Type 0
   Same i = (j : ℕ) → j < i → LineSearch.kind k meaning whole j ≡ LineSearch.kind k meaning front j
 
   -- a line up to there is reported in both or in neither
@@ -507,7 +507,7 @@ module _ (k : Settings) (meaning : Meaning) (front back : List ℕ)
       (LineSearch.turn_end k meaning front i (LineSearch.kind k meaning front i)) ts) report
 
   -- the kinds are the same, or up to a first late line
-  split : (t : ℕ) → t ≤ n → Same t ⊎ ((i : ℕ) × (i < t) × IsLate i × Same i)
+  pub split : (t : ℕ) → t ≤ n → Same t ⊎ ((i : ℕ) × (i < t) × IsLate i × Same i)
   split zero inside = inl (λ j below. absurd (omega arith))
   split (suc t) inside = elim (split t (omega arith)) [
     | inr late ↦ inr (late.0, omega arith, late.2, late.3)
@@ -524,11 +524,37 @@ module _ (k : Settings) (meaning : Meaning) (front back : List ℕ)
           subst (λ j. LineSearch.kind k meaning whole j ≡ LineSearch.kind k meaning front j) is here
 
   -- up to a line before which the kinds are the same, the calls are the same
-  joined-same : (m : ℕ) → Same m → m ≤ count_front → joined_from (LineSearch.turns_at k meaning whole) 0 m
+  pub joined-same : (m : ℕ) → Same m → m ≤ count_front → joined_from (LineSearch.turns_at k meaning whole) 0 m
       ≡ joined_from (LineSearch.turns_at k meaning front) 0 m
   joined-same m same inside =
       joined_from-equal (LineSearch.turns_at k meaning whole) (LineSearch.turns_at k meaning front) 0 m
       (λ j low high. turns_at-same j (λ q less. same q (omega arith)) (omega arith))
+
+  -- a late line's calls belong to a match after the front
+  pub late-through : (i : ℕ) → IsLate i
+      → LineSearch.start k meaning whole n < LineSearch.start k meaning whole
+      (LineSearch.lines_through_next k meaning whole i)
+  late-through i late = go (first_below (later_in whole i) all) refl
+    where
+      go : (first : Option ℕ) → first_below (later_in whole i) all ≡ first
+          → LineSearch.start k meaning whole n < LineSearch.start k meaning whole
+          (LineSearch.lines_through_next k meaning whole i)
+      go None is =
+          let found = some_below-find (near_before whole i) all late.precedes in
+          let match = near-from whole i found.0 found.2 in
+          absurd (clash (some_below-some (later_in whole i) all found.0 found.1
+          (and-both (nat_lt i found.0) (Plans.is_selected k meaning whole found.0)
+          (lt-ltb i found.0 match.beyond) match.chosen)) (first_below-none (later_in whole i) all is))
+      go (Some q) is =
+          let found = first_below-of (later_in whole i) all q is in
+          let both = both_true (nat_lt i q) (Plans.is_selected k meaning whole q) found.1 in
+          let beyond = ltb-true i q both.0 in
+          let far : n ≤ q = ⊎_elim
+          (λ less. absurd (clash (sym (same_selected q less) ∙ both.1)
+          (late-unselected i q late (omega (arith, beyond)) less))) (λ out. out) (cases_lt q n) in
+          let up = line_start-ascends (byte_of k.line_terminator) whole n (omega (arith, found.0)) in
+          let le = line_start-le (byte_of k.line_terminator) whole (n + 1) (q + 1) (omega arith) in
+          rw is (omega arith)
 
   module _ (built : k.passthru ≡ true → k.before_context ≡ 0) where
     -- the calls over the front begin those over the whole
@@ -614,32 +640,6 @@ module _ (k : Settings) (meaning : Meaning) (front back : List ℕ)
             (All-drop P (length (joined_from f 0 i)) (joined_from f 0 i ++ rest) (subst (All P) split later)) in
             subst (All P) (take_at (f i) (joined_from f (i + 1) (v - (i + 1))) (length (f i)) refl)
             (All-take P (length (f i)) rest there)
-
-        -- a late line's calls belong to a match after the front
-        late-through : (i : ℕ) → IsLate i
-            → LineSearch.start k meaning whole n < LineSearch.start k meaning whole
-            (LineSearch.lines_through_next k meaning whole i)
-        late-through i late = go (first_below (later_in whole i) all) refl
-          where
-            go : (first : Option ℕ) → first_below (later_in whole i) all ≡ first
-                → LineSearch.start k meaning whole n < LineSearch.start k meaning whole
-                (LineSearch.lines_through_next k meaning whole i)
-            go None is =
-                let found = some_below-find (near_before whole i) all late.precedes in
-                let match = near-from whole i found.0 found.2 in
-                absurd (clash (some_below-some (later_in whole i) all found.0 found.1
-                (and-both (nat_lt i found.0) (Plans.is_selected k meaning whole found.0)
-                (lt-ltb i found.0 match.beyond) match.chosen)) (first_below-none (later_in whole i) all is))
-            go (Some q) is =
-                let found = first_below-of (later_in whole i) all q is in
-                let both = both_true (nat_lt i q) (Plans.is_selected k meaning whole q) found.1 in
-                let beyond = ltb-true i q both.0 in
-                let far : n ≤ q = ⊎_elim
-                (λ less. absurd (clash (sym (same_selected q less) ∙ both.1)
-                (late-unselected i q late (omega (arith, beyond)) less))) (λ out. out) (cases_lt q n) in
-                let up = line_start-ascends (byte_of k.line_terminator) whole n (omega (arith, found.0)) in
-                let le = line_start-le (byte_of k.line_terminator) whole (n + 1) (q + 1) (omega arith) in
-                rw is (omega arith)
 
         not-late : (i : ℕ) → i < v → IsLate i → ⊥
         not-late i below late =

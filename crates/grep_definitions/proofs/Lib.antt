@@ -33,6 +33,8 @@ pub mod ReaderViewLemmas
 pub mod ReportLemmas
 pub mod RunLemmas
 pub mod SearchLawLemmas
+pub mod SeenLineLemmas
+pub mod SeenSearchLemmas
 pub mod SelectionLemmas
 pub mod SinkFoldLemmas
 pub mod SinkRunLemmas

@@ -1,6 +1,5 @@
 -- A search of a slice, as the loops of a search have it, is one along its plan.
 use Rattle.std.proofs.Common.{◌≡◌, ℕ, Bool, true, false, List, None, refl, sym, ap, subst, ◌∙◌, Result, Ok, Err}
-use Rattle.std.specs.Prelude.{OnOk}
 use Rattle.grep_matcher.specs.Meanings.{Meaning, MatcherFacts}
 use Rattle.grep_report.specs.declared.binary_detection.BinaryDetection.TheVariants.{Quit}
 use Rattle.grep_definitions.specs.Plans.{
@@ -10,8 +9,6 @@ use Rattle.grep_definitions.specs.Plans.{
   search_plan,
   Steps,
   Planned,
-  Plan,
-  Outcome,
   IsRun,
   start,
   Settings,
@@ -60,55 +57,45 @@ module _ (k : Settings) (meaning : Meaning) (bytes : List ℕ) where
       }
 
 -- ---- a slice
-module _ {S E F : Type 0} (step : Steps S E) (errors : ErrorMakers F E) (matcher : MatcherFacts F) where
+module _ {S E F : Type 0} (step : Steps S E) (errors : ErrorMakers F E) (matcher : MatcherFacts F) (k : Settings)
+    (bytes : List ℕ) (old : S) where
+  -- a search of all of the bytes, by where `binary_data` comes
+  abbrev pub IsSearched : Points → Result (Unit {0}) E → S → Type 0
+  IsSearched IsAt = IsSearchOf step errors matcher k IsAt (IsAskedWith k matcher.meaning bytes)
+      (λ plan outcome result. Unit {0}) (search_plan k matcher.meaning bytes) old
+
   -- a fault without `binary_data`
-  pub plain-fault : (IsAt : Points) → ((calls : List Planned) → IsAt calls None) → (HasRead : Plan → Outcome E → Type 0)
-      → (k : Settings) (bytes : List ℕ) (old : S) (e : E) (new : S)
-      → ContentsSearches.IsFault step errors matcher k bytes old e new
-      → IsSearchOf step errors matcher k IsAt HasRead bytes old (Err e) new
-  plain-fault IsAt none HasRead k bytes old e new (ContentsSearches.of_sink run) =
+  pub plain-fault : (IsAt : Points) → ((calls : List Planned) → IsAt calls None) → (e : E) (new : S)
+      → ContentsSearches.IsFault step errors matcher k bytes old e new → IsSearched IsAt (Err e) new
+  plain-fault IsAt none e new (ContentsSearches.of_sink run) =
       ran None (none (search_plan k matcher.meaning bytes).calls)
       (subst (λ plan. IsRun step k old plan (Err e) new) (sym (plans-turns k matcher.meaning bytes)) run) tt
-  plain-fault IsAt none HasRead k bytes old e new (ContentsSearches.of_matcher haystack error made asks fails message reported)
-      =
+  plain-fault IsAt none e new (ContentsSearches.of_matcher haystack error made asks fails message reported) =
       asked haystack error made (asked-with k matcher.meaning bytes haystack made asks) fails message
       (None, none made, (λ is. refl), reported)
 
   -- ---- that ends at a byte
-  pub until-planned : (HasRead : Plan → Outcome E → Type 0) → ((p : Plan) (o : Outcome E) → HasRead p o)
-      → (b : ℕ) (k : Settings) → k.binary_detection ≡ Quit b
-      → (n : ℕ) (bytes : List ℕ) (old : S) (result : Result (Unit {0}) E) (new : S)
-      → ContentsSearches.IsRunUntil step errors matcher (search_calls k matcher.meaning) b k bytes old result new
-      → IsSearchOf step errors matcher k (IsPoint k matcher.meaning bytes (in_contents b) n) HasRead bytes old result
-      new
-  until-planned HasRead read b k detects n bytes old result new run =
-      let listed = sym (plans-turns k matcher.meaning bytes) in
-      let point = contents_point b bytes (search_turns k matcher.meaning bytes) in
-      let along : IsRun step k old (plan_with k.binary_detection point (search_plan k matcher.meaning bytes)) result new
-      =
-      subst (λ p. IsRun step k old (plan_with k.binary_detection point p) result new) listed
-      (subst (λ d. IsRun step k old (plan_with d point
-      (plan_of (search_turns k matcher.meaning bytes) (search_byte_count k matcher.meaning bytes))) result new)
-      (sym detects) run) in
-      ran point (ap (λ p. contents_point b bytes p.calls) listed) along
-      (ok result (read (plan_with k.binary_detection point (search_plan k matcher.meaning bytes)) along.outcome))
-    where
-      ok : {P : Type 0} (r : Result (Unit {0}) E) → P → OnOk r P
-      ok (Ok u) p = p
-      ok (Err e) p = tt
+  module _ (b : ℕ) (detects : k.binary_detection ≡ Quit b) (n : ℕ) where
+    pub until-planned : (result : Result (Unit {0}) E) (new : S)
+        → ContentsSearches.IsRunUntil step errors matcher (search_calls k matcher.meaning) b k bytes old result new
+        → IsSearched (IsPoint k matcher.meaning bytes (in_contents b) n) result new
+    until-planned result new run =
+        let listed = sym (plans-turns k matcher.meaning bytes) in
+        let point = contents_point b bytes (search_turns k matcher.meaning bytes) in
+        ran point (ap (λ p. contents_point b bytes p.calls) listed)
+        (subst (λ p. IsRun step k old (plan_with k.binary_detection point p) result new) listed
+        (subst (λ d. IsRun step k old (plan_with d point
+        (plan_of (search_turns k matcher.meaning bytes) (search_byte_count k matcher.meaning bytes))) result new)
+        (sym detects) run)) tt
 
-  pub quit-fault : (HasRead : Plan → Outcome E → Type 0) → ((p : Plan) (o : Outcome E) → HasRead p o)
-      → (b : ℕ) (k : Settings) → k.binary_detection ≡ Quit b → (n : ℕ) (bytes : List ℕ) (old : S) (e : E) (new : S)
-      → ContentsSearches.IsQuitFault step errors matcher (search_calls k matcher.meaning) b k bytes old e new
-      → IsSearchOf step errors matcher k (IsPoint k matcher.meaning bytes (in_contents b) n) HasRead bytes old (Err e)
-      new
-  quit-fault HasRead read b k detects n bytes old e new (ContentsSearches.of_quit_sink run) = until-planned HasRead read b k
-      detects n bytes old (Err e) new run
-  quit-fault HasRead read b k detects n bytes old e new
-      (ContentsSearches.of_quit_matcher haystack error made asks fails message clear reported) =
-      asked haystack error made (asked-with k matcher.meaning bytes haystack made asks) fails message (
-        None,
-        sym clear,
-        (λ is. refl),
-        reported,
-      )
+    pub quit-fault : (e : E) (new : S)
+        → ContentsSearches.IsQuitFault step errors matcher (search_calls k matcher.meaning) b k bytes old e new
+        → IsSearched (IsPoint k matcher.meaning bytes (in_contents b) n) (Err e) new
+    quit-fault e new (ContentsSearches.of_quit_sink run) = until-planned (Err e) new run
+    quit-fault e new (ContentsSearches.of_quit_matcher haystack error made asks fails message clear reported) =
+        asked haystack error made (asked-with k matcher.meaning bytes haystack made asks) fails message (
+          None,
+          sym clear,
+          (λ is. refl),
+          reported,
+        )

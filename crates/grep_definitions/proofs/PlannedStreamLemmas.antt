@@ -51,6 +51,7 @@ use Rattle.grep_definitions.specs.Plans.{
   AreMade,
   SearcherState,
   Settings,
+  IsAskedWith,
 }
 use Rattle.grep_definitions.specs.Searches.{
   BinaryPoint,
@@ -76,6 +77,7 @@ use Rattle.grep_definitions.specs.Searches.{
 }
 use Rattle.grep_definitions.specs.SinkRuns.{after_binary}
 use Rattle.grep_definitions.proofs.BoolLemmas.{clash}
+use Rattle.grep_definitions.proofs.SeenSearchLemmas.{search-map}
 use Rattle.grep_definitions.proofs.SinkRunLemmas.{AreMade-append, AreMade-ended}
 
 module _ {S E : Type 0} (step : Steps S E) (k : Settings) where
@@ -128,52 +130,39 @@ module _ {R : Type 0} (remaining : R → Option (List ℕ)) (read_step : R → R
       absurd (none-some point.offset
       (sym (ap (λ d. binary_position d (byte_of k.line_terminator) bytes) none) ∙ at.cut.first))
 
-  -- another claim of where `binary_data` comes, and of how far was read
-  search-with : {IsAt IsAt2 : Points} {HasRead HasRead2 : Plan → Outcome E → Type 0} {bytes : List ℕ}
-      {old : S} (result : Result (Unit {0}) E) {new : S}
-      → ((calls : List Planned) (point : Option BinaryPoint) → IsAt calls point → IsAt2 calls point)
-      → ((plan : Plan) (outcome : Outcome E) → HasRead plan outcome → HasRead2 plan outcome)
-      → IsSearchOf step errors matcher k IsAt HasRead bytes old result new
-      → IsSearchOf step errors matcher k IsAt2 HasRead2 bytes old result new
-  search-with {bytes} (Ok u) maps reads (ran point at run read) =
-      ran point (maps (search_plan k matcher.meaning bytes).calls point at) run (reads _ _ read)
-  search-with {bytes} (Err e) maps reads (ran point at run read) =
-      ran point (maps (search_plan k matcher.meaning bytes).calls point at) run tt
-  search-with (Err e) maps reads
-      (asked haystack error calls asks fails message (point, at, goes, made)) =
-      asked haystack error calls asks fails message (point, maps calls point at, goes, made)
-
   search-undetected : (reader : R) (old : S) (result : Result (Unit {0}) E) (reader' : R) (new : S)
       → IsReaderSearch remaining read_step step errors matcher state on_stream reader old result reader' new
       → IsReaderSearch remaining read_step step errors matcher state nowhere reader old result reader' new
-  search-undetected reader old result reader' new search = record {
-    taken = search.taken;
-    seen = search.seen;
-    front = λ bytes input. subst (λ xs. IsFront k xs search.seen) (view-is) (search.front bytes input);
-    over_seen = search-with _
+  search-undetected reader old result reader' new read = record {
+    taken = read.taken;
+    seen = read.seen;
+    each = λ bytes input.
+        let here = read.each bytes input in
+        record {
+          front = subst (λ xs. IsFront k xs read.seen) view-is here.front;
+          later = here.later;
+          calls = subst (λ xs. (search_plan k matcher.meaning xs).calls
+              ≡ (search_plan k matcher.meaning read.seen).calls ++ here.later) view-is here.calls;
+        };
+    over_seen = search-map step errors matcher
         (λ calls point at bytes input. no-point bytes _ calls _ (at bytes input))
-        (λ plan outcome read. (
-          (λ all goes_on bytes input. subst (λ xs. (selection_in k matcher.meaning xs (is_across k matcher.meaning)).end
-              ≤ line_count k search.seen)
-              (view-is) (read.0 all goes_on bytes input)),
-          (λ by_line.
-              let far = read.1 by_line in
+        (λ haystack calls asks. (
+          asks.0,
+          λ bytes input. subst (λ xs. IsAskedWith k matcher.meaning xs haystack calls) view-is (asks.1 bytes input),
+        ))
+        (λ plan outcome ended far. (
+          (λ all goes_on bytes input.
+              let seen = far.0 all goes_on bytes input in
               record {
-                begun = far.begun;
-                first = far.first;
-                begin = far.begin;
-                unread = far.unread;
-                once = far.once;
-                ahead = far.ahead;
+                few = subst (λ xs. (selection_in k matcher.meaning xs (is_across k matcher.meaning)).end
+                    ≤ line_count k read.seen) view-is seen.few;
+                plan = subst (λ xs. search_plan k matcher.meaning xs ≡ search_plan k matcher.meaning read.seen) view-is
+                    seen.plan;
               }),
-        )) search.over_seen;
-    each = λ bytes input. subst (λ xs. IsSearchOf step errors matcher k
-        (IsPoint k matcher.meaning bytes nowhere (length search.seen)) (λ plan outcome. Unit {0}) xs old result new)
-        (view-is)
-        (search-with _
-        (λ calls point at. no-point bytes _ calls point at) (λ plan outcome read. tt)
-        (search.each bytes input));
-    whole = search.whole;
+          far.1,
+        ))
+        result new read.over_seen;
+    whole = read.whole;
   }
 
   cut-undetected : {reader : R} {old : S} {e : E} {reader' : R} {new : S}

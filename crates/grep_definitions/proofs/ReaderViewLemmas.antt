@@ -48,23 +48,9 @@ use Rattle.grep_definitions.specs.Searches.{
   of_failed_read,
   of_buffers,
 }
+use Rattle.grep_definitions.proofs.SeenSearchLemmas.{on-ok-map, search-map}
 use Rattle.grep_report.specs.ErrorMakers.{ErrorMakers}
-use Rattle.grep_definitions.specs.Plans.{refusal_of, Steps, Plan, Outcome, Settings, SearcherState}
-
--- how far a search has read is said of it
-search-reads : {S E F : Type 0} (step : Steps S E) (errors : ErrorMakers F E) (matcher : MatcherFacts F)
-    (settings : Settings) (IsAt : Points) (HasRead HasRead2 : Plan → Outcome E → Type 0)
-    → ((plan : Plan) (outcome : Outcome E) → HasRead plan outcome → HasRead2 plan outcome)
-    → (bytes : List ℕ) (old : S) (result : Result (Unit {0}) E) (new : S)
-    → IsSearchOf step errors matcher settings IsAt HasRead bytes old result new
-    → IsSearchOf step errors matcher settings IsAt HasRead2 bytes old result new
-search-reads step errors matcher settings IsAt HasRead HasRead2 more bytes old (Ok u) new (ran point at run read) =
-    ran point at run (more _ run.outcome read)
-search-reads step errors matcher settings IsAt HasRead HasRead2 more bytes old (Err e) new (ran point at run read) =
-    ran point at run tt
-search-reads step errors matcher settings IsAt HasRead HasRead2 more bytes old (Err e) new
-    (asked haystack error calls asks fails message made) =
-    asked haystack error calls asks fails message made
+use Rattle.grep_definitions.specs.Plans.{refusal_of, Steps, Plan, Outcome, Settings, SearcherState, Finish}
 
 module _ {R T N : Type 0} (view : R → T) (name : R → N) (remaining : T → Option (List ℕ))
     (read : R → ReadResult → R → Type 0) (seen_read : T → ReadResult → T → Type 0)
@@ -159,15 +145,21 @@ module _ {R T N : Type 0} (view : R → T) (name : R → N) (remaining : T → O
             → IsReaderSearch (λ s. remaining (view s)) read step errors matcher state look reader old result reader' new
             → IsReaderSearch remaining seen_read step errors matcher state look (view reader) old result (view reader')
             new
-        search-view old result new search = record {
-          taken = Taken-seen reader reader' search.taken;
-          seen = search.seen;
-          front = search.front;
-          over_seen = search-reads step errors matcher state.settings _ _ _
-              (λ plan outcome read. (read.0, λ by_line. lines-view plan outcome (read.1 by_line)))
-              search.seen old result new search.over_seen;
-          each = search.each;
-          whole = search.whole;
+        search-view old result new found = record {
+          taken = Taken-seen reader reader' found.taken;
+          seen = found.seen;
+          each = λ bytes input.
+              let here = found.each bytes input in
+              record { front = here.front; later = here.later; calls = here.calls };
+          over_seen = search-map step errors matcher (λ calls point at. at) (λ haystack calls asks. asks)
+              (λ plan outcome ended far. (
+                (λ all goes_on bytes input.
+                    let seen = far.0 all goes_on bytes input in
+                    record { few = seen.few; plan = seen.plan }),
+                on-ok-map ended (λ lines by_line. lines-view (lines by_line)) far.1,
+              ))
+              result new found.over_seen;
+          whole = found.whole;
         }
           where
             once-view : IsReadForLine (λ s. remaining (view s)) read state.settings reader reader'
@@ -183,18 +175,18 @@ module _ {R T N : Type 0} (view : R → T) (name : R → N) (remaining : T → O
               open_line = asks.open_line;
             }
 
-            lines-view : (plan : Plan) (outcome : Outcome E)
-                → HasReadLines (λ s. remaining (view s)) read step errors matcher state look reader old reader'
-                search.taken plan outcome
-                → HasReadLines remaining seen_read step errors matcher state look (view reader) old (view reader')
-                (Taken-seen reader reader' search.taken) plan outcome
-            lines-view plan outcome lines = record {
-              begun = lines.begun;
-              first = lines.first;
-              begin = lines.begin;
-              unread = λ idle. ap view (lines.unread idle);
-              once = λ reads idle. once-view (lines.once reads idle);
-              ahead = lines.ahead;
+            lines-view : {taken : Taken (λ s. remaining (view s)) read reader reader'} {lines : List ℕ} {finish : Finish}
+                → HasReadLines (λ s. remaining (view s)) read step state.settings reader old reader' taken lines finish
+                → HasReadLines remaining seen_read step state.settings (view reader) old (view reader')
+                (Taken-seen reader reader' taken) lines finish
+            lines-view far = record {
+              begun = far.begun;
+              first = far.first;
+              begin = far.begin;
+              unread = λ idle. ap view (far.unread idle);
+              once = λ reads idle. once-view (far.once reads idle);
+              counted = far.counted;
+              ahead = far.ahead;
             }
 
         search-seen : (old : S) (result : Result (Unit {0}) E) (new : S)

@@ -1,4 +1,5 @@
 -- Runs of sinks whose steps are functions, and what a search without binary detection comes to.
+use Rattle.grep_definitions.proofs.SeenSearchLemmas.{input-search}
 use Rattle.grep_definitions.specs.Plans.{
   planned,
   Call,
@@ -65,6 +66,7 @@ use Rattle.grep_definitions.specs.Searches.{
   ran,
   asked,
   searched_bytes,
+  Points,
 }
 use Rattle.grep_report.specs.ErrorMakers.{ErrorMakers}
 use Rattle.grep_definitions.specs.SliceSearches.{IsSliceSearch, IsSliceRead, IsSliceSearchedIf, is_searched_unchanged}
@@ -270,23 +272,24 @@ module _ {S E F : Type 0} (step : Steps S E) (errors : ErrorMakers F E) (matcher
   looks-nowhere k none unchanged = rw none refl
 
   -- no binary byte is reported
-  along : (k : Settings) (IsAt : List Planned → Option BinaryPoint → Type 0)
+  along : (k : Settings) {IsAt : Points} {IsAsked : List ℕ → List Planned → Type 0}
+      {HasRead : Plan → Outcome E → Result (Unit {0}) E → Type 0}
       → ((calls : List Planned) (point : Option BinaryPoint) → IsAt calls point → point ≡ None)
-      → (HasRead : Plan → Outcome E → Type 0) (bytes : List ℕ) (old new : S)
-      → IsSearchOf step errors matcher k IsAt HasRead bytes old (Ok tt) new
-      → IsRun step k old (search_plan k matcher.meaning bytes) (Ok tt) new
-  along k IsAt none HasRead bytes old new (ran point at run read) =
-      subst (λ p. IsRun step k old (plan_with k.binary_detection p (search_plan k matcher.meaning bytes)) (Ok tt) new)
-      (none (search_plan k matcher.meaning bytes).calls point at) run
+      → (plan : Plan) (old new : S)
+      → IsSearchOf step errors matcher k IsAt IsAsked HasRead plan old (Ok tt) new → IsRun step k old plan (Ok tt) new
+  along k none plan old new (ran point at run read) =
+      subst (λ p. IsRun step k old (plan_with k.binary_detection p plan) (Ok tt) new) (none plan.calls point at) run
 
   -- an error is that of the run's last step
-  fails-search : (k : Settings) (IsAt : List Planned → Option BinaryPoint → Type 0)
-      (HasRead : Plan → Outcome E → Type 0) (bytes : List ℕ) (old : S) (e : E) (new : S) → IsInfallible matcher.fails
-      → IsSearchOf step errors matcher k IsAt HasRead bytes old (Err e) new → FailsAtStep step errors matcher k e new
-  fails-search k IsAt HasRead bytes old e new infallible (ran point at run read) =
-      let plan = plan_with k.binary_detection point (search_plan k matcher.meaning bytes) in
-      made-fails step k plan.finish e new plan.calls old run.outcome run.mid run.made run.finished
-  fails-search k IsAt HasRead bytes old e new infallible (asked haystack error calls asks fails message made) =
+  fails-search : (k : Settings) {IsAt : Points} {IsAsked : List ℕ → List Planned → Type 0}
+      {HasRead : Plan → Outcome E → Result (Unit {0}) E → Type 0} (plan : Plan) (old : S) (e : E) (new : S)
+      → IsInfallible matcher.fails
+      → IsSearchOf step errors matcher k IsAt IsAsked HasRead plan old (Err e) new
+      → FailsAtStep step errors matcher k e new
+  fails-search k plan old e new infallible (ran point at run read) =
+      let made = plan_with k.binary_detection point plan in
+      made-fails step k made.finish e new made.calls old run.outcome run.mid run.made run.finished
+  fails-search k plan old e new infallible (asked haystack error calls asks fails message made) =
       absurd (infallible haystack error fails)
 
   module _ {R : Type 0} (remaining : R → Option (List ℕ)) (read_step : R → ReadResult → R → Type 0) where
@@ -306,8 +309,8 @@ module _ {S E F : Type 0} (step : Steps S E) (errors : ErrorMakers F E) (matcher
         let read = read-nowhere state reader old (Ok tt) reader' new none
         (not-refused k old new (reader' ≡ reader) _ (refusal_of k matcher.meaning) lawful searched) in (
           read,
-          λ bytes input. along k (IsPoint k matcher.meaning bytes nowhere (length read.seen)) (λ calls point at. at) _
-              bytes old new (read.each bytes input),
+          λ bytes input. along k (λ calls point at. at) (search_plan k matcher.meaning bytes) old new
+              (input-search step errors matcher state nowhere read bytes input),
         )
 
     pub known_readers-run : KnownReadersRun step errors matcher remaining read_step
@@ -322,7 +325,7 @@ module _ {S E F : Type 0} (step : Steps S E) (errors : ErrorMakers F E) (matcher
         elim (read-nowhere state reader old (Err e) reader' new none
         (subst (IsUnlessRefusedBy errors matcher k old (Err e) new (reader' ≡ reader) (IsRead remaining read_step step errors
         matcher state (look_of k matcher.meaning false) reader old (Err e) reader' new)) allowed searched lawful)) [
-          | inl read ↦ inl (fails-search k _ _ read.seen old e new infallible read.over_seen)
+          | inl read ↦ inl (fails-search k (search_plan k matcher.meaning read.seen) old e new infallible read.over_seen)
           | inr cut ↦ inr cut
         ]
 
@@ -337,11 +340,10 @@ module _ {S E F : Type 0} (step : Steps S E) (errors : ErrorMakers F E) (matcher
       go true is searched =
           subst (λ bytes. IsRun step state.settings old (search_plan state.settings matcher.meaning bytes) (Ok tt) new)
           (sym (unchanged-input state.settings input is))
-          (along state.settings (IsPoint state.settings matcher.meaning input (look_of state.settings matcher.meaning
-          true) (length input))
+          (along state.settings
           (λ calls point at. subst (λ look. IsPoint state.settings matcher.meaning input look (length input) calls
           point)
-          (looks-nowhere state.settings none true) at) _ input old new
+          (looks-nowhere state.settings none true) at) (search_plan state.settings matcher.meaning input) old new
           (not-refused state.settings old new (Unit {0}) _ (refusal_of state.settings matcher.meaning) lawful searched))
       go false is (rest, searched) =
           known_readers-run (λ all. Some all) IsSliceRead state input input old rest new none refl lawful searched
@@ -356,7 +358,7 @@ module _ {S E F : Type 0} (step : Steps S E) (errors : ErrorMakers F E) (matcher
           ⊎ ((is_searched_unchanged state.settings input ≡ false) × (rest : List ℕ)
           × IsCutSearch (λ all. Some all) IsSliceRead step errors matcher state nowhere input old e rest new)
       go true is searched =
-          inl (fails-search state.settings _ _ input old e new infallible
+          inl (fails-search state.settings (search_plan state.settings matcher.meaning input) old e new infallible
           (subst (IsUnlessRefusedBy errors matcher state.settings old (Err e) new (Unit {0})
           (IsSliceSearch step errors matcher state.settings input old (Err e) new)) allowed searched lawful))
       go false is (rest, searched) =

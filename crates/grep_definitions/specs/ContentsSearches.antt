@@ -40,13 +40,6 @@ module _ {S E F : Type 0} (step : Steps S E) (errors : ErrorMakers F E)
       (search_byte_count settings matcher.meaning bytes)) (Ok u) new
   IsSearchedAlong settings bytes old (Err e) new = IsFault settings bytes old e new
 
-  -- the calls that were made when no more of an input was read: `begin` and the reports over the
-  -- lines that were seen, or none
-  abbrev pub HasReportedIn : SearchCalls → Settings → Option (List ℕ) → S → S → Type 0
-  HasReportedIn calls settings None old new = new ≡ old
-  HasReportedIn calls settings (Some seen) old new =
-      AreMade step settings old (calls.turns seen) all_true new
-
   -- a search of whole contents that ends at a byte: it is a run along these calls, or up to the
   -- point where the byte ends it
   abbrev pub IsRunUntil : SearchCalls → ℕ → Settings → List ℕ → S → Result (Unit {0}) E → S → Type 0

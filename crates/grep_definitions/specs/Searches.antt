@@ -326,20 +326,18 @@ module _ {S E F : Type 0} (step : Steps S E) (errors : ErrorMakers F E) (matcher
       × (quits settings.binary_detection ≡ true → point ≡ None)
       × AreMade step settings old (calls_with point calls) all_true new
 
-  -- how a search of some bytes ends: along their plan, or in the matcher's error at a question
-  pub data IsSearchOf (IsAt : Points) (HasRead : Plan → Outcome E → Type 0) (bytes : List ℕ)
-      (old : S) : Result (Unit {0}) E → S → Type 0 where
+  -- how a search with a plan ends: along it, or in the matcher's error at a question
+  pub data IsSearchOf (IsAt : Points) (IsAsked : List ℕ → List Planned → Type 0)
+      (HasRead : Plan → Outcome E → Result (Unit {0}) E → Type 0) (plan : Plan) (old : S)
+      : Result (Unit {0}) E → S → Type 0 where
     ran : {result : Result (Unit {0}) E} {new : S} (point : Option BinaryPoint)
-        → IsAt (search_plan settings matcher.meaning bytes).calls point
-        → (run : IsRun step settings old (plan_with settings.binary_detection point
-        (search_plan settings matcher.meaning bytes)) result new)
-        → OnOk result (HasRead (plan_with settings.binary_detection point
-        (search_plan settings matcher.meaning bytes)) run.outcome)
-        → IsSearchOf IsAt HasRead bytes old result new
+        → IsAt plan.calls point
+        → (run : IsRun step settings old (plan_with settings.binary_detection point plan) result new)
+        → HasRead (plan_with settings.binary_detection point plan) run.outcome result
+        → IsSearchOf IsAt IsAsked HasRead plan old result new
     asked : {e : E} {new : S} (haystack : List ℕ) (error : F) (calls : List Planned)
-        → IsAskedWith settings matcher.meaning bytes haystack calls
-        → matcher.fails haystack error → errors.is_message error e
-        → GoesOnWith IsAt calls old new → IsSearchOf IsAt HasRead bytes old (Err e) new
+        → IsAsked haystack calls → matcher.fails haystack error → errors.is_message error e
+        → GoesOnWith IsAt calls old new → IsSearchOf IsAt IsAsked HasRead plan old (Err e) new
 
   -- with any matcher and reader the calls come in this order
   abbrev pub detecting : Bool
@@ -461,53 +459,77 @@ module _ {R : Type 0} (remaining : R → Option (List ℕ))
       ((mid : R) × (taken : Taken old mid) × (taken.ended ≡ false) × read_step mid (Err error) new)
       ⊎ IsOwnError error
 
+  -- what a search by line that ended in `Ok` has read: nothing if `begin` returned false
+  pub record HasReadLines {S E : Type 0} (step : Steps S E) (settings : Settings) (reader : R)
+      (old : S) (reader' : R) (taken : Taken reader reader') (seen : List ℕ) (finish : Finish)
+      : Type 0 where
+    pub begun : Bool
+    pub first : S
+    pub begin : step old settings begins (Ok begun) first
+    pub unread : (begun && reads_lines settings) ≡ false → reader' ≡ reader
+    -- and a search that reads lines and may report none fills the buffer once
+    pub once : (begun && reads_lines settings) ≡ true → reports_nothing settings ≡ true
+        → IsReadForLine settings reader reader'
+    -- the bytes that `finish` counts were seen
+    pub counted : finish.count ≤ length seen
+    -- under a heap limit, of bytes that pass unchanged: three more may be read to look for a mark
+    pub ahead : (limit : ℕ) → settings.heap_limit ≡ Some limit
+        → encoding_of settings (concat taken.pieces) ≡ None
+        → length (concat taken.pieces) ≤ finish.count + limit + 3
+
   module _ {S E F : Type 0} (step : Steps S E) (errors : ErrorMakers F E) (matcher : MatcherFacts F)
       (state : SearcherState) (look : Look) where
     abbrev pub settings : Settings
     settings = state.settings
 
-    -- what a search by line that ended in `Ok` has read: nothing if `begin` returned false
-    pub record HasReadLines (reader : R) (old : S) (reader' : R) (taken : Taken reader reader')
-        (plan : Plan) (outcome : Outcome E) : Type 0 where
-      pub begun : Bool
-      pub first : S
-      pub begin : step old settings begins (Ok begun) first
-      pub unread : (begun && reads_lines settings) ≡ false → reader' ≡ reader
-      -- and a search that reads lines and may report none fills the buffer once
-      pub once : (begun && reads_lines settings) ≡ true → reports_nothing settings ≡ true
-          → IsReadForLine settings reader reader'
-      -- under a heap limit, of bytes that pass unchanged: three more may be read to look for a mark
-      pub ahead : (limit : ℕ) → settings.heap_limit ≡ Some limit
-          → encoding_of settings (concat taken.pieces) ≡ None
-          → length (concat taken.pieces) ≤ (finish_after outcome plan.finish).count + limit + 3
+    -- the plan of some bytes, and of decoded bytes as they are searched
+    abbrev pub plan_of_seen : List ℕ → Plan
+    plan_of_seen seen = search_plan settings matcher.meaning seen
+
+    abbrev pub plan_of_input : List ℕ → Plan
+    plan_of_input bytes = search_plan settings matcher.meaning (view_in settings look bytes)
 
     -- where `binary_data` comes, whichever of these inputs it is, of which n first bytes were seen
     abbrev pub EachPoint : (List ℕ → Type 0) → ℕ → Points
     EachPoint IsOne n calls point =
         (bytes : List ℕ) → IsOne bytes → IsPoint settings matcher.meaning bytes look n calls point
 
-    -- the search of the lines that were seen, and of the input, whatever follows what was taken
+    -- a question in the lines that were seen is one in each of these inputs
+    abbrev pub EachAsked : (List ℕ → Type 0) → List ℕ → List ℕ → List Planned → Type 0
+    EachAsked IsOne seen haystack calls =
+        IsAskedWith settings matcher.meaning seen haystack calls
+        × ((bytes : List ℕ) → IsOne bytes → IsAskedWith settings matcher.meaning
+        (view_in settings look bytes) haystack calls)
+
+    -- an input of which these lines were seen: its calls begin with theirs
+    pub record IsSeenIn (seen bytes : List ℕ) : Type 0 where
+      pub front : IsSeenOf settings look bytes seen
+      pub later : List Planned
+      pub calls : (plan_of_input bytes).calls ≡ (plan_of_seen seen).calls ++ later
+
+    -- each line of an input that may be reported was seen: it has the same plan
+    pub record IsAllSeen (seen bytes : List ℕ) : Type 0 where
+      pub few : (selection_in settings matcher.meaning (view_in settings look bytes)
+          (is_across settings matcher.meaning)).end ≤ line_count settings seen
+      pub plan : plan_of_input bytes ≡ plan_of_seen seen
+
+    -- the search of the lines that were seen, whichever input begins with what was taken
     pub record IsReaderSearch (reader : R) (old : S) (result : Result (Unit {0}) E) (reader' : R)
         (new : S) : Type 0 where
       pub taken : Taken reader reader'
       pub seen : List ℕ
-      pub front : (bytes : List ℕ) → IsInputOf taken settings bytes
-          → IsSeenOf settings look bytes seen
+      pub each : (bytes : List ℕ) → IsInputOf taken settings bytes → IsSeenIn seen bytes
       pub over_seen : IsSearchOf step errors matcher settings
           (EachPoint (IsInputOf taken settings) (length seen))
-          (λ plan outcome.
+          (EachAsked (IsInputOf taken settings) seen)
+          (λ plan outcome ended.
           -- unless a false or a byte ended the search, each line that may be reported was seen
           (outcome ≡ all_true → (quits settings.binary_detection ≡ true → plan.finish.binary ≡ None)
-          → (bytes : List ℕ) → IsInputOf taken settings bytes
-          → (selection_in settings matcher.meaning (view_in settings look bytes)
-          (is_across settings matcher.meaning)).end ≤ line_count settings seen)
-          × (is_across settings matcher.meaning ≡ false
-          → HasReadLines reader old reader' taken plan outcome))
-          seen old result new
-      pub each : (bytes : List ℕ) → IsInputOf taken settings bytes
-          → IsSearchOf step errors matcher settings
-          (IsPoint settings matcher.meaning bytes look (length seen)) (λ plan outcome. Unit {0})
-          (view_in settings look bytes) old result new
+          → (bytes : List ℕ) → IsInputOf taken settings bytes → IsAllSeen seen bytes)
+          × OnOk ended (is_across settings matcher.meaning ≡ false
+          → HasReadLines step settings reader old reader' taken seen
+          (finish_after outcome plan.finish)))
+          (plan_of_seen seen) old result new
       -- across lines all was read, and it is shorter than the heap limit
       pub whole : is_across settings matcher.meaning ≡ true → (taken.ended ≡ true)
           × ((bytes : List ℕ) → IsInputOf taken settings bytes → IsBelowLimit settings bytes)

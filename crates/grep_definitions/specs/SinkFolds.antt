@@ -1,6 +1,6 @@
 -- What a sink whose steps are functions makes of a run, and what a search without binary detection
 -- comes to.
-use Rattle.std.specs.Prelude.{◌≡◌, ◌⊎◌, ℕ, Bool, true, false, if◌then◌else◌, List, [], ◌∷◌, Option}
+use Rattle.std.specs.Prelude.{◌≡◌, ◌⊎◌, ℕ, Bool, true, false, if◌then◌else◌, List, [], ◌∷◌, Option, Result, length}
 use Rattle.std.specs.Prelude.{Some, None, Ok, Err}
 use Rattle.std.specs.List.{fold}
 use Rattle.grep_decode.specs.Source.{ReadResult}
@@ -9,8 +9,10 @@ use Rattle.grep_report.specs.declared.binary_detection.BinaryDetection.TheVarian
 use Rattle.grep_definitions.specs.Plans.{search_plan, IsLawful, refusal_of, Call, matches, finishes}
 use Rattle.grep_definitions.specs.Plans.{Finish, Planned, Plan, Steps, IsRun, Settings}
 use Rattle.grep_definitions.specs.Plans.{SearcherState}
-use Rattle.grep_definitions.specs.Searches.{nowhere, IsReaderSearched, IsReaderSearch, IsCutSearch}
+use Rattle.grep_definitions.specs.Plans.{IsAskedWith}
+use Rattle.grep_definitions.specs.Searches.{nowhere, IsReaderSearched, IsReaderSearch, IsCutSearch, Look, IsInputOf}
 use Rattle.grep_definitions.specs.Searches.{IsInput, searched_bytes}
+use Rattle.grep_definitions.specs.Searches.{IsSearchOf, IsPoint, view_in}
 use Rattle.grep_report.specs.ErrorMakers.{ErrorMakers}
 use Rattle.grep_definitions.specs.SliceSearches.{is_searched_unchanged, IsSliceRead}
 use Rattle.grep_definitions.specs.SliceSearches.{IsSliceSearched}
@@ -154,6 +156,22 @@ module _ {S E F : Type 0} (step : Steps S E) (errors : ErrorMakers F E) (matcher
       (Err e) reader' new
       → FailsAtStep step errors matcher state.settings e new
       ⊎ IsCutSearch remaining read_step step errors matcher state nowhere reader old e reader' new
+
+  -- the search of the lines that were seen of a reader is one of each input that begins with what
+  -- was taken: with the same `binary_data` and the same question, along the plan of that input
+  abbrev pub InputsAreSearched : Type 0
+  InputsAreSearched =
+      (state : SearcherState) (look : Look) (reader : R) (old : S) (result : Result (Unit {0}) E)
+      (reader' : R) (new : S)
+      → (read : IsReaderSearch remaining read_step step errors matcher state look reader old result
+      reader' new) (bytes : List ℕ)
+      → IsInputOf remaining read_step read.taken state.settings bytes
+      → IsSearchOf step errors matcher state.settings
+      (IsPoint state.settings matcher.meaning bytes look (length read.seen))
+      (IsAskedWith state.settings matcher.meaning (view_in state.settings look bytes))
+      (λ plan outcome ended. Unit {0})
+      (search_plan state.settings matcher.meaning (view_in state.settings look bytes))
+      old result new
 
   -- without binary detection, a search of a reader that says which bytes remain, with a lawful
   -- matcher, if it ended in `Ok`, is a run along the plan of its decoded bytes

@@ -7,7 +7,8 @@ use Rattle.grep_report.specs.ErrorMakers.{ErrorMakers}
 use Rattle.grep_decode.specs.Decoded.{is_unchanged}
 use Rattle.grep_definitions.specs.Searches.{look_of, IsUnread, IsPoint, IsReaderSearched}
 use Rattle.grep_definitions.specs.Searches.{IsSearchOf, IsUnlessRefusedBy}
-use Rattle.grep_definitions.specs.Plans.{Steps, Settings, SearcherState, refusal_of}
+use Rattle.grep_definitions.specs.Plans.{Steps, Settings, SearcherState, refusal_of, search_plan}
+use Rattle.grep_definitions.specs.Plans.{IsAskedWith}
 
 -- no label is set and no mark is found, so that the input is searched as it is
 unfoldable pub is_searched_unchanged : Settings → List ℕ → Bool
@@ -19,7 +20,8 @@ abbrev pub IsSliceSearch : {S E F : Type 0} → Steps S E → ErrorMakers F E �
 IsSliceSearch step errors matcher settings bytes =
     IsSearchOf step errors matcher settings
     (IsPoint settings matcher.meaning bytes (look_of settings matcher.meaning true) (length bytes))
-    (λ plan outcome. Unit {0}) bytes
+    (IsAskedWith settings matcher.meaning bytes) (λ plan outcome result. Unit {0})
+    (search_plan settings matcher.meaning bytes)
 
 -- a read of a slice gives bytes from its front, and none fails
 abbrev pub IsSliceRead : List ℕ → ReadResult → List ℕ → Type 0

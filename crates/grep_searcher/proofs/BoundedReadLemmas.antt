@@ -1,5 +1,5 @@
 -- How far a search that ends at the first match has read.
-use Rattle.std.proofs.Common.{◌≡◌, ℕ, ◌+◌, ◌<◌, Bool, true, false, not, ◌&&◌, List, [], ◌∷◌, ◌++◌, length}
+use Rattle.std.proofs.Common.{◌≡◌, ℕ, ◌+◌, ◌<◌, Bool, true, false, not, ◌&&◌, List, [], ◌∷◌, ◌++◌, length, Result}
 use Rattle.std.proofs.Common.{Option, Some, None, Ok, refl, sym, ap, subst, ◌∙◌, inl, inr, arith, if◌then◌else◌}
 use Rattle.std.proofs.Common.{length-append}
 use Rattle.std.proofs.lemmas.Bool.{false≢true}
@@ -24,7 +24,7 @@ use Rattle.grep_definitions.specs.Plans.{planned, breaks_before, calls_at, count
 use Rattle.grep_definitions.specs.Plans.{in_context, Kind, kind, line_count}
 use Rattle.grep_definitions.specs.Plans.{matched, report, reports_plan, Selection}
 use Rattle.grep_definitions.specs.Plans.{start, is_selected, reports_end, selected_lines, Settings}
-use Rattle.grep_definitions.specs.Searches.{BinaryPoint, plan_with, encoding_after}
+use Rattle.grep_definitions.specs.Searches.{BinaryPoint, plan_with, encoding_after, Points}
 use Rattle.grep_definitions.specs.Searches.{encoding_of, IsClosed, IsFront, searched_bytes}
 use Rattle.grep_definitions.specs.Searches.{IsSearchOf, ran}
 use Rattle.grep_definitions.specs.SearchLaws.{is_match, match_calls, match_of, reported_to}
@@ -200,17 +200,16 @@ module _ {F E : Type 0}
     (errors : ErrorMakers F E) (matcher : MatcherFacts F) {R : Type 0} (remaining : R → Option (List ℕ))
     (read_step : R → ReadResult → R → Type 0) where
   -- a run over the lines that were seen, with what it has read
-  over : (k : Settings) (IsAt : List Planned → Option BinaryPoint → Type 0)
+  over : (k : Settings) {IsAt : Points} {IsAsked : List ℕ → List Planned → Type 0}
+      {HasRead : Plan → Outcome E → Result (Unit {0}) E → Type 0}
       → ((calls : List Planned) (point : Option BinaryPoint) → IsAt calls point → point ≡ None)
-      → (HasRead : Plan → Outcome E → Type 0) (bytes : List ℕ) (old new : Bool)
-      → IsSearchOf IsFoundStep errors matcher k IsAt HasRead bytes old (Ok tt) new
-      → (run : IsRun IsFoundStep k old (search_plan k matcher.meaning bytes) (Ok tt) new)
-      × HasRead (search_plan k matcher.meaning bytes) run.outcome
-  over k IsAt none HasRead bytes old new (ran point at run read) =
-      subst (λ p. (run : IsRun IsFoundStep k old
-      (plan_with k.binary_detection p (search_plan k matcher.meaning bytes)) (Ok tt) new)
-      × HasRead (plan_with k.binary_detection p (search_plan k matcher.meaning bytes)) run.outcome)
-      (none (search_plan k matcher.meaning bytes).calls point at) (run, read)
+      → (plan : Plan) (old new : Bool)
+      → IsSearchOf IsFoundStep errors matcher k IsAt IsAsked HasRead plan old (Ok tt) new
+      → (run : IsRun IsFoundStep k old plan (Ok tt) new) × HasRead plan run.outcome (Ok tt)
+  over k {HasRead = HasRead} none plan old new (ran point at run read) =
+      subst (λ p. (run : IsRun IsFoundStep k old (plan_with k.binary_detection p plan) (Ok tt) new)
+      × HasRead (plan_with k.binary_detection p plan) run.outcome (Ok tt))
+      (none plan.calls point at) (run, read)
 
   -- what was read, and what is left
   taken-part : (input pieces : List ℕ) (left : Option (List ℕ)) → Consumes (Some input) left pieces
@@ -257,8 +256,9 @@ module _ {F E : Type 0}
             ∙ sym (first_below-some (is_selected k meaning input) (line_count k input)) ∙ ap is_some first in
             let seen = runs.0.seen in
             let front : IsFront k input seen =
-            subst (λ bytes. IsFront k bytes seen) same (runs.0.front (searched_bytes k input) whole) in
-            let run = over k _ (λ calls point at. at (searched_bytes k input) whole) _ seen old new runs.0.over_seen in
+            subst (λ bytes. IsFront k bytes seen) same (runs.0.each (searched_bytes k input) whole).front in
+            let run = over k (λ calls point at. at (searched_bytes k input) whole) (search_plan k meaning seen) old new
+            runs.0.over_seen in
             let plan : search_plan k meaning seen ≡ reports_plan k seen (selected_lines k meaning seen) =
             ap (λ b. reports_plan k seen (selection_in k meaning seen b)) by.by_line in
             let ends : All EndsAtMatch (search_plan k meaning seen).calls =

@@ -25,7 +25,7 @@ ghost use Rattle.grep_searcher.specs.Units.{FirstMatchIsFirstUnit, MatchesAreUni
 ghost use Rattle.grep_searcher.specs.Units.{MatchesAreWithinCount, UnitsAreCounted};
 ghost use Rattle.grep_definitions.specs.FileSearches.{IsFileRead};
 ghost use Rattle.grep_definitions.specs.SinkFolds.{RunsFold, RunsFoldAll, RunsFoldMatches};
-ghost use Rattle.grep_definitions.specs.SinkFolds.{SearchesRun, ReaderSearchesRun, SearchesFail};
+ghost use Rattle.grep_definitions.specs.SinkFolds.{SearchesRun, InputsAreSearched, ReaderSearchesRun, SearchesFail};
 ghost use Rattle.grep_definitions.specs.SinkFolds.{ReaderSearchesFail, KnownReadersRun};
 ghost use Rattle.grep_report.specs.ErrorMakers.{makers_of};
 
@@ -242,6 +242,17 @@ pub fn reader_searches_run<A: Allocator + Copy, M: Matcher, R: Source, S: Sink>(
 where
     S::Error: SinkError<A>,
     ensures { (matcher : M) → ReaderSearchesRun S.step
+        (makers_of M.Error.output S.Error.makers) (M.facts matcher)
+        R.remaining R.step }
+{}
+
+/// The search of the lines that were seen of a reader is one of each input that begins with what was
+/// taken: it made the calls of that input's plan, under binary detection too, and also if it ended
+/// in an error of the sink's or of the matcher's. Pass the sink, since a closure's type has no name.
+pub fn inputs_are_searched<A: Allocator + Copy, M: Matcher, R: Source, S: Sink>(_: &S)
+where
+    S::Error: SinkError<A>,
+    ensures { (matcher : M) → InputsAreSearched S.step
         (makers_of M.Error.output S.Error.makers) (M.facts matcher)
         R.remaining R.step }
 {}

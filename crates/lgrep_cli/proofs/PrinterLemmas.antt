@@ -149,15 +149,15 @@ module _ {W : Type 0} (write_step : W → OutputCall → W → Type 0) (settings
   -- a search that looks for no binary byte, with a matcher that never fails
   pub search-put : {F : Type 0} (errors : ErrorMakers F (SearchError Global)) (matcher : MatcherFacts F) (bytes : List ℕ)
       → All (λ planned. IsMade settings planned.call) (search_plan settings matcher.meaning bytes).calls
-      → IsInfallible matcher.fails → (n : ℕ) (HasRead : Plan → Outcome (SearchError Global) → Type 0) (old : Printer W)
+      → IsInfallible matcher.fails → {IsAsked : List ℕ → List Planned → Type 0} (n : ℕ) (old : Printer W)
       (result : Result (Unit {0}) (SearchError Global)) (new : Printer W)
       → IsSearchOf (Prints write_step) errors matcher settings (IsPoint settings matcher.meaning bytes nowhere n)
-      HasRead bytes old result new
+      IsAsked (λ plan outcome ended. Unit {0}) (search_plan settings matcher.meaning bytes) old result new
       → IsEnd old (search_plan settings matcher.meaning bytes).calls result new
-  search-put errors matcher bytes made infallible n HasRead old result new (ran point none run read) =
+  search-put errors matcher bytes made infallible n old result new (ran point none run read) =
       run-put (search_plan settings matcher.meaning bytes) made old result new
       (subst (λ (p : Option BinaryPoint). IsRun (Prints write_step) settings old (plan_with settings.binary_detection p
       (search_plan settings matcher.meaning bytes)) result new) none run)
-  search-put errors matcher bytes made infallible n HasRead old (Err e) new
+  search-put errors matcher bytes made infallible n old (Err e) new
       (asked haystack error before asks fails message reported) =
       absurd (infallible haystack error fails)

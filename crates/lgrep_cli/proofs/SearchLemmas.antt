@@ -21,6 +21,7 @@ use Rattle.grep_searcher.specs.ErrorMakers.{ErrorMakers}
 use Rattle.grep_searcher.specs.Meanings.{MatcherFacts}
 use Rattle.grep_searcher.specs.Searches
 use Rattle.grep_searcher.specs.SearchLaws.{MatchesAreMatchedLines}
+use Rattle.grep_searcher.specs.SinkFolds.{InputsAreSearched}
 use Rattle.lgrep_cli.specs.OptionSettings.{numbered_unless, settings_of_options}
 use Rattle.lgrep_cli.specs.Printers.{Prints, IsMade}
 use Rattle.lgrep_cli.specs.ProgramRuns.{searcher_of, meaning_of, calls_of, calls_over, whole_text, partial_text, Input}
@@ -295,18 +296,18 @@ module _ {R W : Type 0} (remaining : R → Option (List ℕ)) (read_step : R →
 
     -- under the options' settings, with the matcher of their literal, no search is refused, and none looks for binary
     -- bytes
-    searched : (result : Result (Unit {0}) (SearchError Global)) → old.found ≡ false → old.has_failed ≡ false
+    searched : InputsAreSearched (Prints write_step) errors (facts (string_bytes options.literal)) remaining read_step
+        → (result : Result (Unit {0}) (SearchError Global)) → old.found ≡ false → old.has_failed ≡ false
         → IsReaderSearched remaining read_step (Prints write_step) errors (facts (string_bytes options.literal))
         (numbering options false) reader old result reader' new
         → IsSearched result
-    searched (Ok u) none ok search =
+    searched inputs (Ok u) none ok search =
         let whole : IsReaderSearch remaining read_step (Prints write_step) errors (facts (string_bytes options.literal))
         (numbering options false) nowhere reader old (Ok u) reader' new = search (λ _. tt) in
         run whole.taken (λ bytes input. search-put write_step (settings_of_options options) errors
         (facts (string_bytes options.literal)) bytes (made bytes) (λ _ _ h. h) (length whole.seen)
-        (λ plan outcome. Unit {0}) old (Ok u) new
-        (whole.each bytes input)) none
-    searched (Err e) none ok search = go (search (λ _. tt))
+        old (Ok u) new (inputs (numbering options false) nowhere reader old (Ok u) reader' new whole bytes input)) none
+    searched inputs (Err e) none ok search = go (search (λ _. tt))
       where
         go : IsRead remaining read_step (Prints write_step) errors (facts (string_bytes options.literal))
             (numbering options false) nowhere
@@ -314,8 +315,7 @@ module _ {R W : Type 0} (remaining : R → Option (List ℕ)) (read_step : R →
         go (inl whole) =
             cut e whole.taken (λ bytes input. search-put write_step (settings_of_options options) errors
             (facts (string_bytes options.literal)) bytes (made bytes) (λ _ _ h. h) (length whole.seen)
-            (λ plan outcome. Unit {0}) old (Err e) new
-            (whole.each bytes input))
+            old (Err e) new (inputs (numbering options false) nowhere reader old (Err e) reader' new whole bytes input))
         go (inr short) = by short.begun refl
           where
             by : (begun : Bool) → short.begun ≡ begun → IsSearched (Err e)
@@ -341,11 +341,14 @@ module _ {R W : Type 0} (remaining : R → Option (List ℕ)) (read_step : R →
     pub reader-searched : (state : SearcherState) (literal : List ℕ) (result : Result (Unit {0}) (SearchError Global))
         → state ≡ searcher_of options → literal ≡ string_bytes options.literal → old.found ≡ false
         → old.has_failed ≡ false
+        → InputsAreSearched (Prints write_step) errors (facts literal) remaining read_step
         → IsReaderSearched remaining read_step (Prints write_step) errors (facts literal) state reader old result
         reader' new
         → IsSearched result
-    reader-searched state literal result same_state same_literal none ok search =
-        searched result none ok
+    reader-searched state literal result same_state same_literal none ok inputs search =
+        searched
+        (subst (λ l. InputsAreSearched (Prints write_step) errors (facts l) remaining read_step) same_literal inputs)
+        result none ok
         (subst (λ l. IsReaderSearched remaining read_step (Prints write_step) errors (facts l)
         (numbering options false) reader old result reader' new)
         same_literal

@@ -17,7 +17,8 @@ use crate::printer::Printer;
 use grep_matcher::LiteralMatcher;
 use grep_output::Output;
 use grep_searcher::laws::{
-    matches_are_matched_lines, numbers_change_no_count, reader_searches_run, runs_count_matches,
+    inputs_are_searched, matches_are_matched_lines, numbers_change_no_count, reader_searches_run,
+    runs_count_matches,
 };
 use grep_searcher::sinks::Count;
 use grep_searcher::{Reading, SearchError, Searcher, SearcherBuilder, Source};
@@ -194,6 +195,7 @@ fn print<R: Source, W: Output>(
     let mut searcher = searcher(alloc, options)?;
     let matcher = matcher(alloc, options)?;
     matches_are_matched_lines();
+    inputs_are_searched::<Global, LiteralMatcher, R, Printer<'_, W>>(printer);
     match searcher.search_reader(matcher, reader, printer) {
         Ok(()) => match printer.write_pending() {
             Ok(()) => Ok(()),

@@ -17,7 +17,7 @@ searched-whole g c = reader-searched g.R.Source.remaining g.R.Source.step g.W.Ou
     c.in_ok-searcher.searcher
     c.in_ok-matcher.matcher c.search_reader.result c.in_ok-searcher.ensures.settings c.in_ok-matcher.ensures.literal
     c.requires.found
-    c.requires.has_failed c.search_reader.ensures.searched
+    c.requires.has_failed (c.inputs_are_searched.ensures c.in_ok-matcher.matcher) c.search_reader.ensures.searched
 
 searched-unwritten : (g : Over) (c : Joined-searcher-3 g)
     → IsSearched g.R.Source.remaining g.R.Source.step g.W.Output.step c.matches_are_matched_lines.ensures
@@ -29,7 +29,7 @@ searched-unwritten g c = reader-searched g.R.Source.remaining g.R.Source.step g.
     c.in_ok-searcher.searcher
     c.in_ok-matcher.matcher c.search_reader.result c.in_ok-searcher.ensures.settings c.in_ok-matcher.ensures.literal
     c.requires.found
-    c.requires.has_failed c.search_reader.ensures.searched
+    c.requires.has_failed (c.inputs_are_searched.ensures c.in_ok-matcher.matcher) c.search_reader.ensures.searched
 
 searched-cut : (g : Over) (c : Joined-searcher-4 g)
     → IsSearched g.R.Source.remaining g.R.Source.step g.W.Output.step c.matches_are_matched_lines.ensures
@@ -41,7 +41,7 @@ searched-cut g c = reader-searched g.R.Source.remaining g.R.Source.step g.W.Outp
     c.in_ok-searcher.searcher
     c.in_ok-matcher.matcher c.search_reader.result c.in_ok-searcher.ensures.settings c.in_ok-matcher.ensures.literal
     c.requires.found
-    c.requires.has_failed c.search_reader.ensures.searched
+    c.requires.has_failed (c.inputs_are_searched.ensures c.in_ok-matcher.matcher) c.search_reader.ensures.searched
 
 searched-read : (g : Over) (c : Joined-searcher-5 g)
     → IsSearched g.R.Source.remaining g.R.Source.step g.W.Output.step c.matches_are_matched_lines.ensures
@@ -53,7 +53,7 @@ searched-read g c = reader-searched g.R.Source.remaining g.R.Source.step g.W.Out
     c.in_ok-searcher.searcher
     c.in_ok-matcher.matcher c.search_reader.result c.in_ok-searcher.ensures.settings c.in_ok-matcher.ensures.literal
     c.requires.found
-    c.requires.has_failed c.search_reader.ensures.searched
+    c.requires.has_failed (c.inputs_are_searched.ensures c.in_ok-matcher.matcher) c.search_reader.ensures.searched
 
 searched-unread : (g : Over) (c : Joined-searcher-6 g)
     → IsSearched g.R.Source.remaining g.R.Source.step g.W.Output.step c.matches_are_matched_lines.ensures
@@ -65,7 +65,7 @@ searched-unread g c = reader-searched g.R.Source.remaining g.R.Source.step g.W.O
     c.in_ok-searcher.searcher
     c.in_ok-matcher.matcher c.search_reader.result c.in_ok-searcher.ensures.settings c.in_ok-matcher.ensures.literal
     c.requires.found
-    c.requires.has_failed c.search_reader.ensures.searched
+    c.requires.has_failed (c.inputs_are_searched.ensures c.in_ok-matcher.matcher) c.search_reader.ensures.searched
 
 pub returns-in-Ok-write_pending-clause-same_writer : goal.returns-in-Ok-write_pending-clause-same_writer
 returns-in-Ok-write_pending-clause-same_writer g c = c.write_pending.ensures.same_writer

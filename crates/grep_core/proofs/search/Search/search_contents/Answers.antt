@@ -1,4 +1,4 @@
-use Rattle.std.proofs.Common.{arith, ℕ, Bool, List, true, None, length, ◌∙◌, subst, sym, refl, inl, ap, Err}
+use Rattle.std.proofs.Common.{arith, ℕ, Bool, List, true, None, length, ◌∙◌, subst, sym, refl, inl, inr, ap, Err}
 use Rattle.std.proofs.lemmas.Bool.{true≢false}
 use Rattle.std.proofs.lemmas.Result.{err_from_is_err_and}
 use Rattle.std.specs.Prelude.{vec_capacity}
@@ -6,8 +6,10 @@ use Rattle.grep_line_buffer.specs.Contents.{FailsAfter, IsBelow, ContentsFail}
 use Rattle.grep_line_buffer.specs.Fills.{IfRead}
 use Rattle.grep_definitions.specs.ReaderRuns.{IsUnreadIn}
 use Rattle.grep_core.proofs.InputSearchLemmas as whole
-use Rattle.grep_definitions.proofs.SearchModeLemmas.{look-detects, look-plain, look-quit}
+use Rattle.grep_definitions.proofs.PlannedReaderLemmas.{contents-cut}
+use Rattle.grep_definitions.proofs.SearchModeLemmas.{look-detects}
 use Rattle.grep_core.proofs.search.Search.search_contents.Given.{Over}
+use Rattle.grep_report.specs.ErrorMakers.{makers_of, ErrorMakers}
 use Rattle.grep_definitions.specs.Searches.{read_in_order}
 use Rattle.grep_definitions.proofs.CallOrderLemmas as order
 use Rattle.grep_core.proofs.OrderLemmas.{failed-read, reading-error}
@@ -28,9 +30,8 @@ unread g c has_buffers view =
     failed.reads failed.read failed.empty failed.waits
 
 pub returns-in-Err-clause-searched : goal.returns-in-Err-clause-searched
-returns-in-Err-clause-searched g c = λ has_buffers.
-    whole.across-unread _ _ _ _
-    _ _ (unread g c _) c.error_io.ensures
+returns-in-Err-clause-searched g c = λ across has_buffers.
+    inr (contents-cut _ _ _ _ _ _ _ across c.io_error.result _ (unread g c has_buffers _) c.error_io.ensures)
 
 pub returns-in-Err-clause-succeeds : goal.returns-in-Err-clause-succeeds
 returns-in-Err-clause-succeeds g c = λ never infallible has_buffers.
@@ -42,41 +43,48 @@ below : (g : Over) (c : goal.After-quit_byte g)
 below g c = subst (λ limit. IsBelow limit (length c.read_contents.new.contents.items))
     c.heap_limit.ensures c.in_default.ensures.below
 
+abbrev errors-of : (g : Over) → ErrorMakers g.row.M-Error.Denot g.row.C-Error.Denot
+errors-of g = makers_of g.M.Error.Display.output g.C.Error.SinkError.makers
+
 pub returns-in-Some-clause-searched : goal.returns-in-Some-clause-searched
-returns-in-Some-clause-searched g c = λ has_buffers.
+returns-in-Some-clause-searched g c = λ across has_buffers.
     let searched = rw c.deref.ensures.value at (c.search_until.ensures.searched (λ never. absurd (true≢false never))) in
-    rw (look-quit _ _ (sym c.quit_byte.ensures ∙ c.in-Some.is))
-    (whole.contents-until _ c.requires.started
+    let facts = g.M.Matcher.facts c.args.matcher.now in
+    let given = c.read_contents.new.contents.items in
+    whole.contents-read-all c.args.self.now.config c.requires.started
     c.in_default.ensures.reads c.in_default.ensures.done
-    (below g (goal.at.returns-in-Some-clause-searched g c).After-quit_byte) _ _
-    _ _ _ _ _
-    _ searched)
+    (below g (goal.at.returns-in-Some-clause-searched g c).After-quit_byte) g.C.Calls.step (errors-of g) facts has_buffers
+    c.args.sink.now across c.search_until.result c.search_until.new.sink
+    (whole.searched-at g.C.Calls.step (errors-of g) facts c.args.self.now.config given c.args.sink.now _
+    (sym c.quit_byte.ensures ∙ c.in-Some.is) (sym across) c.search_until.result c.search_until.new.sink searched)
 
 pub returns-in_err-count-clause-searched : goal.returns-in_err-count-clause-searched
-returns-in_err-count-clause-searched g c = λ has_buffers.
+returns-in_err-count-clause-searched g c = λ across has_buffers.
     let error = err_from_is_err_and c.from_residual.result c.from_residual.ensures.1 in
-    rw (
-      look-plain _
-          (λ b is. c.in_default-quit_byte.not-Some b (c.quit_byte.ensures ∙ is)),
-      error.1,
-      error.2,
-    )
-    (whole.contents-fault _ c.requires.started
+    let facts = g.M.Matcher.facts c.args.matcher.now in
+    let given = c.read_contents.new.contents.items in
+    rw (error.1, error.2)
+    (whole.contents-read-plain c.args.self.now.config c.requires.started
     c.in_default.ensures.reads c.in_default.ensures.done
-    (below g (goal.at.returns-in_err-count-clause-searched g c).After-quit_byte) _ _
-    _ _ _
-    (rw c.deref-2.ensures.value at c.in_err-count.ensures.fault))
+    (below g (goal.at.returns-in_err-count-clause-searched g c).After-quit_byte) g.C.Calls.step (errors-of g) facts
+    has_buffers c.args.sink.now across
+    (λ b is. c.in_default-quit_byte.not-Some b (c.quit_byte.ensures ∙ is)) (Err c.in_err-count.field-0.0)
+    c.match_across.new.sink
+    (whole.failed-across g.C.Calls.step (errors-of g) facts c.args.self.now.config given c.args.sink.now across
+    (rw c.deref-2.ensures.value at c.in_err-count.ensures.fault)))
 
 pub returns-clause-searched : goal.returns-clause-searched
-returns-clause-searched g c = λ has_buffers.
+returns-clause-searched g c = λ across has_buffers.
     let reported = rw c.deref-2.ensures.value at c.in_ok-count.ensures.reported in
-    rw (look-plain _
-    (λ b is. c.in_default-quit_byte.not-Some b (c.quit_byte.ensures ∙ is)))
-    (whole.contents-finished _
-    c.requires.started c.in_default.ensures.reads c.in_default.ensures.done
-    (below g (goal.at.returns-clause-searched g c).After-quit_byte) _ _
-    _ _ _ _ reported.1
-    (rw c.new.ensures at c.finish.ensures.step))
+    let facts = g.M.Matcher.facts c.args.matcher.now in
+    let given = c.read_contents.new.contents.items in
+    whole.contents-read-plain c.args.self.now.config c.requires.started
+    c.in_default.ensures.reads c.in_default.ensures.done
+    (below g (goal.at.returns-clause-searched g c).After-quit_byte) g.C.Calls.step (errors-of g) facts has_buffers
+    c.args.sink.now across
+    (λ b is. c.in_default-quit_byte.not-Some b (c.quit_byte.ensures ∙ is)) c.finish.result c.finish.new.sink
+    (whole.finished-across g.C.Calls.step (errors-of g) facts c.args.self.now.config given c.args.sink.now across
+    c.finish.result reported.1 (rw c.new.ensures at c.finish.ensures.step))
 
 pub search_until-requires-clause-detecting : goal.search_until-requires-clause-detecting
 search_until-requires-clause-detecting g c =

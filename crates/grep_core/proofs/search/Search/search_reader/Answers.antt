@@ -14,7 +14,7 @@ returns-then-is_across-clause-searched g c = λ lawful has_buffers.
     _
     _ _ _ _
     _
-    _ mode (c.search_contents.ensures.searched has_buffers)
+    _ mode (c.search_contents.ensures.searched mode has_buffers)
 
 pub returns-then-is_across-clause-succeeds : goal.returns-then-is_across-clause-succeeds
 returns-then-is_across-clause-succeeds g c = λ never infallible lawful.
