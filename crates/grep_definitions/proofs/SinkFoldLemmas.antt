@@ -235,7 +235,7 @@ module _ {S E : Type 0} (step : Steps S E) where
       (λ from call b after made. by from settings call b after made) old plan.calls run)
 
   -- an error of a run is that of its last step
-  made-fails : (settings : Settings) (finish : Finish) (e : E) (new : S)
+  pub made-fails : (settings : Settings) (finish : Finish) (e : E) (new : S)
       (calls : List Planned) (old : S) (outcome : Outcome E) (mid : S)
       → AreMade step settings old calls outcome mid → IsFinished step settings outcome mid finish (Err e) new
       → (from : S) × (call : Call) × step from settings call (Err e) new
@@ -261,7 +261,7 @@ module _ {S E : Type 0} (step : Steps S E) where
 
 module _ {S E F : Type 0} (step : Steps S E) (errors : ErrorMakers F E) (matcher : MatcherFacts F) where
   -- a search that wasn't refused
-  not-refused : (k : Settings) (old new : S) (IsSame IsSearched : Type 0) (refusal : Option ConfigError)
+  pub not-refused : (k : Settings) (old new : S) (IsSame IsSearched : Type 0) (refusal : Option ConfigError)
       → IsLawful matcher k
       → IsUnlessRefusedBy errors matcher k old (Ok tt) new IsSame IsSearched refusal → IsSearched
   not-refused k old new IsSame IsSearched None lawful searched = searched lawful

@@ -3,18 +3,20 @@ use Rattle.std.proofs.Common.{◌∙◌, ℕ, zero, suc, ◌+◌, ◌-◌, ◌<�
 use Rattle.std.proofs.Common.{Bool, true, false, Option, None, Some, arith, count_by, drop, inl, inr, length, length-drop, subst, sym, take}
 use Rattle.std.proofs.lemmas.Bool.{cases_lt}
 use Rattle.std.proofs.lemmas.List.{get_or-drop, get_or-take, get_or_past, length-take}
-use Rattle.std.proofs.lemmas.List.Elements.{All-append, All-cons, All-map, All-nil}
+use Rattle.std.proofs.lemmas.List.Elements.{All-append, All-cons, All-drop, All-map, All-nil, All-take}
 use Rattle.std.proofs.lemmas.List.Sums.{count_by-le-length}
 use Rattle.std.specs.Option.{IfSome}
-use Rattle.std.specs.Prelude.{All, ◌&&◌, if◌then◌else◌, nat_lt, slice_range}
+use Rattle.std.specs.Prelude.{All, ◌&&◌, ◌++◌, if◌then◌else◌, map, nat_lt, slice_range}
 use Rattle.base64.specs.GeneralPurpose.{IsBytes}
 use Rattle.grep_lines.proofs.LineStepLemmas.{IsStep-line}
 use Rattle.grep_matcher.proofs.LineStartLemmas.{line_start-within}
 use Rattle.grep_matcher.specs.Lines.{byte_of, lines}
-use Rattle.grep_searcher.specs.Plans.{Kind, Planned, Selection, Settings, begins, breaks, breaks_before, calls_at}
-use Rattle.grep_searcher.specs.Plans.{count_at, in_context, is_across, joined_from, kind, line, matched, matches}
-use Rattle.grep_searcher.specs.Plans.{number, planned, report, report_end, reports_plan, selection_in, start}
-use Rattle.grep_searcher.specs.SearchLaws.{calls_of}
+use Rattle.grep_searcher.specs.Plans.{Kind, Plan, Planned, Selection, Settings, begins, breaks, breaks_before}
+use Rattle.grep_searcher.specs.Plans.{calls_at, count_at, counted, in_context, is_across, joined_from, kind, line}
+use Rattle.grep_searcher.specs.Plans.{matched, matches, number, planned, report, report_end, reports_plan}
+use Rattle.grep_searcher.specs.Plans.{search_plan, selection_in, start}
+use Rattle.grep_searcher.specs.Searches.{BinaryPoint, calls_with, plan_with, planned_binary, quits, with_offset}
+use Rattle.grep_searcher.specs.declared.BinaryDetection.{BinaryDetection}
 use Rattle.grep_printer.specs.SearchMessages.{HasWords, PlansHaveWords}
 
 -- a part of some bytes
@@ -123,12 +125,56 @@ module _ (settings : Settings) (bytes : List ℕ) (are : IsBytes bytes) (short :
             (report-words i (kind settings bytes selection i))
         go false = report-words i (kind settings bytes selection i)
 
-    plan-words : All HasWords (calls_of (reports_plan settings bytes selection).calls)
-    plan-words = All-map HasWords (λ call. call.call) (reports_plan settings bytes selection).calls
-        (All-cons Has (planned begins 0) _
+    plan-words : All Has (reports_plan settings bytes selection).calls
+    plan-words = All-cons Has (planned begins 0) _
         (record { number = tt; offset = omega arith; size = omega arith; bytes = λ i. omega arith })
-        (All-joined Has (calls_at settings bytes selection) calls-words selection.end 0))
+        (All-joined Has (calls_at settings bytes selection) calls-words selection.end 0)
+
+-- a call has such numbers and bytes whatever `finish` has after it
+abbrev Has-words : Planned → Type 0
+Has-words call = HasWords call.call
+
+-- so do the calls of a plan with `binary_data`
+with-words : (detection : BinaryDetection) (point : Option BinaryPoint) (plan : Plan) → All Has-words plan.calls
+    → All Has-words (plan_with detection point plan).calls
+with-words detection None plan words = words
+with-words detection (Some point) plan words = go (quits detection)
+  where
+    first : All Has-words (take point.position plan.calls)
+    first = All-take Has-words point.position plan.calls words
+
+    here : Has-words (planned_binary point)
+    here = record { number = tt; offset = omega arith; size = omega arith; bytes = λ i. omega arith }
+
+    later : (planned : Planned) → Planned
+    later call = record call { if_false = with_offset point.offset call.if_false }
+
+    ended : Plan
+    ended = record {
+      calls = take point.position plan.calls ++ planned_binary point ∷ [];
+      finish = with_offset point.offset (counted point.count);
+    }
+
+    longer : Plan
+    longer = record {
+      calls = calls_with (Some point) plan.calls;
+      finish = with_offset point.offset plan.finish;
+    }
+
+    chosen : Bool → Plan
+    chosen ends = if ends then ended else longer
+
+    go : (ends : Bool) → All Has-words (chosen ends).calls
+    go true = All-append Has-words (take point.position plan.calls) (planned_binary point ∷ []) first
+        (All-cons Has-words (planned_binary point) [] here (All-nil Has-words))
+    go false = All-append Has-words (take point.position plan.calls)
+        (planned_binary point ∷ map later (drop point.position plan.calls)) first
+        (All-cons Has-words (planned_binary point) (map later (drop point.position plan.calls)) here
+        (All-map Has-words later (drop point.position plan.calls)
+        (All-drop Has-words point.position plan.calls words)))
 
 pub plans-have-words : PlansHaveWords
-plans-have-words settings meaning bytes are short =
-    plan-words settings bytes are short (selection_in settings meaning bytes (is_across settings meaning))
+plans-have-words settings meaning bytes detection point are short =
+    All-map HasWords (λ call. call.call) (plan_with detection point (search_plan settings meaning bytes)).calls
+    (with-words detection point (search_plan settings meaning bytes)
+    (plan-words settings bytes are short (selection_in settings meaning bytes (is_across settings meaning))))

@@ -11,6 +11,8 @@ use Rattle.grep_searcher.specs.Meanings.{Meaning}
 use Rattle.grep_searcher.specs.Plans.{Call, Plan, Settings, begins, matches, context}
 use Rattle.grep_searcher.specs.Plans.{reported_bytes, reported_from, search_plan}
 use Rattle.grep_searcher.specs.SearchLaws.{calls_of, is_report}
+use Rattle.grep_searcher.specs.Searches.{BinaryPoint, plan_with}
+use Rattle.grep_searcher.specs.declared.BinaryDetection.{BinaryDetection}
 use Rattle.grep_printer.specs.JsonLaws.{IsLineOf, IsSameReport, Reported, message_of_report}
 use Rattle.grep_printer.specs.JsonMessages.{begin_json, json_line}
 use Rattle.grep_printer.specs.JsonTexts.{JsonFrame, context_submatches, json_printed_of}
@@ -62,12 +64,14 @@ pub record HasWords (call : Call) : Type 0 where
   pub size : length (reported_bytes call) < 2 ^ 64
   pub bytes : IsBytes (reported_bytes call)
 
--- so do the calls of a search of bytes, if these are fewer than the greatest such number
+-- so do the calls of a search of bytes, if these are fewer than the greatest such number, wherever
+-- `binary_data` comes among them
 abbrev pub PlansHaveWords : Type 0
 PlansHaveWords =
-    (settings : Settings) (meaning : Meaning) (bytes : List ℕ) → IsBytes bytes
-    → length bytes < 2 ^ 64 - 1
-    → All HasWords (calls_of (search_plan settings meaning bytes).calls)
+    (settings : Settings) (meaning : Meaning) (bytes : List ℕ) (detection : BinaryDetection)
+    (point : Option BinaryPoint) → IsBytes bytes → length bytes < 2 ^ 64 - 1
+    → All HasWords
+    (calls_of (plan_with detection point (search_plan settings meaning bytes)).calls)
 
 -- the text is the lines of these messages, one after another: split after each line feed, it has a
 -- line for each message, in order, which is read as this message

@@ -58,7 +58,8 @@ pub fn messages_are_read_back()
 /// its calls, in order, which is read as this message: for `begin`, if it is due and wasn't written
 /// before, and for each match and each context line. So the text tells all of its reports: no
 /// search that reports anything else has it. What the calls report are numbers of 64 bits, and
-/// bytes, as it is for the plan of a search of bytes, fewer than the greatest such number.
+/// bytes, as it is for the plan of a search of bytes, fewer than the greatest such number, under any
+/// binary detection.
 pub fn searches_are_read_back<M: FindAt>()
     ensures read { SearchesAreReadBack M.first_at }
     ensures tell { SearchesTell M.first_at }

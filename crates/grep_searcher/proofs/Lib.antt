@@ -2,6 +2,7 @@ pub mod AppendedPartLemmas
 pub mod BoundedReadLemmas
 pub mod ClosureSinkLemmas
 pub mod CountSinkLemmas
+pub mod DetectedRunLemmas
 pub mod HitLineLemmas
 pub mod InputSearchLemmas
 pub mod KeptReportLemmas

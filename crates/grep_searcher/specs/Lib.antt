@@ -2,6 +2,7 @@ pub mod AppendedParts
 pub mod BoundedReads
 pub mod ClosureSinks
 pub mod CountSinks
+pub mod DetectedRuns
 pub mod HitLines
 pub mod KeptReports
 pub mod LentMatches

@@ -4,7 +4,6 @@ use Rattle.std.specs.declared.io.Error.{Error}
 use Rattle.grep_decode.specs.Source.{ReadResult}
 use Rattle.grep_matcher.specs.Meanings.{IsInfallible, MatcherFacts, Meaning}
 use Rattle.grep_report.specs.ErrorMakers.{ErrorMakers}
-use Rattle.grep_report.specs.declared.binary_detection.BinaryDetection.TheVariants.{None as no_detection}
 use Rattle.grep_report.specs.declared.sink_error.SearchError.{SearchError}
 use Rattle.grep_report.specs.declared.sink_error.SearchError.TheVariants.{Io}
 use Rattle.grep_definitions.specs.Plans.{IsLawful, refusal_of, Steps, Settings, SearcherState}
@@ -27,12 +26,12 @@ IsDecodingError state meaning input e =
 
 module _ {S E F : Type 0} (step : Steps S E) (errors : ErrorMakers F E)
     (matcher : MatcherFacts F) where
-  -- without binary detection an error of a search of a slice is that of a step of the sink, or the
-  -- slice has to be decoded and not all of it was
+  -- an error of a search of a slice is that of a step of the sink, or the slice has to be decoded
+  -- and not all of it was
   abbrev pub SlicesFail : Type 0
   SlicesFail =
       (state : SearcherState) (input : List ℕ) (old : S) (e : E) (new : S)
-      → IsFaultless matcher state.settings → state.settings.binary_detection ≡ no_detection
+      → IsFaultless matcher state.settings
       → IsSliceSearched step errors matcher state input old (Err e) new
       → FailsAtStep step errors matcher state.settings e new
       ⊎ ((begun : Bool) × (seen : List ℕ) × (error : Error)
@@ -43,7 +42,7 @@ module _ {S E F : Type 0} (step : Steps S E) (errors : ErrorMakers F E)
       → Type 0
   ReadersFail {R} remaining read_step =
       (state : SearcherState) (reader : R) (old : S) (e : E) (reader' : R) (new : S)
-      → IsFaultless matcher state.settings → state.settings.binary_detection ≡ no_detection
+      → IsFaultless matcher state.settings
       → IsReaderSearched remaining read_step step errors matcher state reader old
       (Err e) reader' new
       → FailsAtStep step errors matcher state.settings e new

@@ -7,6 +7,10 @@ ghost use Rattle.grep_searcher.specs.ClosureSinks.{IsLossyText, IsWholeText};
 ghost use Rattle.grep_searcher.specs.AppendedParts.{RunsAppend, RunsAppendLines, RunsAppendMatches};
 ghost use Rattle.grep_searcher.specs.BoundedReads.{ReadersFindLines};
 ghost use Rattle.grep_searcher.specs.CountSinks.{RunsCount, RunsCountAll};
+ghost use Rattle.grep_searcher.specs.DetectedRuns.{DecodedSlicesFailWith, DecodedSlicesRunWith};
+ghost use Rattle.grep_searcher.specs.DetectedRuns.{KnownReadersFailWith, KnownReadersRunWith};
+ghost use Rattle.grep_searcher.specs.DetectedRuns.{ReadersFailWith, ReadersRunWith};
+ghost use Rattle.grep_searcher.specs.DetectedRuns.{SlicesFailWith, SlicesRunWith};
 ghost use Rattle.grep_searcher.specs.HitLines.{HitsAreSelected, HitsAreMatched, HitsAreCounted};
 ghost use Rattle.grep_searcher.specs.HitLines.{PredicatesAreCounted};
 ghost use Rattle.grep_searcher.specs.KeptReports.{RunsKeep, RunsKeepUntil};
@@ -278,10 +282,9 @@ where
         R.remaining R.step }
 {}
 
-/// Without binary detection, if the matcher never fails and is lawful, and the search isn't
-/// refused, an error of a search of a slice is that of a step of the sink, or it is made of the
-/// reason why the slice, which has to be decoded, wasn't decoded to its end. Pass the sink, since a
-/// closure's type has no name.
+/// If the matcher never fails and is lawful, and the search isn't refused, an error of a search of
+/// a slice is that of a step of the sink, or it is made of the reason why the slice, which has to be
+/// decoded, wasn't decoded to its end. Pass the sink, since a closure's type has no name.
 pub fn slices_fail<A: Allocator + Copy, M: Matcher, S: Sink>(_: &S)
 where
     S::Error: SinkError<A>,
@@ -289,9 +292,9 @@ where
         (makers_of M.Error.output S.Error.makers) (M.facts matcher) }
 {}
 
-/// Without binary detection, if the matcher never fails and is lawful, and the search isn't
-/// refused, an error of a search of a reader is that of a step of the sink, or it is made of the
-/// reason why the reader wasn't read to its end. Pass the sink, since a closure's type has no name.
+/// If the matcher never fails and is lawful, and the search isn't refused, an error of a search of
+/// a reader is that of a step of the sink, or it is made of the reason why the reader wasn't read to
+/// its end. Pass the sink, since a closure's type has no name.
 pub fn readers_fail<A: Allocator + Copy, M: Matcher, R: Source, S: Sink>(_: &S)
 where
     S::Error: SinkError<A>,
@@ -317,6 +320,74 @@ pub fn known_files_run<A: Allocator + Copy, M: Matcher, F: Read, S: Sink>()
 where
     S::Error: SinkError<A>,
     ensures { (matcher : M) → KnownReadersRun S.step
+        (makers_of M.Error.output S.Error.makers) (M.facts matcher)
+        F.remaining (IsFileRead F.remaining) }
+{}
+
+/// Under any binary detection, a search of a slice with a lawful matcher that ended in `Ok` is a
+/// run along the plan of what is searched, with `binary_data` where it comes: of a slice that is
+/// searched as it is, of its bytes; of one that is decoded, of its decoded bytes, as a search of a
+/// reader. Pass the sink, since a closure's type has no name.
+pub fn detected_searches_run<A: Allocator + Copy, M: Matcher, S: Sink>(_: &S)
+where
+    S::Error: SinkError<A>,
+    ensures unchanged { (matcher : M) → SlicesRunWith S.step
+        (makers_of M.Error.output S.Error.makers) (M.facts matcher) }
+    ensures decoded { (matcher : M) → DecodedSlicesRunWith S.step
+        (makers_of M.Error.output S.Error.makers) (M.facts matcher) }
+{}
+
+/// So is a search of a reader, for each input that begins with what was taken; and for the decoded
+/// bytes of all that remained, if the reader says which bytes these are. How many first bytes were
+/// seen when `binary_data` came depends on how the reader cuts its input.
+pub fn detected_readers_run<A: Allocator + Copy, M: Matcher, R: Source, S: Sink>(_: &S)
+where
+    S::Error: SinkError<A>,
+    ensures taken { (matcher : M) → ReadersRunWith S.step
+        (makers_of M.Error.output S.Error.makers) (M.facts matcher) R.remaining R.step }
+    ensures known { (matcher : M) → KnownReadersRunWith S.step
+        (makers_of M.Error.output S.Error.makers) (M.facts matcher) R.remaining R.step }
+{}
+
+/// What `detected_readers_run` says of a reader that says which bytes remain, of such a file. After
+/// `search_path` it is one that was opened.
+pub fn detected_files_run<A: Allocator + Copy, M: Matcher, F: Read, S: Sink>(_: &S)
+where
+    S::Error: SinkError<A>,
+    ensures { (matcher : M) → KnownReadersRunWith S.step
+        (makers_of M.Error.output S.Error.makers) (M.facts matcher)
+        F.remaining (IsFileRead F.remaining) }
+{}
+
+/// Under any binary detection, if the matcher never fails and is lawful, and the search isn't
+/// refused, a search of a slice that ended in an error is a run along that plan too, in which a
+/// step of the sink failed; or the slice has to be decoded, and not all of it was: after the calls
+/// for the lines that were seen, with `binary_data` where it comes. Pass the sink, since a
+/// closure's type has no name.
+pub fn detected_searches_fail<A: Allocator + Copy, M: Matcher, S: Sink>(_: &S)
+where
+    S::Error: SinkError<A>,
+    ensures unchanged { (matcher : M) → SlicesFailWith S.step
+        (makers_of M.Error.output S.Error.makers) (M.facts matcher) }
+    ensures decoded { (matcher : M) → DecodedSlicesFailWith S.step
+        (makers_of M.Error.output S.Error.makers) (M.facts matcher) }
+{}
+
+/// So is a search of a reader, or its error is one of reading.
+pub fn detected_readers_fail<A: Allocator + Copy, M: Matcher, R: Source, S: Sink>(_: &S)
+where
+    S::Error: SinkError<A>,
+    ensures taken { (matcher : M) → ReadersFailWith S.step
+        (makers_of M.Error.output S.Error.makers) (M.facts matcher) R.remaining R.step }
+    ensures known { (matcher : M) → KnownReadersFailWith S.step
+        (makers_of M.Error.output S.Error.makers) (M.facts matcher) R.remaining R.step }
+{}
+
+/// What `detected_readers_fail` says of a reader that says which bytes remain, of such a file.
+pub fn detected_files_fail<A: Allocator + Copy, M: Matcher, F: Read, S: Sink>(_: &S)
+where
+    S::Error: SinkError<A>,
+    ensures { (matcher : M) → KnownReadersFailWith S.step
         (makers_of M.Error.output S.Error.makers) (M.facts matcher)
         F.remaining (IsFileRead F.remaining) }
 {}
