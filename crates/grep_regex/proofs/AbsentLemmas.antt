@@ -141,7 +141,8 @@ module _ (o : Options) (patterns : List (List ℕ)) where
           let within : IsFrom start hay (Some m) =
           subst (IsFrom start hay) is ((first-matches o patterns hay).within start from) in
           let clear = clear-match (excluded_bytes o.line_terminator) (written_re o patterns) hay start m.0 m.1 is in
-          let none = clear-at (excluded_bytes o.line_terminator) hay m.0 m.1 clear i low high (omega (arith, within.1.1, high)) in
+          let none = clear-at (excluded_bytes o.line_terminator) hay m.0 m.1 clear i low high
+          (omega (arith, within.1.1, high)) in
           let zero = subst (λ t. is_among (excluded_bytes t) (slice_index hay i) ≡ false)
           (nul-is o.line_terminator nul) none in
           absent-of-nul o patterns (slice_index hay i) nul ∙ (or_parts (slice_index hay i == 0) false zero).0
@@ -155,7 +156,8 @@ module _ (o : Options) (patterns : List (List ℕ)) where
       none-held hay None = tt
       none-held hay (Some m) = λ i low high. absent-of-unplain o patterns (slice_index hay i) other unplain
 
-  module _ (same : AreAlike (map (read_re o) patterns) (map literal patterns)) (plain : are_plain o patterns ≡ true) where
+  module _ (same : AreAlike (map (read_re o) patterns) (map literal patterns))
+      (plain : are_plain o patterns ≡ true) where
     abbrev texts : Re
     texts = framed o (alt_all (map literal patterns))
 

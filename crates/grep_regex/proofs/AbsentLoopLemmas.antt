@@ -1,14 +1,14 @@
 -- How the bytes that no literal has are found, step by step.
 use Rattle.std.proofs.Common.{◌≡◌, ℕ, ◌+◌, ◌<◌, ◌||◌, ◌&&◌, ◌==◌, Bool, true, false, not, List, [], ◌∷◌, ◌++◌}
-use Rattle.std.proofs.Common.{length, map, is_some, take, get_or, nat_lt, refl, sym, ap, ◌∙◌, subst, ⊎_elim, arith, Bor, ne_eqb, eq-eqb}
-use Rattle.std.proofs.lemmas.Bool.{and_parts, cases_eq, not-true}
+use Rattle.std.proofs.Common.{length, map, take, get_or, nat_lt, refl, sym, ap, ◌∙◌, subst, ⊎_elim, arith, Bor, ne_eqb, eq-eqb}
+use Rattle.std.proofs.lemmas.Bool.{and_right, cases_eq}
 use Rattle.std.proofs.lemmas.Bool.Decides.{nat_tests}
 use Rattle.std.proofs.lemmas.List.{map-append, take_more}
 use Rattle.std.proofs.lemmas.List.Folds.{list_all_at, list_all-append, list_all-map, list_any-append}
 use Rattle.std.specs.List.{list_all, list_any}
 use Rattle.regex_hir.specs.Re.{Re}
 use Rattle.regex_syntax.specs.Captures.{SameCaptures}
-use Rattle.grep_regex.specs.AbsentBytes.{are_plain, is_plain}
+use Rattle.grep_regex.specs.AbsentBytes.{are_literal, is_plain}
 use Rattle.grep_regex.specs.Alike.{AreAlike}
 use Rattle.grep_regex.specs.Clear.{is_among}
 use Rattle.grep_regex.specs.declared.options.Options.{Options}
@@ -40,23 +40,9 @@ module _ (p : ℕ → Bool) (b other : ℕ) where
 
 -- ---- the texts of patterns
 
-ends-false : (a b c : Bool) → (a && (b && (c && false))) ≡ false
-ends-false false b c = refl
-ends-false true false c = refl
-ends-false true true false = refl
-ends-false true true true = refl
-
 pub unplain : (o : Options) (patterns : List (List ℕ)) → list_all (is_plain o) patterns ≡ false
-    → are_plain o patterns ≡ false
-unplain o patterns fails = rw fails
-    (ends-false (not (is_some o.line_terminator)) (not o.case_insensitive) (not o.whole_line))
-
-pub exact-texts : (o : Options)
-    → (not (is_some o.line_terminator) && (not o.case_insensitive && not o.whole_line)) ≡ true
-    → o.case_insensitive ≡ false
-exact-texts o texts =
-    let both = and_parts (not (is_some o.line_terminator)) (not o.case_insensitive && not o.whole_line) texts in
-    not-true _ (and_parts (not o.case_insensitive) (not o.whole_line) both.1).0
+    → are_literal o patterns ≡ false
+unplain o patterns fails = and_right (not o.case_insensitive) (list_all (is_plain o) patterns) fails
 
 swap-not : (a e s : Bool) → (not e && (s && not a)) ≡ (s && not (a || (e || false)))
 swap-not true true true = refl

@@ -2,7 +2,8 @@
 use Rattle.std.proofs.Common.{◌≡◌, ◌⊎◌, ℕ, zero, suc, ◌+◌, ◌-◌, ◌<◌, ◌≤◌, ◌&&◌, Bool, true, false, not, List, [], ◌∷◌}
 use Rattle.std.proofs.Common.{◌++◌, length, map, get_or, take, Option, None, Some, Box, Global, Vec, refl, sym, ap, ◌∙◌}
 use Rattle.std.proofs.Common.{subst, inl, inr, ⊎_elim, arith}
-use Rattle.std.proofs.lemmas.Bool.{true≢false, and_from, or_cases, or_parts, eqb-true, true_from_ne_false, not_from_false}
+use Rattle.std.proofs.lemmas.Bool.{true≢false, and_from, or_cases, or_parts, eqb-true, true_from_ne_false}
+use Rattle.std.proofs.lemmas.Bool.{not_from_false}
 use Rattle.std.proofs.lemmas.List.{take_more, map-append}
 use Rattle.std.specs.List.{list_any}
 use Rattle.std.specs.Option.{option_eq, is_some, MatchOption}
@@ -137,7 +138,8 @@ module _ (bytes : List ℕ) (byte : ℕ) where
   to-repeat zero None greedy a some h = to-optional greedy (plus greedy a) h
   to-repeat (suc n) None greedy a some h = to-copies n a (plus greedy a) h
   to-repeat zero (Some zero) greedy a some h = absurd (some refl refl)
-  to-repeat zero (Some (suc n)) greedy a some h = simp unary_clauses (to-optional greedy (cat a (up_to greedy n a)) (inl h))
+  to-repeat zero (Some (suc n)) greedy a some h =
+      simp unary_clauses (to-optional greedy (cat a (up_to greedy n a)) (inl h))
   to-repeat (suc n) (Some most) greedy a some h = inl h
 
   -- ---- lists of patterns
@@ -178,7 +180,8 @@ module _ (bytes : List ℕ) (h : Hir) where
       → HasNone bytes (meaning h)
   none-Literal a is none = rw (is, meaning-Literal a) (literal-none bytes a.items none)
 
-  module _ (least : ℕ) (most : Option ℕ) (greedy : Bool) (a : Box Hir Global) (is : h ≡ Repetition least most greedy a) where
+  module _ (least : ℕ) (most : Option ℕ) (greedy : Bool) (a : Box Hir Global)
+      (is : h ≡ Repetition least most greedy a) where
     pub none-Repetition : HasNone bytes (meaning a.value) → HasNone bytes (meaning h)
     none-Repetition none = rw (is, meaning-Repetition least most greedy a)
         (none-along bytes (meaning a.value) (repeat least most greedy (meaning a.value))

@@ -1,9 +1,13 @@
 -- The errors of patterns.
-use Rattle.std.proofs.Common.{◌≡◌, ◌≢◌, ℕ, ◌+◌, ◌<◌, ◌≤◌, ◌++◌, ◌∷◌, List, [], length, map, get_or, slice_get, Some, sym, ap, ap₂}
-use Rattle.std.proofs.Common.{Option, None, IsSomeAnd, All, take, max, chars, false, refl, ⊎_elim}
+use Rattle.std.proofs.Common.{◌≡◌, ◌≢◌, ℕ, ◌+◌, ◌<◌, ◌≤◌, ◌++◌, ◌∷◌, List, [], length, map, get_or, slice_get}
+use Rattle.std.proofs.Common.{Some, sym, ap, ap₂}
+use Rattle.std.proofs.Common.{Option, None, IsSomeAnd, All, take, max, chars, Bool, true, false, refl, ⊎_elim}
 use Rattle.std.proofs.Common.{◌∙◌, subst, Bor, arith}
 use Rattle.std.proofs.lemmas.List.{get_or-map, length-map, map-append, take-map, take_more}
 use Rattle.std.proofs.lemmas.List.Elements.{All-append}
+use Rattle.std.proofs.lemmas.List.Folds.{list_any_at}
+use Rattle.std.proofs.Math.Seq.{take-length}
+use Rattle.std.specs.List.{list_any}
 use Rattle.std.specs.Prelude.{IfSome}
 use Rattle.std.proofs.lemmas.Option.{slice_get-get_or}
 use Rattle.std.specs.Str.{IsUtf8, IsCharBoundary}
@@ -20,8 +24,8 @@ use Rattle.regex_syntax.specs.declared.error.Error as parser
 use Rattle.regex_syntax.specs.declared.error.ErrorKind.{ErrorKind}
 use Rattle.regex_syntax.specs.declared.error.ErrorKind.TheVariants.{OutOfMemory}
 use Rattle.grep_regex.specs.Patterns.{config_of, text_of, escape_of, IsPattern, ArePatterns, groups_in, groups_of}
-use Rattle.grep_regex.specs.Patterns.{excluded_bytes, most_groups, written_re}
-use Rattle.grep_regex.specs.Refusals.{IsTextError, IsTextsError, IsOfParser, IsSyntax, IsRefusal, IsStripError}
+use Rattle.grep_regex.specs.Patterns.{most_groups}
+use Rattle.grep_regex.specs.Refusals.{IsTextError, IsTextsError, IsOfParser, IsSyntax}
 use Rattle.grep_regex.specs.declared.error.Error.{Error}
 use Rattle.grep_regex.specs.declared.error.Error.TheVariants.{Syntax, NotAllowed}
 use Rattle.grep_regex.specs.declared.error.Error.TheVariants.{InvalidLineTerminator, TooBig, Memory}
@@ -35,7 +39,8 @@ module _ (config : Config) (text : List ℕ) where
   found = read config (chars text)
 
   is-read : (o : Option (Nested Re × Names)) (most : ℕ) (a : Re) (m : Names)
-      → IsSomeAnd o (λ (re, names). (re.depth ≤ most) × SameCaptures a re.value × (m ≡ names) × (group_count a ≤ length m))
+      → IsSomeAnd o (λ (re, names). (re.depth ≤ most) × SameCaptures a re.value × (m ≡ names)
+      × (group_count a ≤ length m))
       → IsSomeAnd o (λ (re, names). re.depth ≤ most) × (length m ≡ groups_in o)
   is-read None most a m p = absurd p
   is-read (Some it) most a m p = (p.0, ap (λ (l : Names). length l) p.2)
@@ -67,23 +72,39 @@ own-text o pattern other = rw other refl
 
 -- ---- texts, one after another
 
-module _ (o : Options) (patterns : List (Bor (List ℕ))) (i : ℕ) (d : Bor (List ℕ)) (inside : i < length patterns) where
+module _ (patterns : List (Bor (List ℕ))) (i : ℕ) where
   abbrev texts : List (Bor (List ℕ)) → List (List ℕ)
   texts ps = map (λ (p : Bor (List ℕ)). p.now) ps
 
-  texts-more : texts (take (i + 1) patterns) ≡ texts (take i patterns) ++ (get_or patterns i d).now ∷ []
-  texts-more = ap texts (take_more patterns i d inside)
-      ∙ map-append (λ (p : Bor (List ℕ)). p.now) (take i patterns) (get_or patterns i d ∷ [])
+  pub all-texts : (P : List ℕ → Type 0) → i ≡ length patterns → All P (texts (take i patterns)) → All P (texts patterns)
+  all-texts P end = subst (λ ps. All P (texts ps)) (ap (λ n. take n patterns) end ∙ take-length patterns)
 
-  only : (P : List ℕ → Type 0) (x : List ℕ) → P x → All P (x ∷ [])
-  only P x p = λ k other low. let first : k ≡ 0 = omega arith in
-      subst (λ j. P (get_or (x ∷ []) j other)) (sym first) p
+  module _ (d : Bor (List ℕ)) (inside : i < length patterns) where
+    texts-more : texts (take (i + 1) patterns) ≡ texts (take i patterns) ++ (get_or patterns i d).now ∷ []
+    texts-more = ap texts (take_more patterns i d inside)
+        ∙ map-append (λ (p : Bor (List ℕ)). p.now) (take i patterns) (get_or patterns i d ∷ [])
 
-  pub patterns-more : ArePatterns o (texts (take i patterns))
-      → IsPattern (config_of o) (text_of o (get_or patterns i d).now) → ArePatterns o (texts (take (i + 1) patterns))
-  patterns-more front here = subst (ArePatterns o) (sym texts-more)
-      (All-append (λ p. IsPattern (config_of o) (text_of o p)) (texts (take i patterns)) ((get_or patterns i d).now ∷ [])
-      front (only (λ p. IsPattern (config_of o) (text_of o p)) (get_or patterns i d).now here))
+    only : (P : List ℕ → Type 0) (x : List ℕ) → P x → All P (x ∷ [])
+    only P x p = λ k other low. let first : k ≡ 0 = omega arith in
+        subst (λ j. P (get_or (x ∷ []) j other)) (sym first) p
+
+    pub all-texts-more : (P : List ℕ → Type 0) → All P (texts (take i patterns)) → P (get_or patterns i d).now
+        → All P (texts (take (i + 1) patterns))
+    all-texts-more P front here = subst (All P) (sym texts-more)
+        (All-append P (texts (take i patterns)) ((get_or patterns i d).now ∷ []) front
+        (only P (get_or patterns i d).now here))
+
+    pub any-text : (p : List ℕ → Bool) → p (get_or patterns i d).now ≡ true → list_any p (texts patterns) ≡ true
+    any-text p has =
+        let size : i < length (texts patterns) = omega (arith, length-map patterns (λ (p : Bor (List ℕ)). p.now)) in
+        list_any_at p (texts patterns) i [] size
+        (ap p (get_or-map (λ (p : Bor (List ℕ)). p.now) patterns i d [] inside) ∙ has)
+
+module _ (o : Options) (patterns : List (Bor (List ℕ))) (i : ℕ) (d : Bor (List ℕ)) (inside : i < length patterns) where
+  pub patterns-more : ArePatterns o (texts patterns i (take i patterns))
+      → IsPattern (config_of o) (text_of o (get_or patterns i d).now)
+      → ArePatterns o (texts patterns i (take (i + 1) patterns))
+  patterns-more = all-texts-more patterns i d inside (λ p. IsPattern (config_of o) (text_of o p))
 
   most-push : (xs : List (List ℕ)) (x : List ℕ) → most_groups o (xs ++ x ∷ []) ≡ max (most_groups o xs) (groups_of o x)
   most-push [] x = omega arith
@@ -91,11 +112,12 @@ module _ (o : Options) (patterns : List (Bor (List ℕ))) (i : ℕ) (d : Bor (Li
 
   pub groups-more : (hir : Hir) (names : Names) (groups : ℕ)
       → Reads (config_of o) (text_of o (get_or patterns i d).now) hir names
-      → groups ≡ most_groups o (texts (take i patterns))
-      → max groups (length names) ≡ most_groups o (texts (take (i + 1) patterns))
+      → groups ≡ most_groups o (texts patterns i (take i patterns))
+      → max groups (length names) ≡ most_groups o (texts patterns i (take (i + 1) patterns))
   groups-more hir names groups read front =
       ap₂ max front (reads-groups (config_of o) (text_of o (get_or patterns i d).now) hir names read)
-      ∙ (sym (most-push (texts (take i patterns)) (get_or patterns i d).now) ∙ ap (most_groups o) (sym texts-more))
+      ∙ (sym (most-push (texts patterns i (take i patterns)) (get_or patterns i d).now)
+      ∙ ap (most_groups o) (sym (texts-more patterns i d inside)))
 
 -- the error of one of the texts is one of the texts
 pub texts-error : (o : Options) (patterns : List (Bor (List ℕ))) (i : ℕ) (d : Bor (List ℕ)) (error : Error)
@@ -162,14 +184,3 @@ literal-error config index literal text kind (NotAllowed byte) utf8 is refused p
 literal-error config index literal text kind (InvalidLineTerminator byte) utf8 is refused p = absurd p
 literal-error config index literal text kind TooBig utf8 is refused p = absurd p
 literal-error config index literal text kind Memory utf8 is refused p = tt
-
--- the error of taking the bytes of the terminator out of the patterns
-pub strip-refusal : (o : Options) (patterns : List (List ℕ)) → ArePatterns o patterns → (re : Re)
-    → SameCaptures re (written_re o patterns) → (e : Error)
-    → IsStripError (excluded_bytes o.line_terminator) re e → IsRefusal o patterns e
-strip-refusal o patterns read re reads (Syntax index error) p = absurd p
-strip-refusal o patterns read re reads (NotAllowed byte) p =
-    (read, record { re = re; reads = reads; among = p.0; has = p.1 })
-strip-refusal o patterns read re reads (InvalidLineTerminator byte) p = absurd p
-strip-refusal o patterns read re reads TooBig p = absurd p
-strip-refusal o patterns read re reads Memory p = tt

@@ -123,10 +123,10 @@ pub written-alike : (o : Options) (patterns : List (List ℕ)) (hir whole : Re)
 written-alike o patterns hir whole read is = alike_of_eq is also framed-alike o read
 
 -- and without the bytes it finds what they say
-pub finds-as : (o : Options) (patterns : List (List ℕ)) (hir whole stripped : Re) →
-    SameCaptures hir (alt_all (map (read_re o) patterns)) → whole ≡ framed o hir →
-    IsStripped (excluded_bytes o.line_terminator) whole stripped → FindsAs o patterns stripped
-finds-as o patterns hir whole stripped read is thin = record {
+pub finds-as : (o : Options) (patterns : List (List ℕ)) (whole stripped : Re)
+    → SameCaptures whole (written_re o patterns)
+    → IsStripped (excluded_bytes o.line_terminator) whole stripped → FindsAs o patterns stripped
+finds-as o patterns whole stripped reads thin = record {
   at = λ haystack start small from. find-stripped (excluded_bytes o.line_terminator) whole stripped
-      (written_re o patterns) thin (written-alike o patterns hir whole read is) haystack start small from;
+      (written_re o patterns) thin reads haystack start small from;
 }

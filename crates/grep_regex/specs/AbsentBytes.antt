@@ -1,6 +1,6 @@
 -- The bytes that a matcher knows no match to hold.
-use Rattle.std.specs.Prelude.{ℕ, Bool, false, ◌&&◌, ◌||◌, not, ◌==◌, List, Option, None, Some, is_some}
-use Rattle.std.specs.Prelude.{chars}
+use Rattle.std.specs.Prelude.{ℕ, Bool, false, ◌&&◌, ◌||◌, not, ◌==◌, List, Option, None, Some}
+use Rattle.std.specs.Prelude.{is_some, chars}
 use Rattle.std.specs.List.{list_all, list_any}
 use Rattle.regex_syntax.specs.Verdict.{is_meta}
 use Rattle.grep_matcher.specs.declared.line_terminator.LineTerminator.{LineTerminator}
@@ -15,10 +15,14 @@ abbrev pub is_plain : Options → List ℕ → Bool
 is_plain o pattern =
     o.fixed_strings || (not o.ignore_whitespace && not (list_any is_meta (chars pattern)))
 
+-- each pattern matches its own text alone
+abbrev pub are_literal : Options → List (List ℕ) → Bool
+are_literal o patterns = not o.case_insensitive && list_all (is_plain o) patterns
+
 -- no line terminator is declared, and each match is one of the patterns as it is written
 abbrev pub are_plain : Options → List (List ℕ) → Bool
-are_plain o patterns = not (is_some o.line_terminator)
-    && (not o.case_insensitive && (not o.whole_line && list_all (is_plain o) patterns))
+are_plain o patterns =
+    not (is_some o.line_terminator) && (not o.whole_line && are_literal o patterns)
 
 -- where the patterns are such: the ASCII bytes that aren't in words and that none of them has
 abbrev pub is_unwritten : Options → List (List ℕ) → ℕ → Bool

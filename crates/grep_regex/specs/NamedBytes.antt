@@ -1,8 +1,10 @@
 -- Patterns that have a byte of the line terminator in a literal, or in a class of such bytes alone.
-use Rattle.std.specs.Prelude.{◌≡◌, ◌⊎◌, ℕ, ◌≤◌, true, List}
+use Rattle.std.specs.Prelude.{◌≡◌, ◌⊎◌, ℕ, ◌≤◌, true, false, List, All}
+use Rattle.std.specs.List.{list_any}
 use Rattle.regex_class.specs.Ranges.{in_ranges}
 use Rattle.regex_hir.specs.Re.{Re, empty, literal, byte_in, char_in, look, cat, alt, group, plus}
 use Rattle.regex_syntax.specs.Captures.{SameCaptures}
+use Rattle.grep_regex.specs.AbsentBytes.{are_literal}
 use Rattle.grep_regex.specs.Clear.{is_among}
 use Rattle.grep_regex.specs.Patterns.{excluded_bytes, written_re}
 use Rattle.grep_regex.specs.declared.options.Options.{Options}
@@ -12,7 +14,7 @@ pub record IsLost (bytes : List ℕ) (byte : ℕ) (ranges : List (ℕ × ℕ)) :
   pub member : in_ranges ranges byte ≡ true
   pub only : (x : ℕ) → x ≤ 0x10_FFFF → in_ranges ranges x ≡ true → is_among bytes x ≡ true
 
--- a literal of the pattern has the byte, or a class of it has the byte and no member but these bytes
+-- a literal of the pattern has the byte, or a class has the byte and no member but these bytes
 abbrev pub HasByte : List ℕ → ℕ → Re → Type 0
 HasByte bytes byte empty = ⊥
 HasByte bytes byte (literal bs) = is_among bs byte ≡ true
@@ -28,16 +30,28 @@ HasByte bytes byte (plus greedy a) = HasByte bytes byte a
 abbrev pub HasNone : List ℕ → Re → Type 0
 HasNone bytes re = (byte : ℕ) → is_among bytes byte ≡ true → HasByte bytes byte re → ⊥
 
--- the pattern that is compiled has the byte of the line terminator. It matches as the texts are read,
--- which is all that the contract of the parser says of it.
-pub record HasTerminator (o : Options) (patterns : List (List ℕ)) (byte : ℕ) : Type 0 where
+-- what is compiled matches as the texts are read, and has the byte; which pattern that is, the
+-- contract of the parser doesn't say
+pub record IsReadWith (o : Options) (patterns : List (List ℕ)) (byte : ℕ) : Type 0 where
   pub re : Re
   pub reads : SameCaptures re (written_re o patterns)
-  pub among : is_among (excluded_bytes o.line_terminator) byte ≡ true
   pub has : HasByte (excluded_bytes o.line_terminator) byte re
 
--- it has none
-pub record HasNoTerminator (o : Options) (patterns : List (List ℕ)) : Type 0 where
+-- and has none of the line terminator
+pub record IsReadWithout (o : Options) (patterns : List (List ℕ)) : Type 0 where
   pub re : Re
   pub reads : SameCaptures re (written_re o patterns)
   pub none : HasNone (excluded_bytes o.line_terminator) re
+
+-- a byte of the line terminator is in the patterns: in one of the texts, if each matches its own
+-- text alone, or else in what is compiled
+pub record HasTerminator (o : Options) (patterns : List (List ℕ)) (byte : ℕ) : Type 0 where
+  pub among : is_among (excluded_bytes o.line_terminator) byte ≡ true
+  pub text : are_literal o patterns ≡ true → list_any (λ p. is_among p byte) patterns ≡ true
+  pub read : are_literal o patterns ≡ false → IsReadWith o patterns byte
+
+-- none is
+pub record HasNoTerminator (o : Options) (patterns : List (List ℕ)) : Type 0 where
+  pub text : are_literal o patterns ≡ true →
+      All (λ p. list_any (is_among (excluded_bytes o.line_terminator)) p ≡ false) patterns
+  pub read : are_literal o patterns ≡ false → IsReadWithout o patterns

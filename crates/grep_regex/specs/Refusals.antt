@@ -59,12 +59,18 @@ IsTextsError o patterns (Syntax index error) =
 IsTextsError o patterns Memory = Unit {0}
 IsTextsError o patterns _ = ⊥
 
--- the error of taking bytes out of a pattern: a literal has one of them, a class has it and none but
--- them, or there is no memory
+-- the error of taking bytes out of a pattern: a literal has one of them, or a class has it and none
+-- but them, or there is no memory
 abbrev pub IsStripError : List ℕ → Re → Error → Type 0
 IsStripError bytes re (NotAllowed byte) = (is_among bytes byte ≡ true) × HasByte bytes byte re
 IsStripError bytes re Memory = Unit {0}
 IsStripError bytes re _ = ⊥
+
+-- the error of patterns that have a byte of the line terminator, or there is no memory
+abbrev pub IsAllowedError : Options → List (List ℕ) → Error → Type 0
+IsAllowedError o patterns (NotAllowed byte) = HasTerminator o patterns byte
+IsAllowedError o patterns Memory = Unit {0}
+IsAllowedError o patterns _ = ⊥
 
 -- the error of a terminator that isn't ASCII
 abbrev pub IsTerminatorError : Option LineTerminator → Error → Type 0

@@ -5,8 +5,8 @@ use Rattle.regex_nfa.specs.Sizes.{table_bytes}
 use Rattle.grep_regex.specs.Patterns.{most_groups}
 use Rattle.grep_regex.specs.declared.options.Options.{Options}
 
--- the tables take no more bytes than the limit and those of the two states with which they begin, and
--- there are two slots for each group, as many as the patterns have
+-- the tables take no more bytes than the limit, with 24 for the two states with which they begin; and
+-- there are two slots for each group, of which there are as many as one of the patterns has
 pub record IsSized (o : Options) (patterns : List (List ℕ)) (program : Program) : Type 0 where
   pub small : table_bytes program.dfa.nfa ≤ o.size_limit + 24
   pub slots : program.dfa.nfa.slot_count ≡ 2 * min (most_groups o patterns) (2 ^ 32 - 1)

@@ -1,12 +1,10 @@
 //! Which bytes a matcher knows no match to hold.
-ghost use Rattle.std.specs.Prelude.{◌≡◌, ◌&&◌, ◌==◌, ℕ, chars, false, is_some, map, not, IsTrue};
+ghost use Rattle.std.specs.Prelude.{◌≡◌, ◌&&◌, ◌==◌, ℕ, map, not, IsTrue};
 ghost use Rattle.std.specs.List.{list_any};
 ghost use Rattle.regex_hir.specs.Re.{literal};
-ghost use Rattle.regex_syntax.specs.Captures.{SameCaptures};
-ghost use Rattle.regex_syntax.specs.Verdict.{is_meta};
 ghost use Rattle.grep_matcher.specs.ByteSets.{holds};
 ghost use Rattle.grep_matcher.specs.FindResults.{holds_if_some};
-ghost use Rattle.grep_regex.specs.AbsentBytes.{is_plain, are_plain, is_absent, is_nul};
+ghost use Rattle.grep_regex.specs.AbsentBytes.{are_plain, is_absent, is_nul};
 ghost use Rattle.grep_regex.specs.Alike.{AreAlike};
 ghost use Rattle.grep_regex.specs.Clear.{is_among};
 ghost use Rattle.grep_regex.specs.Locality.{is_separator};
@@ -14,8 +12,8 @@ ghost use Rattle.grep_regex.specs.Patterns.{read_re, AvoidsAbsent};
 
 use crate::locality::is_separator;
 use crate::options::Options;
+use crate::plain::are_literal;
 use grep_matcher::{ByteSet, LineTerminator};
-use regex_syntax::is_meta_character;
 
 // The bytes that a matcher of the patterns knows no match to hold, if it knows of any.
 pub(crate) fn absent_bytes(options: &Options, patterns: &[&str]) -> Option<ByteSet>
@@ -58,40 +56,7 @@ fn are_plain(options: &Options, patterns: &[&str]) -> bool
         AreAlike (map (read_re options.now) (map (λ p. p.now) patterns.now))
         (map literal (map (λ p. p.now) patterns.now)) }
 {
-    if !leave_texts(options) {
-        return false;
-    }
-    for i in 0..patterns.len() {
-        if !is_plain(options, patterns[i]) {
-            return false;
-        }
-    }
-    true
-}
-
-// Whether no line terminator is declared, and no option makes a pattern that is read as its own
-// text match anything else.
-fn leave_texts(options: &Options) -> bool
-    ensures { result ≡ (not (is_some options.now.line_terminator)
-        && (not options.now.case_insensitive && not options.now.whole_line)) }
-{
-    options.line_terminator.is_none() && !options.case_insensitive && !options.whole_line
-}
-
-// Whether the pattern is read as its own text.
-fn is_plain(options: &Options, pattern: &str) -> bool
-    ensures value { result ≡ is_plain options.now pattern.now }
-    ensures read { IsTrue result → options.now.case_insensitive ≡ false →
-        SameCaptures (read_re options.now pattern.now) (literal pattern.now) }
-{
-    options.fixed_strings || (!options.ignore_whitespace && !has_meta_character(pattern))
-}
-
-// Whether a character of the pattern has a meaning of its own.
-fn has_meta_character(pattern: &str) -> bool
-    ensures { result ≡ list_any is_meta (chars pattern.now) }
-{
-    pattern.chars().any(|c| is_meta_character(c))
+    options.line_terminator.is_none() && !options.whole_line && are_literal(options, patterns)
 }
 
 // The ASCII bytes that aren't in words and that none of the patterns has.

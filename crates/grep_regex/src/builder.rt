@@ -116,8 +116,8 @@ impl RegexMatcherBuilder {
             (λ regex. regex_options regex ≡ record self.now { fixed_strings = true }) }
         ensures patterns { IfOk result
             (λ regex. regex_patterns regex ≡ map (λ p. p.now) literals.now) }
-        ensures accepted { IfOk result (λ _.
-            AreAccepted (record self.now { fixed_strings = true }) (map (λ p. p.now) literals.now)) }
+        ensures accepted { IfOk result (λ _. AreAccepted (record self.now { fixed_strings = true })
+            (map (λ p. p.now) literals.now)) }
         ensures sized { IfOk result (λ regex. IsSized (record self.now { fixed_strings = true })
             (map (λ p. p.now) literals.now) (regex_program regex)) }
         ensures error { IfErr result

@@ -15,6 +15,7 @@ mod matcher;
 mod named;
 mod options;
 mod parse;
+mod plain;
 mod regex;
 mod strip;
 mod texts;

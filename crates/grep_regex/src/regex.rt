@@ -19,7 +19,7 @@ use crate::literal::literal_of;
 use crate::locality::is_by_line;
 use crate::options::Options;
 use crate::parse::{Choice, read_choice};
-use crate::strip::without_bytes;
+use crate::strip::without_terminator;
 use crate::texts::Texts;
 use grep_matcher::{ByteSet, LineTerminator};
 use regex_hir::Hir;
@@ -218,7 +218,7 @@ fn program_of(alloc: Global, options: &Options, patterns: &[&str]) -> Result<Pro
     check_terminator(options.line_terminator)?;
     let Choice { hir, groups } = read_choice(alloc, options, patterns)?;
     let whole = frame(alloc, options, hir)?;
-    let stripped = without_bytes(alloc, &whole, excluded_bytes(&options.line_terminator))?;
+    let stripped = without_terminator(alloc, options, patterns, whole)?;
     match Program::new(alloc, stripped, groups, options.size_limit) {
         Ok(program) => Ok(program),
         Err(error) => Err(Error::of_compiler(error)),
@@ -257,7 +257,7 @@ fn avoids_carriage_return(terminator: Option<LineTerminator>, absent: &Option<By
 }
 
 // The bytes of the line terminator.
-fn excluded_bytes(terminator: &Option<LineTerminator>) -> &[u8]
+pub(crate) fn excluded_bytes(terminator: &Option<LineTerminator>) -> &[u8]
     ensures { result.now ≡ excluded_bytes terminator.now }
 {
     match terminator {

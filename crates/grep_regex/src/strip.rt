@@ -1,25 +1,72 @@
-//! Taking bytes out of a pattern.
-ghost use Rattle.std.specs.Prelude.{◌≡◌, IfOk, IfErr, IsTrue, MatchOption, Some, ℕ, false, map, true};
+//! Taking the bytes of the line terminator out of a pattern.
+ghost use Rattle.std.specs.Prelude.{◌≡◌, All, IfOk, IfErr, IsTrue, MatchOption, false, map, true};
 ghost use Rattle.std.specs.List.{list_any};
 ghost use Rattle.regex_class.specs.Ranges.{in_ranges};
 ghost use Rattle.regex_hir.specs.Meaning.{meaning, cat_all};
 ghost use Rattle.regex_hir.specs.Re.{byte_in, empty, literal};
-ghost use Rattle.grep_regex.specs.NamedBytes.{HasNone};
+ghost use Rattle.regex_syntax.specs.Captures.{SameCaptures};
+ghost use Rattle.grep_regex.specs.NamedBytes.{HasNone, HasNoTerminator};
 ghost use Rattle.grep_regex.specs.Repetitions.{Repeats};
 ghost use Rattle.grep_regex.specs.Clear.{is_among};
-ghost use Rattle.grep_regex.specs.Refusals.{IsStripError};
+ghost use Rattle.grep_regex.specs.Patterns.{excluded_bytes, written_re, FindsAs};
+ghost use Rattle.grep_regex.specs.Refusals.{IsAllowedError, IsStripError};
 ghost use Rattle.grep_regex.specs.Stripped.{IsStripped, AreStripped, AreAscii};
 ghost use Rattle.grep_regex.specs.Stripped.{IsClassOf, IsThinned};
 
 use crate::error::Error;
+use crate::options::Options;
+use crate::plain::are_literal;
+use crate::regex::excluded_bytes;
 use regex_class::{Class, ClassRange};
 use regex_hir::Hir;
 use std::alloc::{AllocError, Global};
 
+// The pattern that finds what the texts say: from what they were read as the bytes of the line
+// terminator are taken. Texts that match themselves alone are refused if one has such a byte.
+pub(crate) fn without_terminator(
+    alloc: Global,
+    options: &Options,
+    patterns: &[&str],
+    hir: Hir,
+) -> Result<Hir, Error>
+    requires reads { SameCaptures (meaning hir)
+        (written_re options.now (map (λ p. p.now) patterns.now)) }
+    requires ascii { AreAscii (excluded_bytes options.now.line_terminator) }
+    ensures ok { IfOk result (λ new.
+        FindsAs options.now (map (λ p. p.now) patterns.now) (meaning new)) }
+    ensures none { IfOk result
+        (λ _. HasNoTerminator options.now (map (λ p. p.now) patterns.now)) }
+    ensures error { IfErr result (IsAllowedError options.now (map (λ p. p.now) patterns.now)) }
+{
+    let bytes = excluded_bytes(&options.line_terminator);
+    if !are_literal(options, patterns) {
+        return without_bytes(alloc, &hir, bytes);
+    }
+    match first_in_texts(patterns, bytes) {
+        Some(byte) => Err(Error::NotAllowed(byte)),
+        None => Ok(hir),
+    }
+}
+
+// The first byte of the texts that is one of these.
+fn first_in_texts(patterns: &[&str], bytes: &[u8]) -> Option<u8>
+    ensures { MatchOption result
+        (All (λ p. list_any (is_among bytes.now) p ≡ false) (map (λ p. p.now) patterns.now))
+        (λ byte. (is_among bytes.now byte ≡ true)
+        × (list_any (λ p. is_among p byte) (map (λ p. p.now) patterns.now) ≡ true)) }
+{
+    for i in 0..patterns.len() {
+        if let Some(byte) = first_among(patterns[i].as_bytes(), bytes) {
+            return Some(byte);
+        }
+    }
+    None
+}
+
 // The pattern whose matches are those of the given one that hold none of the bytes: they are taken
 // out of its classes. A literal that has one of them, and a class that has no other member, are
 // refused.
-pub(crate) fn without_bytes(alloc: Global, hir: &Hir, bytes: &[u8]) -> Result<Hir, Error>
+fn without_bytes(alloc: Global, hir: &Hir, bytes: &[u8]) -> Result<Hir, Error>
     requires { AreAscii bytes.now }
     ensures ok { IfOk result (λ new. IsStripped bytes.now (meaning hir.now) (meaning new)) }
     ensures none { IfOk result (λ _. HasNone bytes.now (meaning hir.now)) }
@@ -112,12 +159,23 @@ fn strip_literal(alloc: Global, text: &[u8], bytes: &[u8]) -> Result<Vec<u8>, Er
     ensures none { IfOk result (λ copy. list_any (is_among bytes.now) text.now ≡ false) }
     ensures error { IfErr result (IsStripError bytes.now (literal text.now)) }
 {
+    match first_among(text, bytes) {
+        Some(byte) => Err(Error::NotAllowed(byte)),
+        None => Ok(Vec::from_slice(alloc, text)?),
+    }
+}
+
+// The first byte of a text that is one of these.
+fn first_among(text: &[u8], bytes: &[u8]) -> Option<u8>
+    ensures { MatchOption result (list_any (is_among bytes.now) text.now ≡ false)
+        (λ byte. (is_among bytes.now byte ≡ true) × (is_among text.now byte ≡ true)) }
+{
     for byte in text {
         if is_one_of(*byte, bytes) {
-            return Err(Error::NotAllowed(*byte));
+            return Some(*byte);
         }
     }
-    Ok(Vec::from_slice(alloc, text)?)
+    None
 }
 
 // Whether a byte is one of these.

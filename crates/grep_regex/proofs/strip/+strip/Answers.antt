@@ -72,7 +72,8 @@ strip-returns-in_ok-strip_literal-in-Literal-clause-none t c = none-Literal c.ar
 pub strip-returns-in_ok-new-in-Repetition-clause-none : goal.strip-returns-in_ok-new-in-Repetition-clause-none
 strip-returns-in_ok-new-in-Repetition-clause-none t c = none-Repetition c.args.bytes.now c.args.hir.now
     c.in-Repetition.min c.in-Repetition.max c.in-Repetition.greedy c.in-Repetition.sub c.in-Repetition.is
-    (subst (λ x. HasNone c.args.bytes.now (meaning x)) c.deref-in-Repetition.ensures c.in_ok-strip-in-Repetition.ensures.none)
+    (subst (λ x. HasNone c.args.bytes.now (meaning x)) c.deref-in-Repetition.ensures
+    c.in_ok-strip-in-Repetition.ensures.none)
 
 pub strip-returns-in_ok-strip_all-in-Alternation-clause-none :
     goal.strip-returns-in_ok-strip_all-in-Alternation-clause-none

@@ -11,7 +11,8 @@ returns-in-Some-clause-error c =
       c.in-Some.ensures.0,
       class-lost c.args.bytes.now members left c.args.class.now.ranges.items c.requires
           c.in_ok-left.ensures c.in-Some.byte
-          (class-gone left c.bounds.result c.bounds.ensures (sym c.is_some.ensures ∙ c.if-is_some.false)) c.in-Some.ensures.1,
+          (class-gone left c.bounds.result c.bounds.ensures (sym c.is_some.ensures ∙ c.if-is_some.false))
+          c.in-Some.ensures.1,
     )
 
 pub returns-then-is_some-clause-none : goal.returns-then-is_some-clause-none

@@ -1,6 +1,6 @@
 use Rattle.std.proofs.Common.{◌∙◌, ap, sym, not, refl}
 use Rattle.grep_regex.proofs.PlainLemmas.{reads-plain}
-use Rattle.grep_regex.proofs.absent.is_plain.Goals as goal
+use Rattle.grep_regex.proofs.plain.is_plain.Goals as goal
 
 pub returns-then-options-clause-read : goal.returns-then-options-clause-read
 returns-then-options-clause-read c = λ fixed exact.

@@ -4,7 +4,7 @@ use Rattle.regex_hir.specs.Re.{literal}
 use Rattle.grep_regex.specs.AbsentBytes.{is_plain}
 use Rattle.grep_regex.specs.Alike.{AreAlike}
 use Rattle.grep_regex.specs.Patterns.{read_re}
-use Rattle.grep_regex.proofs.absent.are_plain.Given as goal
+use Rattle.grep_regex.proofs.plain.are_literal.Given as goal
 
 abbrev pub invariant-loop-i : goal.invariant-loop-i
 invariant-loop-i l = record {
