@@ -58,8 +58,16 @@ fn try_faults<W: io::Write>(alloc: Global, output: &mut W) -> io::Result<()> {
 
 // Ends as `lgrep` does if its arguments are none.
 fn end_in_usage(rt: &HostRuntime) -> io::Result<ExitCode> {
-    let arguments = writers::arguments(rt.alloc(), &["--no-such-option", "a"])?;
+    let arguments = Ok(writers::arguments(rt.alloc(), &["--no-such-option", "a"])?);
     let mut input = b"".as_slice();
     let mut output = Writing::new(Vec::new(rt.alloc()));
-    Ok(run_arguments(rt, rt.alloc(), &arguments, &mut input, &mut output))
+    let mut messages = Writing::new(rt.stderr());
+    Ok(run_arguments(
+        rt,
+        rt.alloc(),
+        &arguments,
+        &mut input,
+        &mut output,
+        &mut messages,
+    ))
 }

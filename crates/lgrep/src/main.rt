@@ -2,27 +2,25 @@
 #![tactic(auto)]
 
 use grep_searcher::Reading;
-use lgrep_cli::{FAILED, Writing, run_arguments};
+use lgrep_cli::{Writing, run_arguments};
 use std::env::Env;
 use std::process::ExitCode;
 use std::{env, io};
 
+// Does what the arguments ask for, with standard input, standard output and standard error.
 fn main(rt: HostRuntime) -> ExitCode {
-    match run(&rt) {
-        Ok(code) => code,
-        Err(_) => {
-            let _ = rt.eprintln(FAILED);
-            ExitCode::from(2)
-        }
-    }
-}
-
-// Does what the arguments ask for, with standard input and standard output.
-fn run(rt: &HostRuntime) -> io::Result<ExitCode> {
-    let arguments = arguments(rt)?;
+    let arguments = arguments(&rt);
     let mut input = Reading::new(rt.stdin());
     let mut writer = Writing::new(rt.stdout());
-    Ok(run_arguments(rt, rt.alloc(), &arguments, &mut input, &mut writer))
+    let mut messages = Writing::new(rt.stderr());
+    run_arguments(
+        &rt,
+        rt.alloc(),
+        &arguments,
+        &mut input,
+        &mut writer,
+        &mut messages,
+    )
 }
 
 // The arguments after the program's name.

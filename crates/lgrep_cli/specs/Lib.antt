@@ -1,4 +1,5 @@
 pub mod CommandLine
+pub mod Messages
 pub mod Numerals
 pub mod OptionSettings
 pub mod PendingTexts

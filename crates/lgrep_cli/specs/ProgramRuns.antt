@@ -16,6 +16,7 @@ use Rattle.grep_searcher.specs.declared.SearchError.TheVariants.{Io}
 use Rattle.grep_searcher.specs.Plans.{search_plan, Planned, SearcherState}
 use Rattle.grep_searcher.specs.Searches.{IsInput, Taken, IsUnread, searched_bytes}
 use Rattle.lgrep_cli.specs.CommandLine.{AskFor, AskForNothing, AskForSomething}
+use Rattle.lgrep_cli.specs.Messages.{Tells, TellsOf, failed_line, usage_line}
 use Rattle.lgrep_cli.specs.OptionSettings.{searched_settings, settings_of_options}
 use Rattle.lgrep_cli.specs.PrintedTexts.{count_text, has_match, text}
 use Rattle.grep_output.specs.Outputs.{OutputCall, flushes, Writes}
@@ -187,15 +188,37 @@ module _ {F R W : Type 0} (opens : List ℕ → Result F Error → Type 0)
       result writer'
       × (input' ≡ input)
 
-  -- what the program does, by its exit status
-  pub data IsProgramEnd (arguments : List (String Global)) (input : R) (writer : W) : ℕ → R → W
-      → Type 0 where
-    -- the arguments ask for nothing, and neither the input nor the writer had a call
-    of_usage : AskForNothing arguments → IsProgramEnd arguments input writer 2 input writer
+module _ {F R W E : Type 0} (opens : List ℕ → Result F Error → Type 0)
+    (file_remaining : Reader F → Option (List ℕ))
+    (file_step : Reader F → ReadResult → Reader F → Type 0) (remaining : R → Option (List ℕ))
+    (read_step : R → ReadResult → R → Type 0) (write_step : W → OutputCall → W → Type 0)
+    (contents : W → Option (List ℕ)) (message_step : E → OutputCall → E → Type 0) where
+  -- what the program does with its arguments, by its exit status
+  pub data IsProgramEnd (arguments : List (String Global)) (input : R) (writer : W) (messages : E)
+      : ℕ → R → W → E → Type 0 where
+    -- the arguments ask for nothing, which it says, and neither the input nor the writer had a call
+    of_usage : {messages' : E} → AskForNothing arguments
+        → Tells message_step usage_line messages messages'
+        → IsProgramEnd arguments input writer messages 2 input writer messages'
     -- they ask for options, but there was no memory to keep them: neither had a call either
-    of_memory : AskForSomething arguments → IsProgramEnd arguments input writer 2 input writer
-    -- the status is that of a run by the options that the arguments ask for
-    of_run : {input' : R} {writer' : W} (options : Options) (result : RunResult)
+    of_memory : {messages' : E} → AskForSomething arguments
+        → Tells message_step failed_line messages messages'
+        → IsProgramEnd arguments input writer messages 2 input writer messages'
+    -- the status is that of a run by the options that the arguments ask for, and if it failed, the
+    -- program says so
+    of_run : {input' : R} {writer' : W} {messages' : E} (options : Options) (result : RunResult)
         → AskFor arguments options
-        → IsRunAt options.path options input writer result input' writer'
-        → IsProgramEnd arguments input writer (status_of result) input' writer'
+        → IsRunAt opens file_remaining file_step remaining read_step write_step contents
+        options.path options input writer result input' writer'
+        → TellsOf message_step result messages messages'
+        → IsProgramEnd arguments input writer messages (status_of result) input' writer' messages'
+
+-- what the program does if its arguments can't be read: it says that it failed, and neither the
+-- input nor the writer had a call
+pub record IsStopped {R W E : Type 0} (message_step : E → OutputCall → E → Type 0) (input : R)
+    (writer : W) (messages : E) (status : ℕ) (input' : R) (writer' : W) (messages' : E) : Type 0
+  where
+    pub is_error : status ≡ 2
+    pub same_input : input' ≡ input
+    pub same_writer : writer' ≡ writer
+    pub told : Tells message_step failed_line messages messages'

@@ -8,6 +8,7 @@
 
 mod exit;
 mod lines;
+mod messages;
 mod numeral;
 mod open;
 mod options;
@@ -18,7 +19,8 @@ mod search;
 
 pub use exit::status;
 pub use grep_output::{LastCall, Output, Writing};
+pub use messages::FAILED;
 pub use open::Open;
 pub use options::{Options, OptionsFault, USAGE};
-pub use program::{FAILED, run_arguments};
+pub use program::run_arguments;
 pub use search::{run, run_options, run_path};

@@ -12,9 +12,9 @@ ghost use Rattle.lgrep_cli.specs.Numerals.{is_numeral, number_of};
 use std::alloc::Global;
 use thiserror::Error;
 
-/// How the program is called.
+/// How the program is called: the line on standard error after a usage error.
 pub const USAGE: &str =
-    "usage: lgrep [-v] [-A N] [-B N] [-m N] [-U] [--passthru] [-c] LITERAL [PATH]";
+    "usage: lgrep [-v] [-A N] [-B N] [-m N] [-U] [--passthru] [-c] LITERAL [PATH]\n";
 
 /// What a search is to do.
 #[derive(Debug, Drop)]

@@ -1,54 +1,61 @@
 //! The program, by its arguments.
-ghost use Rattle.std.specs.Prelude.{◌≡◌};
+ghost use Rattle.std.specs.Prelude.{◌≡◌, MatchResult};
 ghost use Rattle.std.specs.Process.{exit_status};
-ghost use Rattle.lgrep_cli.specs.ProgramRuns.{IsProgramEnd};
+ghost use Rattle.lgrep_cli.specs.Messages.{Tells};
+ghost use Rattle.lgrep_cli.specs.ProgramRuns.{IsProgramEnd, IsStopped};
 
 use crate::exit::status;
+use crate::messages::{FAILED, tell, tell_of};
 use crate::open::Open;
 use crate::options::{Options, OptionsFault, USAGE};
 use crate::search::run_options;
 use grep_output::Output;
 use grep_searcher::{Reading, Source};
 use std::alloc::Global;
+use std::io;
 use std::process::ExitCode;
 
-/// The message on standard error of any failure but a usage error.
-pub const FAILED: &str = "lgrep: search failed";
-
 /// Does what the arguments ask for, which are without the program's name: searches the file at
-/// their path or, if there is none, what `input` gives, and writes the text of what is found. After
-/// a usage error `USAGE` goes to standard error, and if there is no memory or the search fails,
-/// `FAILED`.
+/// their path or, if there is none, what `input` gives, and writes the text of what is found.
 ///
-/// The status is 0 if a match was reported, 1 if none was, and 2 if anything failed.
-pub fn run_arguments<T: Open + Eprint, R: Source, W: Output>(
+/// The status is 0 if a match was reported, 1 if none was, and 2 if anything failed. Then a line is
+/// written to `messages`: `USAGE` after a usage error, and `FAILED` if the arguments can't be read,
+/// if there is no memory, or if the search fails. What `messages` returns changes nothing, and it
+/// isn't flushed.
+pub fn run_arguments<T: Open, R: Source, W: Output, E: Output>(
     rt: &T,
     alloc: Global,
-    arguments: &[String],
+    arguments: &io::Result<Vec<String>>,
     input: &mut R,
     writer: &mut W,
+    messages: &mut E,
 ) -> ExitCode
-    ensures { IsProgramEnd (T.opens rt.now)
+    ensures { MatchResult arguments.now
+        (λ arguments. IsProgramEnd (T.opens rt.now)
         ⟦<Reading<T::File> as Source>⟧.remaining ⟦<Reading<T::File> as Source>⟧.step
-        R.remaining R.step W.step W.contents arguments.now input.old writer.old (exit_status result)
-        input.new writer.new }
+        R.remaining R.step W.step W.contents E.step arguments.items input.old writer.old
+        messages.old (exit_status result) input.new writer.new messages.new)
+        (λ _. IsStopped E.step input.old writer.old messages.old (exit_status result)
+        input.new writer.new messages.new) }
 {
+    let Ok(arguments) = arguments else {
+        return stop(messages, FAILED);
+    };
     let options = match Options::parse(alloc, arguments) {
         Ok(options) => options,
-        Err(OptionsFault::Usage) => return stop(rt, USAGE),
-        Err(OptionsFault::Memory) => return stop(rt, FAILED),
+        Err(OptionsFault::Usage) => return stop(messages, USAGE),
+        Err(OptionsFault::Memory) => return stop(messages, FAILED),
     };
     let outcome = run_options(rt, alloc, &options, input, writer);
-    if outcome.is_err() {
-        let _ = rt.eprintln(FAILED);
-    }
+    tell_of(messages, &outcome);
     ExitCode::from(status(&outcome))
 }
 
-// Exits with 2, after a message on standard error.
-fn stop<T: Eprint>(rt: &T, message: &str) -> ExitCode
-    ensures { exit_status result ≡ 2 }
+// Exits with 2, after a line on standard error.
+fn stop<E: Output>(messages: &mut E, line: &str) -> ExitCode
+    ensures status { exit_status result ≡ 2 }
+    ensures told { Tells E.step line.now messages.old messages.new }
 {
-    let _ = rt.eprintln(message);
+    tell(messages, line);
     ExitCode::from(2)
 }

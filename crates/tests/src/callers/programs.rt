@@ -3,7 +3,9 @@ use crate::paths::temporary_path;
 use crate::texts::tells;
 use grep_searcher::{SearchError, Source};
 use grep_testing::Pieces;
-use lgrep_cli::{Options, OptionsFault, Output, USAGE, Writing, run, run_arguments, run_path};
+use lgrep_cli::{
+    FAILED, Options, OptionsFault, Output, USAGE, Writing, run, run_arguments, run_path,
+};
 use std::alloc::{AllocError, Global};
 use std::io::Write;
 use std::path::Path;
@@ -100,7 +102,8 @@ fn texts_of_faults(rt: HostRuntime) {
             "the arguments are not as the usage says"
         ) && tells(alloc, OptionsFault::Memory, "out of memory")
             && USAGE
-                == "usage: lgrep [-v] [-A N] [-B N] [-m N] [-U] [--passthru] [-c] LITERAL [PATH]"
+                == "usage: lgrep [-v] [-A N] [-B N] [-m N] [-U] [--passthru] [-c] LITERAL [PATH]\n"
+            && FAILED == "lgrep: search failed\n"
     );
 }
 
@@ -682,38 +685,86 @@ fn returns_the_error_of_opening(rt: HostRuntime) {
     assert!(rt; finds_nothing(&rt));
 }
 
-// The arguments of the program, what it writes of `a` without a line feed, and its exit status.
-// There is no file `-`.
-const PROGRAM_ROWS: &[(&str, &str, u8)] = &[
-    ("a", "1:a\n", 0),
-    ("--passthru z", "1-a\n", 1),
-    ("-m", "", 2),
-    ("a -", "", 2),
-];
-
-// Whether the program writes this of these arguments, and exits so.
-fn exits(rt: &HostRuntime, arguments: &[String], text: &str, code: u8) -> bool {
-    let mut input = b"a".as_slice();
-    let mut writer = Writing::new(Vec::new(rt.alloc()));
-    let ended = run_arguments(rt, rt.alloc(), arguments, &mut input, &mut writer);
-    ended == ExitCode::from(code) && writer.into_inner().as_slice() == text.as_bytes()
+// Whether the program ends with this status and this text on the output of messages.
+fn ends<R: Source, W: Output>(
+    rt: &HostRuntime,
+    arguments: &io::Result<Vec<String>>,
+    input: &mut R,
+    writer: &mut W,
+    (code, message): (u8, &str),
+) -> bool {
+    let mut messages = Writing::new(Vec::new(rt.alloc()));
+    let ended = run_arguments(rt, rt.alloc(), arguments, input, writer, &mut messages);
+    ended == ExitCode::from(code) && messages.into_inner().as_slice() == message.as_bytes()
 }
 
-// The same of a line.
-fn exits_on(rt: &HostRuntime, line: &str, text: &str, code: u8) -> bool {
-    match arguments(rt.alloc(), line) {
-        Ok(arguments) => exits(rt, &arguments, text, code),
-        Err(_) => false,
-    }
+// The arguments of the program, what it writes of `a` without a line feed, its exit status, and
+// what it writes to standard error. There is no file `-`.
+const PROGRAM_ROWS: &[(&str, &str, u8, &str)] = &[
+    ("a", "1:a\n", 0, ""),
+    ("--passthru z", "1-a\n", 1, ""),
+    ("-m", "", 2, USAGE),
+    ("a -", "", 2, FAILED),
+];
+
+// Whether the program writes this of these arguments, and ends so.
+fn exits(
+    rt: &HostRuntime,
+    arguments: &io::Result<Vec<String>>,
+    text: &str,
+    end: (u8, &str),
+) -> bool {
+    let mut input = b"a".as_slice();
+    let mut writer = Writing::new(Vec::new(rt.alloc()));
+    ends(rt, arguments, &mut input, &mut writer, end)
+        && writer.into_inner().as_slice() == text.as_bytes()
+}
+
+// The arguments of a line, as a program reads them.
+fn read_arguments(alloc: Global, line: &str) -> io::Result<Vec<String>> {
+    Ok(arguments(alloc, line)?)
 }
 
 // The error is a line that comes to something else.
 #[test]
 fn exits_with_a_status(rt: HostRuntime) -> Result<(), &'static str> {
-    for (line, text, code) in PROGRAM_ROWS {
-        if !exits_on(&rt, line, text, *code) {
+    for (line, text, code, message) in PROGRAM_ROWS {
+        let arguments = read_arguments(rt.alloc(), line);
+        if !exits(&rt, &arguments, text, (*code, message)) {
             return Err(line);
         }
     }
     Ok(())
+}
+
+// Whether the program says that it failed if its arguments can't be read, and writes nothing.
+fn fails_without_arguments(rt: &HostRuntime) -> bool {
+    let unread = Err(io::Error::from(io::ErrorKind::InvalidData));
+    exits(rt, &unread, "", (2, FAILED))
+}
+
+// Whether it says so if its reader fails.
+fn fails_with_its_reader(rt: &HostRuntime) -> bool {
+    let mut writer = Writing::new(Vec::new(rt.alloc()));
+    let arguments = read_arguments(rt.alloc(), "a");
+    ends(rt, &arguments, &mut cut(), &mut writer, (2, FAILED))
+        && writer.into_inner().as_slice() == b"1:a\n".as_slice()
+}
+
+// Whether it says so if its writer, which takes so many writes, fails.
+fn fails_with_its_writer(rt: &HostRuntime, left: usize) -> bool {
+    let mut input = b"a".as_slice();
+    let mut writer = full_after(rt.alloc(), left);
+    let arguments = read_arguments(rt.alloc(), "a");
+    ends(rt, &arguments, &mut input, &mut writer, (2, FAILED))
+}
+
+#[test]
+fn says_that_it_failed(rt: HostRuntime) {
+    assert!(rt;
+        fails_without_arguments(&rt)
+            && fails_with_its_reader(&rt)
+            && fails_with_its_writer(&rt, 0)
+            && fails_with_its_writer(&rt, 1)
+    );
 }

@@ -1,5 +1,4 @@
 use Rattle.std.proofs.Common.{◌∙◌}
-use Rattle.grep_decode.specs.Reading.{Reader}
 use Rattle.lgrep_cli.proofs.RunLemmas.{path-run}
 use Rattle.lgrep_cli.proofs.search.run_options.Goals as goal
 
