@@ -4,5 +4,6 @@ pub mod Expressions
 pub mod FirstAround
 pub mod JsonLines
 pub mod MarkedCalls
+pub mod NonAsciiLines
 pub mod NumberedTexts
 pub mod Prefixes

@@ -6,8 +6,9 @@
 //! ones of a reader and `first_with_context` those of a slice with the lines around them, and
 //! `matching_lines` joins the lines of all matches by a handler of its own. `numbered_lines`,
 //! `json_lines` and `in_context` write by closures, and `reporter` builds a searcher.
-//! `count_with_prefix` has a matcher of its own, and `count_pattern_lines` compiles a regular
-//! expression. `CALLING.md` says which laws they use.
+//! `count_with_prefix` and `count_non_ascii_lines` have a matcher of their own, which a search asks
+//! about one line, or about many, and `count_pattern_lines` compiles a regular expression.
+//! `CALLING.md` says which laws they use.
 #![tactic(auto)]
 
 mod around;
@@ -17,6 +18,7 @@ mod count;
 mod expression;
 mod first;
 mod json;
+mod non_ascii;
 mod numbered;
 mod path;
 mod prefix;
@@ -29,6 +31,7 @@ pub use count::{count_in_reader, count_matching_lines};
 pub use expression::count_pattern_lines;
 pub use first::first_matches;
 pub use json::json_lines;
+pub use non_ascii::{NonAscii, count_non_ascii_lines};
 pub use numbered::numbered_lines;
 pub use path::{count_in_path, has_match};
 pub use prefix::count_with_prefix;
