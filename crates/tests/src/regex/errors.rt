@@ -191,3 +191,75 @@ fn texts(rt: HostRuntime) -> Result<(), usize> {
     }
     Ok(())
 }
+
+// Options by their letters, a pattern, and the byte of the line terminator for which it is refused,
+// if it is.
+const ALLOWED_ROWS: &[(&str, &str, Option<u8>)] = &[
+    ("n", r"[\n]", Some(10)),
+    ("r", r"[\r\n]", Some(13)),
+    ("r", r"ab|[\r\n]", Some(13)),
+    ("r", r"(?-u:[\r\n])", Some(13)),
+    ("r", r"[\n-\r]", None),
+    ("n", r"[\r\n]", None),
+    ("n", r"[^a]", None),
+    ("ns", r"a.b", None),
+    ("n", r"\s+$", None),
+    ("n", r"(?:\n){0}a", None),
+    ("n", r"[a&&b]\n", Some(10)),
+    ("n", "ab\n", Some(10)),
+    ("nF", r"ab\n", None),
+    ("ni", "ab\n", Some(10)),
+    ("rF", "a\rb", Some(13)),
+    ("z", r"[\x00]", Some(0)),
+    ("z", "a\0", Some(0)),
+    ("z", r"[^a]\n", None),
+    ("", r"[\r\n]\x00", None),
+];
+
+// Whether a pattern is refused for this byte, or compiled.
+fn is_allowed(error: Option<Error>, byte: Option<u8>) -> bool {
+    match error {
+        Some(Error::NotAllowed(refused)) => byte == Some(refused),
+        Some(_) => false,
+        None => byte.is_none(),
+    }
+}
+
+#[test]
+fn line_terminators(rt: HostRuntime) -> Result<(), usize> {
+    for (index, row) in ALLOWED_ROWS.iter().enumerate() {
+        if !is_allowed(error_of(rt.alloc(), row.0, &[row.1]), row.2) {
+            return Err(index);
+        }
+    }
+    Ok(())
+}
+
+// Options by their letters, a pattern, and whether it is too big.
+const SIZE_ROWS: &[(&str, &str, bool)] = &[
+    ("L", r"\w{50}", true),
+    ("L", r"a{1000}", true),
+    ("L", r"a{10}", false),
+    ("L", r"((a)(b))(c)", false),
+    ("", r"a{1000}", false),
+    ("", r"a{1000000}", true),
+];
+
+// Whether a pattern is too big, or compiled.
+fn is_big(error: Option<Error>) -> Option<bool> {
+    match error {
+        Some(Error::TooBig) => Some(true),
+        Some(_) => None,
+        None => Some(false),
+    }
+}
+
+#[test]
+fn sizes(rt: HostRuntime) -> Result<(), usize> {
+    for (index, row) in SIZE_ROWS.iter().enumerate() {
+        if is_big(error_of(rt.alloc(), row.0, &[row.1])) != Some(row.2) {
+            return Err(index);
+        }
+    }
+    Ok(())
+}

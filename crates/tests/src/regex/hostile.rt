@@ -59,3 +59,8 @@ fn nested_patterns(rt: HostRuntime) {
 fn many_alternatives(rt: HostRuntime) {
     assert!(rt; nests(rt.alloc(), ("bb|", "a{4}", "|cc"), 10_000, true));
 }
+
+#[test]
+fn many_groups(rt: HostRuntime) {
+    assert!(rt; nests(rt.alloc(), ("(b)?", "aaaa", ""), 2_000, true));
+}
