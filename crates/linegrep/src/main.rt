@@ -3,7 +3,7 @@
 
 use grep_output::Writing;
 use grep_searcher::Reading;
-use linegrep_cli::{Streams, run};
+use linegrep_cli::{FileId, Streams, run};
 use std::fmt::Display;
 use std::io::{BufWriter, IsTerminal};
 use std::process::ExitCode;
@@ -38,7 +38,11 @@ fn grep(rt: &HostRuntime) -> io::Result<u8> {
     let output = Writing::new(BufWriter::with_capacity(rt.alloc(), room, stdout)?);
     let mut input = Reading::new(rt.stdin());
     let mut errors = Writing::new(rt.stderr());
-    let streams = Streams { is_terminal };
+    let streams = Streams {
+        is_terminal,
+        input: FileId::at(rt, "/proc/self/fd/0"),
+        output: FileId::at(rt, "/proc/self/fd/1"),
+    };
     Ok(run(rt, streams, &arguments, &mut input, output, &mut errors))
 }
 

@@ -1,6 +1,7 @@
 //! A run over files.
 use crate::engine::{Engine, written_error};
 use crate::failures::Failure;
+use crate::file_id::FileId;
 use crate::globs::Globs;
 use crate::option_id::OptionId;
 use crate::options::Options;
@@ -13,6 +14,8 @@ use std::{fs, io};
 // The name of standard input.
 const STDIN: &str = "<stdin>";
 
+const IS_OUTPUT: &str = "input file is also the output";
+
 /// What the options say of a run.
 #[derive(Clone, Copy)]
 pub struct Scope {
@@ -21,6 +24,9 @@ pub struct Scope {
     shows_paths: bool,
     is_silent: bool,
     is_quiet: bool,
+    // The file that isn't searched, and whether it is standard input.
+    left_out: Option<FileId>,
+    leaves_out_input: bool,
 }
 
 impl Scope {
@@ -35,6 +41,16 @@ impl Scope {
             shows_paths: options.shows_paths(names_folder || paths.len() > 1),
             is_silent: options.has(OptionId::NoMessages),
             is_quiet: options.has(OptionId::Quiet),
+            left_out: options.left_out(),
+            leaves_out_input: is_same(options.left_out(), options.streams.input),
+        }
+    }
+
+    // Whether a file isn't searched.
+    fn leaves_out(&self, file: &File) -> bool {
+        match (self.left_out, file.metadata()) {
+            (Some(_), Ok(metadata)) => is_same(self.left_out, FileId::of(&metadata)),
+            _ => false,
         }
     }
 
@@ -161,6 +177,7 @@ impl<'r, E: Engine> Run<'r, E> {
     // Searches the file at a path, or says why it can't be opened.
     fn search_path(&mut self, path: &str) {
         match File::open(self.rt, path) {
+            Ok(file) if self.scope.leaves_out(&file) => self.report(path, &IS_OUTPUT),
             Ok(mut file) => self.search_file(path, &mut file),
             Err(error) => self.report(path, &error),
         }
@@ -173,6 +190,9 @@ impl<'r, E: Engine> Run<'r, E> {
 
     // Searches standard input.
     fn search_input(&mut self) {
+        if self.scope.leaves_out_input {
+            return self.report(STDIN, &IS_OUTPUT);
+        }
         let searched = self.engine.search_input(self.scope.path_of(STDIN));
         self.keep(STDIN, searched);
     }
@@ -228,6 +248,14 @@ impl<'r, E: Engine> Run<'r, E> {
         } else {
             1
         }
+    }
+}
+
+// Whether both are files, and the same one.
+fn is_same(one: Option<FileId>, other: Option<FileId>) -> bool {
+    match (one, other) {
+        (Some(one), Some(other)) => one.is(other),
+        _ => false,
     }
 }
 

@@ -9,6 +9,7 @@ mod colors;
 mod command;
 mod engine;
 mod failures;
+mod file_id;
 mod file_run;
 mod globs;
 mod haystacks;
@@ -23,4 +24,5 @@ mod settings;
 mod walk;
 mod wildcards;
 
+pub use file_id::FileId;
 pub use program::{Streams, run};

@@ -1,7 +1,9 @@
 //! The options of the command line.
 use crate::command::{Row, rows};
+use crate::file_id::FileId;
 use crate::option_id::OptionId;
 use crate::patterns::names_patterns;
+use crate::program::Streams;
 use clap::ArgMatches;
 use grep_printer::SummaryKind;
 use grep_searcher::{BinaryDetection, LineTerminator};
@@ -92,9 +94,11 @@ fn last_index(matches: &ArgMatches<'_>, name: &str) -> usize {
     }
 }
 
-/// What the options ask for, but for patterns.
+/// What the options ask for, but for patterns, of a run with some standard streams.
 #[derive(Clone, Copy)]
 pub struct Options<'m, 'w> {
+    /// What the run knows of its standard streams.
+    pub streams: Streams,
     flags: Flags,
     /// After how many matched lines of a file its search stops.
     pub max_count: Option<u64>,
@@ -115,9 +119,10 @@ pub struct Options<'m, 'w> {
 }
 
 impl<'m, 'w> Options<'m, 'w> {
-    /// The options of parsed arguments.
-    pub fn read(matches: &'m ArgMatches<'w>) -> Options<'m, 'w> {
+    /// The options of parsed arguments, with the standard streams.
+    pub fn read(matches: &'m ArgMatches<'w>, streams: Streams) -> Options<'m, 'w> {
         Options {
+            streams,
             flags: Flags::read(matches),
             max_count: matches.get_one::<u64>("max-count"),
             max_columns: matches.get_one::<u64>("max-columns"),
@@ -191,6 +196,15 @@ impl<'m, 'w> Options<'m, 'w> {
         !self.has(OptionId::NoFilename) && (self.has(OptionId::WithFilename) || searches_several)
     }
 
+    /// The file that isn't searched, if there is one: that which the lines are written to. Without
+    /// lines nothing grows while it is searched.
+    pub fn left_out(&self) -> Option<FileId> {
+        match self.summary_kind() {
+            Some(_) => None,
+            None => self.streams.output,
+        }
+    }
+
     fn is_summary_of_paths(&self) -> bool {
         matches!(
             self.summary_kind(),
@@ -199,18 +213,18 @@ impl<'m, 'w> Options<'m, 'w> {
     }
 
     /// Whether lines are numbered. For a terminal they are, if nothing else is asked for.
-    pub fn shows_numbers(&self, is_terminal: bool) -> bool {
+    pub fn shows_numbers(&self) -> bool {
         !self.has(OptionId::NoLineNumber)
             && (self.has(OptionId::LineNumber)
                 || self.has(OptionId::Column)
                 || self.has(OptionId::Json)
-                || is_terminal)
+                || self.streams.is_terminal)
     }
 
     /// Whether a path is written once, above the lines of its file. For a terminal it is, if
     /// nothing else is asked for.
-    pub fn shows_headings(&self, is_terminal: bool) -> bool {
-        !self.has(OptionId::NoHeading) && (self.has(OptionId::Heading) || is_terminal)
+    pub fn shows_headings(&self) -> bool {
+        !self.has(OptionId::NoHeading) && (self.has(OptionId::Heading) || self.streams.is_terminal)
     }
 
     /// What ends a line.

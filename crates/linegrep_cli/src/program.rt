@@ -1,6 +1,7 @@
 //! The program, by its arguments.
 use crate::command::command;
 use crate::failures::{Failure, say, usage_text};
+use crate::file_id::FileId;
 use crate::options::Options;
 use crate::patterns::read_patterns;
 use crate::search::search_all;
@@ -18,6 +19,10 @@ const CONFLICT: &str = "--json can't be used with -c, --count-matches, -l or -L"
 pub struct Streams {
     /// Whether the output is a terminal.
     pub is_terminal: bool,
+    /// The file that the input comes from, if it is a regular one.
+    pub input: Option<FileId>,
+    /// The file that the output goes to, if it is a regular one. Its lines aren't searched.
+    pub output: Option<FileId>,
 }
 
 /// Does what the arguments ask for, which are without the program's name: searches the files at
@@ -91,26 +96,25 @@ fn search_parsed<R: Source, W: Output + Drop, E: Output>(
     output: W,
     errors: &mut E,
 ) -> Result<u8, Failure> {
-    let options = Options::read(matches);
+    let options = Options::read(matches, streams);
     if options.has_conflict() {
         return Err(Failure::of_arguments(rt.alloc(), CONFLICT));
     }
     let patterns = read_patterns(rt, matches, input)?;
-    search_patterns(rt, streams, &options, &patterns, input, output, errors)
+    search_patterns(rt, &options, &patterns, input, output, errors)
 }
 
 // Searches for patterns, and writes what is found to `output`.
 fn search_patterns<R: Source, W: Output + Drop, E: Output>(
     rt: &HostRuntime,
-    streams: Streams,
     options: &Options<'_, '_>,
     patterns: &[String],
     input: &mut R,
     output: W,
     errors: &mut E,
 ) -> Result<u8, Failure> {
-    let mut printer = build_printer(rt, options, streams.is_terminal, output);
-    let mut searcher = build_searcher(rt.alloc(), options, streams.is_terminal)?;
+    let mut printer = build_printer(rt, options, output);
+    let mut searcher = build_searcher(rt.alloc(), options)?;
     search_all(
         rt,
         options,

@@ -14,27 +14,19 @@ use std::alloc::Global;
 
 /// The searcher that the options ask for. Lines are numbered for a terminal, if nothing else is
 /// asked for. An error is that of a setting, or that there is no memory.
-pub fn build_searcher(
-    alloc: Global,
-    options: &Options<'_, '_>,
-    is_terminal: bool,
-) -> Result<Searcher, Failure> {
-    match try_searcher(alloc, options, is_terminal) {
+pub fn build_searcher(alloc: Global, options: &Options<'_, '_>) -> Result<Searcher, Failure> {
+    match try_searcher(alloc, options) {
         Ok(searcher) => Ok(searcher),
         Err(error) => Err(Failure::new(alloc, &error)),
     }
 }
 
-fn try_searcher(
-    alloc: Global,
-    options: &Options<'_, '_>,
-    is_terminal: bool,
-) -> Result<Searcher, ConfigError> {
+fn try_searcher(alloc: Global, options: &Options<'_, '_>) -> Result<Searcher, ConfigError> {
     let encoding = encoding(alloc, options.encoding)?;
     let mut builder = SearcherBuilder::new();
     builder
         .encoding(encoding)
-        .line_number(options.shows_numbers(is_terminal));
+        .line_number(options.shows_numbers());
     select(&mut builder, options);
     surround(&mut builder, options);
     builder.build(alloc)
@@ -73,17 +65,16 @@ fn encoding(alloc: Global, label: Option<&str>) -> Result<Option<Encoding>, Conf
 pub fn build_printer<W: Output>(
     rt: &HostRuntime,
     options: &Options<'_, '_>,
-    is_terminal: bool,
     writer: W,
 ) -> Printer<W> {
-    let colors = color_specs(rt, options.color, is_terminal);
+    let colors = color_specs(rt, options.color, options.streams.is_terminal);
     if let Some(kind) = options.summary_kind() {
         Printer::Summary(summary(options, kind, colors).build(rt.alloc(), writer))
     } else if options.has(OptionId::Json) {
         let printer = JsonBuilder::new().build(rt.alloc(), writer);
         Printer::Json(JsonRun::new(rt, printer))
     } else {
-        Printer::Lines(lines(options, is_terminal, colors).build(rt.alloc(), writer))
+        Printer::Lines(lines(options, colors).build(rt.alloc(), writer))
     }
 }
 
@@ -98,8 +89,8 @@ fn summary(options: &Options<'_, '_>, kind: SummaryKind, colors: ColorSpecs) -> 
 }
 
 // How lines are written.
-fn lines(options: &Options<'_, '_>, is_terminal: bool, colors: ColorSpecs) -> StandardBuilder {
-    let heading = options.shows_headings(is_terminal);
+fn lines(options: &Options<'_, '_>, colors: ColorSpecs) -> StandardBuilder {
+    let heading = options.shows_headings();
     let mut builder = StandardBuilder::new();
     builder
         .heading(heading)

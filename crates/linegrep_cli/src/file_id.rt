@@ -1,0 +1,39 @@
+//! Which file of the system is which.
+use std::fs;
+use std::fs::Metadata;
+use std::os::unix::fs::MetadataExt;
+
+/// A regular file of the system, which may have several paths.
+#[derive(Clone, Copy)]
+pub struct FileId {
+    device: u64,
+    inode: u64,
+}
+
+impl FileId {
+    /// The regular file at a path, if there is one. At `/proc/self/fd/1` there is the one that
+    /// standard output goes to.
+    pub fn at(rt: &HostRuntime, path: &str) -> Option<FileId> {
+        match fs::metadata(rt, path) {
+            Ok(metadata) => FileId::of(&metadata),
+            Err(_) => None,
+        }
+    }
+
+    /// The file that metadata are of, if it is a regular one.
+    pub fn of(metadata: &Metadata) -> Option<FileId> {
+        if metadata.is_file() {
+            Some(FileId {
+                device: metadata.dev(),
+                inode: metadata.ino(),
+            })
+        } else {
+            None
+        }
+    }
+
+    /// Whether both are the same file.
+    pub fn is(self, other: FileId) -> bool {
+        self.device == other.device && self.inode == other.inode
+    }
+}
