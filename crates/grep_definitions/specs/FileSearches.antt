@@ -1,5 +1,5 @@
 -- What a search of a file does.
-use Rattle.std.specs.Prelude.{◌≡◌, ◌⊎◌, ℕ, List, Option, Result, Ok, Err}
+use Rattle.std.specs.Prelude.{◌≡◌, ◌⊎◌, ℕ, List, Option, IfSome, Result, Ok, Err}
 use Rattle.std.specs.Io.KnownBytes.{Consumes, Keeps}
 use Rattle.std.specs.declared.io.Error.{Error}
 use Rattle.grep_decode.specs.Source.{ReadResult}
@@ -22,16 +22,29 @@ module _ {F : Type 0} (remaining : F → Option (List ℕ))
       IsReaderSearched remaining (IsFileRead remaining) step errors matcher state file old result
       file' new
 
-  -- the error is that of opening a file, and the sink had no call
+-- what opening the file at a path may return, if the path's text is known; else at some path
+abbrev pub OpensAt : {F : Type 0} → (List ℕ → Result F Error → Type 0) → Option (List ℕ)
+    → Result F Error → Type 0
+OpensAt opens text result =
+    (path : List ℕ) × IfSome text (λ known. path ≡ known) × opens path result
+
+module _ {F : Type 0} (opens : List ℕ → Result F Error → Type 0)
+    (remaining : F → Option (List ℕ)) {S E G : Type 0} (step : Steps S E)
+    (errors : ErrorMakers G E) (matcher : MatcherFacts G) (path : Option (List ℕ)) where
+  -- the error is that of opening the file, and the sink had no call
   abbrev pub IsUnopened : S → Result (Unit {0}) E → S → Type 0
   IsUnopened old result new =
       (error : Error) × (e : E) × (result ≡ Err e) × errors.is_io error e × (new ≡ old)
+      × OpensAt opens path (Err error)
 
-  -- a search of a path: its file couldn't be opened, or a file was opened first, and searched
+  -- a search of a path, also one that is refused: the file couldn't be opened, or it was opened
+  -- first, and searched
   abbrev pub IsPathSearched : SearcherState → S → Result (Unit {0}) E → S → Type 0
   IsPathSearched state old result new =
       IsUnopened old result new
-      ⊎ ((file : F) × (file' : F) × IsFileSearched state file old result file' new)
+      ⊎ ((file : F) × (file' : F)
+      × IsFileSearched remaining step errors matcher state file old result file' new
+      × OpensAt opens path (Ok file))
 
   -- in which order a search of a path that isn't refused calls its sink: not at all if the file
   -- couldn't be opened, else as a search of the file that was opened
@@ -39,4 +52,5 @@ module _ {F : Type 0} (remaining : F → Option (List ℕ))
   IsPathInOrder settings old result new =
       IsUnopened old result new
       ⊎ ((file : F) × (file' : F) × IsInOrder step errors matcher settings
-      (IsReadingError remaining (IsFileRead remaining) file file') old result new)
+      (IsReadingError remaining (IsFileRead remaining) file file') old result new
+      × OpensAt opens path (Ok file))

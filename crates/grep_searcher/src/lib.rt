@@ -7,6 +7,7 @@
 #![tactic(auto)]
 
 pub mod laws;
+mod open;
 mod searcher;
 mod sink;
 pub mod sinks;
@@ -20,5 +21,6 @@ pub use grep_report::{
     BinaryDetection, ConfigError, Encoding, Label, MmapChoice, SearchError, SinkContext,
     SinkContextKind, SinkError, SinkFinish, SinkMatch,
 };
+pub use open::Open;
 pub use searcher::{Searcher, SearcherBuilder};
 pub use sink::Sink;

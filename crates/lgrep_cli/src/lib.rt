@@ -10,7 +10,6 @@ mod exit;
 mod lines;
 mod messages;
 mod numeral;
-mod open;
 mod options;
 mod pending;
 mod printer;
@@ -19,8 +18,8 @@ mod search;
 
 pub use exit::status;
 pub use grep_output::{LastCall, Output, Writing};
+pub use grep_searcher::Open;
 pub use messages::FAILED;
-pub use open::Open;
 pub use options::{Options, OptionsFault, USAGE};
 pub use program::run_arguments;
 pub use search::{run, run_options, run_path};

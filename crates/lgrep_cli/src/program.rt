@@ -6,11 +6,10 @@ ghost use Rattle.lgrep_cli.specs.ProgramRuns.{IsProgramEnd, IsStopped};
 
 use crate::exit::status;
 use crate::messages::{FAILED, tell, tell_of};
-use crate::open::Open;
 use crate::options::{Options, OptionsFault, USAGE};
 use crate::search::run_options;
 use grep_output::Output;
-use grep_searcher::{Reading, Source};
+use grep_searcher::{Open, Reading, Source};
 use std::alloc::Global;
 use std::io;
 use std::process::ExitCode;

@@ -10,7 +10,6 @@ ghost use Rattle.lgrep_cli.specs.ProgramRuns.{IsPrinted, IsFailure, IsProgramRun
 ghost use Rattle.lgrep_cli.specs.ProgramRuns.{IsRunAt};
 
 use crate::lines::write_number;
-use crate::open::Open;
 use crate::options::Options;
 use crate::pending::Pending;
 use crate::printer::Printer;
@@ -21,7 +20,7 @@ use grep_searcher::laws::{
     runs_count_matches,
 };
 use grep_searcher::sinks::Count;
-use grep_searcher::{Reading, SearchError, Searcher, SearcherBuilder, Source};
+use grep_searcher::{Open, Reading, SearchError, Searcher, SearcherBuilder, Source};
 use std::alloc::Global;
 use std::io;
 use std::path::{AsPath, Path};

@@ -1,5 +1,6 @@
 //! How many lines of a file match, and whether one does.
 ghost use Rattle.std.specs.Prelude.{◌≡◌, ℕ, List, Some, true, IfOk, IfErr};
+ghost use Rattle.grep_searcher.specs.FileSearches.{OpensAt};
 ghost use Rattle.std.specs.declared.io.Error.{Error};
 ghost use Rattle.grep_searcher.specs.BoundedReads.{IsReadToMatch};
 ghost use Rattle.grep_searcher.specs.Searches.{searched_bytes};
@@ -9,10 +10,9 @@ ghost use Rattle.grep_searcher.specs.SearchFailures.{IsFaultless};
 
 use grep_searcher::laws::{files_count_lines, files_find_lines};
 use grep_searcher::sinks::{Count, Found, OnMatch};
-use grep_searcher::{Matcher, SearchError, Searcher};
+use grep_searcher::{Matcher, Open, SearchError, Searcher};
 use std::alloc::Global;
 use std::path::AsPath;
-use std::rt::Files;
 
 /// Opens the file at a path, and returns how many of its decoded lines are matched.
 ///
@@ -21,17 +21,18 @@ use std::rt::Files;
 /// than 2^64 - 1 decoded bytes.
 ///
 /// All this is promised for a matcher that is lawful for the searcher's terminator, and the count
-/// of a search by line without binary detection, for a file that was opened, if it says which bytes
-/// remain. That it is the file at the path is the system's to say, and no contract's.
-pub fn count_in_path<R: Files, M: Matcher + Drop, P: AsPath>(
+/// of a search by line without binary detection, for the file that opening the path returned, if it
+/// says which bytes remain. Which file that is, the system alone knows.
+pub fn count_in_path<R: Open, M: Matcher + Drop, P: AsPath>(
     rt: &R,
     searcher: &mut Searcher,
     matcher: M,
     path: P,
 ) -> Result<u64, SearchError>
     ensures count { IsLineSearch (M.facts matcher) searcher.old.settings
-        → IfOk result (λ count. (file : R.File) × ((input : List ℕ)
-        → R.File.remaining file ≡ Some input
+        → IfOk result (λ count. (file : R.File)
+        × OpensAt (R.opens rt.now) (P.path_text path) (Ok file)
+        × ((input : List ℕ) → R.File.remaining file ≡ Some input
         → IsLineCount (M.facts matcher) searcher.old.settings input count)) }
     ensures settings { searcher.new.settings ≡ searcher.old.settings }
     ensures buffers { searcher.old.has_buffers ≡ true → searcher.new.has_buffers ≡ true }
@@ -50,15 +51,16 @@ pub fn count_in_path<R: Files, M: Matcher + Drop, P: AsPath>(
 ///
 /// The errors, and what is promised, are as in `count_in_path`; how far is read is promised of a file
 /// that is searched as it is.
-pub fn has_match<R: Files, M: Matcher + Drop, P: AsPath>(
+pub fn has_match<R: Open, M: Matcher + Drop, P: AsPath>(
     rt: &R,
     searcher: &mut Searcher,
     matcher: M,
     path: P,
 ) -> Result<bool, SearchError>
     ensures found { IsLineSearch (M.facts matcher) searcher.old.settings
-        → IfOk result (λ found. (file read : R.File) × ((input : List ℕ)
-        → R.File.remaining file ≡ Some input
+        → IfOk result (λ found. (file read : R.File)
+        × OpensAt (R.opens rt.now) (P.path_text path) (Ok file)
+        × ((input : List ℕ) → R.File.remaining file ≡ Some input
         → (found ≡ has_selected searcher.old.settings (M.facts matcher).meaning
         (searched_bytes searcher.old.settings input))
         × IsReadToMatch searcher.old.settings (M.facts matcher).meaning input

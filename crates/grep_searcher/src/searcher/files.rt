@@ -8,17 +8,16 @@ ghost use Rattle.grep_definitions.specs.Searches.{IsInOrder, IsReadingError, IsU
 ghost use Rattle.grep_matcher.specs.Meanings.{IsInfallible};
 ghost use Rattle.grep_report.specs.ErrorMakers.{makers_of};
 
+use crate::open::Open;
 use crate::searcher::Searcher;
 use crate::sink::Sink;
 use grep_decode::Source;
 use grep_matcher::Matcher;
 use grep_report::SinkError;
 use std::alloc::Allocator;
-use std::fs::File;
 use std::io;
 use std::io::Read;
 use std::path::AsPath;
-use std::rt::Files;
 
 impl<A: Allocator + Copy> Searcher<A> {
     /// Searches a file from its position on, as `search_reader` searches a reader, with the same
@@ -63,11 +62,12 @@ impl<A: Allocator + Copy> Searcher<A> {
 
     /// Opens the file at a path and searches it from its start, as `search_file` does. If it can't
     /// be opened, the error is made of that of opening, by `error_io`, and the sink has no call;
-    /// that comes before any other error. The caller ensures that the sink may be called.
+    /// that comes before any other error, also of a configuration that is refused. The caller
+    /// ensures that the sink may be called.
     ///
-    /// `Files` says nothing of what it opens, so the contract speaks of some file that was opened,
-    /// as it then was.
-    pub fn search_path<R: Files, M: Matcher, P: AsPath, S: Sink>(
+    /// The contract speaks of what opening this path returned, as `rt` says it. Of `Files` nothing
+    /// is known of that, so it is then some file, as it was when it was opened.
+    pub fn search_path<R: Open, M: Matcher, P: AsPath, S: Sink>(
         &mut self,
         rt: &R,
         matcher: M,
@@ -81,12 +81,12 @@ impl<A: Allocator + Copy> Searcher<A> {
         ensures settings { self.new.settings ≡ self.old.settings }
         ensures buffers { self.old.has_buffers ≡ true → self.new.has_buffers ≡ true }
         ensures gets { OnOk result (self.new.has_buffers ≡ true) }
-        ensures searched { IsPathSearched R.File.remaining S.step
-            (makers_of M.Error.output S.Error.makers) (M.facts matcher)
+        ensures searched { IsPathSearched (R.opens rt.now) R.File.remaining S.step
+            (makers_of M.Error.output S.Error.makers) (M.facts matcher) (P.path_text path)
             self.old sink.old result sink.new }
         ensures in_order { refusal_of self.old.settings (M.facts matcher).meaning ≡ None
-            → IsPathInOrder R.File.remaining S.step
-            (makers_of M.Error.output S.Error.makers) (M.facts matcher)
+            → IsPathInOrder (R.opens rt.now) R.File.remaining S.step
+            (makers_of M.Error.output S.Error.makers) (M.facts matcher) (P.path_text path)
             self.old.settings sink.old result sink.new }
         ensures succeeds { NeverFails S.step S.may_call → IsInfallible (M.facts matcher).fails
             → IsLawful (M.facts matcher) self.old.settings
@@ -94,7 +94,7 @@ impl<A: Allocator + Copy> Searcher<A> {
             → IfErr result (λ e. (error : Error) × S.Error.makers.is_io error e) }
         ensures may_call { S.may_call sink.new }
     {
-        match File::open(rt, path) {
+        match rt.open(path.path_text()) {
             Ok(mut file) => self.search_file(matcher, &mut file, sink),
             Err(error) => Err(S::Error::error_io(self.alloc, error)),
         }
