@@ -12,7 +12,7 @@ use std::io;
 struct Long {
     name: &'static str,
     reader: (&'static [u8], u64, &'static [u8]),
-    heap_limit: usize,
+    heap_limit: Option<usize>,
     totals: Option<Totals>,
 }
 
@@ -26,32 +26,38 @@ const LONG_ROWS: &[Long] = &[
     Long {
         name: "2^26 lines, and then one that matches",
         reader: (LINES, 4_194_304, b"z\n"),
-        heap_limit: 64,
+        heap_limit: Some(64),
         totals: Some((1, 67_108_865, 268_435_456, 2, 268_435_458)),
     },
     Long {
         name: "a terminated line of a million bytes that fits",
         reader: (BYTES, 1000, b"\n"),
-        heap_limit: 1_000_001,
+        heap_limit: Some(1_000_001),
         totals: Some((1, 1, 0, 1_000_001, 1_000_001)),
     },
     Long {
         name: "one that doesn't",
         reader: (BYTES, 1000, b"\n"),
-        heap_limit: 1_000_000,
+        heap_limit: Some(1_000_000),
         totals: None,
     },
     Long {
         name: "an unterminated line of a million bytes that fits",
         reader: (BYTES, 1000, b""),
-        heap_limit: 1_000_001,
+        heap_limit: Some(1_000_001),
         totals: Some((1, 1, 0, 1_000_000, 1_000_000)),
     },
     Long {
         name: "one that doesn't",
         reader: (BYTES, 1000, b""),
-        heap_limit: 1_000_000,
+        heap_limit: Some(1_000_000),
         totals: None,
+    },
+    Long {
+        name: "a line of over 3 MiB, without a limit",
+        reader: (BYTES, 3146, b"\n"),
+        heap_limit: None,
+        totals: Some((1, 1, 0, 3_146_001, 3_146_001)),
     },
 ];
 
@@ -67,7 +73,7 @@ pub(crate) fn try_long<W: io::Write>(alloc: Global, output: &mut W) -> io::Resul
 // Whether a search of a long input comes to what it has to.
 fn is_long(alloc: Global, row: &Long) -> bool {
     let mut builder = SearcherBuilder::new();
-    builder.heap_limit(Some(row.heap_limit));
+    builder.heap_limit(row.heap_limit);
     match builder.build(alloc) {
         Ok(mut searcher) => comes_to(&mut searcher, row),
         Err(_) => false,

@@ -104,8 +104,8 @@ fn files(rt: HostRuntime) {
 // How a search ends that is refused.
 #[derive(Clone, Copy)]
 enum End {
-    // the file can't be opened, by this error of the system
-    Unopened(Option<i32>),
+    // the file can't be opened or read, by this error of the system
+    Unread(Option<i32>),
     Refused,
     // the matcher names another terminator
     Mismatched,
@@ -133,7 +133,7 @@ fn end_by(rt: &HostRuntime, searcher: &mut Searcher, path: Path<'_>) -> End {
 
 fn how_ended(ended: Result<(), SearchError>) -> End {
     match ended {
-        Err(SearchError::Io(error)) => End::Unopened(error.raw_os_error()),
+        Err(SearchError::Io(error)) => End::Unread(error.raw_os_error()),
         Err(SearchError::Config(ConfigError::SearchUnavailable)) => End::Refused,
         Err(SearchError::Config(ConfigError::MismatchedLineTerminators { .. })) => End::Mismatched,
         _ => End::Otherwise,
@@ -144,9 +144,7 @@ fn how_ended(ended: Result<(), SearchError>) -> End {
 fn opens(rt: &HostRuntime, path: Path<'_>) -> bool {
     let is_refused = matches!(end_of(rt, path), End::Refused);
     match path.join(rt.alloc(), "below") {
-        Ok(below) => {
-            is_refused && matches!(end_of(rt, below.as_path()), End::Unopened(Some(20)))
-        }
+        Ok(below) => { is_refused && matches!(end_of(rt, below.as_path()), End::Unread(Some(20))) }
         Err(_) => false,
     }
 }
@@ -154,7 +152,7 @@ fn opens(rt: &HostRuntime, path: Path<'_>) -> bool {
 // Whether it opens no file before there is one. The system's error 2 is that of a path that doesn't
 // exist, and 20 that of one below a file.
 fn opens_first(rt: &HostRuntime, path: Path<'_>) -> bool {
-    let is_missing = matches!(end_of(rt, path), End::Unopened(Some(2)));
+    let is_missing = matches!(end_of(rt, path), End::Unread(Some(2)));
     let is_opened = fs::write(rt, path, INPUT).is_ok() && opens(rt, path);
     fs::remove_file(rt, path).is_ok() && is_missing && is_opened
 }
@@ -172,6 +170,62 @@ fn opens_before_anything_else(rt: HostRuntime) {
     assert!(rt; opens_files_first(&rt));
 }
 
+// A matcher of the literal `a` that names another terminator than a searcher has by default.
+fn naming() -> Naming<LiteralMatcher<'static>> {
+    Naming {
+        matcher: LiteralMatcher::borrowed(b"a"),
+        terminator: LineTerminator::byte(b'z'),
+    }
+}
+
+// The end of a search of a path with that matcher, if the sink had no call.
+fn mismatched_end_of(rt: &HostRuntime, path: Path<'_>) -> End {
+    let mut recorder = Recorder::new(rt.alloc(), None, None);
+    let end = match Searcher::new(rt.alloc()) {
+        Ok(mut searcher) => how_ended(searcher.search_path(rt, naming(), path, &mut recorder)),
+        Err(_) => End::Otherwise,
+    };
+    if recorder.text().is_empty() {
+        end
+    } else {
+        End::Otherwise
+    }
+}
+
+// Whether such a search opens the file first, too: `/` is a folder, which can be opened.
+#[test]
+fn opens_before_it_looks_at_terminators(rt: HostRuntime) {
+    let missing = mismatched_end_of(&rt, Path::new("/missing"));
+    let folder = mismatched_end_of(&rt, Path::new("/"));
+    assert!(rt; matches!(missing, End::Unread(Some(2))) && matches!(folder, End::Mismatched));
+}
+
+// Whether a search of a folder ends in the error of reading it, the system's 21, after `begin`.
+fn reads_no_folder(rt: &HostRuntime) -> bool {
+    let mut recorder = Recorder::new(rt.alloc(), None, None);
+    let end = match Searcher::new(rt.alloc()) {
+        Ok(mut searcher) => how_ended(search_path(
+            rt,
+            &mut searcher,
+            Path::new("/"),
+            &mut recorder,
+        )),
+        Err(_) => End::Otherwise,
+    };
+    matches!(end, End::Unread(Some(21))) && recorder.text() == "begin;"
+}
+
+// The tests are run by a user who may not read this file of the system: its error is 13.
+#[test]
+fn what_cannot_be_read(rt: HostRuntime) {
+    let forbidden = end_of(&rt, Path::new("/proc/1/environ"));
+    assert!(rt;
+        reads_no_folder(&rt)
+            && matches!(end_of(&rt, Path::new("/")), End::Refused)
+            && matches!(forbidden, End::Unread(Some(13)))
+    );
+}
+
 // Whether a search of a file is refused across lines too, whose matcher names another terminator,
 // before any call and any read.
 fn is_mismatched(alloc: Global) -> bool {
@@ -184,11 +238,7 @@ fn is_mismatched(alloc: Global) -> bool {
 fn is_mismatched_by(alloc: Global, searcher: &mut Searcher) -> bool {
     let mut file = Pieces::new(b"a\n", 0, None);
     let mut recorder = Recorder::new(alloc, None, None);
-    let matcher = Naming {
-        matcher: LiteralMatcher::borrowed(b"a"),
-        terminator: LineTerminator::byte(b'z'),
-    };
-    let end = how_ended(search_file(searcher, matcher, &mut file, &mut recorder));
+    let end = how_ended(search_file(searcher, naming(), &mut file, &mut recorder));
     matches!(end, End::Mismatched) && file.reads() == 0 && recorder.text().is_empty()
 }
 

@@ -147,6 +147,23 @@ fn cut(alloc: Global) -> SearchError {
     SearchError::error_io(alloc, io::Error::new(io::ErrorKind::Other, CUT))
 }
 
+// A text of 300 bytes.
+const LONG: &str =
+    "the pattern has an assertion that this engine cannot decide, which may come of a \
+    quoted text, of a class of characters, or of a repetition that has no bound: say which of them it \
+    is, and where in the pattern it stands, or take another engine, which decides it at a cost that \
+    grows with the text......";
+
+// Whether no text of a message is cut.
+fn keeps_texts(alloc: Global) -> bool {
+    LONG.len() == 300 && displays(alloc, &SearchError::error_message(alloc, LONG), LONG)
+}
+
+#[test]
+fn long_messages(rt: HostRuntime) {
+    assert!(rt; keeps_texts(rt.alloc()));
+}
+
 #[test]
 fn search_errors(rt: HostRuntime) {
     let alloc = rt.alloc();
