@@ -5,4 +5,5 @@ mod engine;
 mod errors;
 mod from_position;
 mod hostile;
+mod large;
 mod matches;
