@@ -1,4 +1,5 @@
 //! Tests of what is built on the search: the program `lgrep` as a library, and the small callers of
 //! `uses`.
+mod large;
 mod lent;
 mod programs;

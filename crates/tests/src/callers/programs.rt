@@ -22,7 +22,11 @@ fn arguments(alloc: Global, line: &str) -> Result<Vec<String>, AllocError> {
 }
 
 // Adds an argument.
-fn push(alloc: Global, arguments: &mut Vec<String>, argument: &str) -> Result<(), AllocError> {
+pub(super) fn push(
+    alloc: Global,
+    arguments: &mut Vec<String>,
+    argument: &str,
+) -> Result<(), AllocError> {
     arguments.push(String::from_str(alloc, argument)?)?;
     Ok(())
 }
@@ -707,21 +711,21 @@ const PROGRAM_ROWS: &[(&str, &str, u8, &str)] = &[
     ("a -", "", 2, FAILED),
 ];
 
-// Whether the program writes this of these arguments, and ends so.
-fn exits(
+// Whether the program writes this of an input, and ends so.
+pub(super) fn exits(
     rt: &HostRuntime,
     arguments: &io::Result<Vec<String>>,
-    text: &str,
+    input: &[u8],
+    text: &[u8],
     end: (u8, &str),
 ) -> bool {
-    let mut input = b"a".as_slice();
+    let mut reader = input;
     let mut writer = Writing::new(Vec::new(rt.alloc()));
-    ends(rt, arguments, &mut input, &mut writer, end)
-        && writer.into_inner().as_slice() == text.as_bytes()
+    ends(rt, arguments, &mut reader, &mut writer, end) && writer.into_inner().as_slice() == text
 }
 
 // The arguments of a line, as a program reads them.
-fn read_arguments(alloc: Global, line: &str) -> io::Result<Vec<String>> {
+pub(super) fn read_arguments(alloc: Global, line: &str) -> io::Result<Vec<String>> {
     Ok(arguments(alloc, line)?)
 }
 
@@ -730,7 +734,7 @@ fn read_arguments(alloc: Global, line: &str) -> io::Result<Vec<String>> {
 fn exits_with_a_status(rt: HostRuntime) -> Result<(), &'static str> {
     for (line, text, code, message) in PROGRAM_ROWS {
         let arguments = read_arguments(rt.alloc(), line);
-        if !exits(&rt, &arguments, text, (*code, message)) {
+        if !exits(&rt, &arguments, b"a", text.as_bytes(), (*code, message)) {
             return Err(line);
         }
     }
@@ -740,7 +744,7 @@ fn exits_with_a_status(rt: HostRuntime) -> Result<(), &'static str> {
 // Whether the program says that it failed if its arguments can't be read, and writes nothing.
 fn fails_without_arguments(rt: &HostRuntime) -> bool {
     let unread = Err(io::Error::from(io::ErrorKind::InvalidData));
-    exits(rt, &unread, "", (2, FAILED))
+    exits(rt, &unread, b"a", b"", (2, FAILED))
 }
 
 // Whether it says so if its reader fails.
