@@ -58,7 +58,8 @@ module _ (passes : ℕ → Bool) where
       ∙ (position-parts 0 front back ∙ ap₂ option_or (sym (position_from-zero passes front)) later)
 
   -- so is the match
-  match-parts : (k : ℕ) (first second : Option ℕ) → option_map one_byte (option_or first (option_map (λ j. k + j) second))
+  match-parts : (k : ℕ) (first second : Option ℕ)
+      → option_map one_byte (option_or first (option_map (λ j. k + j) second))
       ≡ option_or (option_map one_byte first) (match_from k (option_map one_byte second))
   match-parts k (Some i) second = refl
   match-parts k None None = refl

@@ -32,8 +32,8 @@ pub fn count_non_ascii_lines(searcher: &mut Searcher, bytes: &[u8]) -> Result<u6
     count_matching_lines(searcher, NonAscii, bytes)
 }
 
-/// Matches a byte that isn't ASCII. It declares a line feed as its terminator, and never fails. What
-/// it finds in many lines is the end of its first match, which can be trusted.
+/// Matches a byte that isn't ASCII. It declares a line feed as its terminator, and never fails.
+/// What it finds in many lines is the end of its first match, which can be trusted.
 #[derive(Drop)]
 pub struct NonAscii;
 
