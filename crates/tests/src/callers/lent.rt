@@ -2,13 +2,15 @@
 use crate::paths::temporary_path;
 use grep_searcher::sinks::{KeptLines, KeptMatch, ReportKind};
 use grep_searcher::{LiteralMatcher, SearchError, Searcher, SinkContextKind};
+use grep_testing::Counting;
 use std::alloc::Global;
 use std::fs;
 use std::path::Path;
 use uses::{
-    count_blocks, count_in_path, count_in_reader, count_matching_lines, count_pattern_lines,
-    count_with_prefix, first_matches, first_with_context, has_match, in_context, json_lines,
-    matching_lines, numbered_lines, reporter,
+    NonAscii, count_blocks, count_in_path, count_in_reader, count_matching_lines,
+    count_non_ascii_lines, count_pattern_lines, count_with_prefix, first_matches,
+    first_with_context, has_match, in_context, json_lines, matching_lines, numbered_lines,
+    reporter,
 };
 
 // Line 2 and line 4 have an `a`.
@@ -27,6 +29,7 @@ fn count(alloc: Global, searcher: &mut Searcher) -> bool {
     counts_lines(searcher)
         && counts_by_a_pattern(alloc, searcher)
         && counts_with_a_prefix(searcher)
+        && counts_non_ascii(searcher)
         && counts_in_a_reader(searcher)
 }
 
@@ -57,6 +60,24 @@ fn counts_by_a_pattern(alloc: Global, searcher: &mut Searcher) -> bool {
 
 fn counts_with_a_prefix(searcher: &mut Searcher) -> bool {
     matches!(count_with_prefix(searcher, b"a", INPUT), Ok(1))
+}
+
+// Line 2 and line 4 have bytes that aren't ASCII.
+const BYTES: &[u8] = b"x\n\xC3\xA9b\ny\na\xFF\nz";
+
+// Whether these lines are counted, and the matcher is asked about many lines at once: about all,
+// and then about those after each line that matches.
+fn counts_non_ascii(searcher: &mut Searcher) -> bool {
+    matches!(count_non_ascii_lines(searcher, BYTES), Ok(2)) && asks_ahead(searcher)
+}
+
+fn asks_ahead(searcher: &mut Searcher) -> bool {
+    let asked: [&[u8]; 3] = [BYTES, &BYTES[6..], &BYTES[11..]];
+    let matcher = Counting::new(NonAscii, &asked, None);
+    matches!(count_matching_lines(searcher, &matcher, BYTES), Ok(2))
+        && matcher.counts().candidates == 3
+        && matcher.calls() == 3
+        && matcher.strays() == 0
 }
 
 fn counts_in_a_reader(searcher: &mut Searcher) -> bool {
