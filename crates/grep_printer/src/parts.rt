@@ -1,6 +1,6 @@
 //! The parts of some bytes that match.
 ghost use Rattle.std.specs.Prelude.{◌≡◌, ◌⊎◌, ◌<◌, ◌^◌, ◌++◌, ◌∷◌, [], IfErr, IfOk, OnOk, length};
-ghost use Rattle.std.specs.Prelude.{if◌then◌else◌, true};
+ghost use Rattle.std.specs.Prelude.{if◌then◌else◌, true, ◌≤◌, OnErr, vec_capacity, vec_len};
 ghost use Rattle.grep_matcher.specs.FindResults.{IsFrom};
 ghost use Rattle.grep_searcher.specs.SearchErrors.{IsOutOfMemory};
 ghost use Rattle.grep_printer.specs.MatchedParts.{AreInOrder, IsMatcherError, found_from};
@@ -81,10 +81,12 @@ fn find_parts<M: FindAt>(
     }
 }
 
-// Pushes a match, unless it is empty and the one before it ended there.
+// Pushes a match, unless it is empty and the one before it ended there. It fails only where there
+// was no room for it, so that memory was asked for.
 fn push_part(parts: &mut Vec<Match>, end: Option<usize>, found: Match) -> Result<(), AllocError>
-    ensures { OnOk result (parts.new.items
+    ensures parts { OnOk result (parts.new.items
         ≡ (if is_passed end found then parts.old.items else parts.old.items ++ found ∷ [])) }
+    ensures fails { OnErr result (vec_capacity parts.old ≤ vec_len parts.old) }
 {
     if is_passed(end, &found) {
         return Ok(());

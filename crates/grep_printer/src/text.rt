@@ -1,5 +1,6 @@
 //! The text of one call, to which a printer pushes piece by piece.
-ghost use Rattle.std.specs.Prelude.{◌≡◌, [], false, IfErr, OnOk};
+ghost use Rattle.std.specs.Prelude.{◌≡◌, ◌<◌, ◌+◌, [], false, true, IfErr, OnOk, length};
+ghost use Rattle.std.specs.Prelude.{vec_capacity, vec_len};
 ghost use Rattle.grep_searcher.specs.SearchErrors.{IsOutOfMemory};
 ghost use Rattle.grep_printer.specs.Pushes.{Adds};
 
@@ -31,9 +32,11 @@ impl Text {
         self.bytes.clear();
     }
 
-    // Pushes bytes.
+    // Pushes bytes. It fails only where there was no room for them, so that memory was asked for.
     pub(crate) fn push(&mut self, bytes: &[u8])
-        ensures { Adds self.old self.new bytes.now }
+        ensures adds { Adds self.old self.new bytes.now }
+        ensures fails { self.old.has_failed ≡ false → self.new.has_failed ≡ true
+            → vec_capacity self.old.bytes < vec_len self.old.bytes + length bytes.now }
     {
         if !self.has_failed {
             self.has_failed = self.bytes.extend_from_slice(bytes).is_err();

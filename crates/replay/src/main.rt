@@ -3,6 +3,7 @@
 #![tactic(auto)]
 
 mod case;
+mod failing;
 mod printing;
 mod row;
 mod run;

@@ -1,6 +1,7 @@
 //! The search of a row, and what a printer makes of it.
+use crate::failing::Failing;
 use crate::row::{Kind, Row};
-use crate::texts::{compile, texts};
+use crate::texts::{LONG_PATH, Searched, compile, long_text, texts};
 use grep_output::{Output, Writing};
 use grep_printer::{Json, Standard, Stats, Summary};
 use grep_regex::Regex;
@@ -30,10 +31,30 @@ fn print_line<W: io::Write>(alloc: Global, line: &str, output: &mut W) -> io::Re
 }
 
 fn print_row<W: io::Write>(alloc: Global, row: &Row<'_>, output: &mut W) -> io::Result<()> {
-    match print_search(alloc, row, Writing::new(&mut *output)) {
+    let mut text = Vec::new(alloc);
+    let ended = print_search(alloc, row, Writing::new(&mut text));
+    write_shortened(&text, output)?;
+    match ended {
         Ok(()) => Ok(()),
         Err(error) => writeln!(output, "err {error}"),
     }
+}
+
+// Writes a text. Of a byte that is there more often than 80 times in a row it writes one, and how
+// many there are.
+fn write_shortened<W: io::Write>(text: &[u8], output: &mut W) -> io::Result<()> {
+    for run in text.chunk_by(|byte, next| byte == next) {
+        write_run(run, output)?;
+    }
+    Ok(())
+}
+
+fn write_run<W: io::Write>(run: &[u8], output: &mut W) -> io::Result<()> {
+    if run.len() <= 80 {
+        return output.write_all(run);
+    }
+    output.write_all(&run[..1])?;
+    write!(output, "{{{}}}", run.len())
 }
 
 // Writes what the printer of a row makes of its search.
@@ -42,6 +63,9 @@ fn print_search<W: Output + Drop>(
     row: &Row<'_>,
     writer: W,
 ) -> Result<(), SearchError> {
+    if row.fails {
+        return print_matches(alloc, row, &Failing, writer);
+    }
     let regex = compile(alloc, row.pattern, row.is_across)?;
     print_regex(alloc, row, &regex, writer)
 }
@@ -84,7 +108,11 @@ fn print_by<M: FindAt, P: Printer>(
     printer: &mut P,
 ) -> Result<(), SearchError> {
     let mut searcher = row.search.build(alloc)?;
-    for (path, text) in texts(row.searches_bytes) {
+    if let Searched::Long = row.searched {
+        let text = long_text(alloc)?;
+        printer.print(&mut searcher, matcher, LONG_PATH, &text)?;
+    }
+    for (path, text) in texts(row.searched) {
         printer.print(&mut searcher, matcher, path, text)?;
     }
     printer.finish()

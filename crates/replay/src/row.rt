@@ -1,4 +1,5 @@
 //! A row: a search of texts that are held here, and what writes its reports.
+use crate::texts::{LONG_PATH, Searched};
 use grep_printer::{
     ColorSpecs, JsonBuilder, SearchSeparator, StandardBuilder, SummaryBuilder, SummaryKind,
 };
@@ -22,8 +23,10 @@ pub struct Row<'r> {
     pub kind: Kind,
     /// What is searched for.
     pub pattern: &'r str,
-    /// Whether the text that isn't UTF-8 is searched, in place of the others.
-    pub searches_bytes: bool,
+    /// What is searched.
+    pub searched: Searched,
+    /// Whether the matcher matches nothing, and fails where a printer asks it.
+    pub fails: bool,
     /// Whether a match may run over several lines.
     pub is_across: bool,
     /// The settings of the search.
@@ -38,7 +41,7 @@ pub struct Row<'r> {
 
 impl<'r> Row<'r> {
     /// The row of a line, if each of its words is known: options, then the pattern, and after it
-    /// the path of the text that isn't UTF-8, if that is to be searched.
+    /// the path of another text, if that is to be searched.
     pub fn read(line: &'r str) -> Option<Row<'r>> {
         let mut row = Row::new();
         for word in line.split(' ') {
@@ -53,7 +56,8 @@ impl<'r> Row<'r> {
         Row {
             kind: Kind::Lines,
             pattern: "",
-            searches_bytes: false,
+            searched: Searched::Short,
+            fails: false,
             is_across: false,
             search: SearcherBuilder::new(),
             lines: StandardBuilder::new(),
@@ -79,6 +83,7 @@ impl<'r> Row<'r> {
             "always_begin_end" => {
                 self.json.always_begin_end(true);
             }
+            "fails" => self.fails = true,
             "-c" | "--count-matches" | "-l" | "--files-without-match" | "-q" => {
                 self.kind = Kind::Summary;
             }
@@ -130,8 +135,12 @@ impl<'r> Row<'r> {
             self.pattern = word;
             return !word.starts_with('-');
         }
-        self.searches_bytes = true;
-        word == "bytes.txt"
+        match word {
+            "bytes.txt" => self.searched = Searched::Bytes,
+            LONG_PATH => self.searched = Searched::Long,
+            _ => return false,
+        }
+        true
     }
 }
 

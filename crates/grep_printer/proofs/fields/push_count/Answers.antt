@@ -4,9 +4,9 @@ use Rattle.grep_printer.proofs.fields.push_count.Goals as goal
 
 pub returns : goal.returns
 returns c = λ made.
-    let third = c.push-2.ensures made in
+    let third = c.push-2.ensures.adds made in
     let second = c.push_digits.ensures third.0 in
-    let first = c.push.ensures second.0 in
+    let first = c.push.ensures.adds second.0 in
     let old : List ℕ = c.args.text.now.bytes.items in
     let start : List ℕ = codes "[Omitted long line with " in
     let digits : List ℕ = decimal c.args.count in

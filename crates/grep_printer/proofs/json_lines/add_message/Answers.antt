@@ -5,7 +5,7 @@ use Rattle.grep_printer.proofs.json_lines.add_message.Goals as goal
 pub returns : goal.returns
 unfolding json_line
 returns c = λ made.
-    let pushed = c.push.ensures made in
+    let pushed = c.push.ensures.adds made in
     let message = c.push_message.ensures pushed.0 in (
       message.0,
       simp (

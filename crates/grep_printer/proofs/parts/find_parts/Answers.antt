@@ -20,4 +20,4 @@ loop-found-preserved g c =
     rw (c.position_after-position.ensures, c.end.ensures.value)
     (finding-more first_at (length c.args.bytes.now) c.args.limit c.loop-found.parts.items c.loop-found.position
     c.loop-found.end found c.push_part.new.parts.items c.loop-found.invariant is from.0 from.1.0 from.1.1
-    c.in_default.ensures)
+    c.in_default.ensures.parts)

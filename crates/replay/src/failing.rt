@@ -1,0 +1,49 @@
+//! A matcher that fails where a printer asks it.
+use grep_matcher::{ByteSet, FindAt, LineTerminator, Match, Matcher};
+
+/// The error of `Failing`, of 300 bytes.
+const MESSAGE: &str =
+    "this matcher matches nothing, so that lines are reported only if those without a match are selected, and it fails as soon as a printer asks it for the parts of one of them: its error is as long as that of a long expression, and a printer has to keep all of its three hundred bytes, up to the last one";
+
+/// Matches nothing, and fails when it is asked for the first match from a position on, as a printer
+/// asks for the parts of a report.
+#[derive(Drop)]
+pub struct Failing;
+
+impl Matcher for Failing {
+    type Error = &'static str;
+
+    ghost use Rattle.std.specs.Prelude.{None};
+    ghost use Rattle.grep_matcher.specs.FindResults.{plain};
+
+    ghost facts = { λ _. record {
+      meaning = plain (λ _. None);
+      fails = λ _ _. Unit {0};
+      is_lawful = λ _. Unit {0};
+    } };
+
+    fn find(&self, _haystack: &[u8]) -> Result<Option<Match>, &'static str> {
+        Ok(None)
+    }
+
+    fn line_terminator(&self) -> Option<LineTerminator> {
+        None
+    }
+
+    fn non_matching_bytes(&self) -> Option<&ByteSet> {
+        None
+    }
+}
+
+impl FindAt for Failing {
+    ghost use Rattle.std.specs.Prelude.{None};
+    ghost use Rattle.replay.specs.NoMatches.{no-matches};
+
+    ghost first_at = { λ _ _ _. None };
+
+    ghost are_first = { λ _. no-matches };
+
+    fn find_at(&self, _haystack: &[u8], _start: usize) -> Result<Option<Match>, &'static str> {
+        Err(MESSAGE)
+    }
+}
