@@ -6,12 +6,13 @@ use Rattle.std.specs.Prelude.{Bool, Err, List, Ok, Option, ℕ, true}
 use Rattle.grep_output.proofs.OutputLemmas.{Writes-none, Writes-more}
 use Rattle.grep_output.specs.Outputs.{Begins, FailsToWrite, OutputCall, WritesAll}
 use Rattle.grep_matcher.specs.Meanings.{MatcherFacts}
-use Rattle.grep_searcher.specs.Plans.{Call, Plan, IsRun, reported_bytes, Settings}
+use Rattle.grep_searcher.specs.Plans.{AreMade, Call, IsRun, Plan, Planned, Settings, all_true, reported_bytes}
+use Rattle.grep_searcher.specs.SearchLaws.{calls_of}
 use Rattle.grep_searcher.specs.declared.SearchError.{SearchError}
 use Rattle.grep_printer.proofs.JsonStepLemmas.{same-json}
-use Rattle.grep_printer.proofs.RunFoldLemmas.{run-fails, run-keeps}
+use Rattle.grep_printer.proofs.RunFoldLemmas.{made-keeps, run-fails, run-keeps}
 use Rattle.grep_printer.proofs.TextFailureLemmas.{begins-before, begins-itself}
-use Rattle.grep_printer.specs.JsonSteps.{FailsAlongJson, IsSameJson, PrintsJson}
+use Rattle.grep_printer.specs.JsonSteps.{FailsAlongJson, IsSameJson, PrintsJson, PrintsJsonCalls}
 use Rattle.grep_printer.specs.JsonSteps.{PrintsJsonCall, PrintsJsonPlan, json_frame, json_text_of}
 use Rattle.grep_printer.specs.JsonTexts.{JsonFrame, JsonPrinted, json_printed_with, json_progress, json_text}
 use Rattle.grep_printer.specs.JsonTexts.{nothing_json_printed}
@@ -73,6 +74,17 @@ module _ {M W F : Type 0} (output : F → Option (List ℕ)) (facts : M → Matc
     progress = refl;
     has_failed = refl;
   }
+
+  -- calls that all returned true
+  pub calls-print-json : (old : JsonSink M W) (calls : List Planned) (new : JsonSink M W)
+      → AreMade (PrintsJsonCall output facts first_at write_step) settings old calls all_true new
+      → PrintsJsonCalls output facts first_at write_step old settings (calls_of calls) new
+  calls-print-json old calls new made =
+      let frame = json_frame facts first_at old settings in
+      let end = made-keeps (PrintsJsonCall output facts first_at write_step) settings (HasPrinted frame old)
+      (λ printed call. true) (json_printed_with frame) (printed-more frame old) calls
+      (nothing_json_printed old.progress) old new (printed-none old) made in
+      record { same = end.same; written = end.written; progress = end.progress; has_failed = end.has_failed }
 
   -- a run along a plan that ended in `Ok`
   pub run-prints-json : (old : JsonSink M W) (plan : Plan) (new : JsonSink M W)

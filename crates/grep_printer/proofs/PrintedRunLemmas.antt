@@ -5,15 +5,16 @@ use Rattle.std.specs.Prelude.{ℕ, List, Option, Bool, ◌||◌, Err, Ok}
 use Rattle.grep_output.proofs.OutputLemmas.{Writes-none, Writes-more}
 use Rattle.grep_output.specs.Outputs.{Begins, FailsToWrite, OutputCall, WritesAll}
 use Rattle.grep_matcher.specs.Meanings.{MatcherFacts}
-use Rattle.grep_searcher.specs.Plans.{Call, Plan, IsRun, reported_bytes, Settings}
+use Rattle.grep_searcher.specs.Plans.{AreMade, Call, IsRun, Plan, Planned, Settings, all_true, reported_bytes}
+use Rattle.grep_searcher.specs.SearchLaws.{calls_of}
 use Rattle.grep_searcher.specs.declared.SearchError.{SearchError}
-use Rattle.grep_printer.proofs.RunFoldLemmas.{run-fails, run-keeps}
+use Rattle.grep_printer.proofs.RunFoldLemmas.{made-keeps, run-fails, run-keeps}
 use Rattle.grep_printer.proofs.SomeTextLemmas.{text-more, text-none}
 use Rattle.grep_printer.proofs.TextFailureLemmas.{begins-before, begins-itself}
 use Rattle.grep_printer.proofs.StandardStepLemmas.{same-more}
 use Rattle.grep_printer.specs.ReportedParts.{FailsAtReport}
 use Rattle.grep_printer.specs.StandardSteps.{FailsAlongPlan, IsSameSink, Prints, PrintsCall}
-use Rattle.grep_printer.specs.StandardSteps.{PrintsPlan, frame_of, text_of}
+use Rattle.grep_printer.specs.StandardSteps.{PrintsCalls, PrintsPlan, frame_of, text_of}
 use Rattle.grep_printer.specs.StandardTexts.{Frame, Printed, call_text, goes_on, is_text, nothing_printed}
 use Rattle.grep_printer.specs.StandardTexts.{printed_by, printed_with, progress_after}
 use Rattle.grep_printer.specs.declared.standard.StandardSink.{StandardSink}
@@ -78,6 +79,23 @@ module _ {M W F : Type 0} (output : F → Option (List ℕ)) (facts : M → Matc
     has_written = text-none old.printer.now.has_written;
     has_failed = refl;
   }
+
+  -- calls that all returned true
+  pub calls-print : (old : StandardSink M W) (calls : List Planned) (new : StandardSink M W)
+      → AreMade (PrintsCall output facts first_at write_step) settings old calls all_true new
+      → PrintsCalls output facts first_at write_step old settings (calls_of calls) new
+  calls-print old calls new made =
+      let frame = frame_of facts first_at old settings in
+      let end = made-keeps (PrintsCall output facts first_at write_step) settings (HasPrinted frame old)
+      (λ printed call. goes_on frame printed.progress call) (printed_with frame) (printed-more frame old) calls
+      (nothing_printed old.progress) old new (printed-none old) made in
+      record {
+        same = end.same;
+        written = end.written;
+        progress = end.progress;
+        has_written = end.has_written;
+        has_failed = end.has_failed;
+      }
 
   -- a run along a plan that ended in `Ok`
   pub run-prints : (old : StandardSink M W) (plan : Plan) (new : StandardSink M W)

@@ -3,7 +3,7 @@ use Rattle.std.proofs.Common.{◌≡◌, List, [], ◌∷◌, ap, inl, inr, refl
 use Rattle.std.specs.List.{fold}
 use Rattle.std.specs.Prelude.{Bool, true, false, Err, Ok, if◌then◌else◌}
 use Rattle.grep_searcher.specs.Plans.{Call, Plan, Planned, Finish, Outcome, AreMade, IsFinished}
-use Rattle.grep_searcher.specs.Plans.{IsRun, Steps, finishes, Settings}
+use Rattle.grep_searcher.specs.Plans.{IsRun, Steps, all_true, finishes, Settings}
 use Rattle.grep_searcher.specs.SearchLaws.{calls_of}
 use Rattle.grep_searcher.specs.SinkFolds.{run_fold}
 use Rattle.grep_printer.specs.TextFailures.{ComesTo, IsNextCall}
@@ -59,6 +59,15 @@ module _ {S E P : Type 0} (step : Steps S E) (settings : Settings) (Has : P → 
       → Has (run_fold goes next made plan.calls plan.finish) new
   run-keeps made old plan new has run =
       keeps plan.finish new plan.calls made old run.mid run.outcome has run.made run.finished
+
+  -- and so do calls that all returned true
+  pub made-keeps : (calls : List Planned) (made : P) (old new : S) → Has made old
+      → AreMade step settings old calls all_true new → Has (fold next made (calls_of calls)) new
+  made-keeps [] made old new has (is, same) = subst (λ s. Has made s) (sym same) has
+  made-keeps (planned ∷ later) made old new has (inl (between, here, rest)) =
+      made-keeps later (next made planned.call) between new (more made old planned.call true between has here).1 rest
+  made-keeps (planned ∷ later) made old new has (inr (inl (is, here))) = absurd (let never = is in cc)
+  made-keeps (planned ∷ later) made old new has (inr (inr (e, is, here))) = absurd (let never = is in cc)
 
   -- a call fails after others, and what is made with it leads to an end
   pub record FailsOnTheWay (Leads : P → P → Type 0) (start : P) (calls : List Planned) (finish : Finish) (e : E)

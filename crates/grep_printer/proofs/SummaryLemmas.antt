@@ -6,13 +6,14 @@ use Rattle.std.specs.Prelude.{Bool, Err, List, Ok, Option, ℕ}
 use Rattle.grep_output.proofs.OutputLemmas.{Writes-none, Writes-more}
 use Rattle.grep_output.specs.Outputs.{Begins, FailsToWrite, OutputCall, WritesAll}
 use Rattle.grep_matcher.specs.Meanings.{MatcherFacts}
-use Rattle.grep_searcher.specs.Plans.{Call, Plan, IsRun, reported_bytes, Settings}
+use Rattle.grep_searcher.specs.Plans.{AreMade, Call, IsRun, Plan, Planned, Settings, all_true, reported_bytes}
+use Rattle.grep_searcher.specs.SearchLaws.{calls_of}
 use Rattle.grep_searcher.specs.declared.SearchError.{SearchError}
-use Rattle.grep_printer.proofs.RunFoldLemmas.{run-fails, run-keeps}
+use Rattle.grep_printer.proofs.RunFoldLemmas.{made-keeps, run-fails, run-keeps}
 use Rattle.grep_printer.proofs.TextFailureLemmas.{begins-before, begins-itself}
 use Rattle.grep_printer.specs.ReportedParts.{FailsAtReport}
 use Rattle.grep_printer.specs.SummarySteps.{FailsAlongSummary, IsSameSummary, SumsUpCall, SumsUp, SumsUpPlan}
-use Rattle.grep_printer.specs.SummarySteps.{sum_of, summary_frame}
+use Rattle.grep_printer.specs.SummarySteps.{SumsUpCalls, sum_of, summary_frame}
 use Rattle.grep_printer.specs.SummaryTexts.{SummaryFrame, Summed, counts_after, counts_parts, nothing_summed}
 use Rattle.grep_printer.specs.SummaryTexts.{summary_text, summed_with, sums_on}
 use Rattle.grep_printer.specs.declared.summary.SummarySink.{SummarySink}
@@ -81,6 +82,17 @@ module _ {M W F : Type 0} (output : F → Option (List ℕ)) (facts : M → Matc
     counts = refl;
     has_failed = refl;
   }
+
+  -- calls that all returned true
+  pub calls-sum-up : (old : SummarySink M W) (calls : List Planned) (new : SummarySink M W)
+      → AreMade (SumsUp output facts first_at write_step) settings old calls all_true new
+      → SumsUpCalls output facts first_at write_step old settings (calls_of calls) new
+  calls-sum-up old calls new made =
+      let frame = summary_frame facts first_at old settings in
+      let end = made-keeps (SumsUp output facts first_at write_step) settings (HasSummed frame old)
+      (λ summed call. sums_on frame.config.kind call) (summed_with frame) (summed-more frame old) calls
+      (nothing_summed old.counts) old new (summed-none old) made in
+      record { same = end.same; written = end.written; counts = end.counts; has_failed = end.has_failed }
 
   -- a run along a plan that ended in `Ok`
   pub run-sums-up : (old : SummarySink M W) (plan : Plan) (new : SummarySink M W)

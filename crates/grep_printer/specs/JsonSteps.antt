@@ -5,12 +5,15 @@ use Rattle.std.specs.Global.{Global}
 use Rattle.std.specs.declared.io.Error.{Error}
 use Rattle.grep_output.specs.Outputs.{OutputCall, FailsToWrite, WritesAll}
 use Rattle.grep_matcher.specs.Meanings.{MatcherFacts}
-use Rattle.grep_searcher.specs.Plans.{Call, Plan, IsRun, reported_bytes, Settings}
+use Rattle.grep_searcher.specs.Plans.{AreMade, Call, IsRun, Plan, Planned, all_true}
+use Rattle.grep_searcher.specs.Plans.{reported_bytes, Settings}
+use Rattle.grep_searcher.specs.SearchLaws.{calls_of}
 use Rattle.grep_searcher.specs.SearchErrors.{IsOutOfMemory}
 use Rattle.grep_searcher.specs.declared.SearchError.{SearchError}
 use Rattle.grep_searcher.specs.declared.SearchError.TheVariants.{Io}
-use Rattle.grep_printer.specs.JsonTexts.{JsonFrame, json_printed_of, json_printed_with}
-use Rattle.grep_printer.specs.JsonTexts.{json_progress, json_text, nothing_json_printed}
+use Rattle.grep_printer.specs.JsonTexts.{JsonFrame, json_printed_by, json_printed_of}
+use Rattle.grep_printer.specs.JsonTexts.{json_printed_with, json_progress, json_text}
+use Rattle.grep_printer.specs.JsonTexts.{nothing_json_printed}
 use Rattle.grep_printer.specs.ReportedParts.{FailsAtReport}
 use Rattle.grep_printer.specs.TextFailures.{FailsAtCall}
 use Rattle.grep_printer.specs.declared.json_printer.Json.{Json}
@@ -140,6 +143,25 @@ module _ {M W F : Type 0} (output : F → Option (List ℕ)) (facts : M → Matc
         ≡ (json_printed_of (json_frame facts first_at old settings) old.progress plan).progress
     pub has_failed : new.printer.now.has_failed ≡ old.printer.now.has_failed
 
+  -- the texts of some calls are written
+  pub record PrintsJsonCalls (old : JsonSink M W) (settings : Settings) (calls : List Call)
+      (new : JsonSink M W) : Type 0 where
+    pub same : IsSameJson old new
+    pub written : WritesAll write_step old.printer.now.writer
+        (json_printed_by (json_frame facts first_at old settings) old.progress calls).text
+        new.printer.now.writer
+    pub progress : new.progress
+        ≡ (json_printed_by (json_frame facts first_at old settings) old.progress calls).progress
+    pub has_failed : new.printer.now.has_failed ≡ old.printer.now.has_failed
+
+  -- calls that were made and all returned true, as those before reading failed, have written their
+  -- texts
+  abbrev pub CallsPrintJson : Type 0
+  CallsPrintJson =
+      (settings : Settings) (old : JsonSink M W) (calls : List Planned) (new : JsonSink M W)
+      → AreMade PrintsJsonCall settings old calls all_true new
+      → PrintsJsonCalls old settings (calls_of calls) new
+
   -- a run of the sink that ended in `Ok` has written the text of its plan
   abbrev pub RunsPrintJson : Type 0
   RunsPrintJson =
@@ -152,8 +174,8 @@ module _ {M W F : Type 0} (output : F → Option (List ℕ)) (facts : M → Matc
   abbrev pub FailsAlongJson : JsonSink M W → Settings → Plan → SearchError Global → JsonSink M W
       → Type 0
   FailsAlongJson old settings plan e new =
-      FailsAtCall (λ printed call. true) (json_printed_with (json_frame facts first_at old settings))
-      (λ printed. printed.text)
+      FailsAtCall (λ printed call. true)
+      (json_printed_with (json_frame facts first_at old settings)) (λ printed. printed.text)
       (λ printed call. json_text (json_frame facts first_at old settings) printed.progress call)
       write_step (nothing_json_printed old.progress) plan old.printer.now.writer
       old.printer.now.has_failed e

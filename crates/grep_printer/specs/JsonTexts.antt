@@ -2,6 +2,7 @@
 use Rattle.std.specs.Prelude.{ℕ, Bool, true, false, ◌&&◌, if◌then◌else◌, List, [], ◌++◌, length}
 use Rattle.std.specs.Prelude.{codes, Option, None, Some, is_some, not, unwrap_or}
 use Rattle.std.specs.Borrow.{Bor}
+use Rattle.std.specs.List.{fold}
 use Rattle.grep_matcher.specs.Lines.{byte_of}
 use Rattle.grep_searcher.specs.Lines.{lines}
 use Rattle.grep_searcher.specs.Meanings.{Meaning}
@@ -155,6 +156,11 @@ json_printed_with frame printed call = record {
 -- before any call
 abbrev pub nothing_json_printed : JsonProgress → JsonPrinted
 nothing_json_printed progress = record { progress = progress; text = [] }
+
+-- with some calls, in order
+abbrev pub json_printed_by : JsonFrame → JsonProgress → List Call → JsonPrinted
+json_printed_by frame progress calls =
+    fold (json_printed_with frame) (nothing_json_printed progress) calls
 
 -- what it makes of a search along a plan
 abbrev pub json_printed_of : JsonFrame → JsonProgress → Plan → JsonPrinted

@@ -4,7 +4,9 @@ use Rattle.std.specs.Global.{Global}
 use Rattle.std.specs.declared.io.Error.{Error}
 use Rattle.grep_output.specs.Outputs.{OutputCall, FailsToWrite, WritesAll}
 use Rattle.grep_matcher.specs.Meanings.{MatcherFacts}
-use Rattle.grep_searcher.specs.Plans.{Call, Plan, IsRun, reported_bytes, Settings}
+use Rattle.grep_searcher.specs.Plans.{AreMade, Call, IsRun, Plan, Planned, all_true}
+use Rattle.grep_searcher.specs.Plans.{reported_bytes, Settings}
+use Rattle.grep_searcher.specs.SearchLaws.{calls_of}
 use Rattle.grep_searcher.specs.SearchErrors.{IsOutOfMemory}
 use Rattle.grep_searcher.specs.declared.SearchError.{SearchError}
 use Rattle.grep_searcher.specs.declared.SearchError.TheVariants.{Io}
@@ -145,6 +147,28 @@ module _ {M W F : Type 0} (output : F → Option (List ℕ)) (facts : M → Matc
         ≡ (old.printer.now.has_written
         || is_text (printed_of (frame_of facts first_at old settings) old.progress plan).text)
     pub has_failed : new.printer.now.has_failed ≡ old.printer.now.has_failed
+
+  -- the texts of some calls are written
+  pub record PrintsCalls (old : StandardSink M W) (settings : Settings) (calls : List Call)
+      (new : StandardSink M W) : Type 0 where
+    pub same : IsSameSink old new
+    pub written : WritesAll write_step old.printer.now.writer
+        (printed_by (frame_of facts first_at old settings) old.progress calls).text
+        new.printer.now.writer
+    pub progress : new.progress
+        ≡ (printed_by (frame_of facts first_at old settings) old.progress calls).progress
+    pub has_written : new.printer.now.has_written
+        ≡ (old.printer.now.has_written
+        || is_text (printed_by (frame_of facts first_at old settings) old.progress calls).text)
+    pub has_failed : new.printer.now.has_failed ≡ old.printer.now.has_failed
+
+  -- calls that were made and all returned true, as those before reading failed, have written their
+  -- texts
+  abbrev pub CallsPrint : Type 0
+  CallsPrint =
+      (settings : Settings) (old : StandardSink M W) (calls : List Planned)
+      (new : StandardSink M W) → AreMade PrintsCall settings old calls all_true new
+      → PrintsCalls old settings (calls_of calls) new
 
   -- a run of the sink that ended in `Ok` has written the text of its plan
   abbrev pub RunsPrint : Type 0

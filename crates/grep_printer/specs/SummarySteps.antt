@@ -4,13 +4,16 @@ use Rattle.std.specs.Global.{Global}
 use Rattle.std.specs.declared.io.Error.{Error}
 use Rattle.grep_output.specs.Outputs.{OutputCall, FailsToWrite, WritesAll}
 use Rattle.grep_matcher.specs.Meanings.{MatcherFacts}
-use Rattle.grep_searcher.specs.Plans.{Call, Plan, IsRun, reported_bytes, Settings}
+use Rattle.grep_searcher.specs.Plans.{AreMade, Call, IsRun, Plan, Planned, all_true}
+use Rattle.grep_searcher.specs.Plans.{reported_bytes, Settings}
+use Rattle.grep_searcher.specs.SearchLaws.{calls_of}
 use Rattle.grep_searcher.specs.SearchErrors.{IsOutOfMemory}
 use Rattle.grep_searcher.specs.declared.SearchError.{SearchError}
 use Rattle.grep_searcher.specs.declared.SearchError.TheVariants.{Io}
 use Rattle.grep_printer.specs.ReportedParts.{FailsAtReport}
 use Rattle.grep_printer.specs.SummaryTexts.{SummaryFrame, counts_after, counts_parts, summary_text}
-use Rattle.grep_printer.specs.SummaryTexts.{nothing_summed, summed_of, summed_with, sums_on}
+use Rattle.grep_printer.specs.SummaryTexts.{nothing_summed, summed_by, summed_of, summed_with}
+use Rattle.grep_printer.specs.SummaryTexts.{sums_on}
 use Rattle.grep_printer.specs.TextFailures.{FailsAtCall}
 use Rattle.grep_printer.specs.declared.summary.Summary.{Summary}
 use Rattle.grep_printer.specs.declared.summary.SummarySink.{SummarySink}
@@ -125,6 +128,25 @@ module _ {M W F : Type 0} (output : F → Option (List ℕ)) (facts : M → Matc
     pub counts : new.counts
         ≡ (summed_of (summary_frame facts first_at old settings) old.counts plan).counts
     pub has_failed : new.printer.now.has_failed ≡ old.printer.now.has_failed
+
+  -- some calls are counted, and their texts written
+  pub record SumsUpCalls (old : SummarySink M W) (settings : Settings) (calls : List Call)
+      (new : SummarySink M W) : Type 0 where
+    pub same : IsSameSummary old new
+    pub written : WritesAll write_step old.printer.now.writer
+        (summed_by (summary_frame facts first_at old settings) old.counts calls).text
+        new.printer.now.writer
+    pub counts : new.counts
+        ≡ (summed_by (summary_frame facts first_at old settings) old.counts calls).counts
+    pub has_failed : new.printer.now.has_failed ≡ old.printer.now.has_failed
+
+  -- calls that were made and all returned true, as those before reading failed, are counted, and
+  -- have written their texts
+  abbrev pub CallsSumUp : Type 0
+  CallsSumUp =
+      (settings : Settings) (old : SummarySink M W) (calls : List Planned) (new : SummarySink M W)
+      → AreMade SumsUp settings old calls all_true new
+      → SumsUpCalls old settings (calls_of calls) new
 
   -- a run of the sink that ended in `Ok` has written the text of its plan
   abbrev pub RunsSumUp : Type 0

@@ -2,6 +2,7 @@
 use Rattle.std.specs.Prelude.{ℕ, nat_lt, Bool, true, false, ◌==◌, if◌then◌else◌, List, [], ◌∷◌}
 use Rattle.std.specs.Prelude.{◌++◌, decimal, length, Option, None, is_some, ◌&&◌}
 use Rattle.std.specs.Borrow.{Bor}
+use Rattle.std.specs.List.{fold}
 use Rattle.std.specs.Option.{unwrap_or}
 use Rattle.grep_matcher.specs.Lines.{byte_of}
 use Rattle.grep_searcher.specs.BinaryDetections.{quit_byte_of}
@@ -160,6 +161,10 @@ summed_with frame summed call = record {
 -- before any call, after what was reported
 abbrev pub nothing_summed : Counts → Summed
 nothing_summed counts = record { counts = counts; text = [] }
+
+-- with some calls, in order
+abbrev pub summed_by : SummaryFrame → Counts → List Call → Summed
+summed_by frame counts calls = fold (summed_with frame) (nothing_summed counts) calls
 
 -- what it makes of a search along a plan: of the calls up to the first after which the search
 -- doesn't go on, and of `finish`

@@ -283,8 +283,8 @@ where
 {}
 
 /// If the matcher never fails and is lawful, and the search isn't refused, an error of a search of
-/// a slice is that of a step of the sink, or it is made of the reason why the slice, which has to be
-/// decoded, wasn't decoded to its end. Pass the sink, since a closure's type has no name.
+/// a slice is that of a step of the sink, or it is made of the reason why the slice, which has to
+/// be decoded, wasn't decoded to its end. Pass the sink, since a closure's type has no name.
 pub fn slices_fail<A: Allocator + Copy, M: Matcher, S: Sink>(_: &S)
 where
     S::Error: SinkError<A>,
@@ -293,8 +293,8 @@ where
 {}
 
 /// If the matcher never fails and is lawful, and the search isn't refused, an error of a search of
-/// a reader is that of a step of the sink, or it is made of the reason why the reader wasn't read to
-/// its end. Pass the sink, since a closure's type has no name.
+/// a reader is that of a step of the sink, or it is made of the reason why the reader wasn't read
+/// to its end. Pass the sink, since a closure's type has no name.
 pub fn readers_fail<A: Allocator + Copy, M: Matcher, R: Source, S: Sink>(_: &S)
 where
     S::Error: SinkError<A>,

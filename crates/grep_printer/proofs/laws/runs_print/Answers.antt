@@ -1,4 +1,4 @@
-use Rattle.grep_printer.proofs.PrintedRunLemmas.{run-prints, run-fails-to-print}
+use Rattle.grep_printer.proofs.PrintedRunLemmas.{calls-print, run-prints, run-fails-to-print}
 use Rattle.grep_printer.proofs.laws.runs_print.Goals as goal
 
 pub returns-clause-ok : goal.returns-clause-ok
@@ -6,3 +6,7 @@ returns-clause-ok g c = run-prints g.M.Error.Display.output g.M.Matcher.facts g.
 
 pub returns-clause-error : goal.returns-clause-error
 returns-clause-error g c = run-fails-to-print g.M.Error.Display.output g.M.Matcher.facts g.M.FindAt.first_at g.W.Output.step
+
+pub returns-clause-made : goal.returns-clause-made
+returns-clause-made g c =
+    calls-print g.M.Error.Display.output g.M.Matcher.facts g.M.FindAt.first_at g.W.Output.step
