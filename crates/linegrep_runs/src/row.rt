@@ -1,0 +1,98 @@
+//! A row: a command line, and what its standard streams are.
+use crate::streams::{Kept, Text};
+use grep_output::Writing;
+use grep_searcher::Reading;
+use linegrep_cli::{FileId, Streams, run};
+use percent_encoding::percent_decode_str;
+use std::alloc::Global;
+use std::io;
+
+/// A run, with what it reads and what it has written.
+#[derive(Drop)]
+pub struct Row {
+    arguments: Vec<String>,
+    streams: Streams,
+    input: Text,
+    output: Kept,
+    errors: Kept,
+}
+
+impl Row {
+    /// The row of a line: its words, with one space between them, are the arguments, but for those
+    /// that begin with `<` or `>` and say what a standard stream is. A `%` and two hexadecimal
+    /// digits stand for a byte.
+    pub fn read(rt: &HostRuntime, line: &str) -> io::Result<Row> {
+        let mut row = Row {
+            arguments: Vec::new(rt.alloc()),
+            streams: Streams {
+                is_terminal: false,
+                input: None,
+                output: None,
+            },
+            input: Text::new(rt.alloc()),
+            output: Kept::new(rt.alloc()),
+            errors: Kept::new(rt.alloc()),
+        };
+        for word in line.split(' ') {
+            row.add(rt, word)?;
+        }
+        Ok(row)
+    }
+
+    // Adds an argument, or says what a standard stream is.
+    fn add(&mut self, rt: &HostRuntime, word: &str) -> io::Result<()> {
+        if let Some(path) = word.strip_prefix("<=") {
+            self.streams.input = FileId::at(rt, path);
+        } else if let Some(text) = word.strip_prefix('<') {
+            self.input.set(text)?;
+        } else if let Some(kind) = word.strip_prefix('>') {
+            self.set_output(rt, kind);
+        } else {
+            self.arguments.push(argument(rt.alloc(), word)?)?;
+        }
+        Ok(())
+    }
+
+    fn set_output(&mut self, rt: &HostRuntime, kind: &str) {
+        match kind {
+            "terminal" => self.streams.is_terminal = true,
+            "full" => self.output.fail(io::ErrorKind::StorageFull),
+            "closed" => self.output.fail(io::ErrorKind::BrokenPipe),
+            path => self.streams.output = FileId::at(rt, path.strip_prefix('=').unwrap_or(path)),
+        }
+    }
+
+    /// Runs it, and gives the status.
+    pub fn run(&mut self, rt: &HostRuntime) -> u8 {
+        let mut input = Reading::new(&mut self.input);
+        let output = Writing::new(&mut self.output);
+        let mut errors = Writing::new(&mut self.errors);
+        run(
+            rt,
+            self.streams,
+            &self.arguments,
+            &mut input,
+            output,
+            &mut errors,
+        )
+    }
+
+    /// What it has written to standard output.
+    pub fn output(&self) -> &[u8] {
+        self.output.bytes()
+    }
+
+    /// What it has written to standard error.
+    pub fn errors(&self) -> &[u8] {
+        self.errors.bytes()
+    }
+}
+
+fn argument(alloc: Global, word: &str) -> io::Result<String> {
+    let mut bytes = Vec::new(alloc);
+    percent_decode_str(word).append_to(&mut bytes)?;
+    match String::from_utf8(bytes) {
+        Ok(text) => Ok(text),
+        Err(_) => Err(io::Error::from(io::ErrorKind::InvalidData)),
+    }
+}
