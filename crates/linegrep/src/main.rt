@@ -4,10 +4,10 @@
 use grep_output::Writing;
 use grep_searcher::Reading;
 use linegrep_cli::{FileId, Streams, run};
-use std::fmt::Display;
+use std::env::{Env, FillError};
+use std::io;
 use std::io::{BufWriter, IsTerminal};
 use std::process::ExitCode;
-use std::{env, io};
 
 // For how many bytes of text there is room before they are written. A terminal gets each text at
 // once.
@@ -16,20 +16,15 @@ const ROOM: usize = 64 * 1024;
 fn main(rt: HostRuntime) -> ExitCode {
     match grep(&rt) {
         Ok(status) => ExitCode::from(status),
-        Err(error) if error.kind() == io::ErrorKind::InvalidData => {
-            stop(&rt, &"an argument isn't UTF-8")
+        Err(error) => {
+            let _ = eprintln!(rt; "linegrep: {error}");
+            ExitCode::from(2)
         }
-        Err(error) => stop(&rt, &error),
     }
 }
 
-// Says what is wrong.
-fn stop<D: Display>(rt: &HostRuntime, text: &D) -> ExitCode {
-    let _ = eprintln!(rt; "linegrep: {text}");
-    ExitCode::from(2)
-}
-
-// Does what the arguments ask for, with the standard streams.
+// Does what the arguments ask for, with the standard streams. An error is one of being out of
+// memory.
 fn grep(rt: &HostRuntime) -> io::Result<u8> {
     let arguments = arguments(rt)?;
     let stdout = rt.stdout();
@@ -46,9 +41,30 @@ fn grep(rt: &HostRuntime) -> io::Result<u8> {
     Ok(run(rt, streams, &arguments, &mut input, output, &mut errors))
 }
 
-// The arguments after the program's name.
-fn arguments(rt: &HostRuntime) -> io::Result<Vec<String>> {
-    let mut arguments = env::args(rt)?;
-    let _ = arguments.next();
-    Ok(arguments.collect(rt.alloc())?)
+// The arguments after the program's name, as the system has them.
+fn arguments(rt: &HostRuntime) -> io::Result<Vec<Vec<u8>>> {
+    let mut arguments = Vec::new(rt.alloc());
+    for index in 1..usize::MAX {
+        match argument(rt, index)? {
+            Some(argument) => arguments.push(argument)?,
+            None => break,
+        }
+    }
+    Ok(arguments)
+}
+
+// The argument with an index, if there is one.
+fn argument(rt: &HostRuntime, index: usize) -> io::Result<Option<Vec<u8>>> {
+    let mut argument = vec![in rt.alloc(); 0u8; 256]?;
+    for _ in 0..usize::BITS {
+        match rt.arg(index, argument.as_mut_slice()) {
+            Ok(length) => {
+                argument.truncate(length);
+                return Ok(Some(argument));
+            }
+            Err(FillError::TooLong) => argument.resize(argument.len().saturating_mul(2), 0)?,
+            Err(FillError::NotPresent) => return Ok(None),
+        }
+    }
+    Err(io::Error::from(io::ErrorKind::OutOfMemory))
 }

@@ -1,4 +1,5 @@
 //! What the program says on standard error of what goes wrong.
+use crate::words::shown;
 use grep_output::{Output, write_all};
 use std::alloc::{AllocError, Global};
 use std::fmt::Display;
@@ -32,14 +33,9 @@ impl Failure {
     }
 
     /// What can't be read or written, and why: the system's words, without the number of the error.
+    /// The name is a word of `words`.
     pub fn of_cause<D: Display>(alloc: Global, name: &str, error: &D) -> Failure {
-        match format!(in alloc; "{error}") {
-            Ok(cause) => {
-                let words = words_of(cause.as_str());
-                Failure::of_text(format!(in alloc; "linegrep: {name}: {words}\n"))
-            }
-            Err(_) => Failure::out_of_memory(),
-        }
+        Failure::of_text(cause_text(alloc, name, error))
     }
 
     /// Why nothing more can be written.
@@ -61,9 +57,17 @@ impl Failure {
     }
 }
 
+fn cause_text<D: Display>(alloc: Global, name: &str, error: &D) -> Result<String, AllocError> {
+    let name = shown(alloc, name)?;
+    let cause = format!(in alloc; "{error}")?;
+    let words = words_of(cause.as_str());
+    format!(in alloc; "linegrep: {name}: {words}\n")
+}
+
 /// What the parser of the command line says: what is wrong with it, help or the version.
 pub fn usage_text(alloc: Global, error: &clap::Error) -> Result<String, AllocError> {
-    format!(in alloc; "{error}")
+    let text = format!(in alloc; "{error}")?;
+    shown(alloc, text.as_str())
 }
 
 fn words_of(cause: &str) -> &str {
@@ -88,7 +92,7 @@ pub fn pattern_failure(alloc: Global, texts: &[&str], error: &grep_regex::Error)
             Failure::of_text(marked(alloc, &error.kind.message(), text, place))
         }
         grep_regex::Error::NotAllowed(_) => { Failure::of_text(needing_u(alloc, error, texts)) }
-        other => Failure::of_text(shown(alloc, other, texts)),
+        other => Failure::of_text(caused(alloc, other, texts)),
     }
 }
 
@@ -103,7 +107,7 @@ fn marked<D: Display>(
 }
 
 // What is wrong with a pattern, which is written below unless it may be any of several.
-fn shown<D: Display>(alloc: Global, cause: &D, texts: &[&str]) -> Result<String, AllocError> {
+fn caused<D: Display>(alloc: Global, cause: &D, texts: &[&str]) -> Result<String, AllocError> {
     match texts {
         [text] => format!(in alloc; "linegrep: {cause}\n    {text}\n"),
         _ => format!(in alloc; "linegrep: {cause}\n"),
@@ -117,7 +121,7 @@ fn needing_u(
     texts: &[&str],
 ) -> Result<String, AllocError> {
     let cause = format!(in alloc; "{error}, which needs -U")?;
-    shown(alloc, &cause, texts)
+    caused(alloc, &cause, texts)
 }
 
 // Which character begins at a position of a text that is counted in bytes, from 1.

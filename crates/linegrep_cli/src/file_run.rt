@@ -7,6 +7,7 @@ use crate::option_id::OptionId;
 use crate::options::Options;
 use crate::printers::Searched;
 use crate::walk::{Entry, Walk};
+use crate::words::{NOT_UTF8, is_escaped};
 use std::fmt::Display;
 use std::fs::File;
 use std::{fs, io};
@@ -128,6 +129,8 @@ impl<'r, E: Engine> Run<'r, E> {
     fn search_operand(&mut self, path: &str) {
         if path == "-" {
             self.search_input();
+        } else if is_escaped(path) {
+            self.report(path, &NOT_UTF8);
         } else if self.scope.is_recursive && is_folder(self.rt, path) {
             self.search_folder(path);
         } else {

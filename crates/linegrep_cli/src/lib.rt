@@ -23,6 +23,7 @@ mod search;
 mod settings;
 mod walk;
 mod wildcards;
+mod words;
 
 pub use file_id::FileId;
 pub use program::{Streams, run};

@@ -6,6 +6,7 @@ use crate::options::Options;
 use crate::patterns::read_patterns;
 use crate::search::search_all;
 use crate::settings::{build_printer, build_searcher};
+use crate::words::{is_escaped, words};
 use clap::ArgMatches;
 use grep_output::{Output, write_all};
 use grep_searcher::Source;
@@ -25,7 +26,8 @@ pub struct Streams {
     pub output: Option<FileId>,
 }
 
-/// Does what the arguments ask for, which are without the program's name: searches the files at
+/// Does what the arguments ask for, which are without the program's name and as the system has them,
+/// whether they are UTF-8 or not: searches the files at
 /// their paths or, if there are none, what `input` gives or, with `-r`, the files of the current
 /// folder, writes to `output` what is found, and says on `errors` what goes wrong.
 ///
@@ -35,14 +37,14 @@ pub struct Streams {
 pub fn run<R: Source, W: Output + Drop, E: Output>(
     rt: &HostRuntime,
     streams: Streams,
-    arguments: &[String],
+    arguments: &[Vec<u8>],
     input: &mut R,
     output: W,
     errors: &mut E,
 ) -> u8 {
-    let ended = match parse(rt.alloc(), arguments) {
-        Ok(matches) => search_parsed(rt, streams, &matches, input, output, errors),
-        Err(error) => answer(rt.alloc(), &error, output),
+    let ended = match words(rt.alloc(), arguments) {
+        Ok(words) => run_words(rt, streams, &words, input, output, errors),
+        Err(_) => Err(Failure::out_of_memory()),
     };
     match ended {
         Ok(status) => status,
@@ -53,10 +55,25 @@ pub fn run<R: Source, W: Output + Drop, E: Output>(
     }
 }
 
-// Parses the arguments.
-fn parse<'w>(alloc: Global, arguments: &'w [String]) -> Result<ArgMatches<'w>, clap::Error> {
+// Does what the words of the arguments ask for.
+fn run_words<R: Source, W: Output + Drop, E: Output>(
+    rt: &HostRuntime,
+    streams: Streams,
+    words: &[String],
+    input: &mut R,
+    output: W,
+    errors: &mut E,
+) -> Result<u8, Failure> {
+    match parse(rt.alloc(), words) {
+        Ok(matches) => search_parsed(rt, streams, words, &matches, input, output, errors),
+        Err(error) => answer(rt.alloc(), &error, output),
+    }
+}
+
+// Parses the words of the arguments.
+fn parse<'w>(alloc: Global, words: &'w [String]) -> Result<ArgMatches<'w>, clap::Error> {
     match command(alloc) {
-        Ok(command) => command.try_get_matches_from(arguments),
+        Ok(command) => command.try_get_matches_from(words),
         Err(error) => Err(clap::Error::from(error)),
     }
 }
@@ -91,6 +108,7 @@ fn write_whole<W: Output>(output: &mut W, text: &str) -> io::Result<()> {
 fn search_parsed<R: Source, W: Output + Drop, E: Output>(
     rt: &HostRuntime,
     streams: Streams,
+    words: &[String],
     matches: &ArgMatches<'_>,
     input: &mut R,
     output: W,
@@ -100,8 +118,22 @@ fn search_parsed<R: Source, W: Output + Drop, E: Output>(
     if options.has_conflict() {
         return Err(Failure::of_arguments(rt.alloc(), CONFLICT));
     }
+    if let Some(word) = misplaced(words, options.paths()) {
+        return Err(Failure::of_cause(rt.alloc(), word, &"the argument isn't UTF-8"));
+    }
     let patterns = read_patterns(rt, matches, input)?;
     search_patterns(rt, &options, &patterns, input, output, errors)
+}
+
+// A word that isn't UTF-8, if one of these isn't a path. What else a word is has to be a text.
+fn misplaced<'w>(words: &'w [String], paths: &[&str]) -> Option<&'w str> {
+    let mut escaped = words.iter().filter(|word| is_escaped(word.as_str()));
+    let first = escaped.next()?;
+    if escaped.count() < paths.iter().filter(|path| is_escaped(path)).count() {
+        None
+    } else {
+        Some(first.as_str())
+    }
 }
 
 // Searches for patterns, and writes what is found to `output`.

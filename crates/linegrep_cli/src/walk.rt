@@ -1,8 +1,13 @@
 //! The files of a folder and of the folders in it.
 use crate::globs::{Choice, Globs};
+use crate::words::{NOT_UTF8, escape};
 use std::alloc::AllocError;
-use std::fs::{DirEntry, ReadDir};
-use std::{fs, io};
+use std::io::Read;
+use std::rt::Files;
+use std::{fs, io, str};
+
+// For how many bytes of names there is room when a folder is read.
+const ROOM: usize = 8192;
 
 /// What is found in folders.
 #[derive(Drop)]
@@ -11,7 +16,7 @@ pub enum Entry {
     File(String),
     /// A folder, by its path.
     Folder(String),
-    /// What can't be read: a path, and why.
+    /// What can't be read: a path, as a word of `words`, and why.
     Unread(String, io::Error),
 }
 
@@ -60,31 +65,61 @@ impl<'r> Walk<'r> {
 
     /// Adds what a folder holds and the globs choose, or that the folder can't be read.
     pub fn enter(&mut self, globs: &mut Globs, folder: &str) {
-        match fs::read_dir(self.rt, name_of(folder)) {
-            Ok(entries) => self.push_entries(globs, folder, entries),
+        let start = self.pending.len();
+        match self.read_folder(globs, folder) {
+            Ok(()) => {}
             Err(error) if error.kind() == io::ErrorKind::OutOfMemory => {
                 self.is_out_of_memory = true;
             }
-            Err(error) => self.push_unread(folder, error),
+            Err(error) => self.push_unread(name_of(folder), error),
+        }
+        self.sort_from(start);
+    }
+
+    // Adds what a folder holds and the globs choose.
+    fn read_folder(&mut self, globs: &mut Globs, folder: &str) -> io::Result<()> {
+        let path = self.join(name_of(folder), "")?;
+        let mut names = vec![in self.rt.alloc(); 0u8; ROOM]?;
+        let mut dir = self.rt.open_dir(path.as_str())?;
+        for _ in 0..u64::MAX {
+            match dir.read(names.as_mut_slice())? {
+                0 => break,
+                count => self.push_names(globs, folder, &names[..count]),
+            }
+        }
+        Ok(())
+    }
+
+    // Adds what has a name in a folder, of names that end in a NUL each.
+    fn push_names(&mut self, globs: &mut Globs, folder: &str, names: &[u8]) {
+        for name in names.split(|byte| *byte == 0) {
+            if !matches!(name, b"" | b"." | b"..") {
+                self.push_bytes(globs, folder, name);
+            }
         }
     }
 
-    // Adds what a folder holds, the last name first.
-    fn push_entries(&mut self, globs: &mut Globs, folder: &str, entries: ReadDir) {
-        let start = self.pending.len();
-        for entry in entries {
-            self.push_entry(globs, folder, entry);
+    // Adds what has a name in a folder, or that the name isn't UTF-8.
+    fn push_bytes(&mut self, globs: &mut Globs, folder: &str, name: &[u8]) {
+        match str::from_utf8(name) {
+            Ok(name) => self.push_name(globs, folder, name),
+            Err(_) => self.push_escaped(folder, name),
         }
+    }
+
+    // Adds that a name in a folder isn't UTF-8.
+    fn push_escaped(&mut self, folder: &str, name: &[u8]) {
+        let error = io::Error::new(io::ErrorKind::InvalidFilename, NOT_UTF8);
+        match self.join_escaped(folder, name) {
+            Ok(path) => self.push(Entry::Unread(path, error)),
+            Err(_) => self.is_out_of_memory = true,
+        }
+    }
+
+    // Puts the last name of those that were added from a place on first.
+    fn sort_from(&mut self, start: usize) {
         if let Some(found) = self.pending.as_mut_slice().get_mut(start..) {
             found.sort_unstable_by(|a, b| b.path().cmp(a.path()));
-        }
-    }
-
-    // Adds an entry of a folder, if it is one to visit, or why it can't be read.
-    fn push_entry(&mut self, globs: &mut Globs, folder: &str, entry: io::Result<DirEntry>) {
-        match entry {
-            Ok(entry) => self.push_name(globs, folder, entry.file_name()),
-            Err(error) => self.push_unread(folder, error),
         }
     }
 
@@ -105,7 +140,7 @@ impl<'r> Walk<'r> {
     }
 
     fn push_unread(&mut self, folder: &str, error: io::Error) {
-        match String::from_str(self.rt.alloc(), name_of(folder)) {
+        match String::from_str(self.rt.alloc(), folder) {
             Ok(name) => self.push(Entry::Unread(name, error)),
             Err(_) => self.is_out_of_memory = true,
         }
@@ -143,6 +178,12 @@ impl<'r> Walk<'r> {
         }
         path.push_str(name)?;
         Ok(path)
+    }
+
+    // The path of a name in a folder, if the name isn't UTF-8, as a word.
+    fn join_escaped(&self, folder: &str, name: &[u8]) -> Result<String, AllocError> {
+        let name = escape(self.rt.alloc(), name)?;
+        self.join(folder, name.as_str())
     }
 }
 

@@ -4,13 +4,13 @@ use grep_output::Writing;
 use grep_searcher::Reading;
 use linegrep_cli::{FileId, Streams, run};
 use percent_encoding::percent_decode_str;
-use std::alloc::Global;
+use std::alloc::{AllocError, Global};
 use std::io;
 
 /// A run, with what it reads and what it has written.
 #[derive(Drop)]
 pub struct Row {
-    arguments: Vec<String>,
+    arguments: Vec<Vec<u8>>,
     streams: Streams,
     input: Text,
     output: Kept,
@@ -88,11 +88,8 @@ impl Row {
     }
 }
 
-fn argument(alloc: Global, word: &str) -> io::Result<String> {
+fn argument(alloc: Global, word: &str) -> Result<Vec<u8>, AllocError> {
     let mut bytes = Vec::new(alloc);
     percent_decode_str(word).append_to(&mut bytes)?;
-    match String::from_utf8(bytes) {
-        Ok(text) => Ok(text),
-        Err(_) => Err(io::Error::from(io::ErrorKind::InvalidData)),
-    }
+    Ok(bytes)
 }
