@@ -158,6 +158,7 @@ module _ (meaning : Meaning) (terminator : LineTerminator) (by : MatchesByLine m
       (cases_lt m.1 (length piece)))
       (cases_eq (slice_index piece (length piece - 1)) t))
 
+  -- all pieces, of which the first is given apart
   tells : (piece : List ℕ) (later : List (List ℕ)) → All (λ p. 0 < length p) (piece ∷ later)
       → All (IsUnbroken t) (piece ∷ later) → AreEnded t (piece ∷ later)
       → IsWithin (concat (piece ∷ later)) (meaning.first (concat (piece ∷ later)))
@@ -183,6 +184,7 @@ module _ (meaning : Meaning) (terminator : LineTerminator) (by : MatchesByLine m
       (tells next later more (All-tail (IsUnbroken t) piece (next ∷ later) unbroken) ended.1)
       (subst (IsWithin (piece ++ rest)) splits within))
 
+  -- so the first match tells of all lines
   tells-lines : (bytes : List ℕ) → IsWithin bytes (meaning.first bytes) → Tells (lines t bytes) (meaning.first bytes)
   tells-lines bytes within =
       let is = AreLines-lines t bytes in
@@ -199,6 +201,7 @@ module _ (meaning : Meaning) (terminator : LineTerminator) (by : MatchesByLine m
       all [] filled unbroken ended within = empty (meaning.first [])
       all (piece ∷ later) filled unbroken ended within = tells piece later filled unbroken ended within
 
+  -- that is what makes its end a lawful result: exactly that line holds it
   lawful : (bytes : List ℕ) (found : Option (ℕ × ℕ)) → Tells (lines t bytes) found
       → IsLawfulResult terminator meaning bytes (confirmed_end found)
   lawful bytes None tells = tells
