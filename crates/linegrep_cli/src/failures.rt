@@ -1,5 +1,6 @@
 //! What the program says on standard error of what goes wrong.
 use crate::words::shown;
+use clap::error::ErrorKind;
 use grep_output::{Output, write_all};
 use std::alloc::{AllocError, Global};
 use std::fmt::Display;
@@ -27,9 +28,7 @@ impl Failure {
 
     /// Why the arguments can't be used, and how to get help.
     pub fn of_arguments(alloc: Global, text: &str) -> Failure {
-        Failure::of_text(format!(in alloc;
-            "linegrep: {text}\n\nFor more information, try 'linegrep --help'.\n"
-        ))
+        Failure::of_text(arguments_text(alloc, text, ""))
     }
 
     /// What can't be read or written, and why: the system's words, without the number of the error.
@@ -67,7 +66,33 @@ fn cause_text<D: Display>(alloc: Global, name: &str, error: &D) -> Result<String
 /// What the parser of the command line says: what is wrong with it, help or the version.
 pub fn usage_text(alloc: Global, error: &clap::Error) -> Result<String, AllocError> {
     let text = format!(in alloc; "{error}")?;
-    shown(alloc, text.as_str())
+    if error.use_stderr() {
+        arguments_text(alloc, cause_of(text.as_str()), tip(error.kind()))
+    } else {
+        Ok(text)
+    }
+}
+
+// What the text of an error says is wrong: its start, up to an empty line.
+fn cause_of(text: &str) -> &str {
+    let cause = match text.split_once("\n\n") {
+        Some((cause, _)) => cause,
+        None => text.trim_end(),
+    };
+    cause.strip_prefix("error: ").unwrap_or(cause)
+}
+
+// What may help with an error.
+fn tip(kind: ErrorKind) -> &'static str {
+    match kind {
+        ErrorKind::UnknownArgument => "\nA pattern that begins with a hyphen goes after -e.",
+        _ => "",
+    }
+}
+
+fn arguments_text(alloc: Global, cause: &str, tip: &str) -> Result<String, AllocError> {
+    let cause = shown(alloc, cause)?;
+    format!(in alloc; "linegrep: {cause}{tip}\n\nFor more information, try 'linegrep --help'.\n")
 }
 
 fn words_of(cause: &str) -> &str {
@@ -91,7 +116,9 @@ pub fn pattern_failure(alloc: Global, texts: &[&str], error: &grep_regex::Error)
             let place = place_of(text, error.span.start);
             Failure::of_text(marked(alloc, &error.kind.message(), text, place))
         }
-        grep_regex::Error::NotAllowed(_) => { Failure::of_text(needing_u(alloc, error, texts)) }
+        grep_regex::Error::NotAllowed(byte) => {
+            Failure::of_text(caused(alloc, &needing_u(*byte), texts))
+        }
         other => Failure::of_text(caused(alloc, other, texts)),
     }
 }
@@ -114,14 +141,13 @@ fn caused<D: Display>(alloc: Global, cause: &D, texts: &[&str]) -> Result<String
     }
 }
 
-// What is wrong with a pattern that may match the end of a line.
-fn needing_u(
-    alloc: Global,
-    error: &grep_regex::Error,
-    texts: &[&str],
-) -> Result<String, AllocError> {
-    let cause = format!(in alloc; "{error}, which needs -U")?;
-    caused(alloc, &cause, texts)
+// What is wrong with a pattern that may match a byte of the end of a line.
+fn needing_u(byte: u8) -> &'static str {
+    match byte {
+        0 => "the pattern can match a NUL, use -U",
+        b'\r' => "the pattern can match a carriage return, use -U",
+        _ => "the pattern can match a line feed, use -U",
+    }
 }
 
 // Which character begins at a position of a text that is counted in bytes, from 1.

@@ -15,6 +15,8 @@ use std::{fs, io};
 // The name of standard input.
 const STDIN: &str = "<stdin>";
 
+const IS_FOLDER: &str = "it is a folder, use -r to search its files";
+
 const IS_OUTPUT: &str = "input file is also the output";
 
 /// What the options say of a run.
@@ -131,10 +133,12 @@ impl<'r, E: Engine> Run<'r, E> {
             self.search_input();
         } else if is_escaped(path) {
             self.report(path, &NOT_UTF8);
-        } else if self.scope.is_recursive && is_folder(self.rt, path) {
+        } else if !is_folder(self.rt, path) {
+            self.search_path(path);
+        } else if self.scope.is_recursive {
             self.search_folder(path);
         } else {
-            self.search_path(path);
+            self.report(path, &IS_FOLDER);
         }
     }
 

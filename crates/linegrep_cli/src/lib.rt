@@ -13,6 +13,7 @@ mod file_id;
 mod file_run;
 mod globs;
 mod haystacks;
+mod help;
 mod json_run;
 mod option_id;
 mod options;
