@@ -15,6 +15,8 @@ use std::{fs, io};
 // The name of standard input.
 const STDIN: &str = "<stdin>";
 
+const NO_FILE: &str = "no file was searched: none is chosen by -g, or all are hidden";
+
 const IS_FOLDER: &str = "it is a folder, use -r to search its files";
 
 const IS_OUTPUT: &str = "input file is also the output";
@@ -70,6 +72,8 @@ pub struct Run<'r, E> {
     engine: &'r mut E,
     globs: &'r mut Globs,
     scope: Scope,
+    // Whether a file or the input was searched, a match was found, and something couldn't be read.
+    has_searched: bool,
     has_match: bool,
     has_error: bool,
     // Why the run ends early, if it does: the writer's error, or one of being out of memory.
@@ -89,6 +93,7 @@ impl<'r, E: Engine> Run<'r, E> {
             engine,
             globs,
             scope,
+            has_searched: false,
             has_match: false,
             has_error: false,
             failure: None,
@@ -118,12 +123,16 @@ impl<'r, E: Engine> Run<'r, E> {
         }
     }
 
-    // Searches what is searched without a path: the current folder, or the input.
+    // Searches what is searched without a path: the current folder, or the input. If no file is
+    // chosen, that is said.
     fn search_default(&mut self) {
-        if self.scope.is_recursive {
-            self.search_folder("");
-        } else {
-            self.search_input();
+        if !self.scope.is_recursive {
+            return self.search_input();
+        }
+        self.search_folder("");
+        if !self.has_searched {
+            self.has_error = true;
+            self.say(&Failure::new(self.rt.alloc(), &NO_FILE));
         }
     }
 
@@ -206,6 +215,7 @@ impl<'r, E: Engine> Run<'r, E> {
 
     // Goes on after a search. An error of reading is reported; one of writing ends the run.
     fn keep(&mut self, path: &str, searched: Searched) {
+        self.has_searched = true;
         self.has_match = self.has_match || searched.has_match;
         match searched.result {
             Ok(()) => {}
@@ -217,8 +227,12 @@ impl<'r, E: Engine> Run<'r, E> {
     // Says what can't be read, and why.
     fn report<D: Display>(&mut self, path: &str, error: &D) {
         self.has_error = true;
+        self.say(&Failure::of_cause(self.rt.alloc(), path, error));
+    }
+
+    // Says what goes wrong, unless nothing is to be said.
+    fn say(&mut self, failure: &Failure) {
         if !self.scope.is_silent {
-            let failure = Failure::of_cause(self.rt.alloc(), path, error);
             self.engine.say(failure.text());
         }
     }

@@ -96,10 +96,12 @@ impl Glob {
     }
 }
 
-// Compiles the text of a glob: an exclamation mark at its start leaves paths out, a slash at its
-// end means folders alone, and without any other slash it is about names in any folder.
+// Compiles the text of a glob: an exclamation mark at its start leaves paths out, all of them if
+// nothing follows it, a slash at its end means folders alone, and without any other slash it is
+// about names in any folder.
 fn compile(alloc: Global, text: &str) -> Result<Glob, Error> {
     let (is_exclusion, glob) = match text.strip_prefix('!') {
+        Some("") => (true, "*"),
         Some(glob) => (true, glob),
         None => (false, text),
     };

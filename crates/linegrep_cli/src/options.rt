@@ -249,9 +249,10 @@ impl<'m, 'w> Options<'m, 'w> {
     }
 
     // How many lines of context are on a side: by its own option, or else by the one for both. A
-    // summary has none, so that its counts end at the limit.
+    // summary has none, so that its counts end at the limit, and where all lines are written there
+    // are none besides.
     fn context_of(&self, own: Option<u64>) -> usize {
-        if self.summary_kind().is_some() {
+        if self.summary_kind().is_some() || self.has(OptionId::Passthru) {
             return 0;
         }
         own.or(self.context).unwrap_or(0) as usize

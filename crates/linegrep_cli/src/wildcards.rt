@@ -204,6 +204,7 @@ impl Reader {
                 [']', rest @ ..] => {
                     return self.add(Kind::One(Letters::Class { is_negated }), rest);
                 }
+                ['-', last, rest @ ..] if *last != ']' => self.extend_range(*last, rest),
                 _ => self.add_member(left),
             };
         }
@@ -217,6 +218,19 @@ impl Reader {
             [first, '-', last, rest @ ..] if *last != ']' => self.add_range(*first, *last, rest),
             [letter, rest @ ..] => self.add(Kind::Range(*letter, *letter), rest),
             [] => self.refuse("a bracket isn't closed"),
+        }
+    }
+
+    // Has the range before a dash end at another letter.
+    fn extend_range<'g>(&mut self, last: char, rest: &'g [char]) -> &'g [char] {
+        match self.parts.pop() {
+            Some(
+                Part {
+                    kind: Kind::Range(first, _),
+                    ..
+                },
+            ) => self.add_range(first, last, rest),
+            _ => rest,
         }
     }
 
