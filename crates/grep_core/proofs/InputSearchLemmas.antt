@@ -49,7 +49,6 @@ use Rattle.grep_line_buffer.specs.Contents.{IsBelow, ContentsFail, FailsAfter}
 use Rattle.grep_line_buffer.specs.Fills.{IfRead, UnlessRead}
 use Rattle.grep_line_buffer.specs.declared.fill_error.FillError.{FillError}
 use Rattle.grep_line_buffer.specs.declared.fill_error.FillError.TheVariants.{Read, HeapLimit, Offset, Memory}
-use Rattle.grep_matcher.specs.Lines.{byte_of, lines}
 use Rattle.grep_matcher.specs.Meanings.{MatcherFacts, Meaning}
 use Rattle.grep_report.specs.BinaryDetections.{quit_byte_of}
 use Rattle.grep_walk.proofs.FinishLemmas.{searched-finish}
@@ -79,19 +78,16 @@ use Rattle.std.proofs.Common.{
   subst,
   length,
   inl,
-  inr,
   Option,
   ◌≤◌,
   ◌∙◌,
   not,
-  ◌<◌,
   [],
   ◌++◌,
   arith,
   append-nil,
   length-append,
 }
-use Rattle.std.proofs.lemmas.Bool.{false≢true}
 use Rattle.std.specs.declared.io.Error.{Error}
 use Rattle.grep_core.proofs.ReadingLemmas as reading
 

@@ -26,6 +26,7 @@ use Rattle.grep_definitions.proofs.FrontLemmas.{
   lines-fit,
   longer-front,
   turns-within,
+  unreported-passed,
 }
 use Rattle.grep_definitions.proofs.LimitLemmas.{turn_above}
 use Rattle.grep_definitions.specs.Searches.{
@@ -40,8 +41,17 @@ use Rattle.grep_definitions.specs.Searches.{
   IsFront,
   reads_lines,
 }
-use Rattle.grep_definitions.specs.LineWalks.{IsOpen}
-use Rattle.grep_definitions.specs.Plans.{Steps, Outcome, all_true, begins, Settings}
+use Rattle.grep_definitions.specs.LineWalks.{IsNear, IsOpen}
+use Rattle.grep_definitions.specs.Plans.{
+  Steps,
+  Outcome,
+  all_true,
+  begins,
+  is_reported,
+  line_count,
+  selected_lines,
+  Settings,
+}
 use Rattle.grep_line_buffer.proofs.BufferStateLemmas.{
   IsUncut,
   long-shown,
@@ -67,12 +77,13 @@ use Rattle.grep_matcher.proofs.LineLemmas.{lines-append}
 use Rattle.grep_matcher.specs.Lines.{lines, byte_of}
 use Rattle.grep_matcher.specs.Meanings.{Meaning, MatcherFacts}
 use Rattle.grep_report.specs.ErrorMakers.{ErrorMakers}
+use Rattle.grep_walk.proofs.UncountedLemmas.{near-same}
 use Rattle.grep_walk.proofs.WalkLemmas.{start_walk, reported-begin}
 use Rattle.grep_walk.proofs.WindowLemmas.{roll-input}
 use Rattle.grep_walk.proofs.WindowSearchLemmas.{line-seen, passed-end, searched-rolled, searched-start}
 use Rattle.grep_walk.specs.Origins.{Origin, fresh}
 use Rattle.grep_walk.specs.WalkFaults.{IsWalkFault}
-use Rattle.grep_walk.specs.Walks.{AreCounts, with_counts, IsCount}
+use Rattle.grep_walk.specs.Walks.{AreCounts, with_counts, IsCount, IsWalk}
 use Rattle.grep_walk.specs.Windows.{HasPassed, HasSearched, IsInWindow}
 use Rattle.grep_walk.specs.declared.walk.Walk.{Walk}
 use Rattle.std.proofs.Common.{
@@ -249,6 +260,30 @@ module _ {S E : Type 0} {step : Steps S E} {k : Settings} {meaning : Meaning}
               let unread = between.idle idle in
               let zero : w.offset ≡ 0 = omega (arith, between.at, ap length unread.none, length-append gone old.shown) in
               rw (zero, unread.none) (walks.counted-idle k meaning [] step first now idle unread.begun)
+
+      -- none of the lines that are shown still was reported
+      pub unreported-shown : (i : ℕ) → length (lines t gone) ≤ i → i < length (lines t seen)
+          → is_reported k seen (selected_lines k meaning seen) i ≡ false
+      unreported-shown i low below = by-cases (reports_nothing k) refl
+        where
+          more : length (lines t seen) ≡ length (lines t gone) + length (lines t old.shown)
+          more = count-after t gone old.shown between.opens
+
+          by-cases : (idle : Bool) → reports_nothing k ≡ idle
+              → is_reported k seen (selected_lines k meaning seen) i ≡ false
+          by-cases true idle =
+              absurd (omega (arith, below, ap (λ xs. length (lines t xs)) (between.idle idle).none))
+          by-cases false busy =
+              let passed = here busy in
+              let line = passed.searched.line in
+              let v = passed.searched.next_unreported in
+              let walk = subst (λ xs. IsWalk k meaning (gone ++ xs) (with_counts w line v)) (append-nil old.shown)
+              passed.searched.walked.reported.walk in
+              let all : line ≡ line_count k seen = omega (arith, passed.all, more) in
+              let kept = near-same k w line v passed.searched.counts in
+              unreported-passed k meaning seen v w.after_context_left
+              (subst (λ n. IsNear k meaning seen v n w.after_context_left) all walk.near)
+              i (omega (arith, low, below, more, between.few, kept, passed.all)) below
 
       -- and the search goes on after them, whatever follows
       pub goes-on : {bytes : List ℕ} (back : List ℕ) → bytes ≡ seen ++ back → GoesOnAfter k meaning bytes seen

@@ -111,7 +111,7 @@ use Rattle.std.proofs.lemmas.Bool.{false≢true}
 use Rattle.std.proofs.lemmas.List.{append-nil}
 use Rattle.std.proofs.lemmas.Option.{none-some}
 use Rattle.std.specs.List.{concat}
-use Rattle.std.specs.Prelude.{is_none, is_some, ◌&&◌, ◌||◌, not, OnOk}
+use Rattle.std.specs.Prelude.{is_none, is_some, ◌&&◌, ◌||◌, not}
 use Rattle.grep_definitions.specs.LineSearch
 use Rattle.grep_walk.proofs.WalkLemmas as walks
 

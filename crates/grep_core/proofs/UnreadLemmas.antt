@@ -184,8 +184,9 @@ module _ {R : Type 0} {remaining : R → Option (List ℕ)} {read_step : R → R
     crowded-there later least no_line is full some enough = rw (text-is later is)
         (crowded k _ _ _ _ later least
         so_far.between.opens so_far.between.shut
+        (rolls.unreported-shown so_far.between)
         (unended-is no_line)
-        so_far.between.few some (omega (arith, enough, full, room-is)))
+        (omega (arith, so_far.between.few)) some (omega (arith, enough, full, room-is)))
 
     -- the buffer's error does
     cuts-short : (error : FillError) {io : Error} → IsMadeOf error io → FillFails old new error

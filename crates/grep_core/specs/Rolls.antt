@@ -2,6 +2,7 @@
 -- The contracts of private functions cite these definitions; no public contract does.
 use Rattle.std.specs.Prelude.{◌≡◌, ◌⊎◌, ℕ, ◌+◌, ◌-◌, ◌<◌, ◌≤◌, ◌^◌, ◌&&◌, Bool, true, false, Ok}
 use Rattle.std.specs.Prelude.{List, [], ◌++◌, length, take, drop, All, Option, Some, None, ◌∷◌}
+use Rattle.std.specs.Prelude.{min}
 use Rattle.std.specs.List.{concat}
 use Rattle.grep_decode.specs.DecoderStates.{DecoderState}
 use Rattle.grep_decode.specs.Source.{ReadResult}
@@ -70,7 +71,7 @@ module _ {S E : Type 0} (step : Steps S E) (settings : Settings) (meaning : Mean
     pub offset : buffer.offset ≡ length gone
     pub unended : buffer.has_ended ≡ false
     pub few : length (lines (byte_of settings.line_terminator) buffer.shown)
-        ≤ settings.before_context
+        ≤ min settings.before_context (w.line - w.next_unreported)
     pub fits : (limit : ℕ) → settings.heap_limit ≡ Some limit
         → All (λ line. IsTooLong (byte_of settings.line_terminator) limit line → ⊥)
         (lines (byte_of settings.line_terminator) (gone ++ buffer.shown))
@@ -95,7 +96,7 @@ module _ {S E : Type 0} (step : Steps S E) (settings : Settings) (meaning : Mean
     }
     pub closed : IsClosed (byte_of settings.line_terminator) old.shown
     pub few : length (lines (byte_of settings.line_terminator) (drop count old.shown))
-        ≤ settings.before_context
+        ≤ min settings.before_context (w'.line - w'.next_unreported)
     pub next : (gone : List ℕ) (first : Origin S) → IsClosed (byte_of settings.line_terminator) gone
         → IsReady gone old.shown (start_in old w) first w now
         → IsClosed (byte_of settings.line_terminator) (gone ++ take count old.shown)

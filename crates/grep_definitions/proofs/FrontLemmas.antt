@@ -30,7 +30,8 @@ use Rattle.std.proofs.Common.{
   length-drop,
 }
 use Rattle.std.proofs.Math.Seq.{take-append-add, get_or-append_right}
-use Rattle.std.proofs.lemmas.Bool.{cases_lt}
+use Rattle.std.proofs.Math.Bool.{and-false}
+use Rattle.std.proofs.lemmas.Bool.{cases_Bool, cases_lt, ltb-true}
 use Rattle.std.proofs.lemmas.List.{
   take-append-le,
   take-append-drop,
@@ -45,13 +46,16 @@ use Rattle.std.proofs.lemmas.List.{
 use Rattle.std.proofs.lemmas.List.Elements.{All-get_or, All-weaker}
 use Rattle.std.proofs.lemmas.List.Folds.{concat-append}
 use Rattle.std.specs.List.{concat}
-use Rattle.std.specs.Prelude.{All, slice_index, slice_index_or}
+use Rattle.std.specs.Prelude.{◌&&◌, All, Bool, true, false, is_some, nat_lt, nat_le, None, slice_index, slice_index_or}
 use Rattle.grep_matcher.specs.Lines.{byte_of, lines, line_start}
 use Rattle.grep_matcher.specs.Meanings.{Meaning}
 use Rattle.grep_matcher.proofs.LineLemmas.{AreLines-lines, lines-append}
 use Rattle.grep_lines.specs.Positions.{IsLineStart}
 use Rattle.grep_definitions.specs.Searches.{IsBelowLimit, IsClosed, IsCrowded, IsFront, IsTooLong}
-use Rattle.grep_definitions.specs.Plans.{Settings}
+use Rattle.grep_definitions.specs.LineWalks.{IsNear}
+use Rattle.grep_definitions.specs.Plans.{is_reported, is_selected, line_count, reports_end, selected_lines, Settings}
+use Rattle.grep_definitions.proofs.BelowLemmas.{some_below-find}
+use Rattle.grep_definitions.proofs.BoolLemmas.{both_true, clash}
 use Rattle.grep_matcher.proofs.LineLengthLemmas.{lines-within, lines-end, first-long, first-open}
 use Rattle.grep_definitions.proofs.SearchLawLemmas as laws
 use Rattle.grep_lines.proofs.LineRangeLemmas.{comes-from}
@@ -165,15 +169,44 @@ open-long t least tail more lacks some enough =
         ))
         (cases_lt least (length line))
 
+-- lines that a walk has passed to the end of some bytes aren't reported by the calls for them
+pub unreported-passed : (k : Settings) (meaning : Meaning) (bytes : List ℕ) (v left : ℕ)
+    → IsNear k meaning bytes v (line_count k bytes) left → (i : ℕ) → v ≤ i → i < line_count k bytes
+    → is_reported k bytes (selected_lines k meaning bytes) i ≡ false
+unreported-passed k meaning bytes v left near i low below =
+    let out = near.passed i low below in
+    let plain : k.passthru ≡ false = ⊎_elim (λ yes. absurd (omega (arith, near.bare yes)))
+    (λ no. no) (cases_Bool k.passthru) in
+    let apart = unpreceded in
+    let none : LineSearch.kind k meaning bytes i ≡ None = rw (out.0, out.1, apart, plain) refl in
+    ap (λ o. nat_lt i (reports_end k meaning bytes) && is_some o) none ∙ and-false (nat_lt i (reports_end k meaning bytes))
+  where
+    before : ℕ → Bool
+    before j = nat_lt i j && nat_le (j - i) k.before_context && is_selected k meaning bytes j
+
+    unpreceded : LineSearch.precedes_selected k meaning bytes i ≡ false
+    unpreceded = ⊎_elim
+        (λ holds.
+        let found = some_below-find before (line_count k bytes) holds in
+        let both = both_true (nat_lt i found.0 && nat_le (found.0 - i) k.before_context)
+        (is_selected k meaning bytes found.0) found.2 in
+        let above = ltb-true i found.0 (both_true (nat_lt i found.0) _ both.0).0 in
+        absurd (clash both.1 (near.passed found.0 (omega arith) found.1).0))
+        (λ no. no)
+        (cases_Bool (LineSearch.precedes_selected k meaning bytes i))
+
 -- a buffer that shows some lines after those that are gone, and holds bytes after them that end none, can't hold the
 -- next line
 pub crowded : (k : Settings) (meaning : Meaning) (gone shown tail later : List ℕ) (least : ℕ)
     → IsClosed (byte_of k.line_terminator) gone → IsClosed (byte_of k.line_terminator) shown
+    → ((i : ℕ) → length (lines (byte_of k.line_terminator) gone) ≤ i
+    → i < length (lines (byte_of k.line_terminator) (gone ++ shown))
+    → is_reported k (gone ++ shown) (selected_lines k meaning (gone ++ shown)) i ≡ false)
     → All (λ b. b ≢ byte_of k.line_terminator) tail
     → length (lines (byte_of k.line_terminator) shown) ≤ k.before_context → 0 < least
     → least ≤ length shown + length tail
     → IsCrowded k meaning ((gone ++ shown) ++ (tail ++ later)) (gone ++ shown) least
-crowded k meaning gone shown tail later least opens shut lacks few some enough =
+crowded k meaning gone shown tail later least opens shut unreported lacks few some enough =
     let seen_closed = closed-append t gone shown opens shut in
     let count : length (lines t (gone ++ shown)) ≡ length (lines t gone) + length (lines t shown) =
     count-after t gone shown opens in
@@ -190,6 +223,7 @@ crowded k meaning gone shown tail later least opens shut lacks few some enough =
       kept = length (lines t shown);
       passed = omega arith;
       near = few;
+      unreported = λ i low below. unreported i (omega (arith, low)) below;
       full = omega (arith, length-append gone shown);
       alone = λ single.
           let empty = no-lines t shown single in

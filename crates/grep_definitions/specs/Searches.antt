@@ -25,6 +25,7 @@ use Rattle.grep_definitions.specs.Plans.{finishes, reported_bytes, reported_from
 use Rattle.grep_definitions.specs.Plans.{is_binary_data, Finish, counted, Planned, planned, Plan}
 use Rattle.grep_definitions.specs.Plans.{Steps, Outcome, all_true, finish_after, AreMade, IsRun}
 use Rattle.grep_definitions.specs.Plans.{line_count, line, start, reports_end, is_across}
+use Rattle.grep_definitions.specs.Plans.{is_reported, selected_lines}
 use Rattle.grep_definitions.specs.Plans.{refusal_of, IsLawful, selection_in, search_plan}
 use Rattle.grep_definitions.specs.Plans.{IsAskedWith, has_room}
 
@@ -251,12 +252,15 @@ module _ (settings : Settings) (meaning : Meaning) (input seen : List ℕ) where
         → seen_count < line_count settings input
         → seen_count < reports_end settings meaning input
 
-  -- a buffer of so many bytes can't hold the next line and the lines before it that are kept, at
-  -- most as many as are reported before a match. If none is kept, that line alone is too long
+  -- a buffer of so many bytes can't hold the next line and the lines before it that are kept: those
+  -- that a match after them would report, at most as many as are reported before a match, and none
+  -- that was reported. If none is kept, that line alone is too long
   pub record IsCrowded (size : ℕ) : Type 0 where
     pub kept : ℕ
     pub passed : kept ≤ seen_count
     pub near : kept ≤ settings.before_context
+    pub unreported : (i : ℕ) → seen_count - kept ≤ i → i < seen_count
+        → is_reported settings seen (selected_lines settings meaning seen) i ≡ false
     pub full : size ≤ start settings input (seen_count + 1) - start settings input
         (seen_count - kept)
     pub alone : kept ≡ 0 → (seen_count < line_count settings input)

@@ -49,7 +49,7 @@ impl Config {
         ensures within { result ≤ length window.now }
         ensures few { length
             (lines (byte_of self.now.line_terminator) (drop result window.now))
-            ≤ self.now.before_context }
+            ≤ min self.now.before_context (walk.now.line - walk.now.next_unreported) }
         ensures closed { (gone : List ℕ)
             → IsClosed (byte_of self.now.line_terminator) gone
             → IsClosed (byte_of self.now.line_terminator) window.now
