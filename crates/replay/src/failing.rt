@@ -2,8 +2,11 @@
 use grep_matcher::{ByteSet, FindAt, LineTerminator, Match, Matcher};
 
 /// The error of `Failing`, of 300 bytes.
-const MESSAGE: &str =
-    "this matcher matches nothing, so that lines are reported only if those without a match are selected, and it fails as soon as a printer asks it for the parts of one of them: its error is as long as that of a long expression, and a printer has to keep all of its three hundred bytes, up to the last one";
+const MESSAGE: &str = "\
+    this matcher matches nothing, so that lines are reported only if those without a match \
+    are selected, and it fails as soon as a printer asks it for the parts of one of them: its \
+    error is as long as that of a long expression, and a printer has to keep all of its three \
+    hundred bytes, up to the last one";
 
 /// Matches nothing, and fails when it is asked for the first match from a position on, as a printer
 /// asks for the parts of a report.
