@@ -30,21 +30,21 @@ HasByte bytes byte (plus greedy a) = HasByte bytes byte a
 abbrev pub HasNone : List ℕ → Re → Type 0
 HasNone bytes re = (byte : ℕ) → is_among bytes byte ≡ true → HasByte bytes byte re → ⊥
 
--- what is compiled matches as the texts are read, and has the byte; which pattern that is, the
--- contract of the parser doesn't say
+-- what was read, before bytes are taken out of it, matches as the texts say, and has the byte; which
+-- pattern it is, the contract of the parser doesn't say
 pub record IsReadWith (o : Options) (patterns : List (List ℕ)) (byte : ℕ) : Type 0 where
   pub re : Re
   pub reads : SameCaptures re (written_re o patterns)
   pub has : HasByte (excluded_bytes o.line_terminator) byte re
 
--- and has none of the line terminator
+-- it has none of the line terminator
 pub record IsReadWithout (o : Options) (patterns : List (List ℕ)) : Type 0 where
   pub re : Re
   pub reads : SameCaptures re (written_re o patterns)
   pub none : HasNone (excluded_bytes o.line_terminator) re
 
 -- a byte of the line terminator is in the patterns: in one of the texts, if each matches its own
--- text alone, or else in what is compiled
+-- text alone, or else in what was read
 pub record HasTerminator (o : Options) (patterns : List (List ℕ)) (byte : ℕ) : Type 0 where
   pub among : is_among (excluded_bytes o.line_terminator) byte ≡ true
   pub text : are_literal o patterns ≡ true → list_any (λ p. is_among p byte) patterns ≡ true

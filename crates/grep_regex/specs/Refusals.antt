@@ -78,18 +78,18 @@ IsTerminatorError terminator (InvalidLineTerminator byte) =
     (terminator ≡ Some (Byte byte)) × (128 ≤ byte)
 IsTerminatorError terminator _ = ⊥
 
+-- what is so of patterns that are compiled, or too big for that: each text is a pattern, the
+-- terminator is ASCII, and no byte of it is in the way
+pub record AreAccepted (o : Options) (patterns : List (List ℕ)) : Type 0 where
+  pub read : ArePatterns o patterns
+  pub ascii : AreAscii (excluded_bytes o.line_terminator)
+  pub allowed : HasNoTerminator o patterns
+
 -- the error of patterns under options
 abbrev pub IsRefusal : Options → List (List ℕ) → Error → Type 0
 IsRefusal o patterns (Syntax index error) = IsTextsError o patterns (Syntax index error)
 IsRefusal o patterns (NotAllowed byte) = ArePatterns o patterns × HasTerminator o patterns byte
 IsRefusal o patterns (InvalidLineTerminator byte) =
     (o.line_terminator ≡ Some (Byte byte)) × (128 ≤ byte)
-IsRefusal o patterns TooBig = ArePatterns o patterns
+IsRefusal o patterns TooBig = AreAccepted o patterns
 IsRefusal o patterns Memory = Unit {0}
-
--- what is so of patterns that are compiled: each text is a pattern, the terminator is ASCII, and no
--- byte of it is in the way
-pub record AreAccepted (o : Options) (patterns : List (List ℕ)) : Type 0 where
-  pub read : ArePatterns o patterns
-  pub ascii : AreAscii (excluded_bytes o.line_terminator)
-  pub allowed : HasNoTerminator o patterns
