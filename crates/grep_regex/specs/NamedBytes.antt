@@ -30,8 +30,8 @@ HasByte bytes byte (plus greedy a) = HasByte bytes byte a
 abbrev pub HasNone : List ℕ → Re → Type 0
 HasNone bytes re = (byte : ℕ) → is_among bytes byte ≡ true → HasByte bytes byte re → ⊥
 
--- what was read, before bytes are taken out of it, matches as the texts say, and has the byte; which
--- pattern it is, the contract of the parser doesn't say
+-- what was read, before bytes are taken out of it, matches as the texts say, and has the byte;
+-- which pattern it is, the contract of the parser doesn't say
 pub record IsReadWith (o : Options) (patterns : List (List ℕ)) (byte : ℕ) : Type 0 where
   pub re : Re
   pub reads : SameCaptures re (written_re o patterns)
