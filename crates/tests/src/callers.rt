@@ -2,4 +2,5 @@
 //! `uses`.
 mod large;
 mod lent;
+mod opening;
 mod programs;

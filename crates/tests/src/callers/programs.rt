@@ -4,7 +4,7 @@ use crate::texts::tells;
 use grep_searcher::{SearchError, Source};
 use grep_testing::Pieces;
 use lgrep_cli::{
-    FAILED, Options, OptionsFault, Output, USAGE, Writing, run, run_arguments, run_path,
+    FAILED, Open, Options, OptionsFault, Output, USAGE, Writing, run, run_arguments, run_path,
 };
 use std::alloc::{AllocError, Global};
 use std::io::Write;
@@ -690,15 +690,16 @@ fn returns_the_error_of_opening(rt: HostRuntime) {
 }
 
 // Whether the program ends with this status and this text on the output of messages.
-fn ends<R: Source, W: Output>(
+pub(super) fn ends<T: Open, R: Source, W: Output>(
     rt: &HostRuntime,
+    files: &T,
     arguments: &io::Result<Vec<String>>,
     input: &mut R,
     writer: &mut W,
     (code, message): (u8, &str),
 ) -> bool {
     let mut messages = Writing::new(Vec::new(rt.alloc()));
-    let ended = run_arguments(rt, rt.alloc(), arguments, input, writer, &mut messages);
+    let ended = run_arguments(files, rt.alloc(), arguments, input, writer, &mut messages);
     ended == ExitCode::from(code) && messages.into_inner().as_slice() == message.as_bytes()
 }
 
@@ -721,7 +722,7 @@ pub(super) fn exits(
 ) -> bool {
     let mut reader = input;
     let mut writer = Writing::new(Vec::new(rt.alloc()));
-    ends(rt, arguments, &mut reader, &mut writer, end) && writer.into_inner().as_slice() == text
+    ends(rt, rt, arguments, &mut reader, &mut writer, end) && writer.into_inner().as_slice() == text
 }
 
 // The arguments of a line, as a program reads them.
@@ -751,7 +752,7 @@ fn fails_without_arguments(rt: &HostRuntime) -> bool {
 fn fails_with_its_reader(rt: &HostRuntime) -> bool {
     let mut writer = Writing::new(Vec::new(rt.alloc()));
     let arguments = read_arguments(rt.alloc(), "a");
-    ends(rt, &arguments, &mut cut(), &mut writer, (2, FAILED))
+    ends(rt, rt, &arguments, &mut cut(), &mut writer, (2, FAILED))
         && writer.into_inner().as_slice() == b"1:a\n".as_slice()
 }
 
@@ -760,7 +761,7 @@ fn fails_with_its_writer(rt: &HostRuntime, left: usize) -> bool {
     let mut input = b"a".as_slice();
     let mut writer = full_after(rt.alloc(), left);
     let arguments = read_arguments(rt.alloc(), "a");
-    ends(rt, &arguments, &mut input, &mut writer, (2, FAILED))
+    ends(rt, rt, &arguments, &mut input, &mut writer, (2, FAILED))
 }
 
 #[test]
