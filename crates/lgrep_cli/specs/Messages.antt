@@ -14,11 +14,11 @@ failed_line = codes "lgrep: search failed" ++ 10 ∷ []
 
 module _ {E : Type 0} (step : E → OutputCall → E → Type 0) where
   -- this line is written, or the output failed before
-  abbrev pub Tells : List ℕ → E → E → Type 0
-  Tells line messages messages' =
-      (told : Result (Unit {0}) Error) × Writes step messages line told messages'
+  abbrev pub WritesMessage : List ℕ → E → E → Type 0
+  WritesMessage line messages messages' =
+      (written : Result (Unit {0}) Error) × Writes step messages line written messages'
 
   -- what is written after a run: that it failed, or nothing
-  abbrev pub TellsOf : {A B : Type 0} → Result A B → E → E → Type 0
-  TellsOf (Ok found) messages messages' = messages' ≡ messages
-  TellsOf (Err error) messages messages' = Tells failed_line messages messages'
+  abbrev pub WritesMessageOf : {A B : Type 0} → Result A B → E → E → Type 0
+  WritesMessageOf (Ok found) messages messages' = messages' ≡ messages
+  WritesMessageOf (Err error) messages messages' = WritesMessage failed_line messages messages'

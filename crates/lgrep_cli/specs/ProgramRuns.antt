@@ -16,7 +16,7 @@ use Rattle.grep_searcher.specs.declared.SearchError.TheVariants.{Io}
 use Rattle.grep_searcher.specs.Plans.{search_plan, Planned, SearcherState}
 use Rattle.grep_searcher.specs.Searches.{IsInput, Taken, IsUnread, searched_bytes}
 use Rattle.lgrep_cli.specs.CommandLine.{AskFor, AskForNothing, AskForSomething}
-use Rattle.lgrep_cli.specs.Messages.{Tells, TellsOf, failed_line, usage_line}
+use Rattle.lgrep_cli.specs.Messages.{WritesMessage, WritesMessageOf, failed_line, usage_line}
 use Rattle.lgrep_cli.specs.OptionSettings.{searched_settings, settings_of_options}
 use Rattle.lgrep_cli.specs.PrintedTexts.{count_text, has_match, text}
 use Rattle.grep_output.specs.Outputs.{OutputCall, flushes, Writes}
@@ -198,11 +198,11 @@ module _ {F R W E : Type 0} (opens : List ℕ → Result F Error → Type 0)
       : ℕ → R → W → E → Type 0 where
     -- the arguments ask for nothing, which it says, and neither the input nor the writer had a call
     of_usage : {messages' : E} → AskForNothing arguments
-        → Tells message_step usage_line messages messages'
+        → WritesMessage message_step usage_line messages messages'
         → IsProgramEnd arguments input writer messages 2 input writer messages'
     -- they ask for options, but there was no memory to keep them: neither had a call either
     of_memory : {messages' : E} → AskForSomething arguments
-        → Tells message_step failed_line messages messages'
+        → WritesMessage message_step failed_line messages messages'
         → IsProgramEnd arguments input writer messages 2 input writer messages'
     -- the status is that of a run by the options that the arguments ask for, and if it failed, the
     -- program says so
@@ -210,7 +210,7 @@ module _ {F R W E : Type 0} (opens : List ℕ → Result F Error → Type 0)
         → AskFor arguments options
         → IsRunAt opens file_remaining file_step remaining read_step write_step contents
         options.path options input writer result input' writer'
-        → TellsOf message_step result messages messages'
+        → WritesMessageOf message_step result messages messages'
         → IsProgramEnd arguments input writer messages (status_of result) input' writer' messages'
 
 -- what the program does if its arguments can't be read: it says that it failed, and neither the
@@ -221,4 +221,4 @@ pub record IsStopped {R W E : Type 0} (message_step : E → OutputCall → E →
     pub is_error : status ≡ 2
     pub same_input : input' ≡ input
     pub same_writer : writer' ≡ writer
-    pub told : Tells message_step failed_line messages messages'
+    pub message : WritesMessage message_step failed_line messages messages'

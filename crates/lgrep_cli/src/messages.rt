@@ -1,5 +1,5 @@
 //! What is written to standard error.
-ghost use Rattle.lgrep_cli.specs.Messages.{Tells, TellsOf};
+ghost use Rattle.lgrep_cli.specs.Messages.{WritesMessage, WritesMessageOf};
 
 use grep_output::{Output, write_all};
 use grep_searcher::SearchError;
@@ -9,14 +9,14 @@ pub const FAILED: &str = "lgrep: search failed\n";
 
 // Writes a line. If the output fails, there is nobody to tell it.
 pub(crate) fn tell<E: Output>(messages: &mut E, line: &str)
-    ensures { Tells E.step line.now messages.old messages.new }
+    ensures { WritesMessage E.step line.now messages.old messages.new }
 {
     let _ = write_all(messages, line.as_bytes());
 }
 
 // Writes that a run failed, if it did.
 pub(crate) fn tell_of<E: Output>(messages: &mut E, outcome: &Result<bool, SearchError>)
-    ensures { TellsOf E.step outcome.now messages.old messages.new }
+    ensures { WritesMessageOf E.step outcome.now messages.old messages.new }
 {
     if outcome.is_err() {
         tell(messages, FAILED);

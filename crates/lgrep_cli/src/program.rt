@@ -1,7 +1,7 @@
 //! The program, by its arguments.
 ghost use Rattle.std.specs.Prelude.{◌≡◌, MatchResult};
 ghost use Rattle.std.specs.Process.{exit_status};
-ghost use Rattle.lgrep_cli.specs.Messages.{Tells};
+ghost use Rattle.lgrep_cli.specs.Messages.{WritesMessage};
 ghost use Rattle.lgrep_cli.specs.ProgramRuns.{IsProgramEnd, IsStopped};
 
 use crate::exit::status;
@@ -53,7 +53,7 @@ pub fn run_arguments<T: Open, R: Source, W: Output, E: Output>(
 // Exits with 2, after a line on standard error.
 fn stop<E: Output>(messages: &mut E, line: &str) -> ExitCode
     ensures status { exit_status result ≡ 2 }
-    ensures told { Tells E.step line.now messages.old messages.new }
+    ensures message { WritesMessage E.step line.now messages.old messages.new }
 {
     tell(messages, line);
     ExitCode::from(2)

@@ -6,13 +6,13 @@ pub returns-in-Err-Usage : goal.returns-in-Err-Usage
 returns-in-Err-Usage g c =
     let usage = c.parse.ensures.usage.0 (c.in-Err-Usage.is ∙ ap Err c.in-Err-Usage.field-0-is) in
     rw (c.in-Ok.is, c.stop-in-Err-Usage.ensures.status)
-    (of_usage (rw c.deref.ensures.value at usage) c.stop-in-Err-Usage.ensures.told)
+    (of_usage (rw c.deref.ensures.value at usage) c.stop-in-Err-Usage.ensures.message)
 
 pub returns-in-Err-Memory : goal.returns-in-Err-Memory
 returns-in-Err-Memory g c =
     let memory = c.parse.ensures.memory (c.in-Err-Memory.is ∙ ap Err c.in-Err-Memory.field-0-is) in
     rw (c.in-Ok.is, c.stop-in-Err-Memory.ensures.status)
-    (of_memory (rw c.deref.ensures.value at memory) c.stop-in-Err-Memory.ensures.told)
+    (of_memory (rw c.deref.ensures.value at memory) c.stop-in-Err-Memory.ensures.message)
 
 pub returns : goal.returns
 returns g c =
