@@ -26,14 +26,15 @@ pub struct Streams {
     pub output: Option<FileId>,
 }
 
-/// Does what the arguments ask for, which are without the program's name and as the system has them,
-/// whether they are UTF-8 or not: searches the files at
-/// their paths or, if there are none, what `input` gives or, with `-r`, the files of the current
-/// folder, writes to `output` what is found, and says on `errors` what goes wrong.
+/// Does what the arguments ask for, which are without the program's name and as the system has
+/// them, whether they are UTF-8 or not: searches the files at their paths or, if there are none,
+/// what `input` gives or, with `-r`, the files of the current folder, writes to `output` what is
+/// found, and says on `errors` what goes wrong.
 ///
-/// The result is the status that the program exits with: 0 if a line matches, or help or the version
-/// is written; 1 if none does; and 2 if something can't be read or written, or the arguments are
-/// wrong. If nobody reads the output any more, it is 0.
+/// The result is the status that the program exits with: 0 if a line matches, or help or the
+/// version is written; 1 if none does; and 2 if something can't be read or written, or the
+/// arguments are wrong. With `-q` it is 0 once a line matches, and it is 0 if nobody reads the
+/// output any more.
 pub fn run<R: Source, W: Output + Drop, E: Output>(
     rt: &HostRuntime,
     streams: Streams,
