@@ -19,6 +19,6 @@ module _ {E : Type 0} (step : E → OutputCall → E → Type 0) where
       (written : Result (Unit {0}) Error) × Writes step messages line written messages'
 
   -- what is written after a run: that it failed, or nothing
-  abbrev pub WritesMessageOf : {A B : Type 0} → Result A B → E → E → Type 0
-  WritesMessageOf (Ok found) messages messages' = messages' ≡ messages
-  WritesMessageOf (Err error) messages messages' = WritesMessage failed_line messages messages'
+  abbrev pub WritesFailure : {A B : Type 0} → Result A B → E → E → Type 0
+  WritesFailure (Ok found) messages messages' = messages' ≡ messages
+  WritesFailure (Err error) messages messages' = WritesMessage failed_line messages messages'

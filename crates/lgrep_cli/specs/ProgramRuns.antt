@@ -16,7 +16,7 @@ use Rattle.grep_searcher.specs.declared.SearchError.TheVariants.{Io}
 use Rattle.grep_searcher.specs.Plans.{search_plan, Planned, SearcherState}
 use Rattle.grep_searcher.specs.Searches.{IsInput, Taken, IsUnread, searched_bytes}
 use Rattle.lgrep_cli.specs.CommandLine.{AskFor, AskForNothing, AskForSomething}
-use Rattle.lgrep_cli.specs.Messages.{WritesMessage, WritesMessageOf, failed_line, usage_line}
+use Rattle.lgrep_cli.specs.Messages.{WritesFailure, WritesMessage, failed_line, usage_line}
 use Rattle.lgrep_cli.specs.OptionSettings.{searched_settings, settings_of_options}
 use Rattle.lgrep_cli.specs.PrintedTexts.{count_text, has_match, text}
 use Rattle.grep_output.specs.Outputs.{OutputCall, flushes, Writes}
@@ -87,7 +87,7 @@ module _ {R W : Type 0} (remaining : R → Option (List ℕ)) (read_step : R →
     pub is_found : (bytes : List ℕ) → Input options taken bytes
         → found ≡ has_match (calls_of options bytes)
 
-  -- the same, and then a flush that succeeds, which is the only one
+  -- a printed search, and then a flush that succeeds, which is the only one
   pub record IsPrintedAndFlushed (options : Options) (reader : R) (writer : W) (found : Bool)
       (reader' : R) (writer' : W) : Type 0 where
     pub unflushed : W
@@ -210,7 +210,7 @@ module _ {F R W E : Type 0} (opens : List ℕ → Result F Error → Type 0)
         → AskFor arguments options
         → IsRunAt opens file_remaining file_step remaining read_step write_step contents
         options.path options input writer result input' writer'
-        → WritesMessageOf message_step result messages messages'
+        → WritesFailure message_step result messages messages'
         → IsProgramEnd arguments input writer messages (status_of result) input' writer' messages'
 
 -- what the program does if its arguments can't be read: it says that it failed, and neither the

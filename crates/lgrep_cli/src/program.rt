@@ -5,7 +5,7 @@ ghost use Rattle.lgrep_cli.specs.Messages.{WritesMessage};
 ghost use Rattle.lgrep_cli.specs.ProgramRuns.{IsProgramEnd, IsStopped};
 
 use crate::exit::status;
-use crate::messages::{FAILED, tell, tell_of};
+use crate::messages::{FAILED, write_failure, write_message};
 use crate::options::{Options, OptionsFault, USAGE};
 use crate::search::run_options;
 use grep_output::Output;
@@ -46,7 +46,7 @@ pub fn run_arguments<T: Open, R: Source, W: Output, E: Output>(
         Err(OptionsFault::Memory) => return stop(messages, FAILED),
     };
     let outcome = run_options(rt, alloc, &options, input, writer);
-    tell_of(messages, &outcome);
+    write_failure(messages, &outcome);
     ExitCode::from(status(&outcome))
 }
 
@@ -55,6 +55,6 @@ fn stop<E: Output>(messages: &mut E, line: &str) -> ExitCode
     ensures status { exit_status result ≡ 2 }
     ensures message { WritesMessage E.step line.now messages.old messages.new }
 {
-    tell(messages, line);
+    write_message(messages, line);
     ExitCode::from(2)
 }

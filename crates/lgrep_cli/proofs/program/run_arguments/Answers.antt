@@ -19,4 +19,4 @@ returns g c =
     let asked = c.in-Ok-parse.ensures.options in
     rw (c.in-Ok.is, c.from.ensures, c.status.ensures)
     (of_run c.in-Ok-parse.options c.run_options-outcome.result (rw c.deref.ensures.value at asked)
-    c.run_options-outcome.ensures c.tell_of.ensures)
+    c.run_options-outcome.ensures c.write_failure.ensures)
