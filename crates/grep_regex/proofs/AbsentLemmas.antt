@@ -29,8 +29,8 @@ use Rattle.grep_regex.specs.AbsentBytes.{are_plain, is_absent, is_nul}
 use Rattle.grep_regex.specs.Alike.{AreAlike}
 use Rattle.grep_regex.specs.Clear.{is_among, find_clear}
 use Rattle.grep_regex.specs.Locality.{is_separator}
-use Rattle.grep_regex.specs.PatternFirstMatches.{first-matches}
-use Rattle.grep_regex.specs.Patterns.{framed, between, read_re, written_re, excluded_bytes, first_match_at}
+use Rattle.grep_regex.specs.PatternFirstMatches.{text-within}
+use Rattle.grep_regex.specs.Patterns.{framed, between, read_re, written_re, excluded_bytes, text_match_at}
 use Rattle.grep_regex.specs.Patterns.{leftmost_match_at, AvoidsAbsent}
 use Rattle.grep_regex.specs.declared.options.Options.{Options}
 use Rattle.grep_regex.proofs.ClearLemmas.{clear-at, clear-from}
@@ -131,15 +131,15 @@ framed-match o hay re i j = by-cases o.whole_line o.crlf o.word o.unicode
 module _ (o : Options) (patterns : List (List ℕ)) where
   pub avoids-nul : is_nul o.line_terminator ≡ true → AvoidsAbsent o patterns
   avoids-nul nul = record {
-    at = λ hay start small from. held hay start from (first_match_at o patterns hay start) refl;
+    at = λ hay start small from. held hay start from (text_match_at o patterns hay start) refl;
   }
     where
       held : (hay : List ℕ) (start : ℕ) → start ≤ length hay → (found : Option (ℕ × ℕ))
-          → first_match_at o patterns hay start ≡ found → Avoids (is_absent o patterns) hay found
+          → text_match_at o patterns hay start ≡ found → Avoids (is_absent o patterns) hay found
       held hay start from None is = tt
       held hay start from (Some m) is = λ i low high.
           let within : IsFrom start hay (Some m) =
-          subst (IsFrom start hay) is ((first-matches o patterns hay).within start from) in
+          subst (IsFrom start hay) is (text-within o patterns hay start) in
           let clear = clear-match (excluded_bytes o.line_terminator) (written_re o patterns) hay start m.0 m.1 is in
           let none = clear-at (excluded_bytes o.line_terminator) hay m.0 m.1 clear i low high
           (omega (arith, within.1.1, high)) in
@@ -149,7 +149,7 @@ module _ (o : Options) (patterns : List (List ℕ)) where
 
   pub avoids-unplain : is_nul o.line_terminator ≡ false → are_plain o patterns ≡ false → AvoidsAbsent o patterns
   avoids-unplain other unplain = record {
-    at = λ hay start small from. none-held hay (first_match_at o patterns hay start);
+    at = λ hay start small from. none-held hay (text_match_at o patterns hay start);
   }
     where
       none-held : (hay : List ℕ) (found : Option (ℕ × ℕ)) → Avoids (is_absent o patterns) hay found
@@ -181,7 +181,7 @@ module _ (o : Options) (patterns : List (List ℕ)) where
         (option_cases (find texts hay start))
 
     first-is : (hay : List ℕ) (start : ℕ) → All (λ x. x < 256) hay → start ≤ length hay
-        → first_match_at o patterns hay start ≡ leftmost_match_at texts hay start
+        → text_match_at o patterns hay start ≡ leftmost_match_at texts hay start
     first-is hay start small from =
         ap (λ t. option_map span (find_clear (excluded_bytes t) (written_re o patterns) hay start))
         (undeclared o patterns plain)

@@ -136,32 +136,63 @@ after-edge Crlf sep = record {
 side-is : (s : Side) (b c : Option ℕ) → s.byte ≡ b → s.char ≡ c → s ≡ record { byte = b; char = c }
 side-is s b c p q = λ i. record { byte = p i; char = q i }
 
-alike-holds : (terminator : LineTerminator) (l : Look) (s s2 t t2 : Side) → is_local_look terminator l ≡ true
-    → AreBefore terminator s s2 → AreAfter terminator t t2 → holds_between l s t ≡ holds_between l s2 t2
+-- the sides of two positions at which each local assertion holds alike
+record AreAround (terminator : LineTerminator) (s s2 t t2 : Side) : Type 0 where
+  before : AreBefore terminator s s2
+  alike : IsAlike t t2
+  line : is_local_look terminator EndLf ≡ true → (is_edge t || is_lf t) ≡ (is_edge t2 || is_lf t2)
+  start : is_crlf terminator ≡ true → holds_between StartCrlf s t ≡ holds_between StartCrlf s2 t2
+  end : is_crlf terminator ≡ true → holds_between EndCrlf s t ≡ holds_between EndCrlf s2 t2
+
+around-alike : (terminator : LineTerminator) (s s2 t t2 : Side) → AreBefore terminator s s2 → AreAfter terminator t t2
+    → AreAround terminator s s2 t t2
 unfolding holds_between
-alike-holds terminator Start s s2 t t2 ok a b = absurd (cc)
-alike-holds terminator End s s2 t t2 ok a b = absurd (cc)
-alike-holds terminator StartLf s s2 t t2 ok a b = a.line ok
-alike-holds terminator EndLf s s2 t t2 ok a b = b.line ok
-alike-holds terminator StartCrlf s s2 t t2 ok a b = cc (a.crlf ok, a.cr ok, b.lf ok)
-alike-holds terminator EndCrlf s s2 t t2 ok a b = cc (b.crlf ok, b.lf ok, a.cr ok)
-alike-holds terminator WordAscii s s2 t t2 ok a b = cc (a.alike.ascii, b.alike.ascii)
-alike-holds terminator WordAsciiNegate s s2 t t2 ok a b = cc (a.alike.ascii, b.alike.ascii)
-alike-holds terminator WordUnicode s s2 t t2 ok a b = cc (a.alike.word, b.alike.word)
-alike-holds terminator WordUnicodeNegate s s2 t t2 ok a b = cc (
+around-alike terminator s s2 t t2 a b = record {
+  before = a;
+  alike = b.alike;
+  line = b.line;
+  start = λ ok. cc (a.crlf ok, a.cr ok, b.lf ok);
+  end = λ ok. cc (b.crlf ok, b.lf ok, a.cr ok);
+}
+
+-- a line feed is as the edge is, if no carriage return is before it
+around-feed : (terminator : LineTerminator) (s s2 : Side) → AreBefore terminator s s2 → is_cr s ≡ false
+    → AreAround terminator s s2 edge (only 10)
+unfolding holds_between
+around-feed terminator s s2 a bare = record {
+  before = a;
+  alike = alike-edge 10 (lit< tt) refl;
+  line = λ ok. refl;
+  start = λ ok. cc (a.crlf ok, a.cr ok, bare);
+  end = λ ok. cc (a.cr ok, bare);
+}
+
+alike-holds : (terminator : LineTerminator) (l : Look) (s s2 t t2 : Side) → is_local_look terminator l ≡ true
+    → AreAround terminator s s2 t t2 → holds_between l s t ≡ holds_between l s2 t2
+unfolding holds_between
+alike-holds terminator Start s s2 t t2 ok a = absurd (cc)
+alike-holds terminator End s s2 t t2 ok a = absurd (cc)
+alike-holds terminator StartLf s s2 t t2 ok a = a.before.line ok
+alike-holds terminator EndLf s s2 t t2 ok a = a.line ok
+alike-holds terminator StartCrlf s s2 t t2 ok a = a.start ok
+alike-holds terminator EndCrlf s s2 t t2 ok a = a.end ok
+alike-holds terminator WordAscii s s2 t t2 ok a = cc (a.before.alike.ascii, a.alike.ascii)
+alike-holds terminator WordAsciiNegate s s2 t t2 ok a = cc (a.before.alike.ascii, a.alike.ascii)
+alike-holds terminator WordUnicode s s2 t t2 ok a = cc (a.before.alike.word, a.alike.word)
+alike-holds terminator WordUnicodeNegate s s2 t t2 ok a = cc (
+  a.before.alike.whole,
   a.alike.whole,
-  b.alike.whole,
+  a.before.alike.word,
   a.alike.word,
-  b.alike.word,
 )
-alike-holds terminator WordStartAscii s s2 t t2 ok a b = cc (a.alike.ascii, b.alike.ascii)
-alike-holds terminator WordEndAscii s s2 t t2 ok a b = cc (a.alike.ascii, b.alike.ascii)
-alike-holds terminator WordStartUnicode s s2 t t2 ok a b = cc (a.alike.word, b.alike.word)
-alike-holds terminator WordEndUnicode s s2 t t2 ok a b = cc (a.alike.word, b.alike.word)
-alike-holds terminator WordStartHalfAscii s s2 t t2 ok a b = cc (a.alike.ascii)
-alike-holds terminator WordEndHalfAscii s s2 t t2 ok a b = cc (b.alike.ascii)
-alike-holds terminator WordStartHalfUnicode s s2 t t2 ok a b = cc (a.alike.whole, a.alike.word)
-alike-holds terminator WordEndHalfUnicode s s2 t t2 ok a b = cc (b.alike.whole, b.alike.word)
+alike-holds terminator WordStartAscii s s2 t t2 ok a = cc (a.before.alike.ascii, a.alike.ascii)
+alike-holds terminator WordEndAscii s s2 t t2 ok a = cc (a.before.alike.ascii, a.alike.ascii)
+alike-holds terminator WordStartUnicode s s2 t t2 ok a = cc (a.before.alike.word, a.alike.word)
+alike-holds terminator WordEndUnicode s s2 t t2 ok a = cc (a.before.alike.word, a.alike.word)
+alike-holds terminator WordStartHalfAscii s s2 t t2 ok a = cc (a.before.alike.ascii)
+alike-holds terminator WordEndHalfAscii s s2 t t2 ok a = cc (a.alike.ascii)
+alike-holds terminator WordStartHalfUnicode s s2 t t2 ok a = cc (a.before.alike.whole, a.before.alike.word)
+alike-holds terminator WordEndHalfUnicode s s2 t t2 ok a = cc (a.alike.whole, a.alike.word)
 
 -- ---- characters and ASCII bytes
 
@@ -203,7 +234,8 @@ split-front xs ys bs r e fits =
     ∙ (ap (take (length bs)) e ∙ take-append_seam bs r))
 
 -- What comes at n is the part and then the rest; before it is the end of a line, or nothing. The part is looked at up
--- to `top`: there the haystack ends, or the part does and a terminator comes, or the part has the byte that ends it.
+-- to `top`: there the haystack ends, or the part does and a terminator comes, or a line feed alone, or the part has the
+-- byte that ends it.
 pub record IsPart (terminator : LineTerminator) (hay kept post : List ℕ) (n top : ℕ) : Type 0 where
   pub front : drop n hay ≡ kept ++ post
   pub within : n ≤ length hay
@@ -212,6 +244,7 @@ pub record IsPart (terminator : LineTerminator) (hay kept post : List ℕ) (n to
   pub after : (length hay ≡ n + top)
       ⊎ ((top ≡ length kept) × (slice_get hay (n + top) ≡ Some (first_byte terminator)))
       ⊎ ((top < length kept) × (slice_get hay (n + top) ≡ Some (byte_of terminator)))
+      ⊎ ((top ≡ length kept) × (slice_get hay (n + top) ≡ Some 10) × (is_cr (side_before kept top) ≡ false))
 
 char_of_len_parts : (hay : List ℕ) (m i c : ℕ) → char_of_len_before hay m i ≡ Some c →
     (m ≤ i) × (char_at hay (i - m) ≡ Some c) × (len_utf8 c ≡ m)
@@ -276,7 +309,8 @@ module _ (terminator : LineTerminator) (sep : IsSeparated terminator) (hay kept 
   at-top = elim part.after [
     | inl ends ↦ inl ends
     | inr (inl stops) ↦ inr (first_byte terminator, first-low terminator sep, stops.1)
-    | inr (inr inner) ↦ inr (byte_of terminator, sep.low, inner.1)
+    | inr (inr (inl inner)) ↦ inr (byte_of terminator, sep.low, inner.1)
+    | inr (inr (inr fed)) ↦ inr (10, lit< tt, fed.1)
   ]
 
   char-same : (i : ℕ) → i < top → char_at kept i ≡ char_at hay (n + i)
@@ -305,32 +339,19 @@ module _ (terminator : LineTerminator) (sep : IsSeparated terminator) (hay kept 
       side-is (side_after kept top) _ _ here (char_at_ascii kept top _ here sep.low)
       ∙ sym (side-is (side_after hay (n + top)) _ _ there (char_at_ascii hay (n + top) _ there sep.low))
 
+  past-top : top ≡ length kept → side_after kept top ≡ edge
+  past-top whole =
+      let past : length kept ≤ top = omega arith in
+      side-is (side_after kept top) None None (slice_get_past kept top past) (char_at_past kept top past)
+
   side-stops : top ≡ length kept → slice_get hay (n + top) ≡ Some (first_byte terminator)
       → AreAfter terminator (side_after kept top) (side_after hay (n + top))
   side-stops whole there =
-      let past : length kept ≤ top = omega arith in
-      subst (λ s. AreAfter terminator s (side_after hay (n + top)))
-      (sym (side-is (side_after kept top) None None (slice_get_past kept top past) (char_at_past kept top past)))
+      subst (λ s. AreAfter terminator s (side_after hay (n + top))) (sym (past-top whole))
       (subst (AreAfter terminator edge)
       (sym (side-is (side_after hay (n + top)) _ _ there
       (char_at_ascii hay (n + top) _ there (first-low terminator sep))))
       (after-edge terminator sep))
-
-  top-alike : AreAfter terminator (side_after kept top) (side_after hay (n + top))
-  top-alike = elim part.after [
-    | inl ends ↦ after-same terminator (side-ends ends)
-    | inr (inl stops) ↦ side-stops stops.0 stops.1
-    | inr (inr inner) ↦ after-same terminator (side-inner inner.0 inner.1)
-  ]
-
-  after-alike : (i : ℕ) → i ≤ top → AreAfter terminator (side_after kept i) (side_after hay (n + i))
-  after-alike i h = ⊎_elim
-      (λ (inside : i < top). after-same terminator
-      (side-is _ _ _ (byte-same i (omega (arith, part.fits))) (char-same i inside)))
-      (λ (past : top ≤ i).
-      let at : top ≡ i = omega arith in
-      subst (λ k. AreAfter terminator (side_after kept k) (side_after hay (n + k))) at top-alike)
-      (cases_lt i top)
 
   char_of_len-same : (m i : ℕ) → 0 < i → i ≤ length kept → char_of_len_before kept m i
       ≡ char_of_len_before hay m (n + i)
@@ -398,10 +419,43 @@ module _ (terminator : LineTerminator) (sep : IsSeparated terminator) (hay kept 
       part.before)))
       (cases_lt 0 i)
 
+  abbrev AreAlikeAt : ℕ → Type 0
+  AreAlikeAt i = AreAround terminator (side_before kept i) (side_before hay (n + i))
+      (side_after kept i) (side_after hay (n + i))
+
+  alike-by : (i : ℕ) → i ≤ top → AreAfter terminator (side_after kept i) (side_after hay (n + i)) → AreAlikeAt i
+  alike-by i h after = around-alike terminator _ _ _ _ (before-alike i (omega (arith, part.fits))) after
+
+  fed-alike : top ≡ length kept → slice_get hay (n + top) ≡ Some 10 → is_cr (side_before kept top) ≡ false
+      → AreAlikeAt top
+  fed-alike whole there bare =
+      let at : side_after hay (n + top) ≡ only 10 =
+      side-is (side_after hay (n + top)) _ _ there (char_at_ascii hay (n + top) 10 there (lit< tt)) in
+      subst (λ s. AreAround terminator (side_before kept top) (side_before hay (n + top)) s (side_after hay (n + top)))
+      (sym (past-top whole))
+      (subst (AreAround terminator (side_before kept top) (side_before hay (n + top)) edge) (sym at)
+      (around-feed terminator _ _ (before-alike top part.fits) bare))
+
+  top-alike : AreAlikeAt top
+  top-alike = elim part.after [
+    | inl ends ↦ alike-by top (omega arith) (after-same terminator (side-ends ends))
+    | inr (inl stops) ↦ alike-by top (omega arith) (side-stops stops.0 stops.1)
+    | inr (inr (inl inner)) ↦ alike-by top (omega arith) (after-same terminator (side-inner inner.0 inner.1))
+    | inr (inr (inr fed)) ↦ fed-alike fed.0 fed.1 fed.2
+  ]
+
+  alike-at : (i : ℕ) → i ≤ top → AreAlikeAt i
+  alike-at i h = ⊎_elim
+      (λ (inside : i < top). alike-by i h (after-same terminator
+      (side-is _ _ _ (byte-same i (omega (arith, part.fits))) (char-same i inside))))
+      (λ (past : top ≤ i).
+      let at : top ≡ i = omega arith in
+      subst AreAlikeAt at top-alike)
+      (cases_lt i top)
+
   look-same : (l : Look) (i : ℕ) → is_local_look terminator l ≡ true → i ≤ top → holds l kept i ≡ holds l hay (n + i)
   unfolding holds
-  look-same l i ok h =
-      alike-holds terminator l _ _ _ _ ok (before-alike i (omega (arith, part.fits))) (after-alike i h)
+  look-same l i ok h = alike-holds terminator l _ _ _ _ ok (alike-at i h)
 
   -- ---- matches
 

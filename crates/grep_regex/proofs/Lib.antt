@@ -14,6 +14,8 @@ pub mod StrippedTreeLemmas
 pub mod NamedByteLemmas
 pub mod FindLemmas
 pub mod EdgeLemmas
+pub mod SeenLemmas
+pub mod SeenMatchLemmas
 pub mod MatchedLineLemmas
 pub mod TrustLemmas
 pub mod TextsLemmas

@@ -1,7 +1,7 @@
 -- What a local pattern's first match in many lines says of each of them.
 use Rattle.std.proofs.Common.{◌≡◌, ◌≢◌, ℕ, zero, suc, ◌+◌, ◌-◌, ◌<◌, ◌≤◌, ◌⊎◌, true, false, List, [], ◌∷◌, ◌++◌, length}
 use Rattle.std.proofs.Common.{take, drop, slice_index, slice_index_or, Some, None, is_some, option_map, refl}
-use Rattle.std.proofs.Common.{sym, ap, ◌∙◌, subst, inl, inr, ⊎_elim, arith, length-append, length-drop, add-one}
+use Rattle.std.proofs.Common.{sym, ap, ◌∙◌, inl, inr, ⊎_elim, arith, length-append, length-drop, add-one}
 use Rattle.std.proofs.Common.{append_assoc, ◌==◌, get_or-drop, true≢false, get_or}
 use Rattle.std.proofs.lemmas.Bool.{cases_lt, cases_eq, cases_Bool, eq-eqb}
 use Rattle.std.proofs.lemmas.Bool.Decides.{Decides-eqb}
@@ -26,7 +26,6 @@ use Rattle.grep_matcher.specs.declared.line_terminator.LineTerminator.{LineTermi
 use Rattle.grep_matcher.specs.declared.line_terminator.LineTerminator.TheVariants.{Byte, Crlf}
 use Rattle.grep_matcher.specs.Lawful.{HoldsPosition, EndsBefore}
 use Rattle.grep_matcher.specs.Meanings.{Meaning}
-use Rattle.grep_matcher.specs.FindResults.{IsFrom}
 use Rattle.grep_matcher.proofs.StrippedLineLemmas.{IsLine, line-is}
 use Rattle.grep_regex.specs.Clear.{is_among}
 use Rattle.grep_regex.specs.Locality.{is_local, is_crlf}
@@ -34,20 +33,9 @@ use Rattle.grep_regex.specs.Patterns.{leftmost_match_at}
 use Rattle.grep_regex.proofs.ReadsLemmas.{reads-some}
 use Rattle.grep_regex.proofs.EdgeLemmas.{IsSeparated, IsPart, first_byte, matches-in, matches-out}
 
-found-to : (re : Re) (hay : List ℕ) (start : ℕ) (m : Match) → find re hay start ≡ Some m → m.start ≤ length hay
+pub found-to : (re : Re) (hay : List ℕ) (start : ℕ) (m : Match) → find re hay start ≡ Some m → m.start ≤ length hay
 unfolding find
 found-to re hay start m e = (IsFirst-of_first_between (attempt hay re accept) start (length hay) m e).to
-
--- a match lies within its haystack, and starts at the position or after it
-pub match-within : (re : Re) (hay : List ℕ) (start : ℕ) → IsFrom start hay (leftmost_match_at re hay start)
-match-within re hay start = ⊎_elim
-    (λ none. subst (λ o. IsFrom start hay (option_map span o)) (sym none) (tt, tt))
-    (λ some.
-    let sound = find_sound re hay start some.0 some.1 in
-    let spans = Matches-IsSpan hay re _ _ sound.1 in
-    let to = found-to re hay start some.0 some.1 in
-    subst (λ o. IsFrom start hay (option_map span o)) (sym some.1) (sound.0, (omega arith, omega arith)))
-    (option_cases (find re hay start))
 
 -- ---- the lines
 
@@ -60,7 +48,8 @@ prefix-is (x ∷ xs) (b ∷ line) fits same =
     ap (λ y. y ∷ xs) (same 0 (omega arith))
     ∙ ap (λ l. b ∷ l) (prefix-is xs line (omega arith) (λ j below. same (suc j) (omega arith)))
 
-last-is : (line : List ℕ) (t : ℕ) → 0 < length line → slice_index line (length line - 1) ≡ t → line
+-- a list with its last element apart
+pub last-is : (line : List ℕ) (t : ℕ) → 0 < length line → slice_index line (length line - 1) ≡ t → line
     ≡ take (length line - 1) line ++ t ∷ []
 last-is [] t some e = absurd (omega arith)
 last-is (b ∷ []) t some e = ap (λ x. x ∷ []) e
@@ -80,7 +69,7 @@ whole-lines t (b ∷ bytes) = ⊎_elim
     (cases_Bool (b == t))
 
 -- where a stretch begins in which each byte is excluded, a match without excluded bytes ends, unless it is past that
-short : (ends hay : List ℕ) (a b e last : ℕ)
+pub short : (ends hay : List ℕ) (a b e last : ℕ)
     → ((k : ℕ) → e ≤ k → k < last → is_among ends (slice_index hay k) ≡ true)
     → ((k : ℕ) → a ≤ k → k < b → is_among ends (slice_index hay k) ≡ false)
     → (e < b → a ≤ e → e < last) → (e < a → (a < b) × (a < last)) → b ≤ e
@@ -238,7 +227,7 @@ module _ (terminator : LineTerminator) (bytes : List ℕ) where
 among-one : (t x : ℕ) → x ≡ t → is_among (t ∷ []) x ≡ true
 among-one t x e = let same = eq-eqb x t e in rw same refl
 
-among-crlf : (x : ℕ) → (x ≡ 13) ⊎ (x ≡ 10) → is_among (13 ∷ 10 ∷ []) x ≡ true
+pub among-crlf : (x : ℕ) → (x ≡ 13) ⊎ (x ≡ 10) → is_among (13 ∷ 10 ∷ []) x ≡ true
 among-crlf x (inl e) = ap (is_among (13 ∷ 10 ∷ [])) e
 among-crlf x (inr e) = ap (is_among (13 ∷ 10 ∷ [])) e
 
@@ -328,7 +317,7 @@ module _ (bytes : List ℕ) (i : ℕ) (listed : IsListed Crlf bytes i) where
           within = omega (arith, inside);
           fits = omega (arith, size);
           before = before Crlf bytes i listed;
-          after = inr (inr (omega (arith, size, is.filled), slice_get-get_or bytes _ 0 inside ∙ ap Some at));
+          after = inr (inr (inl (omega (arith, size, is.filled), slice_get-get_or bytes _ 0 inside ∙ ap Some at)));
         };
         past = λ k low high.
             let there : k ≡ length (line Crlf bytes i) - 1 = omega (arith, size) in

@@ -20,7 +20,7 @@ use Rattle.grep_matcher.specs.FindResults.{match_from}
 use Rattle.grep_matcher.specs.LiteralFirstMatches.{OccursAt-inner, found-or-none, match-found, match-none}
 use Rattle.grep_matcher.specs.Literals.{literal_match}
 use Rattle.grep_regex.specs.Patterns.{leftmost_match_at}
-use Rattle.grep_regex.specs.Views.{program_re, regex_first_at}
+use Rattle.grep_regex.specs.Views.{program_re, regex_text_at}
 use Rattle.grep_regex.specs.declared.regex.Regex.{Regex}
 use Rattle.grep_regex.proofs.EngineLemmas.{finds-at}
 use Rattle.grep_regex.specs.Spelled.{IsSpelled}
@@ -96,7 +96,7 @@ is-spelled bytes filled = record { at = λ hay start are-bytes fits. spelled-at 
 pub literal-first : (r : Regex) (kept : Option (List ℕ)) (bytes hay : List ℕ) (start : ℕ)
     → ∥ IfSome kept (IsSpelled (program_re r)) ∥₁ → kept ≡ Some bytes
     → ((k : ℕ) → get_or hay k 0 < 256) → start ≤ length hay
-    → match_from start (literal_match bytes (drop start hay)) ≡ regex_first_at r hay start
+    → match_from start (literal_match bytes (drop start hay)) ≡ regex_text_at r hay start
 literal-first r kept bytes hay start spells is are-bytes fits =
     ∥∥₁_elim spells (Coded-set (coded_option (coded× coded_ℕ coded_ℕ)) _ _)
     (λ s.

@@ -17,7 +17,7 @@ use Rattle.regex_hir.proofs.OptionLemmas.{option_cases}
 use Rattle.regex_vm.specs.Found.{span}
 use Rattle.grep_matcher.specs.Lawful.{IsLawfulResult, IsTrusted}
 use Rattle.grep_matcher.specs.Meanings.{Meaning}
-use Rattle.grep_matcher.specs.FindResults.{Avoids, IsWithin, IsFrom}
+use Rattle.grep_matcher.specs.FindResults.{Avoids, IsFrom}
 use Rattle.grep_matcher.specs.Lines.{byte_of, bytes_of}
 use Rattle.grep_matcher.specs.declared.line_match_kind.LineMatchKind.TheVariants.{Confirmed, Candidate}
 use Rattle.grep_matcher.specs.declared.line_terminator.LineTerminator.{LineTerminator}
@@ -28,22 +28,21 @@ use Rattle.grep_regex.specs.Clear.{is_among}
 use Rattle.grep_regex.specs.Locality.{is_local, is_by_line, is_crlf, is_separator}
 use Rattle.grep_regex.specs.AbsentBytes.{is_absent, is_nul}
 use Rattle.grep_regex.specs.Patterns.{leftmost_match_at, excluded_bytes, named_terminator, written_re}
-use Rattle.grep_regex.specs.Views.{regex_first, regex_first_at, regex_meaning, regex_options, regex_patterns, program_re}
+use Rattle.grep_regex.specs.PatternFirstMatches.{text-within}
+use Rattle.grep_regex.specs.Seen.{seen_bytes}
+use Rattle.grep_regex.specs.Views.{regex_first, regex_first_at, regex_text_at, regex_meaning, regex_options}
+use Rattle.grep_regex.specs.Views.{regex_patterns, program_re}
 use Rattle.grep_regex.specs.declared.regex.Regex.{Regex}
 use Rattle.grep_regex.proofs.AbsentLemmas.{absent-cases}
 use Rattle.grep_regex.proofs.ClearLemmas.{clear-at}
 use Rattle.grep_regex.proofs.EdgeLemmas.{IsSeparated}
-use Rattle.grep_regex.proofs.EngineLemmas.{finds-of, finds-at}
+use Rattle.grep_regex.proofs.EngineLemmas.{finds-of}
 use Rattle.grep_regex.proofs.FindLemmas.{clear-match}
 use Rattle.grep_regex.proofs.LocalityLemmas.{local-anywhere}
-use Rattle.grep_regex.proofs.MatchedLineLemmas.{match-within, kept, IsListed, kept-small, missed-all, missed, matched}
+use Rattle.grep_regex.proofs.MatchedLineLemmas.{kept, IsListed, kept-small, missed-all, missed, matched}
 use Rattle.grep_regex.proofs.MatchedLineLemmas.{FindsClear}
-
--- a match lies within its haystack, and starts at the position or after it
-pub first-within : (r : Regex) (hay : List ℕ) (start : ℕ) → ((k : ℕ) → get_or hay k 0 < 256) → start ≤ length hay
-    → IsFrom start hay (regex_first_at r hay start)
-first-within r hay start bytes from =
-    subst (IsFrom start hay) (finds-at r hay start bytes from) (match-within (program_re r) hay start)
+use Rattle.grep_regex.proofs.SeenLemmas.{seen-at, seen-small}
+use Rattle.grep_regex.proofs.SeenMatchLemmas.{FindsAlike, finds-alike, finds-both, finds-same}
 
 none-of : (re : Re) (bytes : List ℕ) → leftmost_match_at re bytes 0 ≡ None → find re bytes 0 ≡ None
 none-of re bytes e =
@@ -51,12 +50,12 @@ none-of re bytes e =
     (option_cases (find re bytes 0))
 
 some-of : (re : Re) (bytes : List ℕ) (a b : ℕ) → leftmost_match_at re bytes 0 ≡ Some (a, b) →
-    (m : Match) × (find re bytes 0 ≡ Some m) × (m.start ≡ a) × (m.trace.end ≡ b)
+    (m : Match) × (find re bytes 0 ≡ Some m) × (m.start ≡ a)
 some-of re bytes a b e = ⊎_elim
     (λ none. absurd (none-some _ (sym (ap (option_map span) none) ∙ e)))
     (λ some.
     let same = same_Some _ _ (sym (ap (option_map span) some.1) ∙ e) in
-    (some.0, some.1, ap (λ (x : ℕ × ℕ). x.0) same, ap (λ (x : ℕ × ℕ). x.1) same))
+    (some.0, some.1, ap (λ (x : ℕ × ℕ). x.0) same))
     (option_cases (find re bytes 0))
 
 -- what a pattern that is found by line has
@@ -82,17 +81,34 @@ confirmed Crlf re by_line =
       reads = λ crlf. both.0;
     }
 
--- the match of an expression holds no absent byte
-pub avoids-of : (r : Regex) (hay : List ℕ) (start : ℕ) → ((k : ℕ) → get_or hay k 0 < 256) → start ≤ length hay
-    → Avoids (is_absent (regex_options r) (regex_patterns r)) hay (regex_first_at r hay start)
-avoids-of r hay start small from = held (regex_first_at r hay start) refl
+-- the match of an expression holds no absent byte: in a haystack of which all is seen
+text-avoids : (r : Regex) (hay : List ℕ) (start : ℕ) → ((k : ℕ) → get_or hay k 0 < 256) → start ≤ length hay
+    → Avoids (is_absent (regex_options r) (regex_patterns r)) hay (regex_text_at r hay start)
+text-avoids r hay start small from = held (regex_text_at r hay start) refl
   where
-    held : (found : Option (ℕ × ℕ)) → regex_first_at r hay start ≡ found
+    held : (found : Option (ℕ × ℕ)) → regex_text_at r hay start ≡ found
         → Avoids (is_absent (regex_options r) (regex_patterns r)) hay found
     held None is = tt
     held (Some m) is = λ i low high. ∥∥₁_elim (arc_value r.shared).avoids (Coded-set coded_bool _ _)
         (λ f. subst (Avoids (is_absent (regex_options r) (regex_patterns r)) hay) is
         (f.at hay start (λ k d inside. rw (get_or_default hay k d 0 inside) (small k)) from) i low high)
+
+-- and in each
+pub avoids-of : (r : Regex) (hay : List ℕ) (start : ℕ) → ((k : ℕ) → get_or hay k 0 < 256)
+    → Avoids (is_absent (regex_options r) (regex_patterns r)) hay (regex_first_at r hay start)
+avoids-of r hay start small = held (regex_first_at r hay start) refl
+  where
+    held : (found : Option (ℕ × ℕ)) → regex_first_at r hay start ≡ found
+        → Avoids (is_absent (regex_options r) (regex_patterns r)) hay found
+    held None is = tt
+    held (Some m) is = λ i low high.
+        let seen = seen_bytes (regex_options r).line_terminator hay in
+        let within = subst (IsFrom start seen) is (text-within (regex_options r) (regex_patterns r) seen start) in
+        ap (is_absent (regex_options r) (regex_patterns r))
+        (sym (seen-at (regex_options r).line_terminator hay i (omega (arith, within.1.1))))
+        ∙ subst (Avoids (is_absent (regex_options r) (regex_patterns r)) seen) is
+        (text-avoids r seen start (seen-small (regex_options r).line_terminator hay small)
+        (omega (arith, within.0, within.1.0, within.1.1))) i low high
 
 among-byte : (b x : ℕ) → is_among (b ∷ []) x ≡ true → x ≡ b
 among-byte b x is = grind (arith, nat_tests, is)
@@ -123,30 +139,45 @@ module _ (r : Regex) (is_lawful : LineTerminator → Type 0) (bytes : List ℕ)
   absent-clear : (terminator : LineTerminator)
       → ((x : ℕ) → is_among (bytes_of terminator) x ≡ true → absent x ≡ true) → AreClear terminator
   absent-clear terminator each hay low m found k from to =
-      let first : regex_first r hay ≡ Some (m.start, m.trace.end) =
+      let first : regex_text_at r hay 0 ≡ Some (m.start, m.trace.end) =
       sym (finds-of r hay low) ∙ ap (option_map span) found in
       false_from_ne_true _ (λ has. true≢false (sym (each (slice_index hay k) has)
-      ∙ subst (Avoids absent hay) first (avoids-of r hay 0 low (omega arith)) k from to))
+      ∙ subst (Avoids absent hay) first (text-avoids r hay 0 low (omega arith)) k from to))
 
   -- and of the declared one
   declared-clear : (terminator : LineTerminator) → (regex_options r).line_terminator ≡ Some terminator
       → AreClear terminator
   declared-clear terminator is hay low m found k from to =
-      let first : regex_first r hay ≡ Some (m.start, m.trace.end) =
+      let first : regex_text_at r hay 0 ≡ Some (m.start, m.trace.end) =
       sym (finds-of r hay low) ∙ ap (option_map span) found in
-      let inside : k < length hay = omega (arith, to, (subst (IsWithin hay) first (first-within r hay 0 low (omega arith)).1).1) in
+      let within = subst (IsFrom 0 hay) first (text-within (regex_options r) (regex_patterns r) hay 0) in
+      let inside : k < length hay = omega (arith, to, within.1.1) in
       let clear = clear-match (excluded_bytes (regex_options r).line_terminator)
       (written_re (regex_options r) (regex_patterns r)) hay 0 m.start m.trace.end first in
       ap (λ bytes. is_among bytes (slice_index hay k)) (sym (ap excluded_bytes is))
       ∙ clear-at (excluded_bytes (regex_options r).line_terminator) hay m.start m.trace.end clear k from to inside
 
-  module _ (terminator : LineTerminator) (clear : AreClear terminator)
+  abbrev seen : List ℕ → List ℕ
+  seen hay = seen_bytes (regex_options r).line_terminator hay
+
+  -- what was compiled finds alike in what is seen of a haystack and in all of it
+  abbrev FindsInSeen : Type 0
+  FindsInSeen = (hay : List ℕ) → ((k : ℕ) → get_or hay k 0 < 256) → FindsAlike (program_re r) (seen hay) hay
+
+  module _ (alike : FindsInSeen) (terminator : LineTerminator) (clear : AreClear terminator)
       (has : IsConfirmed terminator (program_re r)) where
     -- a line alone, by what was compiled
     alone : (i : ℕ) → IsListed terminator bytes i → is_some (regex_first r (kept terminator bytes i))
         ≡ is_some (leftmost_match_at (program_re r) (kept terminator bytes i) 0)
     alone i listed =
-        ap is_some (sym (finds-of r (kept terminator bytes i) (kept-small terminator bytes small i listed)))
+        let line = kept terminator bytes i in
+        let low = kept-small terminator bytes small i listed in
+        ap is_some (sym (finds-of r (seen line) (seen-small (regex_options r).line_terminator line low)))
+        ∙ finds-both (program_re r) (seen line) line (alike line low)
+
+    -- all of the lines, by what was compiled
+    together : leftmost_match_at (program_re r) (seen bytes) 0 ≡ regex_first r bytes
+    together = finds-of r (seen bytes) (seen-small (regex_options r).line_terminator bytes small)
 
     clear-alone : (i : ℕ) → IsListed terminator bytes i → FindsClear terminator (program_re r) (kept terminator bytes i)
     clear-alone i listed = clear (kept terminator bytes i)
@@ -154,17 +185,19 @@ module _ (r : Regex) (is_lawful : LineTerminator → Type 0) (bytes : List ℕ)
 
     none-lawful : regex_first r bytes ≡ None → IsLawfulResult terminator (regex_meaning r) bytes None
     none-lawful none i listed = alone i listed ∙ missed-all terminator has.sep bytes (program_re r) has.local has.reads
-        (none-of _ bytes (finds-of r bytes small ∙ none)) i listed (clear-alone i listed)
+        ((alike bytes small).none (none-of _ (seen bytes) (together ∙ none))) i listed (clear-alone i listed)
 
     some-lawful : (a b : ℕ) → regex_first r bytes ≡ Some (a, b)
         → IsLawfulResult terminator (regex_meaning r) bytes (Some (Confirmed a))
     some-lawful a b found =
-        let m = some-of (program_re r) bytes a b (finds-of r bytes small ∙ found) in (
+        let first = some-of (program_re r) (seen bytes) a b (together ∙ found) in
+        let m = (alike bytes small).some first.0 first.1 in
+        let at : m.0.start ≡ a = m.2 ∙ first.2 in (
           λ i listed ends. alone i listed ∙ missed terminator has.sep bytes (program_re r) has.local has.reads m.0 m.1
-              (regex_meaning r) i listed (clear-alone i listed) (rw m.2 ends),
+              (regex_meaning r) i listed (clear-alone i listed) (rw at ends),
           λ i listed holds confirmed. alone i listed
               ∙ matched terminator has.sep bytes (program_re r) has.local has.reads m.0 m.1 (regex_meaning r) i listed
-              (rw m.2 holds) (clear bytes small m.0 m.1),
+              (rw at holds) (clear bytes small m.0 m.1),
         )
 
   module _ (by_line : is_by_line (regex_options r).line_terminator (program_re r) ≡ true)
@@ -203,6 +236,17 @@ module _ (r : Regex) (is_lawful : LineTerminator → Type 0) (bytes : List ℕ)
           confirmed Crlf (program_re r) (and_from _ _ both.0 (local-anywhere Crlf (program_re r) both.1)),
         )
 
+    in-seen : FindsInSeen
+    in-seen hay low = by-terminator (regex_options r).line_terminator refl
+      where
+        by-terminator : (t : Option LineTerminator) → (regex_options r).line_terminator ≡ t
+            → FindsAlike (program_re r) (seen_bytes t hay) hay
+        by-terminator None is = finds-same (program_re r) hay
+        by-terminator (Some (Byte b)) is = finds-same (program_re r) hay
+        by-terminator (Some Crlf) is =
+            let both = by-declared Crlf is in
+            finds-alike hay (program_re r) both.1.local (both.1.reads refl) (both.0 hay low)
+
     -- what is lawful for each excluded terminator can be trusted
     trusted : (found : Option LineMatchKind)
         → ((terminator : LineTerminator) → AreClear terminator
@@ -214,12 +258,12 @@ module _ (r : Regex) (is_lawful : LineTerminator → Type 0) (bytes : List ℕ)
         let both = by-absent other has in each other both.0 both.1
 
     pub trusted-none : regex_first r bytes ≡ None → IsTrusted (regex_meaning r) is_lawful bytes None
-    trusted-none none = trusted None (λ terminator clear has. none-lawful terminator clear has none)
+    trusted-none none = trusted None (λ terminator clear has. none-lawful in-seen terminator clear has none)
 
     pub trusted-some : (a b : ℕ) → regex_first r bytes ≡ Some (a, b)
         → IsTrusted (regex_meaning r) is_lawful bytes (Some (Confirmed a))
     trusted-some a b found = trusted (Some (Confirmed a))
-        (λ terminator clear has. some-lawful terminator clear has a b found)
+        (λ terminator clear has. some-lawful in-seen terminator clear has a b found)
 
 -- the first line as a candidate says nothing
 pub trusted-first : (meaning : Meaning) (is_lawful : LineTerminator → Type 0) (bytes : List ℕ) →

@@ -1,20 +1,30 @@
 -- Laws of first matches.
-use Rattle.std.specs.Prelude.{◌≡◌, ℕ, true, List, length, Some}
+use Rattle.std.specs.Prelude.{◌≡◌, ◌⊎◌, ℕ, ◌≤◌, true, List, [], ◌∷◌, ◌++◌, length, Some}
+use Rattle.grep_matcher.specs.declared.line_terminator.LineTerminator.TheVariants.{Crlf}
 use Rattle.grep_regex.specs.Clear.{is_clear}
 use Rattle.grep_regex.specs.Patterns.{first_match_at, leftmost_match_at, written_re}
 use Rattle.grep_regex.specs.Patterns.{excluded_bytes}
+use Rattle.grep_regex.specs.Seen.{seen_bytes}
 use Rattle.grep_regex.specs.declared.options.Options.{Options}
 
--- where no excluded byte follows a position, the first match from it on is that of the pattern
--- itself
+-- where no excluded byte follows a position in what is seen, the first match from it on is that of
+-- the pattern itself
 abbrev pub MatchesAsWritten : Type 0
 MatchesAsWritten = (o : Options) (patterns : List (List ℕ)) (haystack : List ℕ) (from : ℕ) →
-    is_clear (excluded_bytes o.line_terminator) haystack from (length haystack) ≡ true →
-    first_match_at o patterns haystack from
-    ≡ leftmost_match_at (written_re o patterns) haystack from
+    let seen = seen_bytes o.line_terminator haystack in
+    is_clear (excluded_bytes o.line_terminator) seen from (length seen) ≡ true →
+    first_match_at o patterns haystack from ≡ leftmost_match_at (written_re o patterns) seen from
 
 -- a match holds no excluded byte
 abbrev pub MatchesAreClear : Type 0
 MatchesAreClear = (o : Options) (patterns : List (List ℕ)) (haystack : List ℕ)
     (from start end : ℕ) → first_match_at o patterns haystack from ≡ Some (start, end) →
     is_clear (excluded_bytes o.line_terminator) haystack start end ≡ true
+
+-- under CRLF a match lies before the line feed that ends the haystack, and before the carriage
+-- return that is before that
+abbrev pub MatchesEndWithLines : Type 0
+MatchesEndWithLines = (o : Options) (patterns : List (List ℕ)) (line ending : List ℕ)
+    (from start end : ℕ) → o.line_terminator ≡ Some Crlf →
+    (ending ≡ 10 ∷ []) ⊎ (ending ≡ 13 ∷ 10 ∷ []) →
+    first_match_at o patterns (line ++ ending) from ≡ Some (start, end) → end ≤ length line

@@ -1,10 +1,10 @@
 -- What patterns match from positions on are first matches. This is the proof of a law of `FindAt`,
 -- which may cite `specs` alone.
 use Rattle.std.proofs.Common.{◌≡◌, ℕ, ◌≤◌, List, length, Option, Some, refl, option_map, sym, ap, ◌∙◌, subst}
-use Rattle.std.proofs.Common.{⊎_elim, arith}
+use Rattle.std.proofs.Common.{⊎_elim, arith, Bool, true, false, cond, None, take, ◌-◌, ◌+◌, ◌<◌, length-take}
 use Rattle.std.proofs.lemmas.Option.{same_Some}
 use Rattle.std.specs.Prelude.{IfSome}
-use Rattle.regex_hir.specs.Find.{Match}
+use Rattle.regex_hir.specs.Find.{Match, first_from}
 use Rattle.regex_hir.specs.Re.{Re, Trace, Rest, accept, attempt}
 use Rattle.regex_hir.proofs.AttemptLemmas.{attempt_sound, cond_some}
 use Rattle.regex_hir.proofs.FindLemmas.{IsFirst, IsFirst-of_first_between, first_between_of_IsFirst, first_between_none}
@@ -15,7 +15,10 @@ use Rattle.regex_vm.specs.Found.{span}
 use Rattle.grep_matcher.specs.FindResults.{IsFrom}
 use Rattle.grep_matcher.specs.FirstMatches.{AreFirstMatches}
 use Rattle.grep_regex.specs.Clear.{if_clear, is_clear, find_clear}
-use Rattle.grep_regex.specs.Patterns.{first_match, first_match_at, written_re, excluded_bytes}
+use Rattle.grep_matcher.specs.declared.line_terminator.LineTerminator.{LineTerminator}
+use Rattle.grep_matcher.specs.declared.line_terminator.LineTerminator.TheVariants.{Byte, Crlf}
+use Rattle.grep_regex.specs.Patterns.{first_match, first_match_at, text_match_at, written_re, excluded_bytes}
+use Rattle.grep_regex.specs.Seen.{seen_bytes}
 use Rattle.grep_regex.specs.declared.options.Options.{Options}
 
 module _ (bytes : List ℕ) (re : Re) (hay : List ℕ) where
@@ -63,14 +66,48 @@ module _ (bytes : List ℕ) (re : Re) (hay : List ℕ) where
       }) ∙ sym some.1))
       (option_cases (find_clear bytes re hay start))
 
+-- no more is seen than there is
+cut-fits : (hay : List ℕ) (is_pair is_feed : Bool) →
+    length (cond is_pair (take (length hay - 2) hay) (cond is_feed (take (length hay - 1) hay) hay)) ≤ length hay
+cut-fits hay true is_feed = omega (arith, length-take (length hay - 2) hay)
+cut-fits hay false true = omega (arith, length-take (length hay - 1) hay)
+cut-fits hay false false = omega arith
+
+pub seen-fits : (terminator : Option LineTerminator) (hay : List ℕ) → length (seen_bytes terminator hay) ≤ length hay
+seen-fits None hay = omega arith
+seen-fits (Some (Byte b)) hay = omega arith
+seen-fits (Some Crlf) hay = cut-fits hay _ _
+
+-- a match in what is seen lies within the haystack
+pub from-seen : (terminator : Option LineTerminator) (hay : List ℕ) (start : ℕ) (found : Option (ℕ × ℕ))
+    → IsFrom start (seen_bytes terminator hay) found → IsFrom start hay found
+from-seen terminator hay start None within = (tt, tt)
+from-seen terminator hay start (Some m) within =
+    (within.0, (within.1.0, omega (arith, within.1.1, seen-fits terminator hay)))
+
 -- what patterns match from positions on are first matches
 pub first-matches : (o : Options) (patterns : List (List ℕ)) (hay : List ℕ)
     → AreFirstMatches hay (first_match o patterns hay) (first_match_at o patterns hay)
 first-matches o patterns hay =
     let bytes = excluded_bytes o.line_terminator in
     let re = written_re o patterns in
+    let seen = seen_bytes o.line_terminator hay in
     record {
       whole = refl;
-      within = λ start fits. first-within bytes re hay start;
-      same = λ start later ordered fits. first-same bytes re hay start later ordered;
+      within = λ start fits. from-seen o.line_terminator hay start (first_match_at o patterns hay start)
+          (first-within bytes re seen start);
+      same = λ start later ordered fits. first-same bytes re seen start later ordered;
     }
+
+-- what patterns match in a text lies in it
+pub text-within : (o : Options) (patterns : List (List ℕ)) (text : List ℕ) (start : ℕ)
+    → IsFrom start text (text_match_at o patterns text start)
+text-within o patterns text start = first-within (excluded_bytes o.line_terminator) (written_re o patterns) text start
+
+-- and nothing is found from a position past it
+pub none-past : (o : Options) (patterns : List (List ℕ)) (text : List ℕ) (start : ℕ) → length text < start
+    → text_match_at o patterns text start ≡ None
+unfolding find_clear first_from
+none-past o patterns text start past =
+    let none : length text + 1 - start ≡ 0 = omega arith in
+    rw none refl

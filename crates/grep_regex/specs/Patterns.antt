@@ -20,6 +20,7 @@ use Rattle.grep_matcher.specs.Lines.{bytes_of}
 use Rattle.grep_matcher.specs.declared.line_terminator.LineTerminator.{LineTerminator}
 use Rattle.grep_regex.specs.AbsentBytes.{is_absent, is_nul}
 use Rattle.grep_regex.specs.Clear.{find_clear}
+use Rattle.grep_regex.specs.Seen.{seen_bytes}
 use Rattle.grep_regex.specs.declared.options.Options.{Options}
 
 -- the options that a builder begins with
@@ -119,12 +120,17 @@ abbrev pub excluded_bytes : Option LineTerminator → List ℕ
 excluded_bytes None = []
 excluded_bytes (Some terminator) = bytes_of terminator
 
--- the first match of a haystack that starts at a position or after it, by its start and its end:
--- the leftmost that holds no excluded byte, and of those the one that the pattern prefers; what is
--- before the position is seen by assertions
+-- the first match of a text, all of which is seen, that starts at a position or after it, by its
+-- start and its end: the leftmost that holds no excluded byte, and of those the one that the pattern
+-- prefers; what is before the position is seen by assertions
+abbrev pub text_match_at : Options → List (List ℕ) → List ℕ → ℕ → Option (ℕ × ℕ)
+text_match_at o patterns text start = option_map span
+    (find_clear (excluded_bytes o.line_terminator) (written_re o patterns) text start)
+
+-- the first match of a haystack that starts at a position or after it: that of what is seen of it
 abbrev pub first_match_at : Options → List (List ℕ) → List ℕ → ℕ → Option (ℕ × ℕ)
-first_match_at o patterns haystack start = option_map span
-    (find_clear (excluded_bytes o.line_terminator) (written_re o patterns) haystack start)
+first_match_at o patterns haystack start =
+    text_match_at o patterns (seen_bytes o.line_terminator haystack) start
 
 -- the first match of a haystack
 abbrev pub first_match : Options → List (List ℕ) → List ℕ → Option (ℕ × ℕ)
@@ -146,13 +152,12 @@ meaning_of o patterns = record {
 abbrev pub leftmost_match_at : Re → List ℕ → ℕ → Option (ℕ × ℕ)
 leftmost_match_at re haystack start = option_map span (find re haystack start)
 
--- the pattern finds in each haystack, from each position on, what the texts of the patterns find
--- there
+-- the pattern finds in each text, from each position on, what the patterns find there
 pub record FindsAs (o : Options) (patterns : List (List ℕ)) (re : Re) : Type 0 where
-  pub at : (haystack : List ℕ) (start : ℕ) → All (λ x. x < 256) haystack → start ≤ length haystack →
-      leftmost_match_at re haystack start ≡ first_match_at o patterns haystack start
+  pub at : (text : List ℕ) (start : ℕ) → All (λ x. x < 256) text → start ≤ length text →
+      leftmost_match_at re text start ≡ text_match_at o patterns text start
 
 -- what the patterns find holds none of their absent bytes
 pub record AvoidsAbsent (o : Options) (patterns : List (List ℕ)) : Type 0 where
-  pub at : (haystack : List ℕ) (start : ℕ) → All (λ x. x < 256) haystack → start ≤ length haystack →
-      Avoids (is_absent o patterns) haystack (first_match_at o patterns haystack start)
+  pub at : (text : List ℕ) (start : ℕ) → All (λ x. x < 256) text → start ≤ length text →
+      Avoids (is_absent o patterns) text (text_match_at o patterns text start)

@@ -6,7 +6,7 @@ use Rattle.regex_hir.specs.Re.{Re}
 use Rattle.regex_meta.specs.declared.program.Program.{Program}
 use Rattle.regex_meta.specs.declared.searcher.Searcher.{Searcher}
 use Rattle.grep_matcher.specs.Meanings.{Meaning}
-use Rattle.grep_regex.specs.Patterns.{first_match_at, meaning_of}
+use Rattle.grep_regex.specs.Patterns.{first_match_at, text_match_at, meaning_of}
 use Rattle.grep_regex.specs.declared.asked.Asked.{Asked}
 use Rattle.grep_regex.specs.declared.asked.Asked.TheVariants.{FirstMatch, AnyMatch}
 use Rattle.grep_regex.specs.declared.engine.Engine.{Engine}
@@ -31,6 +31,10 @@ searcher_program s = s.program.now
 -- the pattern that was compiled
 abbrev pub program_re : Regex → Re
 program_re r = meaning (arc_value r.shared).program.hir
+
+-- the first match of a text, all of which is seen, that starts at a position or after it
+abbrev pub regex_text_at : Regex → List ℕ → ℕ → Option (ℕ × ℕ)
+regex_text_at r = text_match_at (regex_options r) (regex_patterns r)
 
 -- the first match of a haystack that starts at a position or after it
 abbrev pub regex_first_at : Regex → List ℕ → ℕ → Option (ℕ × ℕ)

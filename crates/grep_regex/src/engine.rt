@@ -36,7 +36,7 @@ impl<'r> Drop for Engine<'r> {
 
 impl<'r> Engine<'r> {
     ghost use Rattle.grep_matcher.specs.FindResults.{IsFrom};
-    ghost use Rattle.grep_regex.specs.Views.{engine_regex, regex_first_at, IsAnswer};
+    ghost use Rattle.grep_regex.specs.Views.{engine_regex, regex_text_at, IsAnswer};
 
     pub(crate) fn new(alloc: Global, regex: &'r Regex) -> Result<Engine<'r>, AllocError>
         ensures { IfOk result (λ engine. engine.regex.now ≡ regex.now) }
@@ -51,7 +51,8 @@ impl<'r> Engine<'r> {
         }
     }
 
-    // The first match from a position on; for `AnyMatch` some pair exactly if there is a match.
+    // The first match from a position on in a haystack of which all is seen; for `AnyMatch` some
+    // pair exactly if there is a match.
     pub(crate) fn find_at(
         &mut self,
         haystack: &[u8],
@@ -60,7 +61,7 @@ impl<'r> Engine<'r> {
     ) -> Option<(usize, usize)>
         requires { start ≤ length haystack.now }
         ensures value { IsAnswer asked
-            (regex_first_at (engine_regex self.old) haystack.now start) result }
+            (regex_text_at (engine_regex self.old) haystack.now start) result }
         ensures within { IsFrom start haystack.now result }
         ensures same { self.new.regex.now ≡ self.old.regex.now }
     {
@@ -83,7 +84,7 @@ impl<'r> Engine<'r> {
     fn occurrence(&self, haystack: &[u8], start: usize) -> Option<Option<(usize, usize)>>
         requires { start ≤ length haystack.now }
         ensures value { IfSome result (λ found.
-            found ≡ regex_first_at (engine_regex self.now) haystack.now start) }
+            found ≡ regex_text_at (engine_regex self.now) haystack.now start) }
         ensures within { IfSome result (IsFrom start haystack.now) }
     {
         match &self.literal {
@@ -102,7 +103,7 @@ impl<'r> Engine<'r> {
     ) -> Result<Option<(usize, usize)>, AllocError>
         requires { start ≤ length haystack.now }
         ensures value { IfOk result
-            (IsAnswer asked (regex_first_at regex.now haystack.now start)) }
+            (IsAnswer asked (regex_text_at regex.now haystack.now start)) }
         ensures within { IfOk result (IsFrom start haystack.now) }
     {
         match Engine::new(alloc, regex) {

@@ -2,7 +2,8 @@
 ghost use Rattle.std.specs.Prelude.{◌≡◌, ◌≤◌, length, is_some, IfOk, IfSome};
 ghost use Rattle.grep_matcher.specs.FindResults.{Avoids, IsFrom};
 ghost use Rattle.grep_matcher.specs.Lawful.{IsInside, IsTrusted};
-ghost use Rattle.grep_regex.specs.Views.{regex_first, regex_first_at, regex_meaning, IsAnswer};
+ghost use Rattle.grep_regex.specs.Views.{regex_first, regex_first_at, regex_text_at};
+ghost use Rattle.grep_regex.specs.Views.{regex_meaning, IsAnswer};
 
 use crate::asked::Asked;
 use crate::engine::Engine;
@@ -18,8 +19,8 @@ pub(crate) trait Finder {
     // What is known of an expression for which it is asked.
     ghost is_known: { Regex → Type 0 };
 
-    // The first match from a position on; for `AnyMatch` some pair exactly if there is a match. It
-    // is `None` if this is for another expression.
+    // The first match from a position on in a haystack of which all is seen; for `AnyMatch` some
+    // pair exactly if there is a match. It is `None` if this is for another expression.
     fn find_for(
         &mut self,
         regex: &Regex,
@@ -30,7 +31,7 @@ pub(crate) trait Finder {
         requires start { start ≤ length haystack.now }
         requires known { is_known regex.now }
         ensures value { IfSome result
-            (IsAnswer asked (regex_first_at regex.now haystack.now start)) }
+            (IsAnswer asked (regex_text_at regex.now haystack.now start)) }
         ensures within { IfSome result (IsFrom start haystack.now) };
 }
 
@@ -49,12 +50,16 @@ fn find_by<F: Finder>(
     ensures value { IfOk result (IsAnswer asked (regex_first_at regex.now haystack.now start)) }
     ensures within { IfOk result (IsFrom start haystack.now) }
 {
+    let seen = regex.seen_bytes(haystack);
+    if start > seen.len() {
+        return Ok(None);
+    }
     if let Ok(mut borrowed) = cell.try_borrow_mut() {
-        if let Some(found) = borrowed.find_for(regex, haystack, start, asked) {
+        if let Some(found) = borrowed.find_for(regex, seen, start, asked) {
             return Ok(found);
         }
     }
-    Engine::find_anew(alloc, regex, haystack, start, asked)
+    Engine::find_anew(alloc, regex, seen, start, asked)
 }
 
 // The first match of an expression that starts at a position or after it.

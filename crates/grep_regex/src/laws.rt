@@ -1,8 +1,9 @@
 //! Laws of first matches, each the contract of a function that does nothing.
-ghost use Rattle.grep_regex.specs.Laws.{MatchesAsWritten, MatchesAreClear};
+ghost use Rattle.grep_regex.specs.Laws.{MatchesAsWritten, MatchesAreClear, MatchesEndWithLines};
 
 /// Where no byte of the line terminator follows a position, as in a line alone, the first match
-/// from it on is that of the pattern itself.
+/// from it on is that of the pattern itself. Under CRLF this is so of what is seen: a line may end
+/// in its terminator, or in a line feed alone.
 pub fn matches_are_as_written()
     ensures { MatchesAsWritten }
 {}
@@ -10,4 +11,10 @@ pub fn matches_are_as_written()
 /// A match holds no byte of the line terminator.
 pub fn matches_are_clear()
     ensures { MatchesAreClear }
+{}
+
+/// Under CRLF no match lies after the line feed that ends what is asked about, nor before it and
+/// after a carriage return there.
+pub fn matches_end_with_lines()
+    ensures { MatchesEndWithLines }
 {}

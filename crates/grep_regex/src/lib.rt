@@ -17,6 +17,7 @@ mod options;
 mod parse;
 mod plain;
 mod regex;
+mod seen;
 mod strip;
 mod texts;
 

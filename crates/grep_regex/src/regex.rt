@@ -8,6 +8,7 @@ ghost use Rattle.grep_regex.specs.Locality.{is_by_line};
 ghost use Rattle.grep_regex.specs.Patterns.{excluded_bytes, named_terminator, AvoidsAbsent};
 ghost use Rattle.grep_regex.specs.Patterns.{FindsAs};
 ghost use Rattle.grep_regex.specs.Refusals.{AreAccepted, IsRefusal, IsTerminatorError};
+ghost use Rattle.grep_regex.specs.Seen.{seen_bytes};
 ghost use Rattle.grep_regex.specs.Sizes.{IsSized};
 ghost use Rattle.grep_regex.specs.Spelled.{IsSpelled};
 ghost use Rattle.grep_regex.specs.Stripped.{AreAscii};
@@ -19,6 +20,7 @@ use crate::literal::literal_of;
 use crate::locality::is_by_line;
 use crate::options::Options;
 use crate::parse::{Choice, read_choice};
+use crate::seen::seen_bytes;
 use crate::strip::without_terminator;
 use crate::texts::Texts;
 use grep_matcher::{ByteSet, LineTerminator};
@@ -162,6 +164,14 @@ impl Regex {
     {
         let terminator = self.shared.options.line_terminator;
         if is_nul(terminator) { None } else { terminator }
+    }
+
+    // What its matchers see of a haystack.
+    pub(crate) fn seen_bytes<'h>(&self, haystack: &'h [u8]) -> &'h [u8]
+        ensures { result.now
+            ≡ seen_bytes (regex_options self.now).line_terminator haystack.now }
+    {
+        seen_bytes(self.shared.options.line_terminator, haystack)
     }
 
     // Whether a match found in many lines lies within one of them, which then matches by itself.

@@ -21,6 +21,7 @@ const ROWS: &[Row] = &[
     ("n", r"\Ab", b"a\nb\n", Some((0, false))),
     ("rm", r"b$", b"a\r\nb\r\n", Some((3, true))),
     ("rm", r"^b$", b"ab\r\nb\nb", Some((4, true))),
+    ("rm", r"^b$", b"ab\nb\n", Some((3, true))),
     ("rmw", r"b", b"ab\nb\r\n", Some((3, true))),
     ("rm", r"\Bb", b"b\r\nab\r\n", Some((4, true))),
     ("rm", r"^$", b"a\r\n\r\n", Some((0, false))),

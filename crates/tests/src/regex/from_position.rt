@@ -29,10 +29,28 @@ const ROWS: &[Row] = &[
     ("n", r"[^b]*", b"a\nac", 1, Some((1, 1))),
 ];
 
+// What a line ends in isn't seen under CRLF.
+const LINE_END_ROWS: &[Row] = &[
+    ("rm", r"^$", b"a\n", 0, None),
+    ("rm", r"^$", b"a\r\n", 0, None),
+    ("rm", r"^$", b"\n", 0, Some((0, 0))),
+    ("rm", r"^$", b"a\n\r\n", 0, Some((2, 2))),
+    ("rm", r"a\z", b"a\n", 0, Some((0, 1))),
+    ("r", r"\B", b"a\n", 0, None),
+    ("rx", r"", b"a\r\n", 0, None),
+    ("rw", r"", b"a\n", 0, None),
+    ("rm", r"x*", b"ab\n", 2, Some((2, 2))),
+    ("rm", r"x*", b"ab\n", 3, None),
+    ("km", r"^$", b"a\n", 0, Some((2, 2))),
+    ("nm", r"^$", b"a\n", 0, Some((2, 2))),
+];
+
 // Whether the first match from a row's position on is the row's.
 fn finds_from(alloc: Global, row: &Row) -> bool {
     match answer_from(alloc, row.0, &[row.1], row.2, row.3) {
-        Some(answer) => answer.from_position == row.4,
+        Some(answer) => {
+            answer.from_position == row.4 && (row.3 > 0 || answer.is_match == row.4.is_some())
+        }
         None => false,
     }
 }
@@ -40,6 +58,16 @@ fn finds_from(alloc: Global, row: &Row) -> bool {
 #[test]
 fn positions(rt: HostRuntime) -> Result<(), usize> {
     for (index, row) in ROWS.iter().enumerate() {
+        if !finds_from(rt.alloc(), row) {
+            return Err(index);
+        }
+    }
+    Ok(())
+}
+
+#[test]
+fn line_ends(rt: HostRuntime) -> Result<(), usize> {
+    for (index, row) in LINE_END_ROWS.iter().enumerate() {
         if !finds_from(rt.alloc(), row) {
             return Err(index);
         }

@@ -20,5 +20,5 @@ returns-in-Ok-Some g c =
       within = subst (IsFrom c.args.start c.args.haystack.now) found c.in-Ok-Some.ensures.within;
       avoids = subst (Avoids (regex_meaning r).absent c.args.haystack.now)
           (sym c.in-Ok-Some.ensures.value ∙ found)
-          (avoids-of r c.args.haystack.now c.args.start (λ k. (c.type_inv.haystack k).fits) c.requires.start);
+          (avoids-of r c.args.haystack.now c.args.start (λ k. (c.type_inv.haystack k).fits));
     }

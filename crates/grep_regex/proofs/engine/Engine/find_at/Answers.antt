@@ -1,7 +1,8 @@
 use Rattle.std.proofs.Common.{◌∙◌, refl, sym, subst}
 use Rattle.grep_matcher.specs.FindResults.{IsFrom}
 use Rattle.grep_regex.proofs.EngineLemmas.{engine-finds, engine-tells}
-use Rattle.grep_regex.proofs.TrustLemmas.{first-within}
+use Rattle.grep_regex.specs.PatternFirstMatches.{text-within}
+use Rattle.grep_regex.specs.Views.{regex_options, regex_patterns}
 use Rattle.grep_regex.proofs.engine.Engine.find_at.Goals as goal
 
 pub returns-in-FirstMatch : goal.returns-in-FirstMatch
@@ -13,7 +14,7 @@ returns-in-FirstMatch c =
     record {
       value = rw c.in-FirstMatch.is found;
       within = subst (IsFrom c.args.start c.args.haystack.now) (sym found)
-          (first-within r c.args.haystack.now c.args.start (λ k. (c.type_inv.haystack k).fits) c.requires);
+          (text-within (regex_options r) (regex_patterns r) c.args.haystack.now c.args.start);
       same = refl;
     }
 
