@@ -5,7 +5,7 @@ use Rattle.std.proofs.Common.{inl, inr, ⊎_elim, arith, append_assoc, length-ap
 use Rattle.std.proofs.lemmas.Bool.{cases_Bool, cases_lt, false_from_ne_true}
 use Rattle.std.proofs.lemmas.Bool.Decides.{Decides-eqb, nat_tests}
 use Rattle.std.proofs.Math.Numerals.{add-one}
-use Rattle.std.proofs.lemmas.List.{append-nil, get_or_append_left, get_or_past}
+use Rattle.std.proofs.lemmas.List.{append-nil, append_cancel_right, get_or_append_left, get_or_past}
 use Rattle.std.proofs.lemmas.Option.{slice_get-get_or}
 use Rattle.std.proofs.lemmas.Slice.Eq.{ends_is}
 use Rattle.std.specs.List.{ends_with}
@@ -31,6 +31,11 @@ pair = 13 ∷ 10 ∷ []
 abbrev pub Lacks : List ℕ → List ℕ → Type 0
 Lacks bytes ending = (front : List ℕ) → bytes ≡ front ++ ending → ⊥
 
+-- so they do if the test says no
+pub lacks : (bytes ending : List ℕ) → ends_with nat_eq bytes ending ≡ false → Lacks bytes ending
+lacks bytes ending doesnt front is = true≢false (sym ((ends_is Decides-eqb bytes ending _ refl).1 front is) ∙ doesnt)
+
+-- a line feed after a carriage return
 pub longer : (bytes line front : List ℕ) → bytes ≡ line ++ feed → line ≡ front ++ 13 ∷ [] → bytes ≡ front ++ pair
 longer bytes line front is ends = is ∙ (ap (λ l. l ++ feed) ends ∙ append_assoc front (13 ∷ []) feed)
 
@@ -43,13 +48,33 @@ line-end-cases bytes = ⊎_elim
     rw both (inl ((ends_is Decides-eqb bytes pair _ refl).0 both)))
     (λ (other : ends_with nat_eq bytes pair ≡ false). rw other (⊎_elim
     (λ (fed : ends_with nat_eq bytes feed ≡ true).
-    rw fed (inr (inl ((ends_is Decides-eqb bytes feed _ refl).0 fed, lacks pair other))))
-    (λ (bare : ends_with nat_eq bytes feed ≡ false). rw bare (inr (inr (refl, lacks feed bare))))
+    rw fed (inr (inl ((ends_is Decides-eqb bytes feed _ refl).0 fed, lacks bytes pair other))))
+    (λ (bare : ends_with nat_eq bytes feed ≡ false). rw bare (inr (inr (refl, lacks bytes feed bare))))
     (cases_Bool (ends_with nat_eq bytes feed))))
     (cases_Bool (ends_with nat_eq bytes pair))
-  where
-    lacks : (ending : List ℕ) → ends_with nat_eq bytes ending ≡ false → Lacks bytes ending
-    lacks ending doesnt front is = true≢false (sym ((ends_is Decides-eqb bytes ending _ refl).1 front is) ∙ doesnt)
+
+-- a line is seen without its end, and if it has none, whole
+pub unseen-pair : (line : List ℕ) → without_line_end (line ++ pair) ≡ line
+unseen-pair line = elim (line-end-cases (line ++ pair)) [
+  | inl both ↦ append_cancel_right _ line pair (sym both)
+  | inr (inl fed) ↦ absurd (fed.1 line refl)
+  | inr (inr none) ↦ absurd (none.1 (line ++ 13 ∷ []) (sym (append_assoc line (13 ∷ []) feed)))
+]
+
+pub unseen-feed : (line : List ℕ) → Lacks line (13 ∷ []) → without_line_end (line ++ feed) ≡ line
+unseen-feed line bare = elim (line-end-cases (line ++ feed)) [
+  | inl both ↦ absurd (bare _ (append_cancel_right line _ feed
+      (both ∙ sym (append_assoc (without_line_end (line ++ feed)) (13 ∷ []) feed))))
+  | inr (inl fed) ↦ append_cancel_right _ line feed (sym fed.0)
+  | inr (inr none) ↦ absurd (none.1 line refl)
+]
+
+pub seen-whole : (line : List ℕ) → Lacks line feed → without_line_end line ≡ line
+seen-whole line bare = elim (line-end-cases line) [
+  | inl both ↦ absurd (bare _ (both ∙ sym (append_assoc (without_line_end line) (13 ∷ []) feed)))
+  | inr (inl fed) ↦ absurd (bare _ fed.0)
+  | inr (inr none) ↦ none.0
+]
 
 -- before the end of bytes that lack a carriage return there is none
 pub lacks-before : (bytes : List ℕ) → Lacks bytes (13 ∷ []) → is_cr (side_before bytes (length bytes)) ≡ false

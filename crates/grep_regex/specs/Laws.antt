@@ -1,5 +1,7 @@
 -- Laws of first matches.
 use Rattle.std.specs.Prelude.{◌≡◌, ◌⊎◌, ℕ, ◌≤◌, true, List, [], ◌∷◌, ◌++◌, length, Some}
+use Rattle.std.specs.Prelude.{nat_eq, false}
+use Rattle.std.specs.List.{ends_with}
 use Rattle.grep_matcher.specs.declared.line_terminator.LineTerminator.TheVariants.{Crlf}
 use Rattle.grep_regex.specs.Clear.{is_clear}
 use Rattle.grep_regex.specs.Patterns.{first_match_at, leftmost_match_at, written_re}
@@ -28,3 +30,12 @@ MatchesEndWithLines = (o : Options) (patterns : List (List ℕ)) (line ending : 
     (from start end : ℕ) → o.line_terminator ≡ Some Crlf →
     (ending ≡ 10 ∷ []) ⊎ (ending ≡ 13 ∷ 10 ∷ []) →
     first_match_at o patterns (line ++ ending) from ≡ Some (start, end) → end ≤ length line
+
+-- under CRLF what ends a line makes no difference to its matches: a carriage return and a line feed,
+-- or a line feed alone
+abbrev pub LineEndsAreUnseen : Type 0
+LineEndsAreUnseen = (o : Options) (patterns : List (List ℕ)) (line : List ℕ) (from : ℕ) →
+    o.line_terminator ≡ Some Crlf → ends_with nat_eq line (10 ∷ []) ≡ false →
+    (first_match_at o patterns (line ++ 13 ∷ 10 ∷ []) from ≡ first_match_at o patterns line from)
+    × (ends_with nat_eq line (13 ∷ []) ≡ false →
+    first_match_at o patterns (line ++ 10 ∷ []) from ≡ first_match_at o patterns line from)

@@ -250,8 +250,9 @@ impl RegexMatcherBuilder {
 
     /// Whether lines end in CRLF; not by default. This also sets the line terminator: to CRLF, or
     /// to none if `yes` is false. Under `multi_line`, `^` and `$` match around the pair, and `.`
-    /// matches neither byte. While CRLF is the line terminator, neither byte is in a match; a later
-    /// call of `line_terminator` declares another one, or none.
+    /// matches neither byte. While CRLF is the line terminator, neither byte is in a match, and a
+    /// pattern doesn't see what a haystack ends in, be it CRLF or a line feed alone; a later call
+    /// of `line_terminator` declares another one, or none.
     pub fn crlf(&mut self, yes: bool) -> &mut RegexMatcherBuilder
         ensures reference { result.ghost_name ≡ self.entry.ghost_name }
         ensures set { result.now ≡ record self.old {

@@ -1,5 +1,6 @@
 //! Laws of first matches, each the contract of a function that does nothing.
 ghost use Rattle.grep_regex.specs.Laws.{MatchesAsWritten, MatchesAreClear, MatchesEndWithLines};
+ghost use Rattle.grep_regex.specs.Laws.{LineEndsAreUnseen};
 
 /// Where no byte of the line terminator follows a position, as in a line alone, the first match
 /// from it on is that of the pattern itself. Under CRLF this is so of what is seen: a line may end
@@ -17,4 +18,10 @@ pub fn matches_are_clear()
 /// after a carriage return there.
 pub fn matches_end_with_lines()
     ensures { MatchesEndWithLines }
+{}
+
+/// Under CRLF a line has the same matches with its terminator, with a line feed alone, and without:
+/// if it doesn't end in a line feed itself, nor for a line feed alone in a carriage return.
+pub fn line_ends_are_unseen()
+    ensures { LineEndsAreUnseen }
 {}
