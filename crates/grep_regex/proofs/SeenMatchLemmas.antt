@@ -124,7 +124,8 @@ module _ (hay : List ℕ) where
     | inr (inr none) ↦ seen-all none.0
   ]
 
-  module _ (re : Re) (ok : is_local Crlf re ≡ true) (reads : always_reads re ≡ true) (clear : FindsClear Crlf re hay) where
+  module _ (re : Re) (ok : is_local Crlf re ≡ true) (reads : always_reads re ≡ true)
+      (clear : FindsClear Crlf re hay) where
     separated : IsSeparated Crlf
     separated = record { low = lit< tt; apart = refl }
 
@@ -136,7 +137,8 @@ module _ (hay : List ℕ) where
         let moves = reads-some hay re _ _ reads sound.1 in
         let fits : m.trace.end ≤ length hay = omega (arith, spans, found-to re hay 0 m found) in
         let near : m.trace.end ≤ length seen = short (13 ∷ 10 ∷ []) hay m.start m.trace.end (length seen) (length hay)
-        is-seen.past (clear m found) (λ far under. omega (arith, fits, far)) (λ beyond. (moves, omega (arith, moves, fits))) in
+        is-seen.past (clear m found) (λ far under. omega (arith, fits, far))
+        (λ beyond. (moves, omega (arith, moves, fits))) in
         let start : m.start - 0 ≡ m.start = omega arith in
         let end : m.trace.end - 0 ≡ m.trace.end = omega arith in (
           omega (arith, spans, near),

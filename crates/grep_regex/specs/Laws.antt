@@ -31,8 +31,8 @@ MatchesEndWithLines = (o : Options) (patterns : List (List ℕ)) (line ending : 
     (ending ≡ 10 ∷ []) ⊎ (ending ≡ 13 ∷ 10 ∷ []) →
     first_match_at o patterns (line ++ ending) from ≡ Some (start, end) → end ≤ length line
 
--- under CRLF what ends a line makes no difference to its matches: a carriage return and a line feed,
--- or a line feed alone
+-- under CRLF what ends a line makes no difference to its matches: a carriage return and a line
+-- feed, or a line feed alone
 abbrev pub LineEndsAreUnseen : Type 0
 LineEndsAreUnseen = (o : Options) (patterns : List (List ℕ)) (line : List ℕ) (from : ℕ) →
     o.line_terminator ≡ Some Crlf → ends_with nat_eq line (10 ∷ []) ≡ false →

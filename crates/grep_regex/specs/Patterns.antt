@@ -121,8 +121,8 @@ excluded_bytes None = []
 excluded_bytes (Some terminator) = bytes_of terminator
 
 -- the first match of a text, all of which is seen, that starts at a position or after it, by its
--- start and its end: the leftmost that holds no excluded byte, and of those the one that the pattern
--- prefers; what is before the position is seen by assertions
+-- start and its end: the leftmost that holds no excluded byte, and of those the one that the
+-- pattern prefers; what is before the position is seen by assertions
 abbrev pub text_match_at : Options → List (List ℕ) → List ℕ → ℕ → Option (ℕ × ℕ)
 text_match_at o patterns text start = option_map span
     (find_clear (excluded_bytes o.line_terminator) (written_re o patterns) text start)
