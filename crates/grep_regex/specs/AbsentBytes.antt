@@ -1,6 +1,6 @@
 -- The bytes that a matcher knows no match to hold.
 use Rattle.std.specs.Prelude.{ℕ, Bool, false, ◌&&◌, ◌||◌, not, ◌==◌, List, Option, None, Some}
-use Rattle.std.specs.Prelude.{is_some, chars}
+use Rattle.std.specs.Prelude.{is_some, chars, length}
 use Rattle.std.specs.List.{list_all, list_any}
 use Rattle.regex_syntax.specs.Verdict.{is_meta}
 use Rattle.grep_matcher.specs.declared.line_terminator.LineTerminator.{LineTerminator}
@@ -19,10 +19,20 @@ is_plain o pattern =
 abbrev pub are_literal : Options → List (List ℕ) → Bool
 are_literal o patterns = not o.case_insensitive && list_all (is_plain o) patterns
 
--- no line terminator is declared, and each match is one of the patterns as it is written
+-- none of the patterns is empty
+abbrev pub are_filled : List (List ℕ) → Bool
+are_filled patterns = list_all (λ p. not (length p == 0)) patterns
+
+-- no match is only after the line feed that a line may keep under CRLF, as that of an empty pattern
+-- may be if matches are words
+abbrev pub keep_to_lines : Options → List (List ℕ) → Bool
+keep_to_lines o patterns = not (o.crlf && o.word) || are_filled patterns
+
+-- no line terminator is declared, and each match is one of the patterns as it is written, and not
+-- only after a line
 abbrev pub are_plain : Options → List (List ℕ) → Bool
-are_plain o patterns =
-    not (is_some o.line_terminator) && (not o.whole_line && are_literal o patterns)
+are_plain o patterns = not (is_some o.line_terminator)
+    && (not o.whole_line && (keep_to_lines o patterns && are_literal o patterns))
 
 -- where the patterns are such: the ASCII bytes that aren't in words and that none of them has
 abbrev pub is_unwritten : Options → List (List ℕ) → ℕ → Bool

@@ -4,7 +4,8 @@ ghost use Rattle.std.specs.List.{list_any};
 ghost use Rattle.regex_hir.specs.Re.{literal};
 ghost use Rattle.grep_matcher.specs.ByteSets.{holds};
 ghost use Rattle.grep_matcher.specs.FindResults.{holds_if_some};
-ghost use Rattle.grep_regex.specs.AbsentBytes.{are_plain, is_absent, is_nul};
+ghost use Rattle.grep_regex.specs.AbsentBytes.{are_filled, are_plain, is_absent, is_nul};
+ghost use Rattle.grep_regex.specs.AbsentBytes.{keep_to_lines};
 ghost use Rattle.grep_regex.specs.Alike.{AreAlike};
 ghost use Rattle.grep_regex.specs.Clear.{is_among};
 ghost use Rattle.grep_regex.specs.Locality.{is_separator};
@@ -49,14 +50,37 @@ fn nul() -> ByteSet
     set
 }
 
-// Whether no line terminator is declared, and each match is one of the patterns as it is written.
+// Whether no line terminator is declared, and each match is one of the patterns as it is written,
+// and not only after a line.
 fn are_plain(options: &Options, patterns: &[&str]) -> bool
     ensures value { result ≡ are_plain options.now (map (λ p. p.now) patterns.now) }
     ensures read { IsTrue result →
         AreAlike (map (read_re options.now) (map (λ p. p.now) patterns.now))
         (map literal (map (λ p. p.now) patterns.now)) }
 {
-    options.line_terminator.is_none() && !options.whole_line && are_literal(options, patterns)
+    options.line_terminator.is_none()
+        && !options.whole_line
+        && keep_to_lines(options, patterns)
+        && are_literal(options, patterns)
+}
+
+// Whether no match is only after the line feed that a line may keep under CRLF.
+fn keep_to_lines(options: &Options, patterns: &[&str]) -> bool
+    ensures { result ≡ keep_to_lines options.now (map (λ p. p.now) patterns.now) }
+{
+    !(options.crlf && options.word) || are_filled(patterns)
+}
+
+// Whether none of the patterns is empty.
+fn are_filled(patterns: &[&str]) -> bool
+    ensures { result ≡ are_filled (map (λ p. p.now) patterns.now) }
+{
+    for i in 0..patterns.len() {
+        if patterns[i].is_empty() {
+            return false;
+        }
+    }
+    true
 }
 
 // The ASCII bytes that aren't in words and that none of the patterns has.
