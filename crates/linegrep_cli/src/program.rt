@@ -5,7 +5,6 @@ use crate::file_id::FileId;
 use crate::options::Options;
 use crate::patterns::read_patterns;
 use crate::search::search_all;
-use crate::settings::{build_printer, build_searcher};
 use crate::words::{is_escaped, words};
 use clap::ArgMatches;
 use grep_output::{Output, write_all};
@@ -43,11 +42,7 @@ pub fn run<R: Source, W: Output + Drop, E: Output>(
     output: W,
     errors: &mut E,
 ) -> u8 {
-    let ended = match words(rt.alloc(), arguments) {
-        Ok(words) => run_words(rt, streams, &words, input, output, errors),
-        Err(_) => Err(Failure::out_of_memory()),
-    };
-    match ended {
+    match run_arguments(rt, streams, arguments, input, output, errors) {
         Ok(status) => status,
         Err(failure) => {
             say(errors, failure.text());
@@ -56,17 +51,20 @@ pub fn run<R: Source, W: Output + Drop, E: Output>(
     }
 }
 
-// Does what the words of the arguments ask for.
-fn run_words<R: Source, W: Output + Drop, E: Output>(
+// Does what the arguments ask for. An error is why nothing is searched.
+fn run_arguments<R: Source, W: Output + Drop, E: Output>(
     rt: &HostRuntime,
     streams: Streams,
-    words: &[String],
+    arguments: &[Vec<u8>],
     input: &mut R,
     output: W,
     errors: &mut E,
 ) -> Result<u8, Failure> {
-    match parse(rt.alloc(), words) {
-        Ok(matches) => search_parsed(rt, streams, words, &matches, input, output, errors),
+    let Ok(words) = words(rt.alloc(), arguments) else {
+        return Err(Failure::out_of_memory());
+    };
+    match parse(rt.alloc(), &words) {
+        Ok(matches) => search_parsed(rt, streams, &words, &matches, input, output, errors),
         Err(error) => answer(rt.alloc(), &error, output),
     }
 }
@@ -123,7 +121,7 @@ fn search_parsed<R: Source, W: Output + Drop, E: Output>(
         return Err(Failure::of_cause(rt.alloc(), word, &"the argument isn't UTF-8"));
     }
     let patterns = read_patterns(rt, matches, input)?;
-    search_patterns(rt, &options, &patterns, input, output, errors)
+    search_all(rt, &options, &patterns, input, output, errors)
 }
 
 // A word that isn't UTF-8, if one of these isn't a path. What else a word is has to be a text.
@@ -135,26 +133,4 @@ fn misplaced<'w>(words: &'w [String], paths: &[&str]) -> Option<&'w str> {
     } else {
         Some(first.as_str())
     }
-}
-
-// Searches for patterns, and writes what is found to `output`.
-fn search_patterns<R: Source, W: Output + Drop, E: Output>(
-    rt: &HostRuntime,
-    options: &Options<'_, '_>,
-    patterns: &[String],
-    input: &mut R,
-    output: W,
-    errors: &mut E,
-) -> Result<u8, Failure> {
-    let mut printer = build_printer(rt, options, output);
-    let mut searcher = build_searcher(rt.alloc(), options)?;
-    search_all(
-        rt,
-        options,
-        patterns,
-        &mut searcher,
-        &mut printer,
-        input,
-        errors,
-    )
 }

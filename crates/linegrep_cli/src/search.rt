@@ -1,35 +1,45 @@
 //! The search of all that the arguments name.
 ghost use Rattle.grep_regex.specs.Views.{IsNamed};
 
-use crate::engine::{Engine, PrintingEngine};
+use crate::engine::PrintingEngine;
 use crate::failures::Failure;
 use crate::file_run::{Run, Scope};
 use crate::globs::Globs;
 use crate::options::Options;
 use crate::patterns::compile;
 use crate::printers::Printer;
+use crate::settings::{build_printer, build_searcher};
 use grep_output::Output;
 use grep_regex::{Naming, Regex};
 use grep_searcher::{FindAt, Searcher, Source};
 use std::marker::Brand;
 
-/// Searches the files at the paths of the options, one after another, and writes what is found. If
-/// there is no path, it searches the current folder under `-r`, and otherwise what `input` gives.
-/// The status is 0 if there is a match, 1 if there is none, and 2 if a file can't be read, which
-/// standard error says unless `-s` is given. If nothing is to be written, the first match ends it
-/// with 0. An error is that of a pattern that can't be compiled, of a glob that isn't well formed,
-/// or of being out of memory.
-pub fn search_all<R: Source, W: Output, E: Output>(
+/// Searches the files at the paths of the options, one after another, and writes to `output` what
+/// is found. If there is no path, it searches the current folder under `-r`, and otherwise what
+/// `input` gives. The status is 0 if there is a match, 1 if there is none, and 2 if a file can't be
+/// read, which standard error says unless `-s` is given. If nothing is to be written, the first
+/// match ends it with 0. An error is that of a setting, of a pattern that can't be compiled, of a
+/// glob that isn't well formed, or of being out of memory.
+pub fn search_all<R: Source, W: Output + Drop, E: Output>(
     rt: &HostRuntime,
     options: &Options<'_, '_>,
     patterns: &[String],
-    searcher: &mut Searcher,
-    printer: &mut Printer<W>,
     input: &mut R,
+    output: W,
     errors: &mut E,
 ) -> Result<u8, Failure> {
+    let mut printer = build_printer(rt, options, output);
+    let mut searcher = build_searcher(rt.alloc(), options)?;
     let regex = compile(rt.alloc(), options, patterns)?;
-    search_named::<Brand, R, W, E>(rt, options, &regex, searcher, printer, input, errors)
+    search_named::<Brand, R, W, E>(
+        rt,
+        options,
+        &regex,
+        &mut searcher,
+        &mut printer,
+        input,
+        errors,
+    )
 }
 
 // Searches for a compiled expression, which `N` names: no call of its matcher compares texts.
@@ -46,13 +56,13 @@ where
     requires { IsNamed N.options N.patterns regex.now }
 {
     match regex.named_matcher::<N>(rt.alloc()) {
-        Ok(matcher) => search_matcher(rt, options, &matcher, searcher, printer, input, errors),
+        Ok(matcher) => search_with(rt, options, &matcher, searcher, printer, input, errors),
         Err(_) => Err(Failure::out_of_memory()),
     }
 }
 
-// Searches with a matcher.
-fn search_matcher<'e, M: FindAt, R: Source, W: Output, E: Output>(
+// Searches with a matcher what the options choose.
+fn search_with<'e, M: FindAt, R: Source, W: Output, E: Output>(
     rt: &'e HostRuntime,
     options: &Options<'_, '_>,
     matcher: &'e M,
@@ -61,17 +71,8 @@ fn search_matcher<'e, M: FindAt, R: Source, W: Output, E: Output>(
     input: &'e mut R,
     errors: &'e mut E,
 ) -> Result<u8, Failure> {
-    let mut engine = PrintingEngine::new(rt, searcher, matcher, printer, input, errors);
-    search_by_engine(rt, options, &mut engine)
-}
-
-// Searches by an engine what the options choose.
-fn search_by_engine<E: Engine>(
-    rt: &HostRuntime,
-    options: &Options<'_, '_>,
-    engine: &mut E,
-) -> Result<u8, Failure> {
     let mut globs = Globs::read(rt.alloc(), options.globs.unwrap_or(&[]))?;
     let scope = Scope::new(rt, options);
-    Ok(Run::new(rt, engine, &mut globs, scope).complete(options.paths()))
+    let mut engine = PrintingEngine::new(rt, searcher, matcher, printer, input, errors);
+    Ok(Run::new(rt, &mut engine, &mut globs, scope).complete(options.paths()))
 }
