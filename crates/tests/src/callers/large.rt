@@ -99,7 +99,7 @@ fn is_searched(rt: &HostRuntime, path: Path<'_>) -> bool {
     fs::remove_file(rt, path).is_ok() && is_written && is_found
 }
 
-// The same of a temporary file.
+// Whether a temporary file is searched by the long path.
 fn is_searched_by_a_long_path(rt: &HostRuntime) -> bool {
     match temporary_path(rt, "long") {
         Ok(path) => is_searched(rt, path.as_path()),

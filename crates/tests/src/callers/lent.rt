@@ -233,7 +233,7 @@ fn is_unopened(rt: &HostRuntime, path: Path<'_>) -> bool {
     matches!(count_names(rt, path), Err(SearchError::Io(_)))
 }
 
-// The same of a temporary path.
+// Whether such lines are found in a file at a temporary path, and none once it is gone.
 fn finds_names(rt: &HostRuntime) -> bool {
     match temporary_path(rt, "counted") {
         Ok(path) => has_names(rt, path.as_path()),

@@ -405,7 +405,7 @@ fn breaks<R: Source>(
     is_fault(ended, kind) && writer.into_inner().left == 0
 }
 
-// The same of a search of a short text, which is one write.
+// Whether a search of a short text, which is one write, ends in such an error.
 fn breaks_at(alloc: Global, left: usize, kind: io::ErrorKind) -> bool {
     let mut input = b"a\nx\nx\na".as_slice();
     breaks(alloc, "-A 1 a", &mut input, left, kind)
@@ -610,7 +610,7 @@ fn writes_at(rt: &HostRuntime, line: &str, path: Path<'_>, text: &str, found: bo
     is_found(ended, found) && writer.into_inner().as_slice() == text.as_bytes()
 }
 
-// The same of a new file with this input.
+// Whether a search of a new file with this input writes this, and reports a match or not.
 fn writes_of_file(
     rt: &HostRuntime,
     (line, input): (&str, &[u8]),
@@ -622,7 +622,7 @@ fn writes_of_file(
     fs::remove_file(rt, path).is_ok() && is_found
 }
 
-// The same of a temporary file.
+// Whether a search of a temporary file with this input writes this, and reports a match or not.
 fn writes_of_input(rt: &HostRuntime, line: &str, input: &[u8], text: &str, found: bool) -> bool {
     match temporary_path(rt, "input") {
         Ok(path) => writes_of_file(rt, (line, input), path.as_path(), text, found),
@@ -676,7 +676,7 @@ fn finds_no_file(rt: &HostRuntime, path: Path<'_>) -> bool {
     is_unopened(ended) && writer.into_inner().is_empty()
 }
 
-// The same of a temporary path.
+// Whether a search of the file at a temporary path finds no file, and writes nothing.
 fn finds_nothing(rt: &HostRuntime) -> bool {
     match temporary_path(rt, "missing") {
         Ok(path) => finds_no_file(rt, path.as_path()),

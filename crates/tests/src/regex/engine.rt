@@ -13,7 +13,7 @@ use std::marker::Brand;
 pub struct Answer {
     // Where the first match starts and ends.
     pub range: Option<(usize, usize)>,
-    // The same of the first match from a position on.
+    // Where the first match from a position on starts and ends.
     pub from_position: Option<(usize, usize)>,
     pub is_match: bool,
     // The position that is found in lines, with whether it is confirmed.

@@ -88,7 +88,7 @@ fn finds_in_file(rt: &HostRuntime, path: Path<'_>) -> bool {
     fs::remove_file(rt, path).is_ok() && is_found
 }
 
-// The same of a temporary path.
+// Whether they do in a new file at a temporary path.
 fn finds_in_files(rt: &HostRuntime) -> bool {
     match temporary_path(rt, "files") {
         Ok(path) => finds_in_file(rt, path.as_path()),
