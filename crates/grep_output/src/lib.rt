@@ -1,11 +1,14 @@
 //! Outputs of bytes: a trait whose contract says each call that is made, an adapter of standard
-//! writers, and writing a text whole.
+//! writers, writing a text whole, and text that is kept before it is written.
 //!
-//! `specs/Outputs.antt` defines what a call and a run of calls do.
+//! `specs/Outputs.antt` defines what a call and a run of calls do, and `specs/PendingTexts.antt` what
+//! comes of a text that is put after others.
 #![tactic(auto)]
 
 mod output;
+mod pending;
 mod writing;
 
 pub use output::{Output, write_all};
+pub use pending::Pending;
 pub use writing::{LastCall, Writing};

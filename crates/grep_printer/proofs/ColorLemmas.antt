@@ -1,6 +1,7 @@
 -- Lines of which the parts that match are colored, as they are pushed run after run.
 use Rattle.std.proofs.Common.{◌≡◌, ℕ, ◌+◌, ◌<◌, ◌≤◌, ◌^◌, List, [], ◌∷◌, ◌++◌, Bool, true, false, length, refl, ap, sym}
 use Rattle.std.proofs.Common.{◌∙◌, append_assoc, arith, subst, Option, Some, None}
+use Rattle.std.proofs.lemmas.Bool.{and_parts}
 use Rattle.std.proofs.lemmas.Bool.Decides.{nat_tests}
 use Rattle.std.proofs.lemmas.List.{append-nil, length-append}
 use Rattle.std.specs.List.{list_any}
@@ -89,11 +90,14 @@ in-later part later at less =
 in-after : (position at : ℕ) (parts : List (ℕ × ℕ)) → position ≤ at
     → is_in (parts_after position parts) at ≡ is_in parts at
 in-after position at [] less = refl
-in-after position at (part ∷ later) less = go (nat_le part.1 position) refl (in-after position at later less)
+in-after position at (part ∷ later) less =
+    go (nat_lt part.0 position && nat_le part.1 position) refl (in-after position at later less)
   where
-    go : (passed : Bool) → nat_le part.1 position ≡ passed → is_in (parts_after position later) at ≡ is_in later at
+    go : (passed : Bool) → (nat_lt part.0 position && nat_le part.1 position) ≡ passed → is_in (parts_after position later) at ≡ is_in later at
         → is_in (if passed then parts_after position later else part ∷ later) at ≡ is_in (part ∷ later) at
-    go true passed others = others ∙ sym (in-later part later at (grind (arith, nat_tests, passed, less)))
+    go true passed others =
+        let ends = (and_parts (nat_lt part.0 position) (nat_le part.1 position) passed).1 in
+        others ∙ sym (in-later part later at (grind (arith, nat_tests, ends, less)))
     go false kept others = refl
 
 -- a part has no byte before the end of a line that comes after the part

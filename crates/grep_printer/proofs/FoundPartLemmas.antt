@@ -5,7 +5,7 @@ use Rattle.std.proofs.lemmas.Bool.Decides.{nat_tests}
 use Rattle.std.proofs.lemmas.List.Elements.{All-nil, All-cons}
 use Rattle.std.specs.Option.{option_map_or}
 use Rattle.std.specs.Prelude.{All, if◌then◌else◌}
-use Rattle.grep_printer.specs.MatchedParts.{AreInOrder, found_from, is_passed, parts_from, parts_in, position_after}
+use Rattle.grep_printer.specs.MatchedParts.{AreInOrder, LiesFrom, found_from, is_passed, parts_from, parts_in, position_after}
 use Rattle.grep_printer.specs.MatchedParts.{with_part}
 
 -- where the last of some parts ends, or a position if there is none
@@ -60,7 +60,7 @@ module _ (first_at : ℕ → Option (ℕ × ℕ)) (size limit : ℕ) where
     pub count : ℕ
     pub enough : size + 1 ≤ position + count
     pub found : parts ++ parts_from first_at size limit count position end ≡ parts_in first_at size limit
-    pub ordered : AreInOrder 0 size parts
+    pub ordered : AreInOrder 0 limit parts
     pub behind : last_end 0 parts ≤ position
 
   -- none is found yet
@@ -113,9 +113,9 @@ module _ (first_at : ℕ → Option (ℕ × ℕ)) (size limit : ℕ) where
   -- a match is found that is a part
   finding-kept : (parts : List (ℕ × ℕ)) (position : ℕ) (end : Option ℕ) (found : ℕ × ℕ)
       → IsFinding parts position end → found_from first_at size limit position ≡ Some found
-      → position ≤ found.0 → found.0 ≤ found.1 → found.1 ≤ size → is_passed end found ≡ false
+      → position ≤ found.0 → found.0 ≤ found.1 → found.1 ≤ size → found.1 ≤ limit → is_passed end found ≡ false
       → IsFinding (parts ++ found ∷ []) (position_after found) (Some found.1)
-  finding-kept parts position end found finding is from inner within kept =
+  finding-kept parts position end found finding is from inner within ends kept =
       let left = one-more finding.count position finding.enough (omega arith) in
       let later : position + 1 ≤ position_after found = after-later position found from inner in
       let enough = finding.enough in let behind = finding.behind in let count = left.1 in
@@ -126,20 +126,20 @@ module _ (first_at : ℕ → Option (ℕ × ℕ)) (size limit : ℕ) where
         enough = omega (arith, later, enough, count);
         found = append_assoc parts (found ∷ []) _ ∙ (ap (λ (ps : List (ℕ × ℕ)). parts ++ ps) (sym next)
             ∙ finding.found);
-        ordered = ordered-pushed parts 0 size found finding.ordered (omega (arith, behind)) inner within;
+        ordered = ordered-pushed parts 0 limit found finding.ordered (omega (arith, behind)) inner ends;
         behind = rw (last-pushed parts 0 found) (after-end found);
       }
 
   -- a match is found
   pub finding-more : (parts : List (ℕ × ℕ)) (position : ℕ) (end : Option ℕ) (found : ℕ × ℕ) (new : List (ℕ × ℕ))
       → IsFinding parts position end → found_from first_at size limit position ≡ Some found
-      → position ≤ found.0 → found.0 ≤ found.1 → found.1 ≤ size
+      → LiesFrom position size limit (Some found)
       → new ≡ (if is_passed end found then parts else parts ++ found ∷ [])
       → IsFinding new (position_after found) (Some found.1)
-  finding-more parts position end found new finding is from inner within pushed =
+  finding-more parts position end found new finding is lies pushed =
       rw pushed (go (is_passed end found) refl)
     where
       go : (passed : Bool) → is_passed end found ≡ passed
           → IsFinding (if passed then parts else parts ++ found ∷ []) (position_after found) (Some found.1)
-      go true passed = finding-passed parts position end found finding is from inner within passed
-      go false kept = finding-kept parts position end found finding is from inner within kept
+      go true passed = finding-passed parts position end found finding is lies.0 lies.1 lies.2 passed
+      go false kept = finding-kept parts position end found finding is lies.0 lies.1 lies.2 lies.3 kept

@@ -2,22 +2,21 @@
 use Rattle.std.proofs.Common.{◌≡◌, ℕ, ◌+◌, ◌≤◌, List, [], ◌∷◌, ◌++◌, length, arith, ap, sym, ◌∙◌, subst, append_assoc}
 use Rattle.std.proofs.Common.{◌⊎◌, inl, inr, Bool, true, false, refl, Option, take}
 use Rattle.std.proofs.lemmas.List.{append-nil, length-append, length-take}
+use Rattle.std.proofs.lemmas.Bool.{and_parts}
 use Rattle.std.proofs.lemmas.Bool.Decides.{nat_tests}
 use Rattle.std.specs.List.{concat, ends_with, flat_map}
-use Rattle.std.specs.Prelude.{nat_eq, nat_le, if◌then◌else◌, ◌-◌}
+use Rattle.std.specs.Prelude.{nat_eq, nat_le, nat_lt, if◌then◌else◌, ◌-◌, ◌<◌, ◌&&◌}
 use Rattle.grep_matcher.proofs.LineLemmas.{lines-joined}
 use Rattle.grep_matcher.specs.Lines.{byte_of, bytes_of}
 use Rattle.grep_matcher.specs.declared.line_terminator.LineTerminator.{LineTerminator}
-use Rattle.grep_searcher.specs.Plans.{is_across, Settings}
 use Rattle.grep_searcher.specs.Lines.{lines, strip}
-use Rattle.grep_searcher.specs.Meanings.{Meaning}
 use Rattle.grep_printer.proofs.FoundPartLemmas.{ordered-from}
 use Rattle.grep_printer.specs.MatchedParts.{AreInOrder, parts_after}
-use Rattle.grep_printer.specs.PartTexts.{across_text, clipped_text}
+use Rattle.grep_printer.specs.PartTexts.{across_text, clipped_text, is_in_span, line_span}
 use Rattle.grep_printer.specs.LineTexts.{next_number}
-use Rattle.grep_printer.specs.ReportedParts.{asked_bytes}
 use Rattle.grep_printer.specs.declared.fields.Layout.{Layout}
 use Rattle.grep_printer.specs.declared.fields.LineKind.{LineKind}
+use Rattle.grep_printer.specs.declared.reports.Span.{Span}
 
 -- of some parts the texts are pushed, and these are left
 pub record IsWriting (f : ℕ × ℕ → List ℕ) (high : ℕ) (start : List ℕ) (all : List (ℕ × ℕ)) (text : List ℕ)
@@ -49,47 +48,67 @@ pub ordered-after : (parts : List (ℕ × ℕ)) (position low high : ℕ) → Ar
     → AreInOrder 0 high (parts_after position parts)
 ordered-after [] position low high ordered = tt
 ordered-after (part ∷ later) position low high ordered =
-    go (nat_le part.1 position) (ordered-after later position part.1 high ordered.3)
+    go (nat_lt part.0 position && nat_le part.1 position) (ordered-after later position part.1 high ordered.3)
   where
     go : (passed : Bool) → AreInOrder 0 high (parts_after position later)
         → AreInOrder 0 high (if passed then parts_after position later else part ∷ later)
     go true others = others
     go false others = (omega arith, ordered.1, ordered.2, ordered.3)
 
+-- a line without its terminator is no longer
+pub strip-within : (terminator : LineTerminator) (line : List ℕ) → length (strip terminator line) ≤ length line
+strip-within terminator line = go (ends_with nat_eq line (bytes_of terminator))
+  where
+    go : (ends : Bool)
+        → length (if ends then take (length line - length (bytes_of terminator)) line else line) ≤ length line
+    go true = omega (arith, length-take (length line - length (bytes_of terminator)) line)
+    go false = omega arith
+
 module _ (layout : Layout) (kind : LineKind) (offset : ℕ) (bytes : List ℕ) where
-  -- a part has no byte of a range that ends before it begins, or begins after it ends
-  clipped-empty : (number : Option ℕ) (range part : ℕ × ℕ) → (range.1 ≤ part.0) ⊎ (part.1 ≤ range.0)
-      → clipped_text layout kind offset bytes number range part ≡ []
-  clipped-empty number range part (inl before) = grind (arith, nat_tests)
-  clipped-empty number range part (inr after) = grind (arith, nat_tests)
+  -- a part isn't in a line that ends before the part starts, or that starts after it
+  in-none : (span : Span) (part : ℕ × ℕ) → span.end ≤ span.next
+      → (span.next ≤ part.0) ⊎ ((part.0 < span.start) × (part.1 ≤ span.start)) → is_in_span span part ≡ false
+  in-none span part stripped (inl before) = grind (arith, nat_tests)
+  in-none span part stripped (inr (starts, ends)) = grind (arith, nat_tests)
 
-  -- no part of a range ends before the parts begin
-  pub clipped-none : (number : Option ℕ) (range : ℕ × ℕ) (parts : List (ℕ × ℕ)) (low high : ℕ)
-      → AreInOrder low high parts → range.1 ≤ low
-      → flat_map (clipped_text layout kind offset bytes number range) parts ≡ []
-  clipped-none number range [] low high ordered before = refl
-  clipped-none number range (part ∷ later) low high ordered before =
-      let first = clipped-empty number range part (inl (omega (arith, ordered.0))) in
-      let others = clipped-none number range later part.1 high ordered.3 (omega (arith, ordered.0, ordered.1)) in
-      ap (λ (t : List ℕ). t ++ flat_map (clipped_text layout kind offset bytes number range) later) first ∙ others
+  clipped-empty : (number : Option ℕ) (span : Span) (part : ℕ × ℕ) → is_in_span span part ≡ false
+      → clipped_text layout kind offset bytes number span part ≡ []
+  clipped-empty number span part none = rw none refl
 
-  -- the parts that end before a range don't count
-  clipped-after : (number : Option ℕ) (range : ℕ × ℕ) (position : ℕ) (parts : List (ℕ × ℕ)) → position ≤ range.0
-      → flat_map (clipped_text layout kind offset bytes number range) (parts_after position parts)
-      ≡ flat_map (clipped_text layout kind offset bytes number range) parts
-  clipped-after number range position [] less = refl
-  clipped-after number range position (part ∷ later) less =
-      go (nat_le part.1 position) refl (clipped-after number range position later less)
+  -- no part is in a line that ends before the parts start
+  pub clipped-none : (number : Option ℕ) (span : Span) (parts : List (ℕ × ℕ)) (low high : ℕ) → span.end ≤ span.next
+      → AreInOrder low high parts → span.next ≤ low
+      → flat_map (clipped_text layout kind offset bytes number span) parts ≡ []
+  clipped-none number span [] low high stripped ordered before = refl
+  clipped-none number span (part ∷ later) low high stripped ordered before =
+      let first = clipped-empty number span part
+      (in-none span part stripped (inl (omega (arith, ordered.0, before)))) in
+      let others = clipped-none number span later part.1 high stripped ordered.3
+      (omega (arith, ordered.0, ordered.1, before)) in
+      ap (λ (t : List ℕ). t ++ flat_map (clipped_text layout kind offset bytes number span) later) first ∙ others
+
+  -- the parts that end before a line don't count
+  clipped-after : (number : Option ℕ) (span : Span) (position : ℕ) (parts : List (ℕ × ℕ)) → span.end ≤ span.next
+      → position ≤ span.start
+      → flat_map (clipped_text layout kind offset bytes number span) (parts_after position parts)
+      ≡ flat_map (clipped_text layout kind offset bytes number span) parts
+  clipped-after number span position [] stripped less = refl
+  clipped-after number span position (part ∷ later) stripped less =
+      go (nat_lt part.0 position && nat_le part.1 position) refl (clipped-after number span position later stripped less)
     where
-      go : (passed : Bool) → nat_le part.1 position ≡ passed
-          → flat_map (clipped_text layout kind offset bytes number range) (parts_after position later)
-          ≡ flat_map (clipped_text layout kind offset bytes number range) later
-          → flat_map (clipped_text layout kind offset bytes number range)
+      go : (passed : Bool) → (nat_lt part.0 position && nat_le part.1 position) ≡ passed
+          → flat_map (clipped_text layout kind offset bytes number span) (parts_after position later)
+          ≡ flat_map (clipped_text layout kind offset bytes number span) later
+          → flat_map (clipped_text layout kind offset bytes number span)
           (if passed then parts_after position later else part ∷ later)
-          ≡ flat_map (clipped_text layout kind offset bytes number range) (part ∷ later)
+          ≡ flat_map (clipped_text layout kind offset bytes number span) (part ∷ later)
       go true passed others =
-          let first = clipped-empty number range part (inr (grind (arith, nat_tests))) in
-          others ∙ sym (ap (λ (t : List ℕ). t ++ flat_map (clipped_text layout kind offset bytes number range) later)
+          let both = and_parts (nat_lt part.0 position) (nat_le part.1 position) passed in
+          let starts : part.0 < position = grind (arith, nat_tests, both) in
+          let ends : part.1 ≤ position = grind (arith, nat_tests, both) in
+          let first = clipped-empty number span part (in-none span part stripped
+          (inr (omega (arith, starts, less), omega (arith, ends, less)))) in
+          others ∙ sym (ap (λ (t : List ℕ). t ++ flat_map (clipped_text layout kind offset bytes number span) later)
           first)
       go false kept others = refl
 
@@ -100,12 +119,13 @@ module _ (layout : Layout) (kind : LineKind) (offset : ℕ) (bytes : List ℕ) w
       ≡ across_text layout kind offset bytes number start left parts
   across-after number start position [] parts less = refl
   across-after number start position (line ∷ later) parts less =
-      let range : ℕ × ℕ = (start, start + length (strip layout.terminator line)) in
-      let first = clipped-after number range position parts less in
+      let span = line_span layout.terminator start line in
+      let shorter = strip-within layout.terminator line in
+      let first = clipped-after number span position parts (omega (arith, shorter)) less in
       let others = across-after (next_number number) (start + length line) position later parts (omega arith) in
       ap (λ (t : List ℕ). t ++ across_text layout kind offset bytes (next_number number) (start + length line) later
       (parts_after position parts)) first
-      ∙ ap (λ (t : List ℕ). flat_map (clipped_text layout kind offset bytes number range) parts ++ t) others
+      ∙ ap (λ (t : List ℕ). flat_map (clipped_text layout kind offset bytes number span) parts ++ t) others
 
   -- of some lines what the parts have in them is pushed, and these are left, the first of them with a number and
   -- a start; these parts are left
@@ -144,11 +164,11 @@ module _ (layout : Layout) (kind : LineKind) (offset : ℕ) (bytes : List ℕ) w
       (rest : List (ℕ × ℕ)) (line : List ℕ) (later : List (List ℕ)) (new : List ℕ)
       → IsCrossing whole text number start left rest → left ≡ line ∷ later
       → new ≡ text ++ flat_map (clipped_text layout kind offset bytes number
-      (start, start + length (strip layout.terminator line))) (parts_after start rest)
+      (line_span layout.terminator start line)) (parts_after start rest)
       → IsCrossing whole new (next_number number) (start + length line) later (parts_after start rest)
   crossing-more whole text number start left rest line later new crossing is pushed =
       let clipped = flat_map (clipped_text layout kind offset bytes number
-      (start, start + length (strip layout.terminator line))) (parts_after start rest) in
+      (line_span layout.terminator start line)) (parts_after start rest) in
       let others = across_text layout kind offset bytes (next_number number) (start + length line) later
       (parts_after start rest) in
       record {
@@ -159,21 +179,3 @@ module _ (layout : Layout) (kind : LineKind) (offset : ℕ) (bytes : List ℕ) w
         fits = crossing-within whole text number start left rest line later crossing is;
         ordered = ordered-after rest start 0 (length bytes) crossing.ordered;
       }
-
--- a line without its terminator is no longer
-pub strip-within : (terminator : LineTerminator) (line : List ℕ) → length (strip terminator line) ≤ length line
-strip-within terminator line = go (ends_with nat_eq line (bytes_of terminator))
-  where
-    go : (ends : Bool)
-        → length (if ends then take (length line - length (bytes_of terminator)) line else line) ≤ length line
-    go true = omega (arith, length-take (length line - length (bytes_of terminator)) line)
-    go false = omega arith
-
--- nor are the bytes about which the matcher is asked
-pub asked-within : (settings : Settings) (meaning : Meaning) (bytes : List ℕ)
-    → length (asked_bytes settings meaning bytes) ≤ length bytes
-asked-within settings meaning bytes = go (is_across settings meaning)
-  where
-    go : (across : Bool) → length (if across then bytes else strip settings.line_terminator bytes) ≤ length bytes
-    go true = omega arith
-    go false = strip-within settings.line_terminator bytes

@@ -1,29 +1,32 @@
--- What the counts of a printer come to after the calls of a plan, one after another.
-use Rattle.std.proofs.Common.{◌≡◌, ◌∙◌, ℕ, suc, ◌+◌, List, [], ◌∷◌, ◌++◌, Bool, true, false, Some, ap, arith, length}
-use Rattle.std.proofs.Common.{refl, sym}
+-- What the counts of a printer come to after the calls of a search, one after another.
+use Rattle.std.proofs.Common.{◌≡◌, ◌∙◌, ℕ, suc, ◌+◌, List, [], ◌∷◌, ◌++◌, Bool, true, false, Option, Some, ap, arith}
+use Rattle.std.proofs.Common.{length, refl, sym, subst}
 use Rattle.std.proofs.lemmas.Bool.{ne_eqb}
-use Rattle.std.proofs.lemmas.List.{length-append}
-use Rattle.std.proofs.lemmas.List.Elements.{All-head, All-tail, filter-append}
-use Rattle.std.proofs.lemmas.List.Sums.{sum_by-append}
-use Rattle.std.specs.List.{filter, sum_by}
+use Rattle.std.proofs.lemmas.List.{append-nil, length-append}
+use Rattle.std.proofs.lemmas.List.Elements.{All-head, All-tail}
+use Rattle.std.proofs.lemmas.List.Sums.{sum_by-cons}
+use Rattle.std.specs.List.{filter, fold, sum_by}
 use Rattle.std.specs.Prelude.{All, not, ◌==◌, if◌then◌else◌}
-use Rattle.grep_searcher.specs.Plans.{Call, Finish, Planned, begins, matches, context, breaks, binary_data, finishes}
-use Rattle.grep_searcher.specs.Plans.{reported_bytes}
-use Rattle.grep_searcher.specs.SearchLaws.{calls_of, is_match, match_calls}
-use Rattle.grep_searcher.specs.SinkFolds.{run_fold}
+use Rattle.grep_matcher.specs.Lines.{byte_of}
+use Rattle.grep_searcher.specs.Plans.{Call, begins, matches, context, breaks, binary_data, finishes}
+use Rattle.grep_searcher.specs.SearchLaws.{is_match}
 use Rattle.json.specs.Json.{Json}
 use Rattle.json.specs.Print.{print}
 use Rattle.json.specs.Tree.{json_tokens}
 use Rattle.grep_printer.proofs.SomeTextLemmas.{text-after, text-ended}
+use Rattle.grep_printer.specs.Formats.{Printed, PrintedCall, Scene, is_text, printed_with}
 use Rattle.grep_printer.specs.JsonMessages.{begin_json, json_line}
-use Rattle.grep_printer.specs.JsonTexts.{JsonFrame, JsonPrinted, is_opened, json_printed_with, json_text}
-use Rattle.grep_printer.specs.JsonTexts.{new_json_progress, opening_line, with_match, with_text}
-use Rattle.grep_printer.specs.PlanCounts.{JsonCounts, SummariesCount, is_inner, line_count_of}
-use Rattle.grep_printer.specs.PlanCounts.{submatch_count_of}
-use Rattle.grep_printer.specs.StandardTexts.{is_text}
+use Rattle.grep_printer.specs.JsonTexts.{is_opened, json_progress, json_rules, json_text, new_json_progress}
+use Rattle.grep_printer.specs.JsonTexts.{opening_line, with_end, with_match, with_text}
+use Rattle.grep_printer.specs.PlanCounts.{JsonCounts, SummariesCount, is_inner, json_counts, line_count_of, matched, part_count_of}
+use Rattle.grep_printer.specs.PlanCounts.{summary_counts}
 use Rattle.grep_printer.specs.StatsSums.{capped, capped_sum}
-use Rattle.grep_printer.specs.SummaryTexts.{SummaryFrame, Summed, counted_parts, counts_on, summed_with, sums_on}
+use Rattle.grep_printer.specs.SummaryTexts.{counts_after, counts_on, no_counts, summary_rules, summary_text}
+use Rattle.grep_printer.specs.declared.json_printer.JsonFormat.{JsonFormat}
 use Rattle.grep_printer.specs.declared.json_printer.JsonProgress.{JsonProgress}
+use Rattle.grep_printer.specs.declared.summary.Counts.{Counts}
+use Rattle.grep_printer.specs.declared.summary.SummaryFormat.{SummaryFormat}
+use Rattle.grep_printer.specs.declared.summary_builder.SummaryConfig.{SummaryConfig}
 
 -- a sum that is capped at each step
 capped-more : (a b : ℕ) → capped_sum (capped a) b ≡ capped (a + b)
@@ -34,21 +37,19 @@ text-line : (j : Json) → is_text (json_line j) ≡ true
 unfolding json_line
 text-line j = text-ended (print (json_tokens j)) 10
 
-no-text : (text : List ℕ) → text ++ [] ≡ text
-no-text [] = refl
-no-text (x ∷ text) = ap (λ (t : List ℕ). x ∷ t) (no-text text)
+-- what is made of calls that come after others
+fold-push : {X Y : Type 0} (f : Y → X → Y) (xs : List X) (last : X) (y : Y)
+    → fold f y (xs ++ last ∷ []) ≡ f (fold f y xs) last
+fold-push f [] last y = refl
+fold-push f (x ∷ xs) last y = fold-push f xs last (f y x)
 
--- the matches among some calls
-abbrev found_in : List Call → List Call
-found_in calls = filter is_match calls
-
--- what is counted after so many matches, with so many lines and matches in them
-record IsCounted (found lines parts : ℕ) (printed : JsonPrinted) : Type 0 where
-  begun : printed.progress.is_begun ≡ is_text printed.text
-  has_match : printed.progress.has_match ≡ not (found == 0)
-  bytes : printed.progress.bytes_printed ≡ capped (length printed.text)
-  line_sum : printed.progress.matched_lines ≡ capped lines
-  match_sum : printed.progress.matches ≡ capped parts
+-- what is counted after so many matches, with so many lines and parts in them, and a text
+record IsCounted (found lines parts : ℕ) (progress : JsonProgress) (made : List ℕ) : Type 0 where
+  begun : progress.is_begun ≡ is_text made
+  has_match : progress.has_match ≡ not (found == 0)
+  bytes : progress.bytes_printed ≡ capped (length made)
+  line_sum : progress.matched_lines ≡ capped lines
+  match_sum : progress.matches ≡ capped parts
 
 -- so many bytes, with a text
 bytes-more : (count : ℕ) (text more : List ℕ) → count ≡ capped (length text)
@@ -58,89 +59,81 @@ bytes-more count text more is =
     ∙ ap capped (sym (length-append text more)))
 
 -- with a call that writes nothing
-counted-same : (found lines parts : ℕ) (printed : JsonPrinted) → IsCounted found lines parts printed
-    → IsCounted found lines parts (record { progress = printed.progress; text = printed.text ++ [] })
-counted-same found lines parts printed is = record {
-  begun = is.begun ∙ ap is_text (sym (no-text printed.text));
-  has_match = is.has_match;
-  bytes = is.bytes ∙ ap (λ (t : List ℕ). capped (length t)) (sym (no-text printed.text));
-  line_sum = is.line_sum;
-  match_sum = is.match_sum;
-}
+counted-same : (found lines parts : ℕ) (progress : JsonProgress) (made : List ℕ)
+    → IsCounted found lines parts progress made → IsCounted found lines parts progress (made ++ [])
+counted-same found lines parts progress made is = subst (IsCounted found lines parts progress) (sym (append-nil made)) is
 
 -- with a text that isn't a match
-counted-text : (found lines parts : ℕ) (printed : JsonPrinted) (text : List ℕ) → is_text text ≡ true
-    → IsCounted found lines parts printed
-    → IsCounted found lines parts (record { progress = with_text printed.progress text; text = printed.text ++ text })
-counted-text found lines parts printed text some is = record {
-  begun = sym (text-after printed.text text some);
+counted-text : (found lines parts : ℕ) (progress : JsonProgress) (made text : List ℕ) → is_text text ≡ true
+    → IsCounted found lines parts progress made → IsCounted found lines parts (with_text progress text) (made ++ text)
+counted-text found lines parts progress made text some is = record {
+  begun = sym (text-after made text some);
   has_match = is.has_match;
-  bytes = bytes-more printed.progress.bytes_printed printed.text text is.bytes;
+  bytes = bytes-more progress.bytes_printed made text is.bytes;
   line_sum = is.line_sum;
   match_sum = is.match_sum;
 }
 
 -- with a match
-counted-match : (found lines parts more others : ℕ) (printed : JsonPrinted) (text : List ℕ) → is_text text ≡ true
-    → IsCounted found lines parts printed
-    → IsCounted (suc found) (lines + more) (parts + others)
-    (record { progress = with_match (with_text printed.progress text) more others; text = printed.text ++ text })
-counted-match found lines parts more others printed text some is = record {
-  begun = sym (text-after printed.text text some);
+counted-match : (found lines parts more others : ℕ) (progress : JsonProgress) (made text : List ℕ)
+    → is_text text ≡ true → IsCounted found lines parts progress made
+    → IsCounted (suc found) (lines + more) (parts + others) (with_match (with_text progress text) more others)
+    (made ++ text)
+counted-match found lines parts more others progress made text some is = record {
+  begun = sym (text-after made text some);
   has_match = sym (ap not (ne_eqb (suc found) 0 (λ e. omega arith)));
-  bytes = bytes-more printed.progress.bytes_printed printed.text text is.bytes;
+  bytes = bytes-more progress.bytes_printed made text is.bytes;
   line_sum = ap (λ n. capped_sum n more) is.line_sum ∙ capped-more lines more;
   match_sum = ap (λ n. capped_sum n others) is.match_sum ∙ capped-more parts others;
 }
 
--- the same counts, written otherwise
-counted-as : (found lines parts : ℕ) (printed : JsonPrinted) → IsCounted found lines parts printed
-    → IsCounted (found + 0) (lines + 0) (parts + 0) printed
-counted-as found lines parts printed is =
-    let one : found ≡ found + 0 = omega arith in
-    let two : lines ≡ lines + 0 = omega arith in
-    let three : parts ≡ parts + 0 = omega arith in
-    rw (← one, ← two, ← three) is
+-- counts that are equal
+counted-as : (found found' lines lines' parts parts' : ℕ) (progress : JsonProgress) (made : List ℕ) → found ≡ found'
+    → lines ≡ lines' → parts ≡ parts' → IsCounted found lines parts progress made
+    → IsCounted found' lines' parts' progress made
+counted-as found found' lines lines' parts parts' progress made one two three is =
+    subst (λ n. IsCounted n lines' parts' progress made) one
+    (subst (λ n. IsCounted found n parts' progress made) two
+    (subst (λ n. IsCounted found lines n progress made) three is))
 
--- what a search comes to, with so many matches
-abbrev json_totals : ℕ → ℕ → ℕ → List ℕ → Finish → JsonProgress
-json_totals found lines parts text finish = record {
-  is_begun = is_text text;
-  has_match = not (found == 0);
-  bytes_printed = capped (length text);
-  matched_lines = capped lines;
-  matches = capped parts;
-  byte_count = Some finish.count;
-  binary_offset = finish.binary;
-}
+-- what is counted, by the matches among some calls
+abbrev AreCounted : ℕ → List PrintedCall → ℕ → ℕ → ℕ → JsonProgress → List ℕ → Type 0
+AreCounted terminator calls found lines parts progress made =
+    IsCounted (found + length (matched calls)) (lines + sum_by (line_count_of terminator) (matched calls))
+    (parts + sum_by part_count_of (matched calls)) progress made
 
-module _ (frame : JsonFrame) where
+module _ (always : Bool) (scene : Scene) where
+  abbrev terminator : ℕ
+  terminator = byte_of scene.settings.line_terminator
+
   -- the text of a report
   report-some : (progress : JsonProgress) (j : Json)
-      → is_text (opening_line frame.path progress.is_begun ++ json_line j) ≡ true
-  report-some progress j = text-after (opening_line frame.path progress.is_begun) (json_line j) (text-line j)
+      → is_text (opening_line scene.path progress.is_begun ++ json_line j) ≡ true
+  report-some progress j = text-after (opening_line scene.path progress.is_begun) (json_line j) (text-line j)
 
   -- a call that isn't a match
-  counted-other : (found lines parts : ℕ) (printed : JsonPrinted) (call : Call) → is_match call ≡ false
-      → IsCounted found lines parts printed → IsCounted found lines parts (json_printed_with frame printed call)
-  counted-other found lines parts printed begins other is = go (is_opened frame printed.progress)
+  counted-other : (found lines parts : ℕ) (progress : JsonProgress) (made : List ℕ) (call : Call) (ranges : List (ℕ × ℕ))
+      → is_match call ≡ false → IsCounted found lines parts progress made
+      → IsCounted found lines parts (json_progress always scene progress call ranges)
+      (made ++ json_text always scene progress call ranges)
+  counted-other found lines parts progress made begins ranges other is = go (is_opened always progress)
     where
-      go : (b : Bool) → IsCounted found lines parts (record {
-        progress = if b then with_text printed.progress (if b then json_line (begin_json frame.path) else [])
-            else printed.progress;
-        text = printed.text ++ (if b then json_line (begin_json frame.path) else []);
-      })
-      go true = counted-text found lines parts printed (json_line (begin_json frame.path))
-          (text-line (begin_json frame.path)) is
-      go false = counted-same found lines parts printed is
-  counted-other found lines parts printed (matches number offset bytes) other is = absurd cc
-  counted-other found lines parts printed (context kind number offset bytes) other is =
-      counted-text found lines parts printed (json_text frame printed.progress (context kind number offset bytes))
-      (report-some printed.progress _) is
-  counted-other found lines parts printed breaks other is = counted-same found lines parts printed is
-  counted-other found lines parts printed (binary_data offset) other is = counted-same found lines parts printed is
-  counted-other found lines parts printed (finishes count binary) other is =
-      let same = counted-same found lines parts printed is in record {
+      go : (b : Bool) → IsCounted found lines parts
+          (if b then with_text progress (if b then json_line (begin_json scene.path) else []) else progress)
+          (made ++ (if b then json_line (begin_json scene.path) else []))
+      go true = counted-text found lines parts progress made (json_line (begin_json scene.path))
+          (text-line (begin_json scene.path)) is
+      go false = counted-same found lines parts progress made is
+  counted-other found lines parts progress made (matches number offset bytes) ranges other is = absurd cc
+  counted-other found lines parts progress made (context kind number offset bytes) ranges other is =
+      counted-text found lines parts progress made
+      (json_text always scene progress (context kind number offset bytes) ranges) (report-some progress _) is
+  counted-other found lines parts progress made breaks ranges other is =
+      counted-same found lines parts progress made is
+  counted-other found lines parts progress made (binary_data offset) ranges other is =
+      counted-same found lines parts progress made is
+  counted-other found lines parts progress made (finishes count binary) ranges other is =
+      let same = counted-same found lines parts progress made is in record {
         begun = same.begun;
         has_match = same.has_match;
         bytes = same.bytes;
@@ -148,178 +141,181 @@ module _ (frame : JsonFrame) where
         match_sum = same.match_sum;
       }
 
-  -- with a call, the matches in it count
-  counted-call : (found lines parts : ℕ) (printed : JsonPrinted) (call : Call) → IsCounted found lines parts printed
-      → IsCounted (found + length (found_in (call ∷ []))) (lines + sum_by (line_count_of frame) (found_in (call ∷ [])))
-      (parts + sum_by (submatch_count_of frame) (found_in (call ∷ []))) (json_printed_with frame printed call)
-  counted-call found lines parts printed begins is = counted-as found lines parts
-      (json_printed_with frame printed begins)
-      (counted-other found lines parts printed begins refl is)
-  counted-call found lines parts printed (matches number offset bytes) is =
-      let call = matches number offset bytes in
-      let more = line_count_of frame call in
-      let others = submatch_count_of frame call in
-      let one : suc found ≡ found + 1 = omega arith in
-      let two : lines + more ≡ lines + (0 + more) = omega arith in
-      let three : parts + others ≡ parts + (0 + others) = omega arith in
-      rw (← one, ← two, ← three) (counted-match found lines parts more others printed
-      (json_text frame printed.progress call) (report-some printed.progress _) is)
-  counted-call found lines parts printed (context kind number offset bytes) is = counted-as found lines parts
-      (json_printed_with frame printed (context kind number offset bytes))
-      (counted-other found lines parts printed (context kind number offset bytes) refl is)
-  counted-call found lines parts printed breaks is = counted-as found lines parts
-      (json_printed_with frame printed breaks)
-      (counted-other found lines parts printed breaks refl is)
-  counted-call found lines parts printed (binary_data offset) is = counted-as found lines parts
-      (json_printed_with frame printed (binary_data offset))
-      (counted-other found lines parts printed (binary_data offset) refl is)
-  counted-call found lines parts printed (finishes count binary) is = counted-as found lines parts
-      (json_printed_with frame printed (finishes count binary))
-      (counted-other found lines parts printed (finishes count binary) refl is)
+  -- all calls
+  counted-all : (calls : List PrintedCall) (found lines parts : ℕ) (progress : JsonProgress) (made : List ℕ)
+      → IsCounted found lines parts progress made
+      → AreCounted terminator calls found lines parts
+      (fold (printed_with json_rules scene)
+      (record { format = record { always_begin_end = always; progress = progress }; text = made }) calls).format.progress
+      (fold (printed_with json_rules scene)
+      (record { format = record { always_begin_end = always; progress = progress }; text = made }) calls).text
+  counted-all [] found lines parts progress made is =
+      let one : found ≡ found + 0 = omega arith in
+      let two : lines ≡ lines + 0 = omega arith in
+      let three : parts ≡ parts + 0 = omega arith in
+      rw (← one, ← two, ← three) is
+  counted-all (printed ∷ later) found lines parts progress made is =
+      go printed.call printed.parts refl (λ found lines parts progress made. counted-all later found lines parts progress made)
+    where
+      go : (call : Call) (ranges : List (ℕ × ℕ)) → is_match call ≡ is_match call
+          → ((found lines parts : ℕ) (progress : JsonProgress) (made : List ℕ)
+          → IsCounted found lines parts progress made
+          → AreCounted terminator later found lines parts
+          (fold (printed_with json_rules scene)
+          (record { format = record { always_begin_end = always; progress = progress }; text = made }) later).format.progress
+          (fold (printed_with json_rules scene)
+          (record { format = record { always_begin_end = always; progress = progress }; text = made }) later).text)
+          → AreCounted terminator (record { call = call; parts = ranges } ∷ later) found lines parts
+          (fold (printed_with json_rules scene) (record {
+            format = record {
+              always_begin_end = always;
+              progress = json_progress always scene progress call ranges;
+            };
+            text = made ++ json_text always scene progress call ranges;
+          }) later).format.progress
+          (fold (printed_with json_rules scene) (record {
+            format = record {
+              always_begin_end = always;
+              progress = json_progress always scene progress call ranges;
+            };
+            text = made ++ json_text always scene progress call ranges;
+          }) later).text
+      go begins ranges same others =
+          others found lines parts _ _ (counted-other found lines parts progress made begins ranges refl is)
+      go (matches number offset bytes) ranges same others =
+          let printed : PrintedCall = record { call = matches number offset bytes; parts = ranges } in
+          let more = line_count_of terminator printed in
+          let count = length ranges in
+          let end = others (suc found) (lines + more) (parts + count) _ _
+          (counted-match found lines parts more count progress made
+          (json_text always scene progress (matches number offset bytes) ranges) (report-some progress _) is) in
+          let first = sum_by-cons (line_count_of terminator) printed (matched later) in
+          let second = sum_by-cons part_count_of printed (matched later) in
+          counted-as (suc found + length (matched later)) (found + length (printed ∷ matched later))
+          ((lines + more) + sum_by (line_count_of terminator) (matched later))
+          (lines + sum_by (line_count_of terminator) (printed ∷ matched later))
+          ((parts + count) + sum_by part_count_of (matched later)) (parts + sum_by part_count_of (printed ∷ matched later))
+          _ _ (omega arith) (omega (arith, first)) (omega (arith, second)) end
+      go (context kind number offset bytes) ranges same others =
+          others found lines parts _ _
+          (counted-other found lines parts progress made (context kind number offset bytes) ranges refl is)
+      go breaks ranges same others =
+          others found lines parts _ _ (counted-other found lines parts progress made breaks ranges refl is)
+      go (binary_data offset) ranges same others =
+          others found lines parts _ _ (counted-other found lines parts progress made (binary_data offset) ranges refl is)
+      go (finishes count binary) ranges same others =
+          others found lines parts _ _ (counted-other found lines parts progress made (finishes count binary) ranges refl is)
 
-  -- so many matches are left
-  record AreLeft (found lines parts : ℕ) (calls : List Call) (all_found all_lines all_parts : ℕ) : Type 0 where
-    found_left : found + length (found_in calls) ≡ all_found
-    lines_left : lines + sum_by (line_count_of frame) (found_in calls) ≡ all_lines
-    parts_left : parts + sum_by (submatch_count_of frame) (found_in calls) ≡ all_parts
-
-  -- fewer are after a call
-  left-more : (found lines parts : ℕ) (call : Call) (later : List Call) (all_found all_lines all_parts : ℕ)
-      → AreLeft found lines parts (call ∷ later) all_found all_lines all_parts
-      → AreLeft (found + length (found_in (call ∷ []))) (lines + sum_by (line_count_of frame) (found_in (call ∷ [])))
-      (parts + sum_by (submatch_count_of frame) (found_in (call ∷ []))) later all_found all_lines all_parts
-  left-more found lines parts call later all_found all_lines all_parts left =
-      let here = found_in (call ∷ []) in
-      let there = found_in later in
-      let split = filter-append is_match (call ∷ []) later in
-      let one = ap length split ∙ length-append here there in
-      let two = ap (sum_by (line_count_of frame)) split ∙ sum_by-append (line_count_of frame) here there in
-      let three = ap (sum_by (submatch_count_of frame)) split ∙ sum_by-append (submatch_count_of frame) here there in
-      let first = left.found_left in let second = left.lines_left in let third = left.parts_left in record {
-        found_left = omega (arith, one, first);
-        lines_left = omega (arith, two, second);
-        parts_left = omega (arith, three, third);
-      }
-
-  -- all calls, and the end
-  counted-all : (finish : Finish) (all_found all_lines all_parts : ℕ) (calls : List Planned) (found lines parts : ℕ)
-      (printed : JsonPrinted) → AreLeft found lines parts (calls_of calls) all_found all_lines all_parts
-      → IsCounted found lines parts printed
-      → (run_fold (λ printed call. true) (json_printed_with frame) printed calls finish).progress
-      ≡ json_totals all_found all_lines all_parts
-      (run_fold (λ printed call. true) (json_printed_with frame) printed calls finish).text finish
-  counted-all finish all_found all_lines all_parts [] found lines parts printed left is =
-      let one : found ≡ all_found = let f = left.found_left in omega (arith, f) in
-      let two : lines ≡ all_lines = let f = left.lines_left in omega (arith, f) in
-      let three : parts ≡ all_parts = let f = left.parts_left in omega (arith, f) in
-      let end = counted-other found lines parts printed (finishes finish.count finish.binary) refl is in
-      let begun = end.begun in
-      let has_match = end.has_match in
-      let bytes = end.bytes in
-      let matched_lines = end.line_sum in
-      let match_sum = end.match_sum in
-      rw (← one, ← two, ← three) cc
-  counted-all finish all_found all_lines all_parts (planned ∷ later) found lines parts printed left is =
-      counted-all finish all_found all_lines all_parts later (found + length (found_in (planned.call ∷ [])))
-      (lines + sum_by (line_count_of frame) (found_in (planned.call ∷ [])))
-      (parts + sum_by (submatch_count_of frame) (found_in (planned.call ∷ [])))
-      (json_printed_with frame printed planned.call)
-      (left-more found lines parts planned.call (calls_of later) all_found all_lines all_parts left)
-      (counted-call found lines parts printed planned.call is)
-
--- a plan
+-- a search
 pub json-counts : JsonCounts
-json-counts frame plan =
-    let found = match_calls plan.calls in
-    counted-all frame plan.finish (length found) (sum_by (line_count_of frame) found)
-    (sum_by (submatch_count_of frame) found) plan.calls 0 0 0 (record { progress = new_json_progress; text = [] })
-    (record { found_left = omega arith; lines_left = omega arith; parts_left = omega arith })
-    (record { begun = refl; has_match = refl; bytes = refl; line_sum = refl; match_sum = refl })
+json-counts always scene calls last count binary ends =
+    let terminator = byte_of scene.settings.line_terminator in
+    let start : Printed JsonFormat =
+    record { format = record { always_begin_end = always; progress = new_json_progress }; text = [] } in
+    let before = fold (printed_with json_rules scene) start calls in
+    let all : fold (printed_with json_rules scene) start (calls ++ last ∷ [])
+    ≡ printed_with json_rules scene before last = fold-push (printed_with json_rules scene) calls last start in
+    ap (λ made. made.format.progress) all
+    ∙ (subst (λ call. json_progress before.format.always_begin_end scene before.format.progress call last.parts
+    ≡ json_counts terminator (matched calls)
+    (before.text ++ json_text before.format.always_begin_end scene before.format.progress call last.parts) count binary)
+    (sym ends) (at-end before
+    (counted-all always scene calls 0 0 0 new_json_progress []
+    (record { begun = refl; has_match = refl; bytes = refl; line_sum = refl; match_sum = refl })))
+    ∙ sym (ap (λ made. json_counts terminator (matched calls) made.text count binary) all))
+  where
+    at-end : (before : Printed JsonFormat)
+        → AreCounted (byte_of scene.settings.line_terminator) calls 0 0 0 before.format.progress before.text
+        → with_end before.format.progress count binary
+        ≡ json_counts (byte_of scene.settings.line_terminator) (matched calls) (before.text ++ []) count binary
+    at-end before is =
+        let found = matched calls in
+        let lines = sum_by (line_count_of (byte_of scene.settings.line_terminator)) found in
+        let parts = sum_by part_count_of found in
+        let none : 0 + length found ≡ length found = omega arith in
+        let no_lines : 0 + lines ≡ lines = omega arith in
+        let no_parts : 0 + parts ≡ parts = omega arith in
+        let same = append-nil before.text in
+        let begun = is.begun in
+        let has_match = is.has_match ∙ ap (λ n. not (n == 0)) none in
+        let bytes = is.bytes in
+        let matched_lines = is.line_sum ∙ ap capped no_lines in
+        let match_sum = is.match_sum ∙ ap capped no_parts in
+        rw same cc
 
--- so many matches, so many parts of them, and a text
-abbrev summed_so : ℕ → ℕ → List ℕ → Summed
-summed_so found parts text = record { counts = record { match_count = found; part_count = parts }; text = text }
+-- what is counted of so many matches and parts
+abbrev so_many : SummaryConfig → ℕ → ℕ → List ℕ → Printed SummaryFormat
+so_many config found parts text = record {
+  format = record {
+    config = config;
+    counts = record { match_count = capped found; part_count = capped parts };
+  };
+  text = text;
+}
 
-abbrev summed_as : ℕ → ℕ → List ℕ → Summed
-summed_as found parts text = summed_so (capped found) (capped parts) text
-
-module _ (frame : SummaryFrame) (goes : counts_on frame.config.kind ≡ true) where
-  -- how many parts of a call count
-  abbrev part_count_of : Call → ℕ
-  part_count_of call = length (counted_parts frame (reported_bytes call))
-
-  -- the search goes on after each call
-  goes-call : (call : Call) → sums_on frame.config.kind call ≡ true
-  goes-call begins = refl
-  goes-call (matches number offset bytes) = goes
-  goes-call (context kind number offset bytes) = refl
-  goes-call breaks = refl
-  goes-call (binary_data offset) = refl
-  goes-call (finishes count binary) = refl
-
-  -- a call that isn't a match
-  summed-other : (found parts : ℕ) (text : List ℕ)
-      → summed_as found parts (text ++ []) ≡ summed_as (found + 0) (parts + 0) text
-  summed-other found parts text =
+module _ (config : SummaryConfig) (scene : Scene) where
+  -- a call writes nothing, and the match in it counts
+  summed-all : (calls : List PrintedCall) (found parts : ℕ) → All (λ printed. is_inner printed.call ≡ true) calls
+      → fold (printed_with summary_rules scene) (so_many config found parts []) calls
+      ≡ so_many config (found + length (matched calls)) (parts + sum_by part_count_of (matched calls)) []
+  summed-all [] found parts inner =
       let one : found ≡ found + 0 = omega arith in
       let two : parts ≡ parts + 0 = omega arith in
-      ap (λ t. summed_as found parts t) (no-text text)
-      ∙ (ap (λ n. summed_as n parts text) one ∙ ap (λ n. summed_as (found + 0) n text) two)
+      ap (λ n. so_many config n parts []) one ∙ ap (λ n. so_many config (found + 0) n []) two
+  summed-all (printed ∷ later) found parts inner =
+      go printed.call printed.parts (All-head (λ printed. is_inner printed.call ≡ true) printed later inner)
+      (λ found parts. summed-all later found parts (All-tail (λ printed. is_inner printed.call ≡ true) printed later inner))
+    where
+      go : (call : Call) (ranges : List (ℕ × ℕ)) → is_inner call ≡ true
+          → ((found parts : ℕ) → fold (printed_with summary_rules scene) (so_many config found parts []) later
+          ≡ so_many config (found + length (matched later)) (parts + sum_by part_count_of (matched later)) [])
+          → fold (printed_with summary_rules scene) (so_many config found parts [])
+          (record { call = call; parts = ranges } ∷ later)
+          ≡ so_many config (found + length (matched (record { call = call; parts = ranges } ∷ later)))
+          (parts + sum_by part_count_of (matched (record { call = call; parts = ranges } ∷ later))) []
+      go begins ranges here others = others found parts
+      go (matches number offset bytes) ranges here others =
+          let count = length ranges in
+          let printed : PrintedCall = record { call = matches number offset bytes; parts = ranges } in
+          let first = sum_by-cons part_count_of printed (matched later) in
+          let one : found + 1 + length (matched later) ≡ found + length (printed ∷ matched later) = omega arith in
+          let two : parts + count + sum_by part_count_of (matched later)
+          ≡ parts + sum_by part_count_of (printed ∷ matched later) = omega (arith, first) in
+          let counts : Counts → Printed SummaryFormat =
+          λ counts. record { format = record { config = config; counts = counts }; text = [] } in
+          ap (λ n. fold (printed_with summary_rules scene)
+          (counts (record { match_count = n; part_count = capped_sum (capped parts) count })) later)
+          (capped-more found 1)
+          ∙ (ap (λ n. fold (printed_with summary_rules scene)
+          (counts (record { match_count = capped (found + 1); part_count = n })) later) (capped-more parts count)
+          ∙ (others (found + 1) (parts + count)
+          ∙ (ap (λ n. so_many config n (parts + count + sum_by part_count_of (matched later)) []) one
+          ∙ ap (λ n. so_many config (found + length (printed ∷ matched later)) n []) two)))
+      go (context kind number offset bytes) ranges here others = others found parts
+      go breaks ranges here others = others found parts
+      go (binary_data offset) ranges here others = others found parts
+      go (finishes count binary) ranges here others = absurd cc
 
-  -- a call writes nothing, and the match in it counts
-  summed-call : (found parts : ℕ) (text : List ℕ) (call : Call) → is_inner call ≡ true
-      → summed_with frame (summed_as found parts text) call
-      ≡ summed_as (found + length (found_in (call ∷ []))) (parts + sum_by part_count_of (found_in (call ∷ []))) text
-  summed-call found parts text begins inner = summed-other found parts text
-  summed-call found parts text (matches number offset bytes) inner =
-      let more = part_count_of (matches number offset bytes) in
-      let one : parts + more ≡ parts + (0 + more) = omega arith in
-      ap (λ t. summed_so (capped_sum (capped found) 1) (capped_sum (capped parts) more) t) (no-text text)
-      ∙ (ap (λ n. summed_so n (capped_sum (capped parts) more) text) (capped-more found 1)
-      ∙ (ap (λ n. summed_so (capped (found + 1)) n text) (capped-more parts more)
-      ∙ ap (λ n. summed_as (found + 1) n text) one))
-  summed-call found parts text (context kind number offset bytes) inner = summed-other found parts text
-  summed-call found parts text breaks inner = summed-other found parts text
-  summed-call found parts text (binary_data offset) inner = summed-other found parts text
-  summed-call found parts text (finishes count binary) inner = absurd cc
-
-  -- all calls, and the end
-  summed-all : (finish : Finish) (all_found all_parts : ℕ) (calls : List Planned) (found parts : ℕ)
-      → All (λ call. is_inner call ≡ true) (calls_of calls)
-      → found + length (found_in (calls_of calls)) ≡ all_found
-      → parts + sum_by part_count_of (found_in (calls_of calls)) ≡ all_parts
-      → run_fold (λ summed call. sums_on frame.config.kind call) (summed_with frame) (summed_as found parts []) calls
-      finish
-      ≡ summed_with frame (summed_as all_found all_parts []) (finishes finish.count finish.binary)
-  summed-all finish all_found all_parts [] found parts inner one two =
-      let first : found ≡ all_found = omega (arith, one) in
-      let second : parts ≡ all_parts = omega (arith, two) in
-      let end = finishes finish.count finish.binary in
-      ap (λ n. summed_with frame (summed_as n parts []) end) first
-      ∙ ap (λ n. summed_with frame (summed_as all_found n []) end) second
-  summed-all finish all_found all_parts (planned ∷ later) found parts inner one two =
-      let call = planned.call in
-      let here = found_in (call ∷ []) in
-      let there = found_in (calls_of later) in
-      let split = filter-append is_match (call ∷ []) (calls_of later) in
-      let lengths = ap length split ∙ length-append here there in
-      let sums = ap (sum_by part_count_of) split ∙ sum_by-append part_count_of here there in
-      let more = summed-all finish all_found all_parts later (found + length here) (parts + sum_by part_count_of here)
-      (All-tail (λ call. is_inner call ≡ true) call (calls_of later) inner)
-      (omega (arith, one, lengths)) (omega (arith, two, sums)) in
-      let next = summed_with frame (summed_as found parts []) call in
-      let goes_on : Summed → Call → Bool = λ summed call. sums_on frame.config.kind call in
-      ap (λ b. if b then run_fold goes_on (summed_with frame) next later finish
-      else summed_with frame next (finishes planned.if_false.count planned.if_false.binary)) (goes-call call)
-      ∙ (ap (λ s. run_fold goes_on (summed_with frame) s later finish)
-      (summed-call found parts [] call (All-head (λ call. is_inner call ≡ true) call (calls_of later) inner)) ∙ more)
-
--- a plan
+-- a search
 pub summaries-count : SummariesCount
-summaries-count frame plan goes inner =
-    let found = match_calls plan.calls in
-    let all = summed-all frame goes plan.finish (length found) (sum_by (part_count_of frame goes) found) plan.calls 0 0
-    inner (omega arith) (omega arith) in record {
-      counts = ap (λ summed. summed.counts) all;
-      text = ap (λ summed. summed.text) all;
+summaries-count config scene calls last count binary counted inner ends =
+    let start = so_many config 0 0 [] in
+    let found = matched calls in
+    let all : fold (printed_with summary_rules scene) start (calls ++ last ∷ [])
+    ≡ printed_with summary_rules scene
+    (so_many config (0 + length found) (0 + sum_by part_count_of found) []) last =
+    fold-push (printed_with summary_rules scene) calls last start
+    ∙ ap (λ made. printed_with summary_rules scene made last) (summed-all config scene calls 0 0 inner) in
+    let none : 0 + length found ≡ length found = omega arith in
+    let no_parts : 0 + sum_by part_count_of found ≡ sum_by part_count_of found = omega arith in
+    let whole : fold (printed_with summary_rules scene) start (calls ++ last ∷ [])
+    ≡ printed_with summary_rules scene (so_many config (length found) (sum_by part_count_of found) []) last =
+    all ∙ (ap (λ n. printed_with summary_rules scene
+    (so_many config n (0 + sum_by part_count_of found) []) last) none
+    ∙ ap (λ n. printed_with summary_rules scene (so_many config (length found) n []) last) no_parts) in
+    record {
+      counts = ap (λ made. made.format.counts) whole
+          ∙ ap (λ call. counts_after (summary_counts found) scene.settings.binary_detection call (length last.parts)) ends;
+      text = ap (λ made. made.text) whole
+          ∙ ap (λ call. summary_text config (summary_counts found) scene call) ends;
     }

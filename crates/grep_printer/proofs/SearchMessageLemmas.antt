@@ -1,30 +1,23 @@
 -- What the text of a search has to do with the messages of its calls.
 use Rattle.std.proofs.Common.{◌≡◌, ◌≢◌, ◌∙◌, ℕ, ◌<◌, ◌≤◌, ◌^◌, List, [], ◌∷◌, ◌++◌, Bool, true, false, Option, Some}
 use Rattle.std.proofs.Common.{ap, append_assoc, arith, length, map, refl, subst, sym}
-use Rattle.std.proofs.lemmas.List.{same_from_push}
+use Rattle.std.proofs.lemmas.List.{append-nil, same_from_push}
 use Rattle.std.proofs.lemmas.List.Elements.{All-append, All-cons, All-head, All-map, All-nil, All-tail, All-weaker}
 use Rattle.std.specs.Borrow.{Bor}
-use Rattle.std.specs.List.{AllZip, flat_map, list_any}
+use Rattle.std.specs.List.{AllZip, flat_map, fold, list_any}
 use Rattle.std.specs.Prelude.{All, ◌&&◌, ◌||◌, if◌then◌else◌, not}
 use Rattle.json.specs.Json.{Json, document}
 use Rattle.grep_matcher.proofs.LineLemmas.{lines-end, lines-inner}
-use Rattle.grep_matcher.specs.FindResults.{IsFrom}
 use Rattle.grep_matcher.specs.Lines.{lines, onto_first}
-use Rattle.grep_searcher.specs.Plans.{Call, Finish, Plan, Planned, begins, matches, context, breaks}
-use Rattle.grep_searcher.specs.Plans.{binary_data, finishes}
-use Rattle.grep_searcher.specs.SearchLaws.{calls_of}
-use Rattle.grep_searcher.specs.SinkFolds.{run_fold}
-use Rattle.grep_printer.proofs.PartTextLemmas.{asked-within}
+use Rattle.grep_searcher.specs.Plans.{Call, begins, matches, context, breaks, binary_data, finishes}
 use Rattle.grep_printer.proofs.ReadBackLemmas.{messages-read-back}
 use Rattle.grep_printer.proofs.ReportToldLemmas.{begin-other, messages-tell}
-use Rattle.grep_printer.proofs.SuccessiveLemmas.{parts-lie}
+use Rattle.grep_printer.specs.Formats.{PrintedCall, Scene, printed_by, printed_with}
 use Rattle.grep_printer.specs.JsonLaws.{IsLineOf, IsReport, IsSameReport, IsWordRange, Reported, message_of_report}
 use Rattle.grep_printer.specs.JsonMessages.{begin_json, json_line}
-use Rattle.grep_printer.specs.JsonTexts.{JsonFrame, JsonPrinted, context_submatches, json_printed_of, json_printed_with}
-use Rattle.grep_printer.specs.JsonTexts.{json_progress, json_text, submatches_of, with_text}
-use Rattle.grep_printer.specs.ReportedParts.{asked_bytes}
-use Rattle.grep_printer.specs.SearchMessages.{AreReadBack, HasWords, ReportsWords, SearchesAreReadBack, SearchesTell}
-use Rattle.grep_printer.specs.SearchMessages.{messages_of, opens, reports_in, reports_of}
+use Rattle.grep_printer.specs.JsonTexts.{json_progress, json_rules, json_text, with_text}
+use Rattle.grep_printer.specs.SearchMessages.{AreReadBack, HasPrintedWords, HasWords, SearchesAreReadBack, SearchesTell}
+use Rattle.grep_printer.specs.SearchMessages.{messages_of, opens, report_in, reports_of}
 use Rattle.grep_printer.specs.declared.json_printer.JsonProgress.{JsonProgress}
 
 -- ---- the lines of some messages, one after another
@@ -84,134 +77,118 @@ lines-tell (a ∷ first) (b ∷ later) [] one two = absurd one
 lines-tell (a ∷ first) (b ∷ later) (line ∷ ls) one two =
     let head = line-tells a b line one.0 two.0 in let tail = lines-tell first later ls one.1 two.1 in cc
 
-module _ (frame : JsonFrame) where
+module _ (always : Bool) (scene : Scene) where
   -- ---- the text of a search
 
-  -- one call, and those after it
-  text-more : (progress : JsonProgress) (call : Call) (later : List Call)
-      → flat_map json_line (messages_of frame progress.is_begun (call ∷ later))
-      ≡ json_text frame progress call
-      ++ flat_map json_line (messages_of frame (json_progress frame progress call).is_begun later)
-  text-more progress begins later = go frame.always_begin_end progress.is_begun
+  -- one call with its parts, and those after it
+  text-more : (progress : JsonProgress) (call : Call) (parts : List (ℕ × ℕ)) (later : List PrintedCall)
+      → flat_map json_line (messages_of always scene.path progress.is_begun
+      (record { call = call; parts = parts } ∷ later))
+      ≡ json_text always scene progress call parts
+      ++ flat_map json_line (messages_of always scene.path (json_progress always scene progress call parts).is_begun
+      later)
+  text-more progress begins parts later = go always progress.is_begun
     where
-      go : (always begun : Bool)
-          → flat_map json_line ((if not begun && (always || list_any (opens frame) later)
-          then begin_json frame.path ∷ [] else []) ++ map message_of_report (reports_of frame later))
-          ≡ (if always && not begun then json_line (begin_json frame.path) else [])
-          ++ flat_map json_line (messages_of frame
-          (if always && not begun
-          then with_text progress (if always && not begun then json_line (begin_json frame.path) else [])
+      go : (due begun : Bool)
+          → flat_map json_line ((if not begun && (due || list_any (λ p. opens always p.call) later)
+          then begin_json scene.path ∷ [] else []) ++ map message_of_report (reports_of scene.path later))
+          ≡ (if due && not begun then json_line (begin_json scene.path) else [])
+          ++ flat_map json_line (messages_of always scene.path
+          (if due && not begun
+          then with_text progress (if due && not begun then json_line (begin_json scene.path) else [])
           else record progress { is_begun = begun }).is_begun later)
       go true true = refl
       go true false = refl
       go false begun = refl
-  text-more progress (matches number offset bytes) later = go progress.is_begun
+  text-more progress (matches number offset bytes) parts later = go progress.is_begun
     where
       go : (begun : Bool)
-          → flat_map json_line (messages_of frame begun (matches number offset bytes ∷ later))
-          ≡ json_text frame (record progress { is_begun = begun }) (matches number offset bytes)
-          ++ flat_map json_line (messages_of frame true later)
+          → flat_map json_line (messages_of always scene.path begun
+          (record { call = matches number offset bytes; parts = parts } ∷ later))
+          ≡ json_text always scene (record progress { is_begun = begun }) (matches number offset bytes) parts
+          ++ flat_map json_line (messages_of always scene.path true later)
       go true = refl
-      go false = sym (append_assoc (json_line (begin_json frame.path)) _ _)
-  text-more progress (context kind number offset bytes) later = go progress.is_begun
+      go false = sym (append_assoc (json_line (begin_json scene.path)) _ _)
+  text-more progress (context kind number offset bytes) parts later = go progress.is_begun
     where
       go : (begun : Bool)
-          → flat_map json_line (messages_of frame begun (context kind number offset bytes ∷ later))
-          ≡ json_text frame (record progress { is_begun = begun }) (context kind number offset bytes)
-          ++ flat_map json_line (messages_of frame true later)
+          → flat_map json_line (messages_of always scene.path begun
+          (record { call = context kind number offset bytes; parts = parts } ∷ later))
+          ≡ json_text always scene (record progress { is_begun = begun }) (context kind number offset bytes) parts
+          ++ flat_map json_line (messages_of always scene.path true later)
       go true = refl
-      go false = sym (append_assoc (json_line (begin_json frame.path)) _ _)
-  text-more progress breaks later = refl
-  text-more progress (binary_data offset) later = refl
-  text-more progress (finishes count binary) later = refl
+      go false = sym (append_assoc (json_line (begin_json scene.path)) _ _)
+  text-more progress breaks parts later = refl
+  text-more progress (binary_data offset) parts later = refl
+  text-more progress (finishes count binary) parts later = refl
 
   -- no calls have no message
-  messages-none : (begun : Bool) → messages_of frame begun [] ≡ []
+  messages-none : (begun : Bool) → messages_of always scene.path begun [] ≡ []
   messages-none true = refl
   messages-none false = refl
 
-  -- all calls, and the end
-  text-all : (finish : Finish) (calls : List Planned) (printed : JsonPrinted)
-      → (run_fold (λ made call. true) (json_printed_with frame) printed calls finish).text
-      ≡ printed.text ++ flat_map json_line (messages_of frame printed.progress.is_begun (calls_of calls))
-  text-all finish [] printed =
-      ap (λ ms. printed.text ++ flat_map json_line ms) (sym (messages-none printed.progress.is_begun))
-  text-all finish (planned ∷ later) printed =
-      let here = json_text frame printed.progress planned.call in
-      let with_call = json_printed_with frame printed planned.call in
-      let rest = flat_map json_line (messages_of frame with_call.progress.is_begun (calls_of later)) in
-      text-all finish later with_call
-      ∙ (append_assoc printed.text here rest
-      ∙ ap (λ text. printed.text ++ text) (sym (text-more printed.progress planned.call (calls_of later))))
+  -- all calls
+  text-all : (calls : List PrintedCall) (progress : JsonProgress) (text : List ℕ)
+      → (fold (printed_with json_rules scene)
+      (record { format = record { always_begin_end = always; progress = progress }; text = text }) calls).text
+      ≡ text ++ flat_map json_line (messages_of always scene.path progress.is_begun calls)
+  text-all [] progress text =
+      sym (append-nil text)
+      ∙ ap (λ ms. text ++ flat_map json_line ms) (sym (messages-none progress.is_begun))
+  text-all (printed ∷ later) progress text =
+      let here = json_text always scene progress printed.call printed.parts in
+      let after = json_progress always scene progress printed.call printed.parts in
+      let rest = flat_map json_line (messages_of always scene.path after.is_begun later) in
+      text-all later after (text ++ here)
+      ∙ (append_assoc text here rest
+      ∙ ap (λ t. text ++ t) (sym (text-more progress printed.call printed.parts later)))
 
-  -- ---- its messages
+-- ---- its messages
 
-  abbrev FindsWithin : Type 0
-  FindsWithin = (bytes : List ℕ) (start : ℕ) → start ≤ length bytes → IsFrom start bytes (frame.first_at bytes start)
+-- the report of a call
+call-words : (path : Option (Bor (List ℕ))) (call : Call) (parts : List (ℕ × ℕ)) → HasWords call
+    → All IsWordRange parts → All IsReport (report_in path call parts)
+call-words path begins parts has ranges = All-nil IsReport
+call-words path (matches number offset bytes) parts has ranges =
+    All-cons IsReport _ [] (record {
+      bytes = has.bytes;
+      number = has.number;
+      offset = has.offset;
+      ranges = ranges;
+    }) (All-nil IsReport)
+call-words path (context kind number offset bytes) parts has ranges =
+    All-cons IsReport _ [] (record {
+      bytes = has.bytes;
+      number = has.number;
+      offset = has.offset;
+      ranges = ranges;
+    }) (All-nil IsReport)
+call-words path breaks parts has ranges = All-nil IsReport
+call-words path (binary_data offset) parts has ranges = All-nil IsReport
+call-words path (finishes count binary) parts has ranges = All-nil IsReport
 
-  module _ (finds : FindsWithin) where
-    found-words : (bytes : List ℕ) → length bytes < 2 ^ 64 → All IsWordRange (submatches_of frame bytes)
-    found-words bytes small =
-        let asked = asked_bytes frame.settings frame.meaning bytes in
-        let short = asked-within frame.settings frame.meaning bytes in
-        All-weaker (λ range. (range.0 ≤ range.1) × (range.1 ≤ length asked)) IsWordRange
-        (λ range lies. (omega (arith, lies.0, lies.1, short, small), omega (arith, lies.1, short, small)))
-        (submatches_of frame bytes) (parts-lie asked (length bytes) (frame.first_at asked) (finds asked))
+calls-words : (path : Option (Bor (List ℕ))) (calls : List PrintedCall) → All HasPrintedWords calls
+    → All IsReport (reports_of path calls)
+calls-words path [] has = All-nil IsReport
+calls-words path (printed ∷ later) has =
+    let here = All-head HasPrintedWords printed later has in
+    All-append IsReport (report_in path printed.call printed.parts) (reports_of path later)
+    (call-words path printed.call printed.parts here.call here.ranges)
+    (calls-words path later (All-tail HasPrintedWords printed later has))
 
-    context-words : (bytes : List ℕ) → length bytes < 2 ^ 64 → All IsWordRange (context_submatches frame bytes)
-    context-words bytes small = go frame.settings.invert_match
-      where
-        go : (inverted : Bool) → All IsWordRange (if inverted then submatches_of frame bytes else [])
-        go true = found-words bytes small
-        go false = All-nil IsWordRange
-
-    -- the report of a call
-    call-words : (call : Call) → HasWords call → All IsReport (reports_in frame call)
-    call-words begins has = All-nil IsReport
-    call-words (matches number offset bytes) has =
-        All-cons IsReport _ [] (record {
-          bytes = has.bytes;
-          number = has.number;
-          offset = has.offset;
-          ranges = found-words bytes has.size;
-        }) (All-nil IsReport)
-    call-words (context kind number offset bytes) has =
-        All-cons IsReport _ [] (record {
-          bytes = has.bytes;
-          number = has.number;
-          offset = has.offset;
-          ranges = context-words bytes has.size;
-        }) (All-nil IsReport)
-    call-words breaks has = All-nil IsReport
-    call-words (binary_data offset) has = All-nil IsReport
-    call-words (finishes count binary) has = All-nil IsReport
-
-    calls-words : (calls : List Call) → All HasWords calls → All IsReport (reports_of frame calls)
-    calls-words [] has = All-nil IsReport
-    calls-words (call ∷ later) has =
-        All-append IsReport (reports_in frame call) (reports_of frame later)
-        (call-words call (All-head HasWords call later has)) (calls-words later (All-tail HasWords call later has))
-
-    messages-read : (begun : Bool) (calls : List Call) → All HasWords calls → AreRead (messages_of frame begun calls)
-    messages-read begun calls has =
-        All-append (λ m. IsLineOf m (json_line m)) _ _ (opening (not begun && list_any (opens frame) calls))
-        (All-map (λ m. IsLineOf m (json_line m)) message_of_report (reports_of frame calls)
-        (All-weaker IsReport (λ r. IsLineOf (message_of_report r) (json_line (message_of_report r))) messages-read-back.report
-        (reports_of frame calls) (calls-words calls has)))
-      where
-        opening : (due : Bool) → AreRead (if due then begin_json frame.path ∷ [] else [])
-        opening true = All-cons (λ m. IsLineOf m (json_line m)) (begin_json frame.path) []
-            (messages-read-back.begin frame.path) (All-nil (λ m. IsLineOf m (json_line m)))
-        opening false = All-nil (λ m. IsLineOf m (json_line m))
-
-    search-read : (progress : JsonProgress) (plan : Plan) → All HasWords (calls_of plan.calls)
-        → AreReadBack (messages_of frame progress.is_begun (calls_of plan.calls))
-        (json_printed_of frame progress plan).text
-    search-read progress plan has =
-        lines-read (messages_of frame progress.is_begun (calls_of plan.calls))
-        (json_printed_of frame progress plan).text
-        (text-all plan.finish plan.calls (record { progress = progress; text = [] }))
-        (messages-read progress.is_begun (calls_of plan.calls) has)
+messages-read : (always : Bool) (path : Option (Bor (List ℕ))) (begun : Bool) (calls : List PrintedCall)
+    → All HasPrintedWords calls → AreRead (messages_of always path begun calls)
+messages-read always path begun calls has =
+    All-append (λ m. IsLineOf m (json_line m)) _ _
+    (opening (not begun && list_any (λ p. opens always p.call) calls))
+    (All-map (λ m. IsLineOf m (json_line m)) message_of_report (reports_of path calls)
+    (All-weaker IsReport (λ r. IsLineOf (message_of_report r) (json_line (message_of_report r))) messages-read-back.report
+    (reports_of path calls) (calls-words path calls has)))
+  where
+    opening : (due : Bool) → AreRead (if due then begin_json path ∷ [] else [])
+    opening true = All-cons (λ m. IsLineOf m (json_line m)) (begin_json path) []
+        (messages-read-back.begin path) (All-nil (λ m. IsLineOf m (json_line m)))
+    opening false = All-nil (λ m. IsLineOf m (json_line m))
 
 -- ---- what the messages tell
 
@@ -242,29 +219,24 @@ messages-same true false path other first later one two same = absurd (begin-alo
 messages-same false true path other first later one two same = absurd (begin-alone other later first (sym same))
 messages-same false false path other first later one two same = reports-same first later one two same
 
-module _ {M : Type 0} (first_at : M → List ℕ → ℕ → Option (ℕ × ℕ))
-    (within : (matcher : M) (bytes : List ℕ) (start : ℕ) → start ≤ length bytes
-    → IsFrom start bytes (first_at matcher bytes start)) where
-  finds-so : (frame : JsonFrame) (plan : Plan) → ReportsWords first_at frame plan → FindsWithin frame
-  finds-so frame plan reports =
-      subst (λ f. (bytes : List ℕ) (start : ℕ) → start ≤ length bytes → IsFrom start bytes (f bytes start))
-      (sym reports.finds) (within reports.matcher)
+pub searches-read : SearchesAreReadBack
+searches-read format scene calls has =
+    lines-read (messages_of format.always_begin_end scene.path format.progress.is_begun calls)
+    (printed_by json_rules scene format calls).text
+    (text-all format.always_begin_end scene calls format.progress [])
+    (messages-read format.always_begin_end scene.path format.progress.is_begun calls has)
 
-  pub searches-read : SearchesAreReadBack first_at
-  searches-read frame progress plan reports =
-      search-read frame (finds-so frame plan reports) progress plan reports.words
-
-  pub searches-tell : SearchesTell first_at
-  searches-tell frame other progress before plan another reports also same =
-      let calls = calls_of plan.calls in
-      let others = calls_of another.calls in
-      let one = searches-read frame progress plan reports in
-      let two = searches-read other before another also in
-      messages-same (not progress.is_begun && list_any (opens frame) calls)
-      (not before.is_begun && list_any (opens other) others) frame.path other.path
-      (reports_of frame calls) (reports_of other others)
-      (calls-words frame (finds-so frame plan reports) calls reports.words)
-      (calls-words other (finds-so other another also) others also.words)
-      (lines-tell (messages_of frame progress.is_begun calls) (messages_of other before.is_begun others)
-      (lines 10 (json_printed_of frame progress plan).text) one.read
-      (subst (λ text. AllZip IsLineOf (messages_of other before.is_begun others) (lines 10 text)) (sym same) two.read))
+pub searches-tell : SearchesTell
+searches-tell format other scene another calls others has also same =
+    let one = searches-read format scene calls has in
+    let two = searches-read other another others also in
+    messages-same
+    (not format.progress.is_begun && list_any (λ p. opens format.always_begin_end p.call) calls)
+    (not other.progress.is_begun && list_any (λ p. opens other.always_begin_end p.call) others)
+    scene.path another.path (reports_of scene.path calls) (reports_of another.path others)
+    (calls-words scene.path calls has) (calls-words another.path others also)
+    (lines-tell (messages_of format.always_begin_end scene.path format.progress.is_begun calls)
+    (messages_of other.always_begin_end another.path other.progress.is_begun others)
+    (lines 10 (printed_by json_rules scene format calls).text) one.read
+    (subst (λ text. AllZip IsLineOf (messages_of other.always_begin_end another.path other.progress.is_begun others)
+    (lines 10 text)) (sym same) two.read))

@@ -2,7 +2,7 @@
 use Rattle.std.proofs.Common.{◌≡◌, ◌∙◌, ℕ, List, [], ◌∷◌, ◌++◌, Bool, true, false, ap, arith, length, refl, sym}
 use Rattle.std.proofs.lemmas.Bool.{ne_eqb}
 use Rattle.std.specs.Prelude.{◌||◌, not}
-use Rattle.grep_printer.specs.StandardTexts.{is_text}
+use Rattle.grep_printer.specs.Formats.{is_text}
 
 pub text-some : (byte : ℕ) (text : List ℕ) → is_text (byte ∷ text) ≡ true
 text-some byte text = ap not (ne_eqb (length (byte ∷ text)) 0 (λ e. omega arith))

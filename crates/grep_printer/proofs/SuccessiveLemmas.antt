@@ -1,13 +1,14 @@
 -- The parts of some bytes are successive matches.
-use Rattle.std.proofs.Common.{◌≡◌, ℕ, zero, suc, ◌+◌, ◌≤◌, List, [], ◌∷◌, length, Option, Some, None, Bool}
+use Rattle.std.proofs.Common.{◌≡◌, ℕ, zero, suc, ◌+◌, ◌-◌, ◌<◌, ◌≤◌, List, [], ◌∷◌, length, Option, Some, None, Bool}
 use Rattle.std.proofs.Common.{true, false, arith, ap, sym, ◌∙◌, refl, subst}
+use Rattle.std.proofs.lemmas.Bool.{and_parts}
 use Rattle.std.proofs.lemmas.Bool.Decides.{nat_tests}
 use Rattle.std.proofs.lemmas.List.Elements.{All-cons, All-nil}
-use Rattle.std.specs.Option.{option_and_then, option_map_or}
-use Rattle.std.specs.Prelude.{All, if◌then◌else◌, nat_le, nat_lt}
+use Rattle.std.specs.Option.{option_and_then, option_map, option_map_or}
+use Rattle.std.specs.Prelude.{All, ◌&&◌, if◌then◌else◌, nat_le, nat_lt}
 use Rattle.grep_matcher.specs.FindResults.{IsFrom}
 use Rattle.grep_printer.proofs.FoundPartLemmas.{after-later, from-found}
-use Rattle.grep_printer.specs.MatchedParts.{AreSuccessive, below, found_from, is_passed}
+use Rattle.grep_printer.specs.MatchedParts.{AreSuccessive, below, first_from, found_from, is_passed}
 use Rattle.grep_printer.specs.MatchedParts.{next_part, parts_from, parts_in, position_after, with_part}
 
 -- a match that is found from a position in so many bytes lies in them, and starts there or later
@@ -15,16 +16,30 @@ abbrev FindsFrom : (ℕ → Option (ℕ × ℕ)) → ℕ → Type 0
 FindsFrom first_at size = (position : ℕ) (found : ℕ × ℕ) → position ≤ size → first_at position ≡ Some found
     → (position ≤ found.0) × (found.0 ≤ found.1) × (found.1 ≤ size)
 
-finds-from : (bytes : List ℕ) (first_at : ℕ → Option (ℕ × ℕ))
-    → ((start : ℕ) → start ≤ length bytes → IsFrom start bytes (first_at start)) → FindsFrom first_at (length bytes)
-finds-from bytes first_at within position found fits is =
-    let lies : IsFrom position bytes (Some found) = subst (IsFrom position bytes) is (within position fits) in
-    (lies.0, lies.1.0, lies.1.1)
+-- so it is from a start on
+finds-from : (bytes : List ℕ) (start : ℕ) (first_at : ℕ → Option (ℕ × ℕ)) → start ≤ length bytes
+    → ((position : ℕ) → position ≤ length bytes → IsFrom position bytes (first_at position))
+    → FindsFrom (first_from first_at start) (length bytes - start)
+finds-from bytes start first_at begins within position found fits is =
+    go (first_at (start + position)) (within (start + position) (omega (arith, fits, begins))) is
+  where
+    go : (first : Option (ℕ × ℕ)) → IsFrom (start + position) bytes first
+        → option_map (λ m. (m.0 - start, m.1 - start)) first ≡ Some found
+        → (position ≤ found.0) × (found.0 ≤ found.1) × (found.1 ≤ length bytes - start)
+    go None lies none = absurd cc
+    go (Some m) lies some =
+        let from : m.0 - start ≡ found.0 = cc in
+        let to : m.1 - start ≡ found.1 = cc in
+        let after = lies.0 in let inner = lies.1.0 in let within_all = lies.1.1 in (
+          omega (arith, from, after),
+          omega (arith, from, to, after, inner),
+          omega (arith, to, after, inner, within_all),
+        )
 
 -- a match below a limit is the match
 below-is : (limit : ℕ) (first : Option (ℕ × ℕ)) (found : ℕ × ℕ) → below limit first ≡ Some found → first ≡ Some found
 below-is limit None found is = absurd (cc)
-below-is limit (Some other) found is = go (nat_lt other.0 limit) is
+below-is limit (Some other) found is = go (nat_lt other.0 limit && nat_le other.1 limit) is
   where
     go : (low : Bool) → (if low then Some other else None) ≡ Some found → Some other ≡ Some found
     go true is = is
@@ -138,44 +153,65 @@ module _ (first_at : ℕ → Option (ℕ × ℕ)) (size limit : ℕ) (finds : Fi
           (parts_from first_at size limit count (position_after found) (Some found.1)) is
           (later found (omega (arith, after, enough))))
 
-  -- each of the parts lies in the bytes
-  with-lies : (passed : Bool) (found : ℕ × ℕ) (later : List (ℕ × ℕ)) → (found.0 ≤ found.1) × (found.1 ≤ size)
-      → All (λ part. (part.0 ≤ part.1) × (part.1 ≤ size)) later
-      → All (λ part. (part.0 ≤ part.1) × (part.1 ≤ size)) (if passed then later else found ∷ later)
-  with-lies true found later here lie = lie
-  with-lies false found later here lie = All-cons (λ part. (part.0 ≤ part.1) × (part.1 ≤ size)) found later here lie
+-- the parts lie before the limit
+below-lies : (limit : ℕ) (first : Option (ℕ × ℕ)) (found : ℕ × ℕ) → below limit first ≡ Some found
+    → (found.0 < limit) × (found.1 ≤ limit)
+below-lies limit None found is = absurd (cc)
+below-lies limit (Some other) found is = go (nat_lt other.0 limit && nat_le other.1 limit) refl is
+  where
+    go : (low : Bool) → (nat_lt other.0 limit && nat_le other.1 limit) ≡ low
+        → (if low then Some other else None) ≡ Some found → (found.0 < limit) × (found.1 ≤ limit)
+    go true low is =
+        let same : other ≡ found = cc in
+        let both = and_parts (nat_lt other.0 limit) (nat_le other.1 limit) low in
+        subst (λ (m : ℕ × ℕ). (m.0 < limit) × (m.1 ≤ limit)) same
+        (grind (arith, nat_tests, both), grind (arith, nat_tests, both))
+    go false low is = absurd (cc)
 
-  from-lie : (count position : ℕ) (end : Option ℕ)
-      → All (λ part. (part.0 ≤ part.1) × (part.1 ≤ size)) (parts_from first_at size limit count position end)
-  from-lie zero position end = All-nil (λ part. (part.0 ≤ part.1) × (part.1 ≤ size))
-  from-lie (suc count) position end =
-      go (found_from first_at size limit position) refl (λ after before. from-lie count after before)
+module _ (first_at : ℕ → Option (ℕ × ℕ)) (size limit : ℕ) where
+  abbrev LiesBelow : ℕ × ℕ → Type 0
+  LiesBelow part = (part.0 < limit) × (part.1 ≤ limit)
+
+  found-below : (position : ℕ) (found : ℕ × ℕ) → found_from first_at size limit position ≡ Some found → LiesBelow found
+  found-below position found is = go (nat_le position size) is
+    where
+      go : (low : Bool) → (if low then below limit (first_at position) else None) ≡ Some found → LiesBelow found
+      go true is = below-lies limit (first_at position) found is
+      go false is = absurd (cc)
+
+  with-below : (passed : Bool) (found : ℕ × ℕ) (later : List (ℕ × ℕ)) → LiesBelow found → All LiesBelow later
+      → All LiesBelow (if passed then later else found ∷ later)
+  with-below true found later here lie = lie
+  with-below false found later here lie = All-cons LiesBelow found later here lie
+
+  from-below : (count position : ℕ) (end : Option ℕ)
+      → All LiesBelow (parts_from first_at size limit count position end)
+  from-below zero position end = All-nil LiesBelow
+  from-below (suc count) position end =
+      go (found_from first_at size limit position) refl (λ after before. from-below count after before)
     where
       go : (first : Option (ℕ × ℕ)) → found_from first_at size limit position ≡ first
           → ((after : ℕ) (before : Option ℕ)
-          → All (λ part. (part.0 ≤ part.1) × (part.1 ≤ size)) (parts_from first_at size limit count after before))
-          → All (λ part. (part.0 ≤ part.1) × (part.1 ≤ size)) (option_map_or
+          → All LiesBelow (parts_from first_at size limit count after before))
+          → All LiesBelow (option_map_or
           (λ found. with_part end found (parts_from first_at size limit count (position_after found) (Some found.1)))
           first [])
-      go None none later = All-nil (λ part. (part.0 ≤ part.1) × (part.1 ≤ size))
+      go None none later = All-nil LiesBelow
       go (Some found) is later =
-          let lies = found-lies position found is in
-          with-lies (is_passed end found) found
-          (parts_from first_at size limit count (position_after found) (Some found.1)) (lies.1, lies.2)
+          with-below (is_passed end found) found
+          (parts_from first_at size limit count (position_after found) (Some found.1)) (found-below position found is)
           (later (position_after found) (Some found.1))
 
--- the parts of some bytes lie in them
-pub parts-lie : (bytes : List ℕ) (limit : ℕ) (first_at : ℕ → Option (ℕ × ℕ))
-    → ((start : ℕ) → start ≤ length bytes → IsFrom start bytes (first_at start))
-    → All (λ part. (part.0 ≤ part.1) × (part.1 ≤ length bytes)) (parts_in first_at (length bytes) limit)
-unfolding parts_in
-parts-lie bytes limit first_at within =
-    from-lie first_at (length bytes) limit (finds-from bytes first_at within) (length bytes + 1) 0 None
+  pub parts-below : All (λ part. (part.0 < limit) × (part.1 ≤ limit)) (parts_in first_at size limit)
+  unfolding parts_in
+  parts-below = from-below (size + 1) 0 None
 
 -- and are successive
-pub parts-are-successive : (bytes : List ℕ) (limit : ℕ) (first_at : ℕ → Option (ℕ × ℕ))
-    → ((start : ℕ) → start ≤ length bytes → IsFrom start bytes (first_at start))
-    → AreSuccessive first_at (length bytes) limit 0 None (parts_in first_at (length bytes) limit)
+pub parts-are-successive : (bytes : List ℕ) (start limit : ℕ) (first_at : ℕ → Option (ℕ × ℕ)) → start ≤ length bytes
+    → ((position : ℕ) → position ≤ length bytes → IsFrom position bytes (first_at position))
+    → AreSuccessive (first_from first_at start) (length bytes - start) limit 0 None
+    (parts_in (first_from first_at start) (length bytes - start) limit)
 unfolding parts_in
-parts-are-successive bytes limit first_at within =
-    from-are first_at (length bytes) limit (finds-from bytes first_at within) (length bytes + 1) 0 None (omega arith)
+parts-are-successive bytes start limit first_at begins within =
+    from-are (first_from first_at start) (length bytes - start) limit (finds-from bytes start first_at begins within)
+    (length bytes - start + 1) 0 None (omega arith)

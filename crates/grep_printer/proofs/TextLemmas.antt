@@ -2,20 +2,47 @@
 use Rattle.std.proofs.Common.{◌≡◌, ℕ, ◌+◌, ◌<◌, ◌≤◌, ◌^◌, List, [], ◌∷◌, ◌++◌, length, refl, sym, ap, ◌∙◌, arith}
 use Rattle.std.proofs.Common.{append_assoc, subst}
 use Rattle.std.proofs.lemmas.List.{length-append}
-use Rattle.std.specs.List.{concat}
-use Rattle.std.specs.Prelude.{if◌then◌else◌}
+use Rattle.std.proofs.lemmas.Bool.{and_parts}
+use Rattle.std.proofs.lemmas.List.Sums.{sum_by-cons}
+use Rattle.std.proofs.lemmas.Bool.Decides.{nat_tests}
+use Rattle.std.specs.List.{concat, count_by}
+use Rattle.std.specs.Prelude.{Bool, cond, true, false, ◌&&◌, if◌then◌else◌, nat_le, nat_lt}
 use Rattle.grep_matcher.proofs.LineLemmas.{lines-joined}
 use Rattle.grep_searcher.specs.Lines.{lines, strip}
 use Rattle.grep_matcher.specs.Lines.{byte_of}
 use Rattle.grep_printer.proofs.ColorLemmas.{painted-after}
 use Rattle.grep_printer.proofs.PartTextLemmas.{ordered-after}
 use Rattle.grep_printer.specs.ColoredTexts.{matched_color}
-use Rattle.grep_printer.specs.LineTexts.{end_byte, fields, is_long, line_text, lines_text, mark_of, missing_end, notice}
-use Rattle.grep_printer.specs.LineTexts.{place_after}
+use Rattle.grep_printer.specs.LineTexts.{counted_parts, end_byte, fields, is_long, is_touching, line_text, lines_text}
+use Rattle.grep_printer.specs.LineTexts.{mark_of, missing_end, notice, painted_line, place_after}
 use Rattle.grep_printer.specs.MatchedParts.{AreInOrder, parts_after}
 use Rattle.grep_printer.specs.declared.fields.Layout.{Layout}
 use Rattle.grep_printer.specs.declared.fields.LineKind.{LineKind}
 use Rattle.grep_printer.specs.declared.fields.Place.{Place}
+
+abbrev one_if : Bool → ℕ
+one_if b = cond b 1 0
+
+-- the parts that end by a position aren't in a line from there on
+counted-after : (position start end : ℕ) (parts : List (ℕ × ℕ)) → position ≤ start
+    → count_by (is_touching start end) (parts_after position parts) ≡ count_by (is_touching start end) parts
+counted-after position start end [] less = refl
+counted-after position start end (part ∷ later) less =
+    go (nat_lt part.0 position && nat_le part.1 position) refl (counted-after position start end later less)
+  where
+    go : (passed : Bool) → (nat_lt part.0 position && nat_le part.1 position) ≡ passed
+        → count_by (is_touching start end) (parts_after position later) ≡ count_by (is_touching start end) later
+        → count_by (is_touching start end) (if passed then parts_after position later else part ∷ later)
+        ≡ count_by (is_touching start end) (part ∷ later)
+    go true passed others =
+        let both = and_parts (nat_lt part.0 position) (nat_le part.1 position) passed in
+        let apart : is_touching start end part ≡ false = grind (arith, nat_tests, both, less) in
+        let cons : count_by (is_touching start end) (part ∷ later)
+        ≡ one_if (is_touching start end part) + count_by (is_touching start end) later =
+        sum_by-cons (λ p. one_if (is_touching start end p)) part later in
+        let none = ap one_if apart in
+        others ∙ omega (arith, cons, none)
+    go false kept others = refl
 
 module _ (layout : Layout) (kind : LineKind) where
   -- the parts that end by a position don't count in a line from there on
@@ -23,10 +50,16 @@ module _ (layout : Layout) (kind : LineKind) where
       → line_text layout kind place (parts_after position parts) line ≡ line_text layout kind place parts line
   line-after place position parts line less =
       ap (λ (t : List ℕ). fields layout (mark_of kind) place
-      ++ (if is_long layout.config.max_columns line then notice kind ++ end_byte layout ∷ []
+      ++ (if is_long layout.config.max_columns line
+      then notice kind (counted_parts layout (parts_after position parts) place.start line) ++ end_byte layout ∷ []
       else t ++ missing_end (end_byte layout) line))
       (painted-after (matched_color layout.config.color_specs) position
       (place.start + length (strip layout.terminator line)) place.start parts line less)
+      ∙ ap (λ n. fields layout (mark_of kind) place
+      ++ (if is_long layout.config.max_columns line
+      then notice kind (if layout.config.only_matching then 0 else n) ++ end_byte layout ∷ []
+      else painted_line layout parts place.start line ++ missing_end (end_byte layout) line))
+      (counted-after position place.start (place.start + length line) parts less)
 
   -- nor in the lines from there on
   lines-after : (place : Place) (position : ℕ) (parts : List (ℕ × ℕ)) (left : List (List ℕ)) → position ≤ place.start

@@ -6,8 +6,7 @@ use Rattle.json.specs.Token.{Token}
 use Rattle.json.specs.Tree.{json_tokens}
 use Rattle.grep_printer.specs.JsonMessages.{begin_json, end_json, optional_json}
 use Rattle.grep_printer.specs.JsonMessages.{path_json, report_json, summary_json}
-use Rattle.grep_searcher.specs.Lines.{lines}
-use Rattle.grep_printer.specs.JsonTexts.{with_match, with_size}
+use Rattle.grep_printer.specs.JsonTexts.{with_match}
 use Rattle.grep_printer.specs.Reports.{type_of}
 use Rattle.grep_printer.specs.declared.json_lines.Message.{Message}
 use Rattle.grep_printer.specs.declared.json_lines.Message.TheVariants.{Begin, Report as reports, End}
@@ -71,9 +70,3 @@ AreWithin (Summary stats total) = Unit {0}
 abbrev pub with_matches : ReportKind → JsonProgress → ℕ → ℕ → JsonProgress
 with_matches Match progress line_count match_count = with_match progress line_count match_count
 with_matches (Context kind) progress line_count match_count = progress
-
--- what was reported, with a report whose text has so many bytes, and so many matches in it
-abbrev pub after_report : JsonProgress → ℕ → Report → ℕ → ℕ → JsonProgress
-after_report progress size report match_count terminator =
-    with_matches report.kind (with_size progress size)
-    (length (lines terminator report.bytes.now)) match_count

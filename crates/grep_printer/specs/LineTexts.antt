@@ -1,9 +1,9 @@
 -- The text of a line, with the fields before it, and what is written before the first report of a
 -- search.
-use Rattle.std.specs.Prelude.{ℕ, ◌+◌, ◌-◌, ◌^◌, min, nat_eq, Bool, if◌then◌else◌, List, [], ◌∷◌}
-use Rattle.std.specs.Prelude.{◌++◌, ◌==◌, false, nat_lt, length, codes, decimal, Option, Some, None}
+use Rattle.std.specs.Prelude.{ℕ, ◌+◌, ◌-◌, ◌^◌, min, nat_eq, nat_le, Bool, if◌then◌else◌, List, [], ◌∷◌}
+use Rattle.std.specs.Prelude.{◌++◌, ◌==◌, ◌&&◌, ◌||◌, false, nat_lt, length, codes, decimal, Option, Some, None}
 use Rattle.std.specs.Borrow.{Bor}
-use Rattle.std.specs.List.{ends_with}
+use Rattle.std.specs.List.{count_by, ends_with}
 use Rattle.std.specs.Option.{unwrap_or}
 use Rattle.grep_matcher.specs.Lines.{byte_of}
 use Rattle.grep_searcher.specs.Lines.{strip}
@@ -53,24 +53,29 @@ separator_text Dashes terminator = 45 ∷ 45 ∷ terminator ∷ []
 
 -- the byte after each field of a line: a colon in a match, and a dash in any other line
 abbrev pub mark_of : LineKind → ℕ
-mark_of (Match count) = 58
-mark_of (Context count) = 45
+mark_of Match = 58
+mark_of Context = 45
 
 -- whether a line has more bytes than are written
 abbrev pub is_long : Option ℕ → List ℕ → Bool
 is_long None line = false
 is_long (Some most) line = nat_lt most (length line)
 
--- how many parts match of a report with a line that is too long
+-- how many parts are in a line that is too long
 abbrev pub counted_notice : ℕ → List ℕ
 counted_notice count = codes "[Omitted long line with " ++ (decimal count ++ codes " matches]")
 
--- what is written in place of a line that is too long
-abbrev pub notice : LineKind → List ℕ
-notice (Match count) =
+-- what is written in place of a line that is too long, by how many parts are in it
+abbrev pub notice : LineKind → ℕ → List ℕ
+notice Match count =
     if count == 0 then codes "[Omitted long matching line]" else counted_notice count
-notice (Context count) =
+notice Context count =
     if count == 0 then codes "[Omitted long context line]" else counted_notice count
+
+-- whether a part has bytes of a line from a position to another, or is empty and begins in it
+abbrev pub is_touching : ℕ → ℕ → ℕ × ℕ → Bool
+is_touching start end part =
+    nat_lt part.0 end && (nat_lt start part.1 || nat_le start part.0)
 
 -- the byte at the end of each line
 abbrev pub end_byte : Layout → ℕ
@@ -96,11 +101,19 @@ module _ (layout : Layout) where
       painted (matched_color layout.config.color_specs) parts
       (start + length (strip layout.terminator line)) start line
 
+  -- how many parts are in a line that begins at a position of its report; where parts are written
+  -- in place of lines they aren't counted
+  abbrev pub counted_parts : List (ℕ × ℕ) → ℕ → List ℕ → ℕ
+  counted_parts parts start line =
+      if layout.config.only_matching
+      then 0
+      else count_by (is_touching start (start + length line)) parts
+
   -- a line, or a notice if it is too long, with the terminator at its end
   abbrev pub shown_line : LineKind → Place → List (ℕ × ℕ) → List ℕ → List ℕ
   shown_line kind place parts line =
       if is_long layout.config.max_columns line
-      then notice kind ++ end_byte layout ∷ []
+      then notice kind (counted_parts parts place.start line) ++ end_byte layout ∷ []
       else painted_line parts place.start line ++ missing_end (end_byte layout) line
 
   -- a line after its fields

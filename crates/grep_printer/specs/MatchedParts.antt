@@ -1,8 +1,8 @@
 -- The parts of some bytes that match: the successive matches of a matcher in them.
-use Rattle.std.specs.Prelude.{◌≡◌, ℕ, zero, suc, ◌+◌, ◌≤◌, ◌&&◌, ◌==◌, Bool, false, if◌then◌else◌}
+use Rattle.std.specs.Prelude.{◌≡◌, ℕ, zero, suc, ◌+◌, ◌-◌, ◌≤◌, ◌&&◌, ◌==◌, Bool, false, if◌then◌else◌}
 use Rattle.std.specs.Prelude.{nat_lt, nat_le, List, [], ◌∷◌, length, Option, Some, None}
 use Rattle.std.specs.Global.{Global}
-use Rattle.std.specs.Option.{option_and_then, option_map_or}
+use Rattle.std.specs.Option.{IfSome, option_and_then, option_map, option_map_or}
 use Rattle.grep_searcher.specs.SearchErrors.{IsMessageOf}
 use Rattle.grep_searcher.specs.declared.SearchError.{SearchError}
 
@@ -12,11 +12,13 @@ AreInOrder low high [] = Unit {0}
 AreInOrder low high (part ∷ later) =
     (low ≤ part.0) × (part.0 ≤ part.1) × (part.1 ≤ high) × AreInOrder part.1 high later
 
--- the parts without the first ones that end at a position or before it
+-- the parts without the first ones that start before a position and end by it
 abbrev pub parts_after : ℕ → List (ℕ × ℕ) → List (ℕ × ℕ)
 parts_after position [] = []
 parts_after position (part ∷ later) =
-    if nat_le part.1 position then parts_after position later else part ∷ later
+    if nat_lt part.0 position && nat_le part.1 position
+    then parts_after position later
+    else part ∷ later
 
 -- where the search for the next match begins: at the end of a match, or one byte later if the match
 -- is empty
@@ -32,13 +34,25 @@ is_passed (Some end) found = found.0 == found.1 && found.1 == end
 abbrev pub with_part : Option ℕ → ℕ × ℕ → List (ℕ × ℕ) → List (ℕ × ℕ)
 with_part end found later = if is_passed end found then later else found ∷ later
 
--- a match, if it starts before a limit
+-- a match, if it starts before a limit and ends by it
 abbrev pub below : ℕ → Option (ℕ × ℕ) → Option (ℕ × ℕ)
 below limit None = None
-below limit (Some found) = if nat_lt found.0 limit then Some found else None
+below limit (Some found) =
+    if nat_lt found.0 limit && nat_le found.1 limit then Some found else None
+
+-- a match lies in so many bytes, starts at a position or after it and before a limit, and ends by
+-- the limit
+abbrev pub LiesFrom : ℕ → ℕ → ℕ → Option (ℕ × ℕ) → Type 0
+LiesFrom position size limit found = IfSome found (λ m.
+    (position ≤ m.0) × (m.0 ≤ m.1) × (m.1 ≤ size) × (m.1 ≤ limit))
+
+-- the first match from a position on, both counted from a start
+abbrev pub first_from : (ℕ → Option (ℕ × ℕ)) → ℕ → ℕ → Option (ℕ × ℕ)
+first_from first_at start position =
+    option_map (λ m. (m.0 - start, m.1 - start)) (first_at (start + position))
 
 module _ (first_at : ℕ → Option (ℕ × ℕ)) (size limit : ℕ) where
-  -- the first match from a position on that starts before the limit
+  -- the first match from a position on that starts before the limit and ends by it
   abbrev pub found_from : ℕ → Option (ℕ × ℕ)
   found_from position = if nat_le position size then below limit (first_at position) else None
 
@@ -69,12 +83,12 @@ module _ (first_at : ℕ → Option (ℕ × ℕ)) (size limit : ℕ) where
       (next_part position end ≡ Some part)
       × AreSuccessive (position_after part) (Some part.1) later
 
--- the parts of any bytes are successive matches of a matcher
+-- the parts that are looked for in any bytes, from a start on, are successive matches of a matcher
 abbrev pub PartsAreSuccessive : {M : Type 0} → (M → List ℕ → ℕ → Option (ℕ × ℕ)) → Type 0
 PartsAreSuccessive {M} first_at =
-    (matcher : M) (bytes : List ℕ) (limit : ℕ)
-    → AreSuccessive (first_at matcher bytes) (length bytes) limit 0 None
-    (parts_in (first_at matcher bytes) (length bytes) limit)
+    (matcher : M) (bytes : List ℕ) (start limit : ℕ) → start ≤ length bytes
+    → AreSuccessive (first_from (first_at matcher bytes) start) (length bytes - start) limit 0 None
+    (parts_in (first_from (first_at matcher bytes) start) (length bytes - start) limit)
 
 -- an error is the matcher's, for some bytes, as a message with the text that its `Display` writes,
 -- if that is known, or with no text

@@ -1,16 +1,17 @@
 -- A report as a printer has it, and the call that it is.
-use Rattle.std.specs.Prelude.{ℕ, Bool, true, false, ◌&&◌, if◌then◌else◌, List, ◌++◌, codes, length}
-use Rattle.std.specs.Prelude.{Option}
+use Rattle.std.specs.Prelude.{◌≡◌, ℕ, ◌+◌, ◌<◌, ◌≤◌, ◌^◌, Bool, true, false, not, ◌&&◌, if◌then◌else◌, List, ◌++◌}
+use Rattle.std.specs.Prelude.{codes, drop, length, Option, slice_range, take}
 use Rattle.grep_searcher.specs.Lines.{lines}
-use Rattle.grep_searcher.specs.Meanings.{Meaning}
-use Rattle.grep_searcher.specs.Plans.{is_across, Call, matches, context, Settings}
+use Rattle.grep_searcher.specs.Plans.{Call, begins, matches, context, breaks}
+use Rattle.grep_searcher.specs.Plans.{binary_data, finishes}
+use Rattle.grep_printer.specs.CallParts.{Surroundings}
 use Rattle.grep_printer.specs.LineTexts.{end_byte, line_text, lines_text}
 use Rattle.grep_printer.specs.PartTexts.{across_text, column_of, parts_text, writes_parts}
-use Rattle.grep_printer.specs.ReportedParts.{asked_parts}
-use Rattle.grep_printer.specs.StandardTexts.{asks_for_parts, text_before}
+use Rattle.grep_printer.specs.declared.format.Event.{Event}
+use Rattle.grep_printer.specs.declared.format.Event.TheVariants.{Begin, Break, BinaryData, Finish}
+use Rattle.grep_printer.specs.declared.format.Event.TheVariants.{Report as report_event}
 use Rattle.grep_printer.specs.declared.fields.Layout.{Layout}
 use Rattle.grep_printer.specs.declared.fields.Place.{Place}
-use Rattle.grep_printer.specs.declared.standard.Progress.{Progress}
 use Rattle.grep_printer.specs.declared.fields.LineKind.{LineKind}
 use Rattle.grep_printer.specs.declared.fields.LineKind.TheVariants.{Match as match_line}
 use Rattle.grep_printer.specs.declared.fields.LineKind.TheVariants.{Context as context_line}
@@ -27,25 +28,64 @@ reporting_call (Context kind) number offset bytes = context kind number offset b
 abbrev pub call_of : Report → Call
 call_of report = reporting_call report.kind report.number report.offset report.bytes.now
 
--- what the lines of a report belong to, with how many parts of it match
-abbrev pub line_kind : ReportKind → ℕ → LineKind
-line_kind Match count = match_line count
-line_kind (Context kind) count = context_line count
+-- a call of a search
+abbrev pub event_call : Event → Call
+event_call Begin = begins
+event_call (report_event report) = call_of report
+event_call Break = breaks
+event_call (BinaryData offset) = binary_data offset
+event_call (Finish count binary) = finishes count binary
+
+-- the offset at which what it reports ends fits in 64 bits
+abbrev pub FitsEvent : Event → Type 0
+FitsEvent (report_event report) = report.offset + length report.bytes.now < 2 ^ 64
+FitsEvent event = Unit {0}
+
+-- the bytes before those of a report that are shown with it, and those after them
+abbrev pub surroundings_of : Report → Surroundings
+surroundings_of report = record {
+  before = take report.start report.shown.now;
+  after = drop (length report.bytes.now) (drop report.start report.shown.now);
+}
+
+-- such are around a call's report
+abbrev pub IsAround : Event → Surroundings → Type 0
+IsAround (report_event report) around = around ≡ surroundings_of report
+IsAround event around = Unit {0}
+
+-- the bytes of a match lie among those that are shown with it, and nothing else is shown with any
+-- other report
+abbrev pub IsShownAs : ReportKind → List ℕ → List ℕ → ℕ → Type 0
+IsShownAs Match bytes shown start =
+    (start + length bytes ≤ length shown) × (bytes ≡ slice_range shown start (start + length bytes))
+IsShownAs (Context kind) bytes shown start = (shown ≡ bytes) × (start ≡ 0)
+
+abbrev pub IsShown : Report → Type 0
+IsShown report = IsShownAs report.kind report.bytes.now report.shown.now report.start
+
+abbrev pub IsShownEvent : Event → Type 0
+IsShownEvent (report_event report) = IsShown report
+IsShownEvent event = Unit {0}
+
+-- what the lines of a report belong to
+abbrev pub line_kind : ReportKind → LineKind
+line_kind Match = match_line
+line_kind (Context kind) = context_line
 
 -- the type of its message
 abbrev pub type_of : ReportKind → List ℕ
 type_of Match = codes "match"
 type_of (Context kind) = codes "context"
 
--- whether a report may have parts that match, by whether the lines without a match are selected
-abbrev pub has_parts : ReportKind → Bool → Bool
-has_parts Match is_inverted = true
-has_parts (Context kind) is_inverted = is_inverted
+-- whether its lines match, by whether the lines without a match are selected
+abbrev pub kind_has_match : ReportKind → Bool → Bool
+kind_has_match Match is_inverted = not is_inverted
+kind_has_match (Context kind) is_inverted = is_inverted
 
--- whether its parts are written line by line, by whether matches are found across lines
-abbrev pub is_split : ReportKind → Bool → Bool
-is_split Match across = across
-is_split (Context kind) across = false
+-- whether a call reports lines that match
+abbrev pub event_has_match : Event → Bool → Bool
+event_has_match (report_event report) is_inverted = kind_has_match report.kind is_inverted
+event_has_match event is_inverted = false
 
 module _ (layout : Layout) (report : Report) (parts : List (ℕ × ℕ)) where
   -- the place of a report, with the column of its first part
@@ -60,27 +100,20 @@ module _ (layout : Layout) (report : Report) (parts : List (ℕ × ℕ)) where
   -- a report without its parts: the lines of a match, or the line that isn't one
   abbrev pub whole_text : ReportKind → List ℕ
   whole_text Match =
-      lines_text layout (match_line (length parts)) report_place parts
+      lines_text layout match_line report_place parts
       (lines (end_byte layout) report.bytes.now)
   whole_text (Context kind) =
-      line_text layout (context_line (length parts)) report_place parts report.bytes.now
+      line_text layout context_line report_place parts report.bytes.now
+
+  -- the parts of a report: what they have in each line of a match, or in the line that isn't one
+  abbrev pub written_parts : ReportKind → List ℕ
+  written_parts Match =
+      across_text layout match_line report.offset report.bytes.now report.number 0
+      (lines (end_byte layout) report.bytes.now) parts
+  written_parts (Context kind) =
+      parts_text layout context_line report.offset report.bytes.now report.number parts
 
   -- a report: its parts, or all of it
-  abbrev pub drawn_text : Bool → List ℕ
-  drawn_text across =
-      if writes_parts layout parts
-      then (if is_split report.kind across
-      then across_text layout (line_kind report.kind 0) report.offset report.bytes.now
-      report.number 0 (lines (end_byte layout) report.bytes.now) parts
-      else parts_text layout (line_kind report.kind 0) report.offset report.bytes.now report.number
-      parts)
-      else whole_text report.kind
-
--- the text of a report after what comes before it, with the parts that a matcher finds
-abbrev pub composed_text : Layout → Progress → Settings → Meaning
-    → (List ℕ → ℕ → Option (ℕ × ℕ)) → Report → List ℕ
-composed_text layout progress settings meaning first_at report =
-    text_before layout progress
-    ++ drawn_text layout report
-    (asked_parts (has_parts report.kind settings.invert_match && asks_for_parts layout.config)
-    first_at settings meaning report.bytes.now) (is_across settings meaning)
+  abbrev pub drawn_text : List ℕ
+  drawn_text =
+      if writes_parts layout parts then written_parts report.kind else whole_text report.kind

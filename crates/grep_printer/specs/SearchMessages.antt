@@ -2,59 +2,64 @@
 use Rattle.std.specs.Prelude.{◌≡◌, ℕ, ◌-◌, ◌<◌, ◌^◌, ◌&&◌, not, Bool, if◌then◌else◌, All, List}
 use Rattle.std.specs.Prelude.{[], ◌∷◌, ◌++◌, codes, length, map, Option}
 use Rattle.std.specs.List.{AllZip, flat_map, list_any}
+use Rattle.std.specs.Borrow.{Bor}
 use Rattle.std.specs.Option.{IfSome}
 use Rattle.base64.specs.GeneralPurpose.{IsBytes}
 use Rattle.json.specs.Json.{Json}
 use Rattle.grep_searcher.specs.Lines.{lines}
 use Rattle.grep_searcher.specs.MatchHandlers.{reported_number}
 use Rattle.grep_searcher.specs.Meanings.{Meaning}
-use Rattle.grep_searcher.specs.Plans.{Call, Plan, Settings, begins, matches, context}
+use Rattle.grep_searcher.specs.Plans.{Call, Settings, begins, matches, context}
 use Rattle.grep_searcher.specs.Plans.{reported_bytes, reported_from, search_plan}
 use Rattle.grep_searcher.specs.SearchLaws.{calls_of, is_report}
 use Rattle.grep_searcher.specs.Searches.{BinaryPoint, plan_with}
 use Rattle.grep_searcher.specs.declared.BinaryDetection.{BinaryDetection}
-use Rattle.grep_printer.specs.JsonLaws.{IsLineOf, IsSameReport, Reported, message_of_report}
+use Rattle.grep_printer.specs.CallParts.{Anything, HasParts}
+use Rattle.grep_printer.specs.Formats.{PrintedCall, Scene, printed_by}
+use Rattle.grep_printer.specs.JsonLaws.{IsLineOf, IsSameReport, IsWordRange, Reported}
+use Rattle.grep_printer.specs.JsonLaws.{message_of_report}
 use Rattle.grep_printer.specs.JsonMessages.{begin_json, json_line}
-use Rattle.grep_printer.specs.JsonTexts.{JsonFrame, context_submatches, json_printed_of}
-use Rattle.grep_printer.specs.JsonTexts.{submatches_of}
-use Rattle.grep_printer.specs.declared.json_printer.JsonProgress.{JsonProgress}
+use Rattle.grep_printer.specs.JsonTexts.{json_rules}
+use Rattle.grep_printer.specs.declared.json_printer.JsonFormat.{JsonFormat}
 
-module _ (frame : JsonFrame) where
-  -- the report of a call, if it reports lines
-  abbrev pub reports_in : Call → List Reported
-  reports_in (matches number offset bytes) = record {
+module _ (path : Option (Bor (List ℕ))) where
+  -- the report of a call with its matches, if it reports lines
+  abbrev pub report_in : Call → List (ℕ × ℕ) → List Reported
+  report_in (matches number offset bytes) ranges = record {
     type = codes "match";
-    path = frame.path;
+    path = path;
     bytes = bytes;
     number = number;
     offset = offset;
-    ranges = submatches_of frame bytes;
+    ranges = ranges;
   } ∷ []
-  reports_in (context kind number offset bytes) = record {
+  report_in (context kind number offset bytes) ranges = record {
     type = codes "context";
-    path = frame.path;
+    path = path;
     bytes = bytes;
     number = number;
     offset = offset;
-    ranges = context_submatches frame bytes;
+    ranges = ranges;
   } ∷ []
-  reports_in _ = []
-
-  -- whether `begin` is due with a call
-  abbrev pub opens : Call → Bool
-  opens begins = frame.always_begin_end
-  opens call = is_report call
+  report_in _ ranges = []
 
   -- the reports of some calls, in order
-  abbrev pub reports_of : List Call → List Reported
-  reports_of calls = flat_map reports_in calls
+  abbrev pub reports_of : List PrintedCall → List Reported
+  reports_of calls = flat_map (λ printed. report_in printed.call printed.parts) calls
 
-  -- the messages of some calls, in order: `begin`, if it is due with one of them and wasn't written
-  -- before, and then that of each report
-  abbrev pub messages_of : Bool → List Call → List Json
-  messages_of is_begun calls =
-      (if not is_begun && list_any opens calls then begin_json frame.path ∷ [] else [])
-      ++ map message_of_report (reports_of calls)
+-- whether `begin` is due with a call
+abbrev pub opens : Bool → Call → Bool
+opens always_begin_end begins = always_begin_end
+opens always_begin_end call = is_report call
+
+-- the messages of some calls, in order: `begin`, if it is due with one of them and wasn't written
+-- before, and then that of each report
+abbrev pub messages_of : Bool → Option (Bor (List ℕ)) → Bool → List PrintedCall → List Json
+messages_of always_begin_end path is_begun calls =
+    (if not is_begun && list_any (λ printed. opens always_begin_end printed.call) calls
+    then begin_json path ∷ []
+    else [])
+    ++ map message_of_report (reports_of path calls)
 
 -- the number, the offset and the length of what a call reports are numbers of 64 bits, and it
 -- reports bytes
@@ -80,25 +85,31 @@ pub record AreReadBack (messages : List Json) (text : List ℕ) : Type 0 where
   pub split : lines 10 text ≡ map json_line messages
   pub read : AllZip IsLineOf messages (lines 10 text)
 
-module _ {M : Type 0} (first_at : M → List ℕ → ℕ → Option (ℕ × ℕ)) where
-  -- the calls of a search report such numbers and bytes, and a matcher finds the matches in them
-  pub record ReportsWords (frame : JsonFrame) (plan : Plan) : Type 0 where
-    pub matcher : M
-    pub finds : frame.first_at ≡ first_at matcher
-    pub words : All HasWords (calls_of plan.calls)
+-- so do the positions of its parts
+pub record HasPrintedWords (printed : PrintedCall) : Type 0 where
+  pub call : HasWords printed.call
+  pub ranges : All IsWordRange printed.parts
 
-  -- the text of a search is read back as the messages of its calls
-  abbrev pub SearchesAreReadBack : Type 0
-  SearchesAreReadBack =
-      (frame : JsonFrame) (progress : JsonProgress) (plan : Plan) → ReportsWords frame plan
-      → AreReadBack (messages_of frame progress.is_begun (calls_of plan.calls))
-      (json_printed_of frame progress plan).text
+abbrev pub PartsHaveWords : Type 0
+PartsHaveWords =
+    (first_at : List ℕ → ℕ → Option (ℕ × ℕ)) (settings : Settings) (meaning : Meaning)
+    (is_asked : Bool) (printed : PrintedCall)
+    → HasParts Anything first_at settings meaning is_asked printed
+    → HasWords printed.call → HasPrintedWords printed
 
-  -- the text of a search tells its reports: any search with this text has the same ones
-  abbrev pub SearchesTell : Type 0
-  SearchesTell =
-      (frame other : JsonFrame) (progress before : JsonProgress) (plan another : Plan)
-      → ReportsWords frame plan → ReportsWords other another
-      → (json_printed_of frame progress plan).text ≡ (json_printed_of other before another).text
-      → AllZip IsSameReport (reports_of frame (calls_of plan.calls))
-      (reports_of other (calls_of another.calls))
+-- the text of a search is read back as the messages of its calls
+abbrev pub SearchesAreReadBack : Type 0
+SearchesAreReadBack =
+    (format : JsonFormat) (scene : Scene) (calls : List PrintedCall) → All HasPrintedWords calls
+    → AreReadBack
+    (messages_of format.always_begin_end scene.path format.progress.is_begun calls)
+    (printed_by json_rules scene format calls).text
+
+-- the text of a search tells its reports: any search with this text has the same ones
+abbrev pub SearchesTell : Type 0
+SearchesTell =
+    (format other : JsonFormat) (scene another : Scene) (calls others : List PrintedCall)
+    → All HasPrintedWords calls → All HasPrintedWords others
+    → (printed_by json_rules scene format calls).text
+    ≡ (printed_by json_rules another other others).text
+    → AllZip IsSameReport (reports_of scene.path calls) (reports_of another.path others)

@@ -2,21 +2,19 @@
 use Rattle.std.specs.Prelude.{ℕ, nat_lt, Bool, true, false, ◌==◌, if◌then◌else◌, List, [], ◌∷◌}
 use Rattle.std.specs.Prelude.{◌++◌, decimal, length, Option, None, is_some, ◌&&◌}
 use Rattle.std.specs.Borrow.{Bor}
-use Rattle.std.specs.List.{fold}
 use Rattle.std.specs.Option.{unwrap_or}
 use Rattle.grep_matcher.specs.Lines.{byte_of}
 use Rattle.grep_searcher.specs.BinaryDetections.{quit_byte_of}
-use Rattle.grep_searcher.specs.Meanings.{Meaning}
 use Rattle.grep_searcher.specs.Plans.{Call, begins, matches, context, breaks, binary_data, finishes}
-use Rattle.grep_searcher.specs.Plans.{Plan, Settings}
-use Rattle.grep_searcher.specs.SinkFolds.{run_fold}
+use Rattle.grep_searcher.specs.SearchLaws.{is_match}
 use Rattle.grep_searcher.specs.declared.BinaryDetection.{BinaryDetection}
 use Rattle.grep_printer.specs.ColoredTexts.{path_color}
+use Rattle.grep_printer.specs.Formats.{Rules, Scene}
 use Rattle.grep_printer.specs.LineTexts.{path_field}
-use Rattle.grep_printer.specs.ReportedParts.{reported_parts}
 use Rattle.grep_printer.specs.StatsSums.{capped_sum}
 use Rattle.grep_printer.specs.declared.colors.ColorSpecs.TheVariants.{Plain}
 use Rattle.grep_printer.specs.declared.summary.Counts.{Counts}
+use Rattle.grep_printer.specs.declared.summary.SummaryFormat.{SummaryFormat}
 use Rattle.grep_printer.specs.declared.summary_builder.SummaryConfig.{SummaryConfig}
 use Rattle.grep_printer.specs.declared.summary_builder.SummaryKind.{SummaryKind}
 use Rattle.grep_printer.specs.declared.summary_builder.SummaryKind.TheVariants.{Count}
@@ -76,32 +74,22 @@ abbrev pub finish_text : SummaryKind → SummaryConfig → Option (Bor (List ℕ
 finish_text kind config path terminator counts =
     if has_found kind counts.match_count then found_line kind config path terminator counts else []
 
--- what the text of a search depends on: the settings of the printer, the path, those of the search,
--- what the matcher means, and which matches it finds from a position on
-pub record SummaryFrame : Type 0 where
-  pub config : SummaryConfig
-  pub path : Option (Bor (List ℕ))
-  pub settings : Settings
-  pub meaning : Meaning
-  pub first_at : List ℕ → ℕ → Option (ℕ × ℕ)
-
 -- a search that a binary byte ended counts for nothing: its matches don't count, and nothing is
 -- written of it
 abbrev pub is_left_out : BinaryDetection → Option ℕ → Bool
 is_left_out detection binary = is_some binary && is_some (quit_byte_of detection)
 
 -- the text of a call, by what was reported: only the end of a search has one
-abbrev pub summary_text : SummaryFrame → Counts → Call → List ℕ
-summary_text frame counts begins = []
-summary_text frame counts (matches number offset bytes) = []
-summary_text frame counts (context which number offset line) = []
-summary_text frame counts breaks = []
-summary_text frame counts (binary_data offset) = []
-summary_text frame counts (finishes bytes binary) =
-    if is_left_out frame.settings.binary_detection binary
+abbrev pub summary_text : SummaryConfig → Counts → Scene → Call → List ℕ
+summary_text config counts scene begins = []
+summary_text config counts scene (matches number offset bytes) = []
+summary_text config counts scene (context which number offset line) = []
+summary_text config counts scene breaks = []
+summary_text config counts scene (binary_data offset) = []
+summary_text config counts scene (finishes bytes binary) =
+    if is_left_out scene.settings.binary_detection binary
     then []
-    else finish_text frame.config.kind frame.config frame.path
-    (byte_of frame.settings.line_terminator) counts
+    else finish_text config.kind config scene.path (byte_of scene.settings.line_terminator) counts
 
 -- whether the parts of the reported matches are counted
 abbrev pub counts_parts : SummaryKind → Bool
@@ -128,47 +116,31 @@ sums_on kind breaks = true
 sums_on kind (binary_data offset) = true
 sums_on kind (finishes count binary) = true
 
--- the parts of a match that count: those that match, if they are counted
-abbrev pub counted_parts : SummaryFrame → List ℕ → List (ℕ × ℕ)
-counted_parts frame bytes =
-    if counts_parts frame.config.kind
-    then reported_parts frame.first_at frame.settings frame.meaning bytes
-    else []
+-- whether the parts of a call are asked for: those of a match, if they are counted
+abbrev pub asks_to_count : SummaryKind → Call → Bool
+asks_to_count kind call = counts_parts kind && is_match call
 
--- what was reported, with a call; nothing of it counts once the search is left out
-abbrev pub counts_after : SummaryFrame → Counts → Call → Counts
-counts_after frame counts begins = counts
-counts_after frame counts (matches number offset bytes) =
-    with_report counts (length (counted_parts frame bytes))
-counts_after frame counts (context which number offset line) = counts
-counts_after frame counts breaks = counts
-counts_after frame counts (binary_data offset) = counts
-counts_after frame counts (finishes bytes binary) =
-    if is_left_out frame.settings.binary_detection binary then no_counts else counts
+-- what was reported, with a call of so many parts; nothing of it counts once the search is left out
+abbrev pub counts_after : Counts → BinaryDetection → Call → ℕ → Counts
+counts_after counts detection begins parts = counts
+counts_after counts detection (matches number offset bytes) parts = with_report counts parts
+counts_after counts detection (context which number offset line) parts = counts
+counts_after counts detection breaks parts = counts
+counts_after counts detection (binary_data offset) parts = counts
+counts_after counts detection (finishes bytes binary) parts =
+    if is_left_out detection binary then no_counts else counts
 
--- what a printer makes of some calls: what was reported, and the text of all calls
-pub record Summed : Type 0 where
-  pub counts : Counts
-  pub text : List ℕ
-
--- with one more call
-abbrev pub summed_with : SummaryFrame → Summed → Call → Summed
-summed_with frame summed call = record {
-  counts = counts_after frame summed.counts call;
-  text = summed.text ++ summary_text frame summed.counts call;
+-- the summary of a search: the text of each call, and what was reported
+abbrev pub summary_rules : Rules SummaryFormat
+summary_rules = record {
+  begun = λ format follows. record { config = format.config; counts = no_counts };
+  asks = λ format call. asks_to_count format.config.kind call;
+  text = λ format scene printed. summary_text format.config format.counts scene printed.call;
+  next = λ format scene printed. record {
+    config = format.config;
+    counts = counts_after format.counts scene.settings.binary_detection printed.call
+        (length printed.parts);
+  };
+  goes_on = λ format scene printed. sums_on format.config.kind printed.call;
+  has_match = λ format. has_found format.config.kind format.counts.match_count;
 }
-
--- before any call, after what was reported
-abbrev pub nothing_summed : Counts → Summed
-nothing_summed counts = record { counts = counts; text = [] }
-
--- with some calls, in order
-abbrev pub summed_by : SummaryFrame → Counts → List Call → Summed
-summed_by frame counts calls = fold (summed_with frame) (nothing_summed counts) calls
-
--- what it makes of a search along a plan: of the calls up to the first after which the search
--- doesn't go on, and of `finish`
-abbrev pub summed_of : SummaryFrame → Counts → Plan → Summed
-summed_of frame counts plan =
-    run_fold (λ summed call. sums_on frame.config.kind call) (summed_with frame)
-    (nothing_summed counts) plan.calls plan.finish

@@ -1,9 +1,10 @@
 //! How a standard printer writes reports.
-ghost use Rattle.std.specs.Prelude.{◌≡◌, ◌&&◌, [], true, false, None};
+ghost use Rattle.std.specs.Prelude.{◌≡◌, [], true, false, None};
 ghost use Rattle.grep_printer.specs.StandardTexts.{asks_for_parts, default_config};
 
 use crate::colors::ColorSpecs;
-use crate::standard::Standard;
+use crate::printer::Printer;
+use crate::standard::{Progress, Standard, StandardFormat};
 use std::alloc::Global;
 use std::marker::Model;
 
@@ -18,9 +19,9 @@ pub enum SearchSeparator {
     Dashes,
 }
 
-// How reports are written.
+/// How reports are written.
 #[derive(Clone, Copy, Debug)]
-pub(crate) struct Config {
+pub struct Config {
     pub(crate) heading: bool,
     pub(crate) column: bool,
     pub(crate) byte_offset: bool,
@@ -32,12 +33,12 @@ pub(crate) struct Config {
 }
 
 impl Config {
-    // Whether the parts of a report that match are asked for: to write them, their columns, or their
-    // colors, if it has some.
-    pub(crate) fn asks_for_parts(&self, has_parts: bool) -> bool
-        ensures { result ≡ (has_parts && asks_for_parts self.now) }
+    // Whether the parts of reports that match are asked for: to write them, their columns, or their
+    // colors.
+    pub(crate) fn asks_for_parts(&self) -> bool
+        ensures { result ≡ asks_for_parts self.now }
     {
-        has_parts && (self.only_matching || self.column || self.color_specs.matched().is_some())
+        self.only_matching || self.column || self.color_specs.matched().is_some()
     }
 }
 
@@ -80,11 +81,16 @@ impl StandardBuilder {
     /// takes memory from `alloc` when it writes.
     pub fn build<W>(&self, alloc: Global, writer: W) -> Standard<W>
         ensures writer { result.writer ≡ writer }
-        ensures config { result.config ≡ self.now }
+        ensures pending { result.pending ≡ [] }
+        ensures config { result.format.config ≡ self.now }
         ensures has_written { result.has_written ≡ false }
         ensures has_failed { result.has_failed ≡ false }
     {
-        Standard::new(alloc, self.config, writer)
+        let format = StandardFormat {
+            config: self.config,
+            progress: Progress::new(false),
+        };
+        Printer::new(alloc, format, writer)
     }
 
     /// Whether the path is written once, in a line above the reports of a search, and not before

@@ -4,7 +4,8 @@ ghost use Rattle.std.specs.Option.{unwrap_or};
 ghost use Rattle.grep_matcher.specs.Lines.{byte_of};
 ghost use Rattle.grep_searcher.specs.Lines.{lines};
 ghost use Rattle.grep_printer.specs.ColoredTexts.{color_of, colored};
-ghost use Rattle.grep_printer.specs.LineTexts.{counted_notice, fields, is_long, line_text};
+ghost use Rattle.grep_printer.specs.LineTexts.{counted_notice, counted_parts, fields};
+ghost use Rattle.grep_printer.specs.LineTexts.{is_long, is_touching, line_text};
 ghost use Rattle.grep_printer.specs.LineTexts.{lines_text, mark_of, missing_end, notice};
 ghost use Rattle.grep_printer.specs.LineTexts.{next_number, number_field, opening_text};
 ghost use Rattle.grep_printer.specs.LineTexts.{painted_line, path_field, place_after};
@@ -30,14 +31,13 @@ pub(crate) struct Place {
     pub(crate) start: usize,
 }
 
-// What a line belongs to, with how many parts of the report match, or 0 if that isn't known or the
-// parts themselves are written.
+// What a line belongs to.
 #[derive(Clone, Copy)]
 pub(crate) enum LineKind {
     // A match.
-    Match(usize),
+    Match,
     // No match: the line is near one, or every line is reported.
-    Context(usize),
+    Context,
 }
 
 impl LineKind {
@@ -46,8 +46,8 @@ impl LineKind {
         ensures { result ≡ mark_of self.now }
     {
         match self {
-            LineKind::Match(_) => b':',
-            LineKind::Context(_) => b'-',
+            LineKind::Match => b':',
+            LineKind::Context => b'-',
         }
     }
 }
@@ -117,12 +117,28 @@ impl<'p> Layout<'p> {
     {
         self.push_fields(text, kind.mark(), place);
         if is_long(self.config.max_columns, line) {
-            push_notice(text, kind);
+            push_notice(text, kind, self.count_parts(parts, place.start, line));
             text.push(&[self.terminator.as_byte()]);
             return;
         }
         self.push_bytes(text, place.start, parts, line);
         push_missing_end(text, self.terminator.as_byte(), line)
+    }
+
+    // How many parts are in a line that begins at a position of its report; where parts are written
+    // in place of lines they aren't counted.
+    fn count_parts(&self, parts: &[Match], start: usize, line: &[u8]) -> usize
+        requires { start + length line.now < 2 ^ 64 }
+        ensures { result ≡ counted_parts self.now parts.now start line.now }
+    {
+        if self.config.only_matching {
+            return 0;
+        }
+        let end = start + line.len();
+        parts
+            .iter()
+            .filter(|part| is_touching(part, start, end))
+            .count()
     }
 
     // Pushes the bytes of a line, the first of which is at a position of the report.
@@ -224,19 +240,25 @@ fn is_long(most: Option<u64>, line: &[u8]) -> bool
     }
 }
 
-// Pushes what is written in place of a line that is too long.
-fn push_notice(text: &mut Text, kind: LineKind)
-    ensures { Adds text.old text.new (notice kind) }
+// Pushes what is written in place of a line that is too long, by how many parts are in it.
+fn push_notice(text: &mut Text, kind: LineKind, count: usize)
+    ensures { Adds text.old text.new (notice kind count) }
 {
-    match kind {
-        LineKind::Match(0) => text.push(b"[Omitted long matching line]"),
-        LineKind::Context(0) => text.push(b"[Omitted long context line]"),
-        LineKind::Match(count) => push_count(text, count),
-        LineKind::Context(count) => push_count(text, count),
+    match (kind, count) {
+        (LineKind::Match, 0) => text.push(b"[Omitted long matching line]"),
+        (LineKind::Context, 0) => text.push(b"[Omitted long context line]"),
+        (_, count) => push_count(text, count),
     }
 }
 
-// Pushes how many parts match of a report with a line that is too long.
+// Whether a part has bytes of a line from a position to another, or is empty and begins in it.
+fn is_touching(part: &Match, start: usize, end: usize) -> bool
+    ensures { result ≡ is_touching start end part.now }
+{
+    part.start() < end && (start < part.end() || start <= part.start())
+}
+
+// Pushes how many parts are in a line that is too long.
 fn push_count(text: &mut Text, count: usize)
     ensures { Adds text.old text.new (counted_notice count) }
 {

@@ -1,54 +1,32 @@
 //! What the printers make of a search: each law is the contract of a function that does nothing.
 ghost use Rattle.grep_printer.specs.JsonLaws.{BeginsTell, MessagesAreReadBack, MessagesTell};
-ghost use Rattle.grep_printer.specs.JsonSteps.{CallsPrintJson, RunsFailToPrintJson};
-ghost use Rattle.grep_printer.specs.JsonSteps.{RunsPrintJson};
 ghost use Rattle.grep_printer.specs.MatchedParts.{PartsAreSuccessive};
 ghost use Rattle.grep_printer.specs.PlanCounts.{JsonCounts, SummariesCount};
-ghost use Rattle.grep_printer.specs.SearchMessages.{PlansHaveWords, SearchesAreReadBack};
-ghost use Rattle.grep_printer.specs.SearchMessages.{SearchesTell};
-ghost use Rattle.grep_printer.specs.StandardSteps.{CallsPrint, RunsFailToPrint, RunsPrint};
-ghost use Rattle.grep_printer.specs.SummarySteps.{CallsSumUp, RunsFailToSumUp, RunsSumUp};
+ghost use Rattle.grep_printer.specs.PrinterSteps.{CallsPrint, RunsFailToPrint, RunsPrint};
+ghost use Rattle.grep_printer.specs.SearchMessages.{PartsHaveWords, PlansHaveWords};
+ghost use Rattle.grep_printer.specs.SearchMessages.{SearchesAreReadBack, SearchesTell};
 
+use crate::format::Format;
 use grep_output::Output;
 use grep_searcher::{FindAt, Matcher};
 
-/// A run of the sink of a `Standard` that ended in `Ok` has written the text of its plan: of each
-/// call, in order, up to the first after which the search doesn't go on, and of `finish`. One that
-/// ended in an error failed at a call, and has written the texts of the calls before it, and some
-/// first bytes of its own if the writer failed. Calls that all returned true, as those before
-/// reading failed, have written their texts.
-pub fn runs_print<M: FindAt, W: Output>()
-    ensures made { CallsPrint M.Error.output M.facts M.first_at W.step }
-    ensures ok { RunsPrint M.Error.output M.facts M.first_at W.step }
-    ensures error { RunsFailToPrint M.Error.output M.facts M.first_at W.step }
+/// A run of a printer's sink that ended in `Ok` has printed the calls of its plan, in order, up to
+/// the first after which the search doesn't go on, and `finish`: their texts come after what wasn't
+/// written before. One that ended in an error failed at a call, and has printed the calls before it;
+/// if the writer failed, some first bytes of their texts and of its own are written. Calls that all
+/// returned true, as those before reading failed, are printed.
+pub fn runs_print<F: Format, M: FindAt, W: Output>()
+    ensures made { CallsPrint F.rules M.Error.output M.facts M.first_at W.step }
+    ensures ok { RunsPrint F.rules M.Error.output M.facts M.first_at W.step }
+    ensures error { RunsFailToPrint F.rules M.Error.output M.facts M.first_at W.step }
 {}
 
-/// The parts that a printer writes or counts are successive matches of the matcher: each is the
-/// first from where the one before ended, or from one byte later if that one is empty, and isn't an
-/// empty one where the one before ended; after the last there is none.
+/// The parts that a printer writes or counts are successive matches of the matcher in what it is
+/// asked about, from the start of the report on: each is the first from where the one before ended,
+/// or from one byte later if that one is empty, and isn't an empty one where the one before ended;
+/// after the last there is none that lies in the report.
 pub fn parts_are_successive<M: FindAt>()
     ensures { PartsAreSuccessive M.first_at }
-{}
-
-/// A run of the sink of a `Summary` that ended in `Ok` has counted the matches up to the first
-/// after which the search doesn't go on, and their parts if those are counted, and has written the
-/// text for these counts. One that ended in an error failed at a call, and has written the texts of
-/// the calls before it, and some first bytes of its own if the writer failed. Calls that all
-/// returned true, as those before reading failed, are counted.
-pub fn runs_sum_up<M: FindAt, W: Output>()
-    ensures made { CallsSumUp M.Error.output M.facts M.first_at W.step }
-    ensures ok { RunsSumUp M.Error.output M.facts M.first_at W.step }
-    ensures error { RunsFailToSumUp M.Error.output M.facts M.first_at W.step }
-{}
-
-/// A run of the sink of a `Json` that ended in `Ok` has written the text of its plan: of each call,
-/// in order. One that ended in an error failed at a call, and has written the texts of the calls
-/// before it, and some first bytes of its own if the writer failed. Calls that all returned true,
-/// as those before reading failed, have written their texts.
-pub fn runs_print_json<M: FindAt, W: Output>()
-    ensures made { CallsPrintJson M.Error.output M.facts M.first_at W.step }
-    ensures ok { RunsPrintJson M.Error.output M.facts M.first_at W.step }
-    ensures error { RunsFailToPrintJson M.Error.output M.facts M.first_at W.step }
 {}
 
 /// The line of a message is a text without a line feed, which any reader of JSON reads as this
@@ -66,15 +44,16 @@ pub fn messages_are_read_back()
 /// before, and for each match and each context line. So the text tells all of its reports: no
 /// search that reports anything else has it. What the calls report are numbers of 64 bits, and
 /// bytes, as it is for the plan of a search of bytes, fewer than the greatest such number, under
-/// any binary detection.
-pub fn searches_are_read_back<M: FindAt>()
-    ensures read { SearchesAreReadBack M.first_at }
-    ensures tell { SearchesTell M.first_at }
+/// any binary detection; then the positions of the matches in it are such numbers too.
+pub fn searches_are_read_back()
+    ensures read { SearchesAreReadBack }
+    ensures tell { SearchesTell }
     ensures words { PlansHaveWords }
+    ensures parts { PartsHaveWords }
 {}
 
 /// What a `Json` counts in a search, and a `Summary` that counts all matches of one, in terms of
-/// all its calls: the sums over the matches, up to the greatest number of 64 bits.
+/// all its calls and their parts: the sums over the matches, up to the greatest number of 64 bits.
 pub fn matches_are_counted()
     ensures json { JsonCounts }
     ensures summary { SummariesCount }

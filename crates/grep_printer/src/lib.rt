@@ -6,17 +6,18 @@
 //! The printers follow those of ripgrep's crate grep-printer.
 #![tactic(auto)]
 
+mod binary_messages;
 mod colors;
 mod config;
-mod draft;
 mod fields;
-mod json_draft;
+mod format;
 mod json_lines;
 mod json_printer;
 mod json_text;
 pub mod laws;
 mod messages;
 mod parts;
+mod printer;
 mod report;
 mod reports;
 mod standard;
@@ -28,6 +29,7 @@ mod text;
 pub use colors::ColorSpecs;
 pub use config::{SearchSeparator, StandardBuilder};
 pub use json_printer::{Json, JsonBuilder, JsonSink};
+pub use printer::{Printer, PrinterSink};
 pub use standard::{Standard, StandardSink};
 pub use stats::Stats;
 pub use summary::{Summary, SummarySink};

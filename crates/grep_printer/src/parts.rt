@@ -1,65 +1,60 @@
 //! The parts of some bytes that match.
 ghost use Rattle.std.specs.Prelude.{◌≡◌, ◌⊎◌, ◌<◌, ◌^◌, ◌++◌, ◌∷◌, [], IfErr, IfOk, OnOk, length};
-ghost use Rattle.std.specs.Prelude.{if◌then◌else◌, true, ◌≤◌, OnErr, vec_capacity, vec_len};
-ghost use Rattle.grep_matcher.specs.FindResults.{IsFrom};
+ghost use Rattle.std.specs.Prelude.{if◌then◌else◌, true, ◌-◌, ◌≤◌, OnErr, Some, vec_capacity};
+ghost use Rattle.std.specs.Prelude.{vec_len};
 ghost use Rattle.grep_searcher.specs.SearchErrors.{IsOutOfMemory};
-ghost use Rattle.grep_printer.specs.MatchedParts.{AreInOrder, IsMatcherError, found_from};
-ghost use Rattle.grep_printer.specs.MatchedParts.{is_passed, parts_after, parts_in, position_after};
-ghost use Rattle.grep_printer.specs.ReportedParts.{FailsAtReport, asked_bytes, asked_parts};
+ghost use Rattle.grep_printer.specs.CallParts.{asked_bytes, parts_of_call};
+ghost use Rattle.grep_printer.specs.MatchedParts.{AreInOrder, IsMatcherError, LiesFrom, below};
+ghost use Rattle.grep_printer.specs.MatchedParts.{first_from, found_from, is_passed, parts_after};
+ghost use Rattle.grep_printer.specs.MatchedParts.{parts_in, position_after};
+ghost use Rattle.grep_printer.specs.Reports.{IsShown, call_of, surroundings_of};
 
+use crate::report::Report;
 use grep_lines::without_terminator;
 use grep_searcher::{FindAt, Match, SearchError, Searcher, SinkError};
 use std::alloc::{AllocError, Allocator, Global};
 
-// Finds the parts of the bytes of a report that match, in order, if they are asked for.
-pub(crate) fn find_asked_parts<M: FindAt, A: Allocator + Copy>(
+// Finds the parts of a report that match, in order. By line its line is searched without the
+// terminator, and across lines all that is shown with it.
+pub(crate) fn find_report_parts<M: FindAt, A: Allocator + Copy>(
     parts: &mut Vec<Match>,
-    is_asked: bool,
     searcher: &Searcher<A>,
     matcher: &M,
-    bytes: &[u8],
+    report: &Report<'_>,
 ) -> Result<(), SearchError>
-    ensures parts { OnOk result (parts.new.items
-        ≡ asked_parts is_asked (M.first_at matcher.now) searcher.now.settings
-        (M.facts matcher.now).meaning bytes.now) }
-    ensures ordered { OnOk result (AreInOrder 0 (length bytes.now) parts.new.items) }
-    ensures error { IfErr result (λ e. IsOutOfMemory e ⊎ ((is_asked ≡ true)
-        × FailsAtReport M.Error.output (M.facts matcher.now) searcher.now.settings bytes.now e)) }
+    requires { IsShown report.now }
+    ensures parts { OnOk result (parts.new.items ≡ parts_of_call searcher.now.settings
+        (M.facts matcher.now).meaning (surroundings_of report.now) (call_of report.now)
+        (M.first_at matcher.now)) }
+    ensures ordered { OnOk result
+        (AreInOrder 0 (length report.now.bytes.now) parts.new.items) }
+    ensures error { IfErr result (λ e. IsOutOfMemory e
+        ⊎ IsMatcherError M.Error.output (M.facts matcher.now).fails
+        (asked_bytes searcher.now.settings (M.facts matcher.now).meaning
+        (surroundings_of report.now) (call_of report.now)) e) }
 {
-    if !is_asked {
-        parts.clear();
-        return Ok(());
-    }
-    let asked = asked_bytes(searcher, matcher, bytes);
-    find_parts(parts, matcher, asked, bytes.len())
-}
-
-// The bytes of a report about which the matcher is asked: a line without its terminator, or all of
-// it in a search across lines.
-fn asked_bytes<'b, M: FindAt, A: Allocator + Copy>(
-    searcher: &Searcher<A>,
-    matcher: &M,
-    bytes: &'b [u8],
-) -> &'b [u8]
-    ensures { result.now
-        ≡ asked_bytes searcher.now.settings (M.facts matcher.now).meaning bytes.now }
-{
+    let limit = report.bytes.len();
     if searcher.multi_line_with_matcher(matcher) {
-        return bytes;
+        return find_parts(parts, matcher, report.shown, report.start, limit);
     }
-    without_terminator(bytes, searcher.line_terminator())
+    let line = without_terminator(report.bytes, searcher.line_terminator());
+    find_parts(parts, matcher, line, 0, limit)
 }
 
-// Finds the parts of some bytes that match and start before a limit, in order.
+// Finds the parts of some bytes that match, from a start on, in order. Each starts before a limit
+// and ends by it, and is counted from the start as the limit is.
 fn find_parts<M: FindAt>(
     parts: &mut Vec<Match>,
     matcher: &M,
     bytes: &[u8],
+    start: usize,
     limit: usize,
 ) -> Result<(), SearchError>
+    requires { start ≤ length bytes.now }
     ensures parts { OnOk result (parts.new.items
-        ≡ parts_in (M.first_at matcher.now bytes.now) (length bytes.now) limit) }
-    ensures ordered { OnOk result (AreInOrder 0 (length bytes.now) parts.new.items) }
+        ≡ parts_in (first_from (M.first_at matcher.now bytes.now) start)
+        (length bytes.now - start) limit) }
+    ensures ordered { OnOk result (AreInOrder 0 limit parts.new.items) }
     ensures error { IfErr result (λ e. IsOutOfMemory e
         ⊎ IsMatcherError M.Error.output (M.facts matcher.now).fails bytes.now e) }
 {
@@ -67,7 +62,7 @@ fn find_parts<M: FindAt>(
     let mut position = 0;
     let mut end = None;
     loop {
-        match find_from(*parts.allocator(), matcher, bytes, limit, position) {
+        match find_from(*parts.allocator(), matcher, bytes, start, limit, position) {
             Ok(Some(found)) => {
                 if let Err(error) = push_part(parts, end, found) {
                     return Err(SearchError::from(error));
@@ -97,27 +92,45 @@ fn push_part(parts: &mut Vec<Match>, end: Option<usize>, found: Match) -> Result
     }
 }
 
-// The first match from a position on that starts before a limit.
+// The first match from a position on that starts before a limit and ends by it, all counted from a
+// start in the bytes.
 fn find_from<M: FindAt>(
     alloc: Global,
     matcher: &M,
     bytes: &[u8],
+    start: usize,
     limit: usize,
     position: usize,
 ) -> Result<Option<Match>, SearchError>
+    requires { start ≤ length bytes.now }
     ensures value { IfOk result (λ m. m
-        ≡ found_from (M.first_at matcher.now bytes.now) (length bytes.now) limit position) }
-    ensures within { IfOk result (IsFrom position bytes.now) }
+        ≡ found_from (first_from (M.first_at matcher.now bytes.now) start)
+        (length bytes.now - start) limit position) }
+    ensures lies { IfOk result (LiesFrom position (length bytes.now - start) limit) }
     ensures error { IfErr result
         (IsMatcherError M.Error.output (M.facts matcher.now).fails bytes.now) }
 {
-    if position > bytes.len() {
+    if position > bytes.len() - start {
         return Ok(None);
     }
-    match matcher.find_at(bytes, position) {
-        Ok(Some(found)) if found.start() < limit => Ok(Some(found)),
-        Ok(_) => Ok(None),
+    match matcher.find_at(bytes, start + position) {
+        Ok(Some(found)) => Ok(part_below(&found, start, limit)),
+        Ok(None) => Ok(None),
         Err(error) => Err(SearchError::error_message(alloc, error)),
+    }
+}
+
+// A match, counted from a start, if it then starts before a limit and ends by it.
+fn part_below(found: &Match, start: usize, limit: usize) -> Option<Match>
+    requires from { start ≤ found.now.0 }
+    requires ordered { found.now.0 ≤ found.now.1 }
+    ensures { result ≡ below limit (Some (found.now.0 - start, found.now.1 - start)) }
+{
+    let part = Match::new(found.start() - start, found.end() - start);
+    if part.start() < limit && part.end() <= limit {
+        Some(part)
+    } else {
+        None
     }
 }
 
@@ -144,13 +157,13 @@ fn position_after(found: &Match) -> usize
     }
 }
 
-// The parts without the first ones that end at a position or before it.
+// The parts without the first ones that start before a position and end by it.
 pub(crate) fn parts_after(parts: &[Match], position: usize) -> &[Match]
     ensures { result.now ≡ parts_after position parts.now }
 {
     let mut rest = parts;
     while let Some((part, later)) = rest.split_first() {
-        if part.end() > position {
+        if part.start() >= position || part.end() > position {
             break;
         }
         rest = later;

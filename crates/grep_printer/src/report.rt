@@ -3,14 +3,15 @@ ghost use Rattle.std.specs.Prelude.{◌≡◌, true, IfOk};
 ghost use Rattle.grep_report.specs.SinkReports.{match_bytes};
 ghost use Rattle.grep_searcher.specs.Plans.{finish_result};
 ghost use Rattle.grep_searcher.specs.SinkArguments.{context_call, match_call};
-ghost use Rattle.grep_printer.specs.Reports.{call_of, has_parts, is_split, line_kind, type_of};
+ghost use Rattle.grep_printer.specs.Reports.{IsShown, call_of, kind_has_match};
+ghost use Rattle.grep_printer.specs.Reports.{line_kind, type_of};
 
 use crate::fields::LineKind;
 use grep_searcher::{SearchError, SinkContext, SinkContextKind, SinkMatch};
 
 // Whether a report is a match, or why it is reported.
 #[derive(Clone, Copy)]
-pub(crate) enum ReportKind {
+pub enum ReportKind {
     // A match.
     Match,
     // A line that isn't one.
@@ -28,44 +29,37 @@ impl ReportKind {
         }
     }
 
-    // Whether it may have parts that match, by whether the lines without a match are selected.
-    pub(crate) fn has_parts(&self, is_inverted: bool) -> bool
-        ensures { result ≡ has_parts self.now is_inverted }
+    // Whether its lines match, by whether the lines without a match are selected.
+    pub(crate) fn has_match(&self, is_inverted: bool) -> bool
+        ensures { result ≡ kind_has_match self.now is_inverted }
     {
         match self {
-            ReportKind::Match => true,
+            ReportKind::Match => !is_inverted,
             ReportKind::Context(_) => is_inverted,
         }
     }
 
-    // Whether its parts are written line by line, by whether matches are found across lines.
-    pub(crate) fn is_split(&self, is_across: bool) -> bool
-        ensures { result ≡ is_split self.now is_across }
+    // What its lines belong to.
+    pub(crate) fn line_kind(&self) -> LineKind
+        ensures { result ≡ line_kind self.now }
     {
         match self {
-            ReportKind::Match => is_across,
-            ReportKind::Context(_) => false,
-        }
-    }
-
-    // What its lines belong to, with how many parts of it match.
-    pub(crate) fn line_kind(&self, count: usize) -> LineKind
-        ensures { result ≡ line_kind self.now count }
-    {
-        match self {
-            ReportKind::Match => LineKind::Match(count),
-            ReportKind::Context(_) => LineKind::Context(count),
+            ReportKind::Match => LineKind::Match,
+            ReportKind::Context(_) => LineKind::Context,
         }
     }
 }
 
-// A report: what it is, the number of its first line, its offset, and its bytes.
+// A report: what it is, the number of its first line, its offset, its bytes, and the bytes that are
+// shown with it, in which its own begin at a position.
 #[derive(Clone, Copy)]
-pub(crate) struct Report<'r> {
+pub struct Report<'r> {
     pub(crate) kind: ReportKind,
     pub(crate) number: Option<u64>,
     pub(crate) offset: u64,
     pub(crate) bytes: &'r [u8],
+    pub(crate) shown: &'r [u8],
+    pub(crate) start: usize,
 }
 
 impl<'r> Report<'r> {
@@ -74,12 +68,17 @@ impl<'r> Report<'r> {
         ensures call { call_of result ≡ match_call found.now }
         ensures offset { result.offset ≡ found.now.offset }
         ensures bytes { result.bytes.now ≡ match_bytes found.now }
+        ensures shown { IsShown result }
+        ensures buffer { result.shown.now ≡ found.now.buffer }
+        ensures start { result.start ≡ found.now.start }
     {
         Report {
             kind: ReportKind::Match,
             number: found.line_number(),
             offset: found.absolute_byte_offset(),
             bytes: found.bytes(),
+            shown: found.buffer(),
+            start: found.bytes_range_in_buffer().start,
         }
     }
 
@@ -88,12 +87,15 @@ impl<'r> Report<'r> {
         ensures call { call_of result ≡ context_call line.now }
         ensures offset { result.offset ≡ line.now.offset }
         ensures bytes { result.bytes.now ≡ line.now.bytes }
+        ensures shown { IsShown result }
     {
         Report {
             kind: ReportKind::Context(*line.kind()),
             number: line.line_number(),
             offset: line.absolute_byte_offset(),
             bytes: line.bytes(),
+            shown: line.bytes(),
+            start: 0,
         }
     }
 }

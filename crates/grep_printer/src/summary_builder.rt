@@ -1,10 +1,11 @@
 //! How a printer of summaries writes them.
-ghost use Rattle.std.specs.Prelude.{◌≡◌, false};
+ghost use Rattle.std.specs.Prelude.{◌≡◌, [], false};
 ghost use Rattle.grep_printer.specs.SummaryTexts.{counts_on, counts_parts, default_summary_config};
 ghost use Rattle.grep_printer.specs.SummaryTexts.{has_found};
 
 use crate::colors::ColorSpecs;
-use crate::summary::Summary;
+use crate::printer::Printer;
+use crate::summary::{Counts, Summary, SummaryFormat};
 use std::alloc::Global;
 use std::marker::Model;
 
@@ -50,9 +51,9 @@ impl SummaryKind {
     }
 }
 
-// How summaries are written.
+/// How summaries are written.
 #[derive(Clone, Copy, Debug)]
-pub(crate) struct SummaryConfig {
+pub struct SummaryConfig {
     pub(crate) kind: SummaryKind,
     pub(crate) path_terminator: Option<u8>,
     pub(crate) color_specs: ColorSpecs,
@@ -91,10 +92,16 @@ impl SummaryBuilder {
     /// it writes, and when it counts the parts of a match.
     pub fn build<W>(&self, alloc: Global, writer: W) -> Summary<W>
         ensures writer { result.writer ≡ writer }
-        ensures config { result.config ≡ self.now }
+        ensures pending { result.pending ≡ [] }
+        ensures config { result.format.config ≡ self.now }
+        ensures has_written { result.has_written ≡ false }
         ensures has_failed { result.has_failed ≡ false }
     {
-        Summary::new(alloc, self.config, writer)
+        let format = SummaryFormat {
+            config: self.config,
+            counts: Counts::new(),
+        };
+        Printer::new(alloc, format, writer)
     }
 
     /// What is written of a search; by default how many matches were reported.

@@ -7,9 +7,9 @@ ghost use Rattle.grep_printer.specs.Pushes.{Adds};
 use grep_searcher::SearchError;
 use std::alloc::{AllocError, Global};
 
-// A text that is made piece by piece. Once memory was out it has failed, and takes nothing more.
+/// A text that is made piece by piece. Once memory was out it has failed, and takes nothing more.
 #[derive(Drop)]
-pub(crate) struct Text {
+pub struct Text {
     pub(crate) bytes: Vec<u8>,
     pub(crate) has_failed: bool,
 }

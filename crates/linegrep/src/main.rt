@@ -6,12 +6,8 @@ use grep_searcher::Reading;
 use linegrep_cli::{FileId, Streams, run};
 use std::env::{Env, FillError};
 use std::io;
-use std::io::{BufWriter, IsTerminal};
+use std::io::IsTerminal;
 use std::process::ExitCode;
-
-// For how many bytes of text there is room before they are written. A terminal gets each text at
-// once.
-const ROOM: usize = 64 * 1024;
 
 fn main(rt: HostRuntime) -> ExitCode {
     match grep(&rt) {
@@ -29,8 +25,7 @@ fn grep(rt: &HostRuntime) -> io::Result<u8> {
     let arguments = arguments(rt)?;
     let stdout = rt.stdout();
     let is_terminal = stdout.is_terminal();
-    let room = if is_terminal { 0 } else { ROOM };
-    let output = Writing::new(BufWriter::with_capacity(rt.alloc(), room, stdout)?);
+    let output = Writing::new(stdout);
     let mut input = Reading::new(rt.stdin());
     let mut errors = Writing::new(rt.stderr());
     let streams = Streams {

@@ -16,8 +16,9 @@ pub trait Engine {
     /// Searches standard input, and writes what is found in it, with a path if there is one.
     fn search_input(&mut self, path: Option<&str>) -> Searched;
 
-    /// Writes a text to standard error.
-    fn say(&mut self, text: &str);
+    /// Writes a text to standard error, after what was found before. An error is that of writing
+    /// what was found.
+    fn say(&mut self, text: &str) -> io::Result<()>;
 
     /// From now on the search of a binary file ends where that shows, or goes on as it did at
     /// first.
@@ -81,8 +82,10 @@ impl<'e, M: FindAt + Copy, R: Source, W: Output, E: Output> Engine
             .search(self.rt, self.searcher, self.matcher, &mut haystack, path)
     }
 
-    fn say(&mut self, text: &str) {
+    fn say(&mut self, text: &str) -> io::Result<()> {
+        let flushed = self.printer.flush();
         say(self.errors, text);
+        flushed
     }
 
     fn set_quits(&mut self, quits: bool) {

@@ -232,8 +232,11 @@ impl<'r, E: Engine> Run<'r, E> {
 
     // Says what goes wrong, unless nothing is to be said.
     fn say(&mut self, failure: &Failure) {
-        if !self.scope.is_silent {
-            self.engine.say(failure.text());
+        if self.scope.is_silent {
+            return;
+        }
+        if let Err(error) = self.engine.say(failure.text()) {
+            self.failure = Some(error);
         }
     }
 
@@ -257,7 +260,7 @@ impl<'r, E: Engine> Run<'r, E> {
         } else {
             Failure::new(self.rt.alloc(), error)
         };
-        self.engine.say(failure.text());
+        let _ = self.engine.say(failure.text());
         2
     }
 

@@ -4,6 +4,7 @@ use crate::printers::Searched;
 use grep_output::Output;
 use grep_printer::{Json, JsonSink, Stats};
 use grep_searcher::{FindAt, SearchError, Searcher, Source};
+use std::io;
 use std::time::{Duration, Instant};
 
 /// A printer of JSON, with the totals of the searches so far, and when the run began. Where the
@@ -42,15 +43,15 @@ impl<W: Output> JsonRun<W> {
         self.keep(has_match, ended)
     }
 
-    /// Writes the totals of all searches, and flushes the writer. An error is the writer's, or one
-    /// of being out of memory.
-    pub fn finish(&mut self, rt: &HostRuntime) -> Result<(), SearchError> {
+    /// Writes the totals of all searches. An error is the writer's, or one of being out of memory.
+    pub fn write_totals(&mut self, rt: &HostRuntime) -> Result<(), SearchError> {
         self.printer
-            .write_summary(&self.stats, elapsed(rt, self.start))?;
-        match self.printer.flush() {
-            Ok(()) => Ok(()),
-            Err(error) => Err(SearchError::Io(error)),
-        }
+            .write_summary(&self.stats, elapsed(rt, self.start))
+    }
+
+    /// Writes what isn't written yet, and flushes the writer. An error is the writer's.
+    pub fn flush(&mut self) -> io::Result<()> {
+        self.printer.flush()
     }
 
     /// Whether the writer failed.

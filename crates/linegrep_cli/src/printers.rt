@@ -4,6 +4,7 @@ use crate::json_run::JsonRun;
 use grep_output::Output;
 use grep_printer::{Standard, Summary};
 use grep_searcher::{FindAt, SearchError, Searcher, Source};
+use std::io;
 
 /// What writes what is found.
 #[derive(Drop)]
@@ -54,14 +55,21 @@ impl<W: Output> Printer<W> {
     /// Writes the totals of all searches, if they are asked for, and flushes the writer. An error
     /// is the writer's, or one of being out of memory.
     pub fn finish(&mut self, rt: &HostRuntime) -> Result<(), SearchError> {
-        let flushed = match self {
-            Printer::Lines(printer) => printer.flush(),
-            Printer::Summary(printer) => printer.flush(),
-            Printer::Json(run) => return run.finish(rt),
-        };
-        match flushed {
+        if let Printer::Json(run) = self {
+            run.write_totals(rt)?;
+        }
+        match self.flush() {
             Ok(()) => Ok(()),
             Err(error) => Err(SearchError::Io(error)),
+        }
+    }
+
+    /// Writes what isn't written yet, and flushes the writer. An error is the writer's.
+    pub fn flush(&mut self) -> io::Result<()> {
+        match self {
+            Printer::Lines(printer) => printer.flush(),
+            Printer::Summary(printer) => printer.flush(),
+            Printer::Json(run) => run.flush(),
         }
     }
 }

@@ -67,15 +67,26 @@ pub fn build_printer<W: Output>(
     options: &Options<'_, '_>,
     writer: W,
 ) -> Printer<W> {
-    let colors = color_specs(rt, options.color, options.streams.is_terminal);
+    let is_terminal = options.streams.is_terminal;
+    let colors = color_specs(rt, options.color, is_terminal);
     if let Some(kind) = options.summary_kind() {
-        Printer::Summary(summary(options, kind, colors).build(rt.alloc(), writer))
+        let printer = summary(options, kind, colors).build(rt.alloc(), writer);
+        Printer::Summary(shown_on(is_terminal, printer))
     } else if options.has(OptionId::Json) {
         let printer = JsonBuilder::new().build(rt.alloc(), writer);
-        Printer::Json(JsonRun::new(rt, printer))
+        Printer::Json(JsonRun::new(rt, shown_on(is_terminal, printer)))
     } else {
-        Printer::Lines(lines(options, colors).build(rt.alloc(), writer))
+        let printer = lines(options, colors).build(rt.alloc(), writer);
+        Printer::Lines(shown_on(is_terminal, printer))
     }
+}
+
+// A printer that writes each text at once on a terminal.
+fn shown_on<F, W>(is_terminal: bool, mut printer: grep_printer::Printer<F, W>) -> grep_printer::Printer<F, W> {
+    if is_terminal {
+        printer.set_buffer_size(0);
+    }
+    printer
 }
 
 // How a summary is written.

@@ -1,1 +1,1 @@
-pub mod NoMatches
+pub mod EmptyMatches

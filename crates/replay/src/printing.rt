@@ -107,6 +107,22 @@ fn print_by<M: FindAt, P: Printer>(
     matcher: &M,
     printer: &mut P,
 ) -> Result<(), SearchError> {
+    match print_texts(alloc, row, matcher, printer) {
+        Ok(()) => printer.finish(),
+        Err(error) => {
+            printer.flush_text()?;
+            Err(error)
+        }
+    }
+}
+
+// Searches the texts of a row in turn.
+fn print_texts<M: FindAt, P: Printer>(
+    alloc: Global,
+    row: &Row<'_>,
+    matcher: &M,
+    printer: &mut P,
+) -> Result<(), SearchError> {
     let mut searcher = row.search.build(alloc)?;
     if let Searched::Long = row.searched {
         let text = long_text(alloc)?;
@@ -115,7 +131,7 @@ fn print_by<M: FindAt, P: Printer>(
     for (path, text) in texts(row.searched) {
         printer.print(&mut searcher, matcher, path, text)?;
     }
-    printer.finish()
+    Ok(())
 }
 
 // What writes the reports of searches.
@@ -131,6 +147,9 @@ trait Printer {
 
     // Writes what is left after all searches.
     fn finish(&mut self) -> Result<(), SearchError>;
+
+    // Writes the text that isn't written yet.
+    fn flush_text(&mut self) -> Result<(), SearchError>;
 }
 
 impl<W: Output> Printer for Standard<W> {
@@ -146,6 +165,10 @@ impl<W: Output> Printer for Standard<W> {
     }
 
     fn finish(&mut self) -> Result<(), SearchError> {
+        self.flush_text()
+    }
+
+    fn flush_text(&mut self) -> Result<(), SearchError> {
         end_of_flush(self.flush())
     }
 }
@@ -163,6 +186,10 @@ impl<W: Output> Printer for Summary<W> {
     }
 
     fn finish(&mut self) -> Result<(), SearchError> {
+        self.flush_text()
+    }
+
+    fn flush_text(&mut self) -> Result<(), SearchError> {
         end_of_flush(self.flush())
     }
 }
@@ -192,6 +219,10 @@ impl<W: Output> Printer for Messages<W> {
     fn finish(&mut self) -> Result<(), SearchError> {
         self.printer
             .write_summary(&self.stats, Duration::from_nanos(ELAPSED))?;
+        self.flush_text()
+    }
+
+    fn flush_text(&mut self) -> Result<(), SearchError> {
         end_of_flush(self.printer.flush())
     }
 }

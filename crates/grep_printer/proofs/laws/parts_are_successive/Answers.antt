@@ -2,5 +2,6 @@ use Rattle.grep_printer.proofs.SuccessiveLemmas.{parts-are-successive}
 use Rattle.grep_printer.proofs.laws.parts_are_successive.Goals as goal
 
 pub returns : goal.returns
-returns g c matcher bytes limit = parts-are-successive bytes limit (g.M.FindAt.first_at matcher bytes)
+returns g c matcher bytes start limit begins =
+    parts-are-successive bytes start limit (g.M.FindAt.first_at matcher bytes) begins
     (g.met.M.FindAt.are_first matcher bytes).within

@@ -1,12 +1,16 @@
+use Rattle.grep_printer.proofs.CallPartLemmas.{parts-have-words}
 use Rattle.grep_printer.proofs.PlanWordLemmas.{plans-have-words}
 use Rattle.grep_printer.proofs.SearchMessageLemmas.{searches-read, searches-tell}
 use Rattle.grep_printer.proofs.laws.searches_are_read_back.Goals as goal
 
 pub returns-clause-read : goal.returns-clause-read
-returns-clause-read g c = searches-read g.M.FindAt.first_at (λ matcher bytes. (g.met.M.FindAt.are_first matcher bytes).within)
+returns-clause-read c = searches-read
 
 pub returns-clause-tell : goal.returns-clause-tell
-returns-clause-tell g c = searches-tell g.M.FindAt.first_at (λ matcher bytes. (g.met.M.FindAt.are_first matcher bytes).within)
+returns-clause-tell c = searches-tell
 
 pub returns-clause-words : goal.returns-clause-words
-returns-clause-words g c = plans-have-words
+returns-clause-words c = plans-have-words
+
+pub returns-clause-parts : goal.returns-clause-parts
+returns-clause-parts c = parts-have-words

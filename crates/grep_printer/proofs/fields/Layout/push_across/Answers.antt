@@ -1,14 +1,15 @@
 use Rattle.std.proofs.Common.{◌≡◌, ◌∙◌, ap, length, refl, rules, subst, sym, ℕ, List, ◌++◌, ◌+◌}
 use Rattle.std.specs.List.{flat_map}
 use Rattle.grep_matcher.specs.Lines.{byte_of}
-use Rattle.grep_searcher.specs.Lines.{lines, strip}
+use Rattle.grep_searcher.specs.Lines.{lines}
 use Rattle.grep_printer.proofs.PartTextLemmas.{IsCrossing, crossing-more, crossing-none, ordered-after}
 use Rattle.grep_printer.proofs.PushLemmas.{pushed-more}
 use Rattle.grep_printer.specs.LineTexts.{next_number}
 use Rattle.grep_printer.specs.MatchedParts.{AreInOrder, parts_after}
-use Rattle.grep_printer.specs.PartTexts.{across_text, clipped_text}
+use Rattle.grep_printer.specs.PartTexts.{across_text, clipped_text, line_span}
 use Rattle.grep_printer.specs.Pushes.{Adds}
 use Rattle.grep_printer.specs.Reports.{line_kind}
+use Rattle.grep_printer.specs.declared.reports.Span.{Span}
 use Rattle.grep_printer.proofs.fields.Layout.push_across.Goals as goal
 
 pub loop-line-init : goal.loop-line-init
@@ -18,7 +19,7 @@ loop-line-init c =
     search rules in
     record {
       bytes = c.args.text.now.bytes.items;
-      is = crossing-none c.args.self.now (line_kind c.args.report.now.kind 0) c.args.report.now.offset
+      is = crossing-none c.args.self.now (line_kind c.args.report.now.kind) c.args.report.now.offset
           c.args.report.now.bytes.now c.args.text.now.bytes.items c.args.report.now.number c.into_iter-line-iterator.result
           c.args.parts.now same c.requires.ordered;
       made = λ made. (made, refl);
@@ -34,7 +35,7 @@ pub loop-line-preserved : goal.loop-line-preserved
 loop-line-preserved c =
     let layout = c.args.self.now in
     let report = c.args.report.now in
-    let kind = line_kind report.kind 0 in
+    let kind = line_kind report.kind in
     let bytes : List ℕ = report.bytes.now in
     let line : List ℕ = c.in-Some.line.now in
     let number = c.loop-line.number in
@@ -42,21 +43,20 @@ loop-line-preserved c =
     let rest : List (ℕ × ℕ) = c.loop-line.rest.now in
     let after : List (ℕ × ℕ) = parts_after start rest in
     let old = c.args.text.now in
-    let clipped : ℕ × ℕ → List (ℕ × ℕ) → List ℕ =
-    λ range. flat_map (clipped_text layout kind report.offset bytes number range) in
-    let range : ℕ × ℕ = (start, start + length (strip layout.terminator line)) in
-    let ranged : c.new.result ≡ range =
-    c.new.ensures ∙ ap (λ (l : List ℕ). (start, start + length l)) c.without_terminator.ensures in
+    let clipped : Span → List (ℕ × ℕ) → List ℕ =
+    λ span. flat_map (clipped_text layout kind report.offset bytes number span) in
+    let span : Span = line_span layout.terminator start line in
+    let spanned : c.line_span-span.result ≡ span = c.line_span-span.ensures in
     let whole : List ℕ = old.bytes.items ++ across_text layout kind report.offset bytes c.args.report.now.number 0
     (lines (byte_of layout.terminator) bytes) c.args.parts.now in
     let pushed = c.loop-line.invariant in
-    rw (c.parts_after-rest.ensures, c.next_number-number.ensures)
+    rw (c.parts_after-rest.ensures, c.next_number-number.ensures, spanned)
     (pushed-more old c.loop-line.text c.push_clipped.new.text
     (λ text. IsCrossing layout kind report.offset bytes whole text number start c.loop-line.line-iterator rest)
     (λ text. IsCrossing layout kind report.offset bytes whole text (next_number number) (start + length line)
-    c.next.new.self after) (clipped range after) pushed
-    (subst (λ (r : ℕ × ℕ). Adds c.loop-line.text c.push_clipped.new.text (clipped r after)) ranged
-    (subst (λ (ps : List (ℕ × ℕ)). Adds c.loop-line.text c.push_clipped.new.text (clipped c.new.result ps))
+    c.next.new.self after) (clipped span after) pushed
+    (subst (λ (s : Span). Adds c.loop-line.text c.push_clipped.new.text (clipped s after)) spanned
+    (subst (λ (ps : List (ℕ × ℕ)). Adds c.loop-line.text c.push_clipped.new.text (clipped c.line_span-span.result ps))
     c.parts_after-rest.ensures c.push_clipped.ensures))
     (crossing-more layout kind report.offset bytes whole pushed.bytes number start c.loop-line.line-iterator rest line
-    c.next.new.self (pushed.bytes ++ clipped range after) pushed.is c.in-Some.ensures.steps refl))
+    c.next.new.self (pushed.bytes ++ clipped span after) pushed.is c.in-Some.ensures.steps refl))

@@ -10,8 +10,8 @@ use Rattle.grep_printer.proofs.fields.Layout.push_clipped.Goals as goal
 pub loop-part-preserved : goal.loop-part-preserved
 loop-part-preserved c =
     let high = length c.args.report.now.bytes.now in
-    let texts = clipped_text c.args.self.now (line_kind c.args.report.now.kind 0) c.args.report.now.offset
-    c.args.report.now.bytes.now c.args.number c.args.range.now in
+    let texts = clipped_text c.args.self.now (line_kind c.args.report.now.kind) c.args.report.now.offset
+    c.args.report.now.bytes.now c.args.number c.args.span.now in
     let start = c.args.text.now.bytes.items in
     let pushed = c.loop-part.invariant in
     let part = c.in-Some.part.now in
@@ -22,23 +22,23 @@ loop-part-preserved c =
     (writing-more texts high start c.args.parts.now pushed.bytes c.loop-part.rest.now part c.in-Some.later.now
     (pushed.bytes ++ texts part) pushed.is c.in-Some.ensures.cases.0 refl)
 
-pub returns-then-start-end : goal.returns-then-start-end
-returns-then-start-end c =
-    let range = c.args.range.now in
+pub returns-then-start-span : goal.returns-then-start-span
+returns-then-start-span c =
+    let span = c.args.span.now in
     let part = c.in-Some.part.now in
     let high : ℕ = length c.args.report.now.bytes.now in
-    let texts : ℕ × ℕ → List ℕ = clipped_text c.args.self.now (line_kind c.args.report.now.kind 0) c.args.report.now.offset
-    c.args.report.now.bytes.now c.args.number range in
+    let texts : ℕ × ℕ → List ℕ = clipped_text c.args.self.now (line_kind c.args.report.now.kind) c.args.report.now.offset
+    c.args.report.now.bytes.now c.args.number span in
     let start = c.args.text.now.bytes.items in
     let pushed = c.loop-part.invariant in
     let ordered : AreInOrder 0 high (part ∷ c.in-Some.later.now) =
     subst (AreInOrder 0 high) c.in-Some.ensures.cases.0 pushed.is.ordered in
-    let before : range.1 ≤ part.0 = omega arith in
+    let before : span.next ≤ part.0 = omega arith in
     pushed-all c.args.text.now c.loop-part.text
     (λ text. IsWriting texts high start c.args.parts.now text c.loop-part.rest.now)
     (flat_map texts c.args.parts.now) pushed
     (writing-done texts high start c.args.parts.now pushed.bytes c.loop-part.rest.now pushed.is
     (ap (λ (ps : List (ℕ × ℕ)). flat_map texts ps) c.in-Some.ensures.cases.0
-    ∙ clipped-none c.args.self.now (line_kind c.args.report.now.kind 0) c.args.report.now.offset c.args.report.now.bytes.now
-    c.args.number range (part ∷ c.in-Some.later.now) part.0 high
+    ∙ clipped-none c.args.self.now (line_kind c.args.report.now.kind) c.args.report.now.offset c.args.report.now.bytes.now
+    c.args.number span (part ∷ c.in-Some.later.now) part.0 high c.requires.stripped
     (omega arith, ordered.1, ordered.2, ordered.3) before))

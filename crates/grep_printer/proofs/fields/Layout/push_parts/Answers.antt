@@ -8,7 +8,7 @@ use Rattle.grep_printer.proofs.fields.Layout.push_parts.Goals as goal
 pub loop-part-preserved : goal.loop-part-preserved
 loop-part-preserved c =
     let high = length c.args.report.now.bytes.now in
-    let texts = part_text c.args.self.now (line_kind c.args.report.now.kind 0) c.args.report.now.offset
+    let texts = part_text c.args.self.now (line_kind c.args.report.now.kind) c.args.report.now.offset
     c.args.report.now.bytes.now c.args.report.now.number in
     let start = c.args.text.now.bytes.items in
     let pushed = c.loop-part.invariant in

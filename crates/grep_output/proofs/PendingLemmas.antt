@@ -1,0 +1,60 @@
+-- Texts that are put together one after another, and written.
+use Rattle.std.proofs.Common.{◌≡◌, ℕ, List, [], ◌++◌, refl, sym, ap, ◌∙◌, append_assoc, subst}
+use Rattle.std.specs.Prelude.{Result, Ok, Err}
+use Rattle.std.specs.declared.io.Error.{Error}
+use Rattle.std.proofs.lemmas.List.{append-nil}
+use Rattle.grep_output.specs.Outputs.{OutputCall, Writes}
+use Rattle.grep_output.specs.PendingTexts.{PutsAll, Puts}
+use Rattle.grep_output.proofs.OutputLemmas.{Writes-none, Writes-more, Writes-cut}
+
+-- what is pending and two texts after it
+both : (pending xs kept ys bytes : List ℕ) → pending ++ xs ≡ bytes ++ kept → pending ++ (xs ++ ys) ≡ bytes
+    ++ (kept ++ ys)
+both pending xs kept ys bytes split = sym (append_assoc pending xs ys)
+    ∙ (ap (λ zs. zs ++ ys) split ∙ append_assoc bytes kept ys)
+
+module _ {W : Type 0} (write_step : W → OutputCall → W → Type 0) where
+  pub Puts-none : (writer : W) (pending : List ℕ) → PutsAll write_step writer pending [] writer pending
+  Puts-none writer pending = record { bytes = []; written = Writes-none write_step writer; split = append-nil pending }
+
+  -- what was pending is written, and then the text
+  pub Puts-through : (old mid new : W) (pending text : List ℕ) (result : Result (Unit {0}) Error)
+      → Writes write_step old pending (Ok tt) mid → Writes write_step mid text result new
+      → Puts write_step old pending text result new []
+  Puts-through old mid new pending text (Ok u) first later = record {
+    bytes = pending ++ text;
+    written = Writes-more write_step old mid new pending text (Ok tt) first later;
+    split = sym (append-nil (pending ++ text));
+  }
+  Puts-through old mid new pending text (Err e) first later = Writes-more write_step old mid new pending text (Err e)
+      first later
+
+  -- a text, and then another one
+  pub Puts-more : (old mid new : W) (pending xs kept ys later : List ℕ) (result : Result (Unit {0}) Error)
+      → PutsAll write_step old pending xs mid kept → Puts write_step mid kept ys result new later
+      → Puts write_step old pending (xs ++ ys) result new later
+  Puts-more old mid new pending xs kept ys later (Ok u) first rest = record {
+    bytes = first.bytes ++ rest.bytes;
+    written = Writes-more write_step old mid new first.bytes rest.bytes (Ok tt) first.written rest.written;
+    split = both pending xs kept ys first.bytes first.split
+        ∙ (ap (λ zs. first.bytes ++ zs) rest.split ∙ sym (append_assoc first.bytes rest.bytes later));
+  }
+  Puts-more old mid new pending xs kept ys later (Err e) first rest =
+      subst (λ text. Writes write_step old text (Err e) new) (sym (both pending xs kept ys first.bytes first.split))
+      (Writes-more write_step old mid new first.bytes (kept ++ ys) (Err e) first.written rest)
+
+  -- a text that isn't written whole, and one after it that isn't begun
+  pub Puts-cut : (old new : W) (pending xs ys : List ℕ) (error : Error)
+      → Writes write_step old (pending ++ xs) (Err error) new
+      → Writes write_step old (pending ++ (xs ++ ys)) (Err error) new
+  Puts-cut old new pending xs ys error fails =
+      subst (λ text. Writes write_step old text (Err error) new) (append_assoc pending xs ys)
+      (Writes-cut write_step old new (pending ++ xs) ys error fails)
+
+  -- a text is put together from the start, and what is pending then is written
+  pub Puts-written : (old mid new : W) (text later : List ℕ) (result : Result (Unit {0}) Error)
+      → PutsAll write_step old [] text mid later → Writes write_step mid later result new
+      → Writes write_step old text result new
+  Puts-written old mid new text later result first rest =
+      subst (λ bytes. Writes write_step old bytes result new) (sym first.split)
+      (Writes-more write_step old mid new first.bytes later result first.written rest)

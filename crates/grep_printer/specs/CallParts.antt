@@ -1,0 +1,82 @@
+-- The parts of a call's report that match, as a printer finds them again.
+use Rattle.std.specs.Prelude.{◌≡◌, ℕ, ◌+◌, ◌-◌, Bool, not, false, if◌then◌else◌, List, [], ◌++◌, length}
+use Rattle.std.specs.Prelude.{Option, drop, take}
+use Rattle.std.specs.Global.{Global}
+use Rattle.grep_matcher.specs.Meanings.{MatcherFacts}
+use Rattle.grep_report.specs.SinkReports.{MatchReport, match_bytes}
+use Rattle.grep_searcher.specs.Lines.{strip}
+use Rattle.grep_searcher.specs.Meanings.{Meaning}
+use Rattle.grep_searcher.specs.Plans.{is_across, reported_bytes, Call, Settings, matches, context}
+use Rattle.grep_searcher.specs.declared.SearchError.{SearchError}
+use Rattle.grep_printer.specs.Formats.{PrintedCall}
+use Rattle.grep_printer.specs.MatchedParts.{IsMatcherError, first_from, parts_in}
+
+-- whether the lines of a call's report match: those of a match do, and in an inverted search those
+-- of any other report
+abbrev pub has_match : Settings → Call → Bool
+has_match settings (matches number offset bytes) = not settings.invert_match
+has_match settings (context kind number offset bytes) = settings.invert_match
+has_match settings call = false
+
+-- the bytes that a sink was shown around those of a report: before them and after them
+pub record Surroundings : Type 0 where
+  pub before : List ℕ
+  pub after : List ℕ
+
+-- the bytes of a report with those around it, which are shown of a match alone
+abbrev pub shown_bytes : Surroundings → Call → List ℕ
+shown_bytes around (matches number offset bytes) = around.before ++ (bytes ++ around.after)
+shown_bytes around call = reported_bytes call
+
+-- where the bytes of a report start there
+abbrev pub shown_start : Surroundings → Call → ℕ
+shown_start around (matches number offset bytes) = length around.before
+shown_start around call = 0
+
+module _ (settings : Settings) (meaning : Meaning) (around : Surroundings) (call : Call) where
+  -- the bytes about which the matcher is asked: a line without its terminator, and in a search
+  -- across lines all that is shown
+  abbrev pub asked_bytes : List ℕ
+  asked_bytes =
+      if is_across settings meaning
+      then shown_bytes around call
+      else strip settings.line_terminator (reported_bytes call)
+
+  -- where the bytes of the report start there
+  abbrev pub asked_start : ℕ
+  asked_start = if is_across settings meaning then shown_start around call else 0
+
+  -- the parts, counted from the start of the report: the successive matches from there on that lie
+  -- in the report
+  abbrev pub parts_of_call : (List ℕ → ℕ → Option (ℕ × ℕ)) → List (ℕ × ℕ)
+  parts_of_call first_at =
+      parts_in (first_from (first_at asked_bytes) asked_start) (length asked_bytes - asked_start)
+      (length (reported_bytes call))
+
+-- those around a match, which is a range of a buffer
+abbrev pub around_match : MatchReport → Surroundings
+around_match m = record {
+  before = take m.start m.buffer;
+  after = drop (length (match_bytes m)) (drop m.start m.buffer);
+}
+
+-- any bytes may have been shown around a report
+abbrev pub Anything : Surroundings → Type 0
+Anything around = Unit {0}
+
+-- Which bytes may have been shown around a report.
+module _ (Shown : Surroundings → Type 0) where
+  -- a call has these parts, with such bytes around its report
+  abbrev pub HasParts : (List ℕ → ℕ → Option (ℕ × ℕ)) → Settings → Meaning → Bool → PrintedCall
+      → Type 0
+  HasParts first_at settings meaning is_asked printed =
+      (around : Surroundings) × Shown around
+      × (printed.parts
+      ≡ (if is_asked then parts_of_call settings meaning around printed.call first_at else []))
+
+  -- an error is the matcher's, as a message, for what it was asked to find the parts of a call in
+  abbrev pub FailsAtParts : {E : Type 0} → (E → Option (List ℕ)) → MatcherFacts E → Settings → Call
+      → SearchError Global → Type 0
+  FailsAtParts output facts settings call e =
+      (around : Surroundings) × Shown around
+      × IsMatcherError output facts.fails (asked_bytes settings facts.meaning around call) e

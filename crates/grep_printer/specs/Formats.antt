@@ -1,0 +1,82 @@
+-- What a printer makes of the calls of a search, whatever its format is.
+use Rattle.std.specs.Prelude.{◌≡◌, ◌⊎◌, ℕ, Bool, true, false, not, ◌==◌, List, [], ◌∷◌, ◌++◌}
+use Rattle.std.specs.Prelude.{length, Option}
+use Rattle.std.specs.Borrow.{Bor}
+use Rattle.std.specs.List.{fold}
+use Rattle.grep_searcher.specs.Plans.{Call, Finish, Planned, Settings, finishes}
+
+-- what the text of a call depends on beside the format: the path, if there is one, and the settings
+-- of the search
+pub record Scene : Type 0 where
+  pub path : Option (Bor (List ℕ))
+  pub settings : Settings
+
+-- a call with the parts of its report that match, if they are asked for
+pub record PrintedCall : Type 0 where
+  pub call : Call
+  pub parts : List (ℕ × ℕ)
+
+-- The rules of a format F, which is its settings and what it has kept of the calls before.
+pub record Rules (F : Type 0) : Type 0 where
+  -- the format before the first call of a search, by whether the printer has written anything
+  pub begun : F → Bool → F
+  -- whether the parts of a call's report are asked for, if its lines match
+  pub asks : F → Call → Bool
+  -- the text of a call
+  pub text : F → Scene → PrintedCall → List ℕ
+  -- the format after it
+  pub next : F → Scene → PrintedCall → F
+  -- whether the search goes on after it
+  pub goes_on : F → Scene → PrintedCall → Bool
+  -- whether the calls so far are what a search looks for
+  pub has_match : F → Bool
+
+-- whether there is any text
+abbrev pub is_text : List ℕ → Bool
+is_text bytes = not (length bytes == 0)
+
+-- what is made of some calls: the format after them, and the text of all
+pub record Printed (F : Type 0) : Type 0 where
+  pub format : F
+  pub text : List ℕ
+
+module _ {F : Type 0} (rules : Rules F) (scene : Scene) where
+  -- with one more call
+  abbrev pub printed_with : Printed F → PrintedCall → Printed F
+  printed_with printed call = record {
+    format = rules.next printed.format scene call;
+    text = printed.text ++ rules.text printed.format scene call;
+  }
+
+  -- with some calls, in order
+  abbrev pub printed_by : F → List PrintedCall → Printed F
+  printed_by format calls = fold printed_with (record { format = format; text = [] }) calls
+
+-- Calls with their parts, by what these may be.
+module _ {F : Type 0} (rules : Rules F) (scene : Scene) (HasParts : F → PrintedCall → Type 0) where
+  -- these calls are the planned ones, and the search goes on after each
+  abbrev pub AllGoOn : F → List Planned → List PrintedCall → Type 0
+  AllGoOn format [] calls = calls ≡ []
+  AllGoOn format (planned ∷ later) calls =
+      (first : PrintedCall) × (rest : List PrintedCall) × (calls ≡ first ∷ rest)
+      × (first.call ≡ planned.call) × HasParts format first
+      × (rules.goes_on format scene first ≡ true)
+      × AllGoOn (rules.next format scene first) later rest
+
+  -- this call is the only one, and ends the search
+  abbrev pub IsEnd : F → Finish → List PrintedCall → Type 0
+  IsEnd format finish calls =
+      (last : PrintedCall) × (calls ≡ last ∷ []) × (last.call ≡ finishes finish.count finish.binary)
+      × HasParts format last
+
+  -- these calls are those of a search along a plan: the planned ones, up to the first after which
+  -- the search doesn't go on, and `finish`
+  abbrev pub AreAlong : F → List Planned → Finish → List PrintedCall → Type 0
+  AreAlong format [] finish calls = IsEnd format finish calls
+  AreAlong format (planned ∷ later) finish calls =
+      (first : PrintedCall) × (rest : List PrintedCall) × (calls ≡ first ∷ rest)
+      × (first.call ≡ planned.call) × HasParts format first
+      × (((rules.goes_on format scene first ≡ true)
+      × AreAlong (rules.next format scene first) later finish rest)
+      ⊎ ((rules.goes_on format scene first ≡ false)
+      × IsEnd (rules.next format scene first) planned.if_false rest))

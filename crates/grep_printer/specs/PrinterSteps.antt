@@ -1,0 +1,187 @@
+-- What the sink of a printer does at a call of a search, and in a whole search, whatever its format.
+use Rattle.std.specs.Prelude.{◌≡◌, ◌⊎◌, ℕ, Bool, true, ◌&&◌, ◌||◌, List, [], ◌∷◌, ◌++◌}
+use Rattle.std.specs.Prelude.{Option, Result, Ok, Err}
+use Rattle.std.specs.Global.{Global}
+use Rattle.std.specs.declared.io.Error.{Error}
+use Rattle.grep_output.specs.Outputs.{Begins, FailsToWrite, OutputCall}
+use Rattle.grep_output.specs.PendingTexts.{PutsAll}
+use Rattle.grep_matcher.specs.Meanings.{MatcherFacts}
+use Rattle.grep_searcher.specs.Plans.{AreMade, Call, IsRun, Plan, Planned, Settings, all_true}
+use Rattle.grep_searcher.specs.SearchErrors.{IsOutOfMemory}
+use Rattle.grep_searcher.specs.declared.SearchError.{SearchError}
+use Rattle.grep_searcher.specs.declared.SearchError.TheVariants.{Io}
+use Rattle.grep_printer.specs.CallParts.{Anything, FailsAtParts, HasParts, Surroundings}
+use Rattle.grep_printer.specs.CallParts.{has_match}
+use Rattle.grep_printer.specs.Formats.{AllGoOn, AreAlong, PrintedCall, Rules, Scene, is_text}
+use Rattle.grep_printer.specs.Formats.{printed_by}
+use Rattle.grep_printer.specs.declared.printer.Printer.{Printer}
+use Rattle.grep_printer.specs.declared.printer.PrinterSink.{PrinterSink}
+
+-- the matcher and the path of a sink stay, and so do the printer that it refers to and what the
+-- printer gives its sinks to begin with
+pub record IsSameSink {F M W : Type 0} (old new : PrinterSink F M W) : Type 0 where
+  pub printer : new.printer.ghost_name ≡ old.printer.ghost_name
+  pub format : new.printer.now.format ≡ old.printer.now.format
+  pub matcher : new.matcher ≡ old.matcher
+  pub path : new.path ≡ old.path
+
+-- a sink of which the text and the parts at hand alone have changed
+pub record IsPreparing {F M W : Type 0} (old new : PrinterSink F M W) : Type 0 where
+  pub same : IsSameSink old new
+  pub format : new.format ≡ old.format
+  pub writer : new.printer.now.writer ≡ old.printer.now.writer
+  pub pending : new.printer.now.pending ≡ old.printer.now.pending
+  pub has_written : new.printer.now.has_written ≡ old.printer.now.has_written
+  pub has_failed : new.printer.now.has_failed ≡ old.printer.now.has_failed
+
+-- what the texts of a sink's calls depend on
+abbrev pub scene_of : {F M W : Type 0} → PrinterSink F M W → Settings → Scene
+scene_of sink settings = record { path = sink.path; settings = settings }
+
+module _ {F M W : Type 0} (rules : Rules F) where
+  -- the text of a call of a sink
+  abbrev pub text_of : PrinterSink F M W → Settings → PrintedCall → List ℕ
+  text_of sink settings printed = rules.text sink.format (scene_of sink settings) printed
+
+  -- a call of a sink has these parts, with such bytes around its report
+  abbrev pub HasFound : (Surroundings → Type 0) → {E : Type 0} → (M → MatcherFacts E)
+      → (M → List ℕ → ℕ → Option (ℕ × ℕ)) → PrinterSink F M W → Settings → F → PrintedCall → Type 0
+  HasFound Shown facts first_at sink settings format printed =
+      HasParts Shown (first_at sink.matcher) settings (facts sink.matcher).meaning
+      (has_match settings printed.call && rules.asks format printed.call) printed
+
+module _ {F M W E : Type 0} (rules : Rules F) (output : E → Option (List ℕ))
+    (facts : M → MatcherFacts E) (first_at : M → List ℕ → ℕ → Option (ℕ × ℕ))
+    (write_step : W → OutputCall → W → Type 0) (Shown : Surroundings → Type 0) where
+  -- a call succeeds: its text comes after what is pending, and nothing else is written
+  pub record Prints (old : PrinterSink F M W) (settings : Settings) (call : Call) (goes : Bool)
+      (new : PrinterSink F M W) : Type 0 where
+    pub same : IsSameSink old new
+    pub printed : PrintedCall
+    pub is_call : printed.call ≡ call
+    pub has_parts : HasFound rules Shown facts first_at old settings old.format printed
+    pub goes_on : goes ≡ rules.goes_on old.format (scene_of old settings) printed
+    pub put : PutsAll write_step old.printer.now.writer old.printer.now.pending
+        (text_of rules old settings printed) new.printer.now.writer new.printer.now.pending
+    pub format : new.format ≡ rules.next old.format (scene_of old settings) printed
+    pub has_written : new.printer.now.has_written
+        ≡ (old.printer.now.has_written || is_text (text_of rules old settings printed))
+    pub has_failed : new.printer.now.has_failed ≡ old.printer.now.has_failed
+
+  -- the writer failed after some first bytes of what was pending and of the text of a call
+  pub record FailsToWriteCall (old : PrinterSink F M W) (settings : Settings) (call : Call)
+      (e : SearchError Global) (new : PrinterSink F M W) : Type 0 where
+    pub printed : PrintedCall
+    pub is_call : printed.call ≡ call
+    pub has_parts : HasFound rules Shown facts first_at old settings old.format printed
+    pub error : Error
+    pub is_io : e ≡ Io error
+    pub failed : FailsToWrite write_step old.printer.now.writer
+        (old.printer.now.pending ++ text_of rules old settings printed) error new.printer.now.writer
+    pub pending : new.printer.now.pending ≡ []
+    pub has_failed : new.printer.now.has_failed ≡ true
+
+  -- the writer had no call, and there was no memory, or the matcher failed where the parts of a
+  -- report were looked for
+  pub record FailsBefore (old : PrinterSink F M W) (settings : Settings) (call : Call)
+      (e : SearchError Global) (new : PrinterSink F M W) : Type 0 where
+    pub unwritten : new.printer.now.writer ≡ old.printer.now.writer
+    pub pending : new.printer.now.pending ≡ old.printer.now.pending
+    pub format : new.format ≡ old.format
+    pub has_failed : new.printer.now.has_failed ≡ old.printer.now.has_failed
+    pub cause : IsOutOfMemory e
+        ⊎ (((has_match settings call && rules.asks old.format call) ≡ true)
+        × FailsAtParts Shown output (facts old.matcher) settings call e)
+
+  -- a call fails
+  pub record FailsToPrint (old : PrinterSink F M W) (settings : Settings) (call : Call)
+      (e : SearchError Global) (new : PrinterSink F M W) : Type 0 where
+    pub same : IsSameSink old new
+    pub has_written : new.printer.now.has_written ≡ old.printer.now.has_written
+    pub cause : FailsToWriteCall old settings call e new ⊎ FailsBefore old settings call e new
+
+  -- what a sink does at a call, with such bytes around its report
+  abbrev pub PrintsShown : PrinterSink F M W → Settings → Call → Result Bool (SearchError Global)
+      → PrinterSink F M W → Type 0
+  PrintsShown old settings call (Ok goes) new = Prints old settings call goes new
+  PrintsShown old settings call (Err e) new = FailsToPrint old settings call e new
+
+module _ {F M W E : Type 0} (rules : Rules F) (output : E → Option (List ℕ))
+    (facts : M → MatcherFacts E) (first_at : M → List ℕ → ℕ → Option (ℕ × ℕ))
+    (write_step : W → OutputCall → W → Type 0) where
+  -- what a sink does at a call, whatever bytes were shown around its report
+  abbrev pub PrintsCall : PrinterSink F M W → Settings → Call → Result Bool (SearchError Global)
+      → PrinterSink F M W → Type 0
+  PrintsCall = PrintsShown rules output facts first_at write_step Anything
+
+  -- the texts of some calls come after what is pending
+  pub record PrintsAll (old : PrinterSink F M W) (settings : Settings) (calls : List PrintedCall)
+      (new : PrinterSink F M W) : Type 0 where
+    pub same : IsSameSink old new
+    pub put : PutsAll write_step old.printer.now.writer old.printer.now.pending
+        (printed_by rules (scene_of old settings) old.format calls).text
+        new.printer.now.writer new.printer.now.pending
+    pub format : new.format
+        ≡ (printed_by rules (scene_of old settings) old.format calls).format
+    pub has_written : new.printer.now.has_written
+        ≡ (old.printer.now.has_written
+        || is_text (printed_by rules (scene_of old settings) old.format calls).text)
+    pub has_failed : new.printer.now.has_failed ≡ old.printer.now.has_failed
+
+  -- calls that were made and all returned true, as those before reading failed, have written their
+  -- texts
+  abbrev pub CallsPrint : Type 0
+  CallsPrint =
+      (settings : Settings) (old : PrinterSink F M W) (calls : List Planned)
+      (new : PrinterSink F M W) → AreMade PrintsCall settings old calls all_true new
+      → (printed : List PrintedCall)
+      × AllGoOn rules (scene_of old settings) (HasFound rules Anything facts first_at old settings) old.format calls printed
+      × PrintsAll old settings printed new
+
+  -- a run of the sink that ended in `Ok` has written the texts of the calls of its plan
+  abbrev pub RunsPrint : Type 0
+  RunsPrint =
+      (settings : Settings) (old : PrinterSink F M W) (plan : Plan) (new : PrinterSink F M W)
+      → IsRun PrintsCall settings old plan (Ok tt) new
+      → (printed : List PrintedCall)
+      × AreAlong rules (scene_of old settings) (HasFound rules Anything facts first_at old settings) old.format plan.calls
+      plan.finish printed
+      × PrintsAll old settings printed new
+
+  -- the call after some others isn't printed: the writer failed after some first bytes of its text,
+  -- or it had no call more, and there was no memory, or the matcher failed
+  abbrev pub IsCutShort : PrinterSink F M W → Settings → PrintedCall → SearchError Global
+      → PrinterSink F M W → Type 0
+  IsCutShort mid settings tried e new =
+      ((error : Error) × (e ≡ Io error) × (new.printer.now.pending ≡ [])
+      × (new.printer.now.has_failed ≡ true)
+      × FailsToWrite write_step mid.printer.now.writer
+      (mid.printer.now.pending ++ text_of rules mid settings tried) error new.printer.now.writer)
+      ⊎ FailsBefore rules output facts first_at write_step Anything mid settings tried.call e new
+
+  -- a run along a plan failed at a call: the texts of the calls before it come after what was
+  -- pending, and its own is cut short. Its own and these begin the text of calls along the plan
+  pub record FailsAlongPlan (old : PrinterSink F M W) (settings : Settings) (plan : Plan)
+      (e : SearchError Global) (new : PrinterSink F M W) : Type 0 where
+    pub before : List PrintedCall
+    pub tried : PrintedCall
+    pub later : List PrintedCall
+    pub along : AreAlong rules (scene_of old settings) (HasFound rules Anything facts first_at old settings) old.format plan.calls
+        plan.finish (before ++ tried ∷ later)
+    pub mid : PrinterSink F M W
+    pub printed : PrintsAll old settings before mid
+    pub cut : IsCutShort mid settings tried e new
+    pub same : IsSameSink old new
+    pub has_written : new.printer.now.has_written ≡ mid.printer.now.has_written
+    pub begins : Begins
+        ((printed_by rules (scene_of old settings) old.format before).text
+        ++ rules.text (printed_by rules (scene_of old settings) old.format before).format
+        (scene_of old settings) tried)
+        (printed_by rules (scene_of old settings) old.format (before ++ tried ∷ later)).text
+
+  -- so fails each run of the sink that ended in an error
+  abbrev pub RunsFailToPrint : Type 0
+  RunsFailToPrint =
+      (settings : Settings) (old : PrinterSink F M W) (plan : Plan) (e : SearchError Global)
+      (new : PrinterSink F M W)
+      → IsRun PrintsCall settings old plan (Err e) new → FailsAlongPlan old settings plan e new

@@ -1,0 +1,80 @@
+//! What is written about a binary byte at the end of a search.
+ghost use Rattle.std.specs.Prelude.{◌≡◌, ◌++◌, codes, decimal};
+ghost use Rattle.grep_printer.specs.ColoredTexts.{color_of, path_color};
+ghost use Rattle.grep_printer.specs.Pushes.{Adds};
+ghost use Rattle.grep_printer.specs.StandardTexts.{binary_message, message_text, path_prefix};
+
+use crate::colors::{ColorSpecs, push_colored};
+use crate::fields::push_digits;
+use crate::text::Text;
+use grep_searcher::BinaryDetection;
+
+// What is said of a binary byte, before its offset and what ends both messages.
+const STOPPED: &str =
+    "WARNING: stopped searching binary file after match (found \"\\0\" byte around offset ";
+
+const MATCHES: &str = "binary file matches (found \"\\0\" byte around offset ";
+
+// Pushes the message about a binary byte, if one was found.
+pub(crate) fn push_binary_message(
+    text: &mut Text,
+    colors: &ColorSpecs,
+    detection: &BinaryDetection,
+    path: Option<&str>,
+    offset: Option<u64>,
+)
+    ensures { Adds text.old text.new
+        (message_text (path_color colors.now) detection.now path.entry offset) }
+{
+    if let Some(offset) = offset {
+        push_binary(text, colors.path(), detection, path, offset);
+    }
+}
+
+// Pushes the message about a binary byte at an offset.
+fn push_binary(
+    text: &mut Text,
+    color: Option<&str>,
+    detection: &BinaryDetection,
+    path: Option<&str>,
+    offset: u64,
+)
+    ensures { Adds text.old text.new (binary_message (color_of color.entry) detection.now
+        path.entry offset) }
+{
+    match detection {
+        BinaryDetection::None => {}
+        BinaryDetection::Quit(_) => push_message(text, color, path, STOPPED, offset),
+        BinaryDetection::Convert(_) => push_message(text, color, path, MATCHES, offset),
+    }
+}
+
+// Pushes a message about a binary byte at an offset, after the path if there is one.
+fn push_message(
+    text: &mut Text,
+    color: Option<&str>,
+    path: Option<&str>,
+    message: &str,
+    offset: u64,
+)
+    ensures { Adds text.old text.new (path_prefix (color_of color.entry) path.entry
+        ++ (message.now ++ (decimal offset ++ codes ")\n"))) }
+{
+    push_prefix(text, color, path);
+    text.push(message.as_bytes());
+    push_digits(text, offset, b')');
+    text.push(b"\n")
+}
+
+// Pushes a path before a message, in a color if there is one, if there is a path.
+fn push_prefix(text: &mut Text, color: Option<&str>, path: Option<&str>)
+    ensures { Adds text.old text.new (path_prefix (color_of color.entry) path.entry) }
+{
+    match path {
+        Some(path) => {
+            push_colored(text, color, path.as_bytes());
+            text.push(b": ")
+        }
+        None => {}
+    }
+}

@@ -1,0 +1,86 @@
+//! What a printer writes of the calls of a search.
+ghost use Rattle.std.specs.Prelude.{◌≡◌, [], ℕ, Option, true, false, length};
+ghost use Rattle.grep_searcher.specs.Plans.{finishes, reported_bytes};
+ghost use Rattle.grep_printer.specs.Formats.{PrintedCall, Rules, Scene};
+ghost use Rattle.grep_printer.specs.MatchedParts.{AreInOrder};
+ghost use Rattle.grep_printer.specs.Pushes.{Adds};
+ghost use Rattle.grep_printer.specs.Reports.{FitsEvent, event_call, event_has_match};
+
+use crate::report::Report;
+use crate::text::Text;
+use grep_searcher::{Match, Searcher};
+use std::alloc::Allocator;
+
+/// A call of a search.
+#[derive(Clone, Copy)]
+pub enum Event<'r> {
+    /// The search begins.
+    Begin,
+    /// Lines are reported.
+    Report(Report<'r>),
+    /// Lines were left out since the last report.
+    Break,
+    /// The input is binary, with the offset of the first binary byte that was found.
+    BinaryData(u64),
+    /// The search ends, with the byte count, and the offset of a binary byte if one was found.
+    Finish(u64, Option<u64>),
+}
+
+impl<'r> Event<'r> {
+    /// Whether lines are reported that match, by whether the lines without a match are selected.
+    pub(crate) fn has_match(&self, is_inverted: bool) -> bool
+        ensures { result ≡ event_has_match self.now is_inverted }
+    {
+        match self {
+            Event::Report(report) => report.kind.has_match(is_inverted),
+            Event::Begin | Event::Break | Event::BinaryData(_) | Event::Finish(_, _) => false,
+        }
+    }
+}
+
+/// A format: what a printer writes of the calls of a search. Its value is its settings, and what it
+/// keeps of the calls before.
+pub trait Format: Copy {
+    /// The text of each call, and what it changes.
+    ghost rules: { Rules Self };
+
+    /// The format before the first call of a search, by whether the printer has written anything.
+    fn begun(&self, has_written: bool) -> Self
+        ensures { result ≡ rules.begun self.now has_written };
+
+    /// Whether the parts of a call's report that match are asked for, if its lines match.
+    fn asks(&self, event: &Event<'_>) -> bool
+        ensures { result ≡ rules.asks self.now (event_call event.now) };
+
+    /// Whether the calls so far are what a search looks for.
+    fn has_match(&self) -> bool
+        ensures { result ≡ rules.has_match self.now };
+
+    /// Pushes the text of a call to a text that is empty, and returns whether the search goes on.
+    /// If memory is out, the text has failed.
+    fn push<A: Allocator + Copy>(
+        &mut self,
+        text: &mut Text,
+        searcher: &Searcher<A>,
+        path: Option<&str>,
+        event: &Event<'_>,
+        parts: &[Match],
+    ) -> bool
+        requires empty { text.old.bytes.items ≡ [] }
+        requires fits { FitsEvent event.now }
+        requires ordered { AreInOrder 0 (length (reported_bytes (event_call event.now))) parts.now }
+        ensures text { Adds text.old text.new (rules.text self.old
+            (record { path = path.entry; settings = searcher.now.settings })
+            (record { call = event_call event.now; parts = parts.now })) }
+        ensures next { text.new.has_failed ≡ false → self.new ≡ rules.next self.old
+            (record { path = path.entry; settings = searcher.now.settings })
+            (record { call = event_call event.now; parts = parts.now }) }
+        ensures goes_on { text.new.has_failed ≡ false → result ≡ rules.goes_on self.old
+            (record { path = path.entry; settings = searcher.now.settings })
+            (record { call = event_call event.now; parts = parts.now }) };
+
+    /// After the end of a search it is as if the search went on.
+    ghost ends: { (format : Self) (scene : Scene) (printed : PrintedCall) (count : ℕ)
+        (binary : Option ℕ) → printed.call ≡ finishes count binary
+        → rules.goes_on format scene printed ≡ true };
+}

@@ -1,0 +1,341 @@
+//! A printer of any format, and the sink of one search after another.
+ghost use Rattle.std.specs.Prelude.{◌≡◌, ◌⊎◌, ◌+◌, ◌<◌, ◌^◌, ◌&&◌, ◌||◌, [], true, false, None, IfErr, OnErr, OnOk};
+ghost use Rattle.std.specs.Prelude.{if◌then◌else◌, is_ok, length};
+ghost use Rattle.grep_output.specs.PendingTexts.{Flushes, Puts};
+ghost use Rattle.grep_report.specs.SinkReports.{match_bytes};
+ghost use Rattle.grep_searcher.specs.Plans.{reported_bytes};
+ghost use Rattle.grep_searcher.specs.SearchErrors.{IsOutOfMemory};
+ghost use Rattle.grep_searcher.specs.SinkArguments.{match_call};
+ghost use Rattle.grep_printer.specs.CallParts.{FailsAtParts, HasParts, around_match, has_match};
+ghost use Rattle.grep_printer.specs.Formats.{is_text};
+ghost use Rattle.grep_printer.specs.MatchedParts.{AreInOrder};
+ghost use Rattle.grep_printer.specs.PrinterSteps.{HasFound, IsPreparing, PrintsCall};
+ghost use Rattle.grep_printer.specs.PrinterSteps.{PrintsShown};
+ghost use Rattle.grep_printer.specs.Reports.{FitsEvent, IsAround, IsShownEvent, event_call};
+
+use crate::format::{Event, Format};
+use crate::parts::find_report_parts;
+use crate::report::{Report, finish_of};
+use crate::text::Text;
+use grep_output::{Output, Pending};
+use grep_searcher::{
+    FindAt, Match, SearchError, Searcher, Sink, SinkContext, SinkFinish, SinkMatch,
+};
+use std::alloc::{Allocator, Global};
+use std::io;
+
+// How many bytes of text a printer keeps before it writes them, unless it is told otherwise.
+const ROOM: usize = 64 * 1024;
+
+/// A printer: it writes what its format makes of the calls of a search. `sink` gives the sink of one
+/// search after another.
+///
+/// Text is kept until there are 64 KiB of it, or as much as `set_buffer_size` says, and written then
+/// or by `flush`.
+#[derive(Drop)]
+pub struct Printer<F, W> {
+    pub(crate) writer: W,
+    // What isn't written yet.
+    pub(crate) pending: Pending,
+    // The text of the call at hand, and the parts of its report that match.
+    pub(crate) text: Text,
+    pub(crate) parts: Vec<Match>,
+    // The format as each search has it to begin with.
+    pub(crate) format: F,
+    pub(crate) has_written: bool,
+    pub(crate) has_failed: bool,
+}
+
+impl<F, W> Printer<F, W> {
+    // A printer that has written nothing yet.
+    pub(crate) fn new(alloc: Global, format: F, writer: W) -> Printer<F, W>
+        ensures writer { result.writer ≡ writer }
+        ensures pending { result.pending ≡ [] }
+        ensures format { result.format ≡ format }
+        ensures has_written { result.has_written ≡ false }
+        ensures has_failed { result.has_failed ≡ false }
+    {
+        Printer {
+            writer,
+            pending: Pending::new(alloc, ROOM),
+            text: Text::new(alloc),
+            parts: Vec::new(alloc),
+            format,
+            has_written: false,
+            has_failed: false,
+        }
+    }
+
+    /// Sets how many bytes of text are kept before they are written: 64 KiB if it isn't called. With
+    /// 0 the text of each call is written at once.
+    pub fn set_buffer_size(&mut self, size: usize)
+        ensures { self.new ≡ self.old }
+    {
+        self.pending.set_room(size);
+    }
+
+    /// Whether any text was written whole, or is kept to be written. The first bytes of one at which
+    /// the writer failed don't count: `has_failed` is true then.
+    pub fn has_written(&self) -> bool
+        ensures { result ≡ self.now.has_written }
+    {
+        self.has_written
+    }
+
+    /// Whether the writer failed.
+    pub fn has_failed(&self) -> bool
+        ensures { result ≡ self.now.has_failed }
+    {
+        self.has_failed
+    }
+}
+
+impl<F: Format, W> Printer<F, W> {
+    /// The writer back, and what isn't written yet: nothing right after a `flush` that succeeded.
+    pub fn into_parts(self) -> (W, Vec<u8>)
+        ensures writer { result.0 ≡ self.writer }
+        ensures pending { result.1.items ≡ self.pending }
+    {
+        let Printer {
+            writer,
+            pending,
+            text: _,
+            parts: _,
+            format: _,
+            has_written: _,
+            has_failed: _,
+        } = self;
+        (writer, pending.into_bytes())
+    }
+
+    /// The sink of a search: the matcher is that of the search, and the path, if there is one, is
+    /// what the format writes of it.
+    pub fn sink<'s, M: FindAt>(
+        &'s mut self,
+        matcher: M,
+        path: Option<&'s str>,
+    ) -> PrinterSink<'s, F, M, W>
+        ensures printer { result.printer.ghost_name ≡ self.entry.ghost_name }
+        ensures now { result.printer.now ≡ self.old }
+        ensures matcher { result.matcher ≡ matcher }
+        ensures path { result.path ≡ path.entry }
+        ensures format { result.format ≡ F.rules.begun self.old.format self.old.has_written }
+    {
+        let format = self.format.begun(self.has_written);
+        PrinterSink {
+            printer: self,
+            matcher,
+            path,
+            format,
+        }
+    }
+}
+
+impl<F, W: Output> Printer<F, W> {
+    /// Writes what isn't written yet, and flushes the writer. An error is the writer's own.
+    pub fn flush(&mut self) -> io::Result<()>
+        ensures flushed { Flushes W.step self.old.writer self.old.pending result self.new.writer }
+        ensures emptied { self.new.pending ≡ [] }
+        ensures format { self.new.format ≡ self.old.format }
+        ensures has_written { self.new.has_written ≡ self.old.has_written }
+        ensures has_failed { self.new.has_failed
+            ≡ (if is_ok result then self.old.has_failed else true) }
+    {
+        let flushed = self.write_and_flush();
+        if flushed.is_err() {
+            self.has_failed = true;
+        }
+        flushed
+    }
+
+    // Writes what isn't written yet, and flushes the writer.
+    fn write_and_flush(&mut self) -> io::Result<()>
+        ensures flushed { Flushes W.step self.old.writer self.old.pending result self.new.writer }
+        ensures emptied { self.new.pending ≡ [] }
+        ensures format { self.new.format ≡ self.old.format }
+        ensures has_written { self.new.has_written ≡ self.old.has_written }
+        ensures has_failed { self.new.has_failed ≡ self.old.has_failed }
+    {
+        self.pending.write_to(&mut self.writer)?;
+        self.writer.flush()
+    }
+
+    // Puts the text at hand after what isn't written yet.
+    pub(crate) fn put_text(&mut self) -> io::Result<()>
+        ensures put { Puts W.step self.old.writer self.old.pending self.old.text.bytes.items result
+            self.new.writer self.new.pending }
+        ensures emptied { OnErr result (self.new.pending ≡ []) }
+        ensures text { self.new.text ≡ self.old.text }
+        ensures format { self.new.format ≡ self.old.format }
+        ensures has_written { self.new.has_written
+            ≡ (self.old.has_written || (is_ok result && is_text self.old.text.bytes.items)) }
+        ensures has_failed { self.new.has_failed
+            ≡ (if is_ok result then self.old.has_failed else true) }
+    {
+        match self.pending.put(&mut self.writer, &self.text.bytes) {
+            Ok(()) => {
+                self.has_written = self.has_written || !self.text.bytes.is_empty();
+                Ok(())
+            }
+            Err(error) => {
+                self.has_failed = true;
+                Err(error)
+            }
+        }
+    }
+}
+
+/// The sink of one search, which prints its calls.
+#[derive(Drop)]
+pub struct PrinterSink<'s, F, M, W> {
+    pub(crate) printer: &'s mut Printer<F, W>,
+    pub(crate) matcher: M,
+    pub(crate) path: Option<&'s str>,
+    pub(crate) format: F,
+}
+
+impl<'s, F: Format, M, W> PrinterSink<'s, F, M, W> {
+    /// Whether the search found what it is for: a match, or what the printer's builder says.
+    pub fn has_match(&self) -> bool
+        ensures { result ≡ F.rules.has_match self.now.format }
+    {
+        self.format.has_match()
+    }
+}
+
+impl<'s, F: Format, M: FindAt, W: Output> PrinterSink<'s, F, M, W> {
+    // Finds the parts of a call's report that match, if they are asked for.
+    fn find_parts<A: Allocator + Copy>(
+        &mut self,
+        searcher: &Searcher<A>,
+        event: &Event<'_>,
+    ) -> Result<(), SearchError>
+        requires { IsShownEvent event.now }
+        ensures same { IsPreparing self.old self.new }
+        ensures parts { OnOk result (HasFound F.rules (IsAround event.now) M.facts M.first_at
+            self.old searcher.now.settings self.old.format
+            (record { call = event_call event.now; parts = self.new.printer.now.parts.items })) }
+        ensures ordered { OnOk result (AreInOrder 0 (length (reported_bytes (event_call event.now)))
+            self.new.printer.now.parts.items) }
+        ensures error { IfErr result (λ e. IsOutOfMemory e
+            ⊎ (((has_match searcher.now.settings (event_call event.now)
+            && F.rules.asks self.old.format (event_call event.now)) ≡ true)
+            × FailsAtParts (IsAround event.now) M.Error.output (M.facts self.old.matcher)
+            searcher.now.settings (event_call event.now) e)) }
+    {
+        let parts = &mut self.printer.parts;
+        if !event.has_match(searcher.invert_match()) || !self.format.asks(event) {
+            parts.clear();
+            return Ok(());
+        }
+        match event {
+            Event::Report(report) => find_report_parts(parts, searcher, &self.matcher, report),
+            Event::Begin | Event::Break | Event::BinaryData(_) | Event::Finish(_, _) => {
+                parts.clear();
+                Ok(())
+            }
+        }
+    }
+
+    // Prints a call, and returns whether the search goes on.
+    fn print<A: Allocator + Copy>(
+        &mut self,
+        searcher: &Searcher<A>,
+        event: &Event<'_>,
+    ) -> Result<bool, SearchError>
+        requires fits { FitsEvent event.now }
+        requires shown { IsShownEvent event.now }
+        ensures shown { PrintsShown F.rules M.Error.output M.facts M.first_at W.step
+            (IsAround event.now) self.old searcher.now.settings (event_call event.now) result
+            self.new }
+        ensures step { PrintsCall F.rules M.Error.output M.facts M.first_at W.step
+            self.old searcher.now.settings (event_call event.now) result self.new }
+    {
+        match self.find_parts(searcher, event) {
+            Ok(()) => {}
+            Err(error) => return Err(error),
+        }
+        let mut format = self.format;
+        let printer = &mut *self.printer;
+        printer.text.clear();
+        let goes_on = format.push(
+            &mut printer.text,
+            searcher,
+            self.path,
+            event,
+            &printer.parts,
+        );
+        match printer.text.check() {
+            Ok(()) => {}
+            Err(error) => return Err(error),
+        }
+        self.format = format;
+        match self.printer.put_text() {
+            Ok(()) => Ok(goes_on),
+            Err(error) => Err(SearchError::Io(error)),
+        }
+    }
+}
+
+impl<'s, F: Format, M: FindAt, W: Output> Sink for PrinterSink<'s, F, M, W> {
+    type Error = SearchError;
+
+    ghost use Rattle.grep_printer.specs.PrinterSteps.{PrintsCall};
+
+    ghost step = { PrintsCall F.rules M.Error.output M.facts M.first_at W.step };
+
+    ghost may_call = { λ _. Unit {0} };
+
+    fn begin<A: Allocator + Copy>(&mut self, searcher: &Searcher<A>) -> Result<bool, SearchError> {
+        self.print(searcher, &Event::Begin)
+    }
+
+    /// Prints a match. Its parts are looked for in the buffer that it is a range of.
+    fn matched<A: Allocator + Copy>(
+        &mut self,
+        searcher: &Searcher<A>,
+        found: &SinkMatch<'_>,
+    ) -> Result<bool, SearchError>
+        requires fits { found.now.offset + length (match_bytes found.now) < 2 ^ 64 }
+        ensures step { PrintsCall F.rules M.Error.output M.facts M.first_at W.step self.old
+            searcher.now.settings (match_call found.now) result self.new }
+        ensures shown { PrintsShown F.rules M.Error.output M.facts M.first_at W.step
+            (λ around. around ≡ around_match found.now) self.old searcher.now.settings
+            (match_call found.now) result self.new }
+        ensures may_call { Unit {0} }
+    {
+        self.print(searcher, &Event::Report(Report::of_match(found)))
+    }
+
+    fn context<A: Allocator + Copy>(
+        &mut self,
+        searcher: &Searcher<A>,
+        line: &SinkContext<'_>,
+    ) -> Result<bool, SearchError> {
+        self.print(searcher, &Event::Report(Report::of_context(line)))
+    }
+
+    fn context_break<A: Allocator + Copy>(
+        &mut self,
+        searcher: &Searcher<A>,
+    ) -> Result<bool, SearchError> {
+        self.print(searcher, &Event::Break)
+    }
+
+    fn binary_data<A: Allocator + Copy>(
+        &mut self,
+        searcher: &Searcher<A>,
+        binary_byte_offset: u64,
+    ) -> Result<bool, SearchError> {
+        self.print(searcher, &Event::BinaryData(binary_byte_offset))
+    }
+
+    fn finish<A: Allocator + Copy>(
+        &mut self,
+        searcher: &Searcher<A>,
+        finish: &SinkFinish,
+    ) -> Result<(), SearchError> {
+        let end = Event::Finish(finish.byte_count(), finish.binary_byte_offset());
+        finish_of(self.print(searcher, &end))
+    }
+}
