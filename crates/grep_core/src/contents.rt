@@ -3,7 +3,8 @@ ghost use Rattle.std.specs.Prelude.{◌≡◌, ℕ, Bool, List, Option, true, fa
 ghost use Rattle.std.specs.declared.io.Error.{Error};
 ghost use Rattle.grep_matcher.specs.Meanings.{IsInfallible};
 ghost use Rattle.grep_decode.specs.DecoderStates.{started};
-ghost use Rattle.grep_definitions.specs.Searches.{look_at, view_of, IsRead, IsReadingError, IsInOrder};
+ghost use Rattle.grep_definitions.specs.Searches.{look_at, view_of, IsRead, IsInOrder};
+ghost use Rattle.grep_definitions.specs.Searches.{IsReadingError};
 ghost use Rattle.grep_definitions.specs.ReaderRuns.{IsUnreadIn};
 ghost use Rattle.grep_definitions.specs.Plans.{is_across, NeverFails};
 ghost use Rattle.grep_core.specs.Configured.{IsConfigured};

@@ -376,7 +376,7 @@ module _ {R : Type 0} (remaining : R → Option (List ℕ)) (step : R → ReadRe
       (λ looks. absurd (looks-unsettled mode looks settled))
       ([], refl)
 
-  -- the same of a decoder that has nothing ready
+  -- a decoder that has nothing ready decodes as it does with no bytes ready
   pub Decodes-held : (ready : List ℕ) (mode : Mode) (old new : UndecodedBytes) (r r1 : R) (given : List ℕ) → ready ≡ []
       → Decodes remaining step (holding mode old) r given (holding mode new) r1
       → Decodes remaining step
@@ -664,13 +664,13 @@ result-ahead P before mid after most (Err e) first later = tt
 pub takes-none : (known : Option (List ℕ)) (most : ℕ) → TakesAtMost known known most
 takes-none known most = ([], omega arith, Consumes-nil known)
 
--- the same of another state
+-- what is first ready, in another state that has the same bytes ready
 pub first-passes : (M : List ℕ → Type 0) (P Q : Type 0) (known : Option (List ℕ)) (ready same : List ℕ) → (P → Q) → same
     ≡ ready
     → IfSome known (λ input. M input → Q → ready ≡ take 3 input)
     → IfSome known (λ input. M input → P → same ≡ take 3 input)
-first-passes M P Q None ready same turn is made = tt
-first-passes M P Q (Some input) ready same turn is made = λ m p. is ∙ made m (turn p)
+first-passes M P Q None ready same given is made = tt
+first-passes M P Q (Some input) ready same given is made = λ m p. is ∙ made m (given p)
 
 -- few bytes wait while a mark is looked for
 pub few-wait : (mode : Mode) (held : List ℕ) → LooksForMark mode → length held < 3 → IsWaiting mode held

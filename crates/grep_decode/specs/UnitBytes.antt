@@ -1,5 +1,6 @@
 -- Bytes of units, apart, and the bytes that spell the units in UTF-8.
-use Rattle.std.specs.Prelude.{◌≡◌, ◌⊎◌, ℕ, ◌+◌, ◌*◌, ◌<◌, ◌≤◌, List, [], ◌∷◌, take, drop, slice_index_or, encode_utf8, encode_utf8_all}
+use Rattle.std.specs.Prelude.{◌≡◌, ◌⊎◌, ℕ, ◌+◌, ◌*◌, ◌<◌, ◌≤◌, List, [], ◌∷◌, take, drop}
+use Rattle.std.specs.Prelude.{slice_index_or, encode_utf8, encode_utf8_all}
 
 -- the bytes at even indices
 abbrev pub evens : List ℕ → List ℕ

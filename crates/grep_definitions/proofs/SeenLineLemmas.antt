@@ -126,9 +126,6 @@ module _ (k : Settings) (meaning : Meaning) where
     abbrev count_whole : ℕ
     count_whole = LineSearch.turn_count k meaning whole
 
-    same-count : first.count_whole k meaning front back closed ≡ count_whole
-    same-count = refl
-
     few : min count_whole n ≡ count_front
     few = first.count-same k meaning front back closed
 

@@ -118,14 +118,3 @@ module _ {S E : Type 0} (step : Steps S E) (k : Settings) where
       (inl (ap (outcome_with binary) is, stops))
   made-binary binary (call ∷ later) old outcome new (inr (inr (e, is, fails))) =
       inr (inr (e, ap (outcome_with binary) is, fails))
-
--- a run that ended in `Ok` has begun
-pub has-begun : {S E : Type 0} (step : Steps S E) (k : Settings) (old : S) (end : ℕ) (later : List Planned) (count : ℕ)
-    (outcome : Outcome E) (mid new : S)
-    → AreMade step k old (planned begins end ∷ later) outcome mid
-    → IsFinished step k outcome mid (counted count) (Ok tt) new
-    → (begun : Bool) × (first : S) × step old k begins (Ok begun) first
-has-begun step k old end later count outcome mid new (inl (first, made, rest)) finished = (true, first, made)
-has-begun step k old end later count outcome mid new (inr (inl (is, made))) finished = (false, mid, made)
-has-begun step k old end later count outcome mid new (inr (inr (e, is, made))) finished =
-    absurd (let never = (subst (λ o. IsFinished step k o mid (counted count) (Ok tt) new) is finished).0 in cc)

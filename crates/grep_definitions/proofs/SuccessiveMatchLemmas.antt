@@ -170,7 +170,7 @@ module _ (meaning : Meaning) (bytes : List ℕ) where
           All-cons (λ m. low ≤ m.0) x _ (omega (arith, order.0))
           (later (position_after x) (position_after-later p x order.0 order.1))
 
-  -- the same of those that count
+  -- of those that count, the first is the one found first, and the others are those after it
   pub matches_left-found : (p : ℕ) (left : Option ℕ) (m : ℕ × ℕ) → match_from meaning bytes p ≡ Some m → is_below 0 left
       ≡ true
       → matches_left meaning bytes p left ≡ m ∷ matches_left meaning bytes (position_after m)

@@ -58,10 +58,6 @@ module _ (settings : Settings) (meaning : Meaning) (bytes : List ℕ) where
   abbrev pub search_turns : List Planned
   search_turns = (search_calls settings meaning).turns bytes
 
-  -- how many lines have a turn
-  abbrev pub search_turn_count : ℕ
-  search_turn_count = (search_calls settings meaning).turn_count bytes
-
   -- the byte count if every call returns true
   abbrev pub search_byte_count : ℕ
   search_byte_count = (search_calls settings meaning).byte_count bytes

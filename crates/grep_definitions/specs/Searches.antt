@@ -214,6 +214,10 @@ abbrev pub view_in : Settings → Look → List ℕ → List ℕ
 view_in settings on_stream bytes = view_of settings bytes
 view_in settings _ bytes = bytes
 
+-- and its plan, by where binary bytes are looked for
+abbrev pub viewed_plan : Settings → Meaning → Look → List ℕ → Plan
+viewed_plan settings meaning look bytes = search_plan settings meaning (view_in settings look bytes)
+
 -- which lines of them are seen: all across lines if a byte may end the search
 abbrev pub IsSeenOf : Settings → Look → List ℕ → List ℕ → Type 0
 IsSeenOf settings (in_contents b) bytes seen = seen ≡ bytes
@@ -336,7 +340,8 @@ module _ {S E F : Type 0} (step : Steps S E) (errors : ErrorMakers F E) (matcher
       : Result (Unit {0}) E → S → Type 0 where
     ran : {result : Result (Unit {0}) E} {new : S} (point : Option BinaryPoint)
         → IsAt plan.calls point
-        → (run : IsRun step settings old (plan_with settings.binary_detection point plan) result new)
+        → (run : IsRun step settings old (plan_with settings.binary_detection point plan) result
+        new)
         → HasRead (plan_with settings.binary_detection point plan) run.outcome result
         → IsSearchOf IsAt IsAsked HasRead plan old result new
     asked : {e : E} {new : S} (haystack : List ℕ) (error : F) (calls : List Planned)
@@ -486,13 +491,6 @@ module _ {R : Type 0} (remaining : R → Option (List ℕ))
     abbrev pub settings : Settings
     settings = state.settings
 
-    -- the plan of some bytes, and of decoded bytes as they are searched
-    abbrev pub plan_of_seen : List ℕ → Plan
-    plan_of_seen seen = search_plan settings matcher.meaning seen
-
-    abbrev pub plan_of_input : List ℕ → Plan
-    plan_of_input bytes = search_plan settings matcher.meaning (view_in settings look bytes)
-
     -- where `binary_data` comes, whichever of these inputs it is, of which n first bytes were seen
     abbrev pub EachPoint : (List ℕ → Type 0) → ℕ → Points
     EachPoint IsOne n calls point =
@@ -509,13 +507,15 @@ module _ {R : Type 0} (remaining : R → Option (List ℕ))
     pub record IsSeenIn (seen bytes : List ℕ) : Type 0 where
       pub front : IsSeenOf settings look bytes seen
       pub later : List Planned
-      pub calls : (plan_of_input bytes).calls ≡ (plan_of_seen seen).calls ++ later
+      pub calls : (viewed_plan settings matcher.meaning look bytes).calls
+          ≡ (search_plan settings matcher.meaning seen).calls ++ later
 
     -- each line of an input that may be reported was seen: it has the same plan
     pub record IsAllSeen (seen bytes : List ℕ) : Type 0 where
       pub few : (selection_in settings matcher.meaning (view_in settings look bytes)
           (is_across settings matcher.meaning)).end ≤ line_count settings seen
-      pub plan : plan_of_input bytes ≡ plan_of_seen seen
+      pub plan : viewed_plan settings matcher.meaning look bytes
+          ≡ search_plan settings matcher.meaning seen
 
     -- the search of the lines that were seen, whichever input begins with what was taken
     pub record IsReaderSearch (reader : R) (old : S) (result : Result (Unit {0}) E) (reader' : R)
@@ -533,7 +533,7 @@ module _ {R : Type 0} (remaining : R → Option (List ℕ))
           × OnOk ended (is_across settings matcher.meaning ≡ false
           → HasReadLines step settings reader old reader' taken seen
           (finish_after outcome plan.finish)))
-          (plan_of_seen seen) old result new
+          (search_plan settings matcher.meaning seen) old result new
       -- across lines all was read, and it is shorter than the heap limit
       pub whole : is_across settings matcher.meaning ≡ true → (taken.ended ≡ true)
           × ((bytes : List ℕ) → IsInputOf taken settings bytes → IsBelowLimit settings bytes)

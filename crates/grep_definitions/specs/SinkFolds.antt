@@ -1,7 +1,7 @@
 -- What a sink whose steps are functions makes of a run, and what a search without binary detection
 -- comes to.
-use Rattle.std.specs.Prelude.{◌≡◌, ◌⊎◌, ℕ, Bool, true, false, if◌then◌else◌, List, [], ◌∷◌, Option, Result, length}
-use Rattle.std.specs.Prelude.{Some, None, Ok, Err}
+use Rattle.std.specs.Prelude.{◌≡◌, ◌⊎◌, ℕ, Bool, true, false, if◌then◌else◌, List, [], ◌∷◌}
+use Rattle.std.specs.Prelude.{length, Option, Result, Some, None, Ok, Err}
 use Rattle.std.specs.List.{fold}
 use Rattle.grep_decode.specs.Source.{ReadResult}
 use Rattle.grep_matcher.specs.Meanings.{IsInfallible, MatcherFacts}
@@ -10,9 +10,9 @@ use Rattle.grep_definitions.specs.Plans.{search_plan, IsLawful, refusal_of, Call
 use Rattle.grep_definitions.specs.Plans.{Finish, Planned, Plan, Steps, IsRun, Settings}
 use Rattle.grep_definitions.specs.Plans.{SearcherState}
 use Rattle.grep_definitions.specs.Plans.{IsAskedWith}
-use Rattle.grep_definitions.specs.Searches.{nowhere, IsReaderSearched, IsReaderSearch, IsCutSearch, Look, IsInputOf}
-use Rattle.grep_definitions.specs.Searches.{IsInput, searched_bytes}
-use Rattle.grep_definitions.specs.Searches.{IsSearchOf, IsPoint, view_in}
+use Rattle.grep_definitions.specs.Searches.{nowhere, IsReaderSearched, IsReaderSearch, IsCutSearch}
+use Rattle.grep_definitions.specs.Searches.{Look, IsInputOf, IsInput, searched_bytes}
+use Rattle.grep_definitions.specs.Searches.{IsSearchOf, IsPoint, view_in, viewed_plan}
 use Rattle.grep_report.specs.ErrorMakers.{ErrorMakers}
 use Rattle.grep_definitions.specs.SliceSearches.{is_searched_unchanged, IsSliceRead}
 use Rattle.grep_definitions.specs.SliceSearches.{IsSliceSearched}
@@ -170,8 +170,7 @@ module _ {S E F : Type 0} (step : Steps S E) (errors : ErrorMakers F E) (matcher
       (IsPoint state.settings matcher.meaning bytes look (length read.seen))
       (IsAskedWith state.settings matcher.meaning (view_in state.settings look bytes))
       (λ plan outcome ended. Unit {0})
-      (search_plan state.settings matcher.meaning (view_in state.settings look bytes))
-      old result new
+      (viewed_plan state.settings matcher.meaning look bytes) old result new
 
   -- without binary detection, a search of a reader that says which bytes remain, with a lawful
   -- matcher, if it ended in `Ok`, is a run along the plan of its decoded bytes

@@ -75,7 +75,7 @@ module _ (t : ℕ) where
   lines-first (b ∷ bytes) (suc (suc e)) h = lines-inner t b bytes (h.inner 0 (omega arith))
       ∙ ap (onto_first b) (lines-first bytes (suc e) (IsFirstLine-tail b bytes e h))
 
-  -- the same of two parts
+  -- the lines of a first line and of the rest, if these two parts are named
   pub lines-parts : (bytes line rest : List ℕ) (e : ℕ) → IsFirstLine t bytes e → line ≡ take e bytes → rest
       ≡ drop e bytes
       → lines t bytes ≡ line ∷ lines t rest

@@ -1,8 +1,8 @@
--- What the matcher of a literal finds from positions on are first matches. This is the proof of a law
--- of `FindAt`, which may cite `specs` alone.
+-- What the matcher of a literal finds from positions on are first matches. This is the proof of a
+-- law of `FindAt`, which may cite `specs` alone.
 use Rattle.std.proofs.Common.{◌≡◌, ◌⊎◌, inl, inr, ℕ, zero, suc, ◌+◌, ◌-◌, ◌<◌, ◌≤◌, List, drop}
-use Rattle.std.proofs.Common.{length, slice_index, Option, Some, None, sym, ◌∙◌, ap, ap₂, subst, refl}
-use Rattle.std.proofs.Common.{arith, ⊎_elim, zero-add, length-drop}
+use Rattle.std.proofs.Common.{length, slice_index, Option, Some, None, sym, ◌∙◌, ap, ap₂, subst}
+use Rattle.std.proofs.Common.{refl, arith, ⊎_elim, zero-add, length-drop}
 use Rattle.std.proofs.lemmas.Bool.{cases_Bool, cases_lt, false≢true}
 use Rattle.std.proofs.lemmas.List.{get_or-drop}
 use Rattle.std.specs.Option.{option_map}
@@ -55,14 +55,19 @@ module _ (hay literal : List ℕ) where
       (λ none. ⊎_elim
       (λ does. inr (
         n,
-        record { low = omega arith; high = omega arith; before = λ j low high occurs. none j high occurs },
+        record {
+          low = omega arith;
+          high = omega arith;
+          before = λ j low high occurs. none j high occurs;
+        },
         OccursAt-true hay literal n does,
       ))
       (λ doesnt. inl (λ k below occurs. ⊎_elim
       (λ (sooner : k < n). none k sooner occurs)
       (λ (here : n ≤ k).
       let same : k ≡ n = omega arith in
-      false≢true (sym doesnt ∙ occurs_at-true hay literal n (subst (OccursAt hay literal) same occurs)))
+      false≢true
+      (sym doesnt ∙ occurs_at-true hay literal n (subst (OccursAt hay literal) same occurs)))
       (cases_lt k n)))
       (cases_Bool (occurs_at hay literal n)))
       (λ found. inr (
@@ -73,7 +78,8 @@ module _ (hay literal : List ℕ) where
       (first-below n)
 
   -- it occurs nowhere, or there is a first occurrence
-  pub found-or-none : FindsNeedle hay literal 0 None ⊎ ((k : ℕ) × FindsNeedle hay literal 0 (Some k))
+  pub found-or-none :
+      FindsNeedle hay literal 0 None ⊎ ((k : ℕ) × FindsNeedle hay literal 0 (Some k))
   found-or-none = ⊎_elim
       (λ none. inl (λ k low high occurs. none k high occurs))
       (λ found. inr (found.0, (found.1, found.2)))
@@ -94,7 +100,8 @@ module _ (literal hay : List ℕ) where
 
   first-some : (start k : ℕ) → FindsNeedle (drop start hay) literal 0 (Some k)
       → first_at start ≡ Some (start + k, start + (k + length literal))
-  first-some start k found = ap (match_from start) (sym (match-found (drop start hay) literal k found))
+  first-some start k found =
+      ap (match_from start) (sym (match-found (drop start hay) literal k found))
 
   first-within : (start : ℕ) → start ≤ length hay → IsFrom start hay (first_at start)
   first-within start fits = ⊎_elim
@@ -139,14 +146,16 @@ module _ (literal hay : List ℕ) where
             some.1.0.before (later - start + j) (omega arith) (omega arith) (outer j occurs);
       } in
       let begins : later + (some.0 - (later - start)) ≡ start + some.0 = omega arith in
-      let ends : later + (some.0 - (later - start) + length literal) ≡ start + (some.0 + length literal)
+      let ends :
+      later + (some.0 - (later - start) + length literal) ≡ start + (some.0 + length literal)
       = omega arith in
       let pair : ℕ → ℕ → Option (ℕ × ℕ) = λ a b. Some (a, b) in
       first-some later (some.0 - (later - start)) (first, inner)
       ∙ (ap₂ pair begins ends ∙ sym (first-some start some.0 some.1)))
       (found-or-none (drop start hay) literal)
     where
-      outer : (k : ℕ) → OccursAt (drop later hay) literal k → OccursAt (drop start hay) literal (later - start + k)
+      outer : (k : ℕ) → OccursAt (drop later hay) literal k
+          → OccursAt (drop start hay) literal (later - start + k)
       outer k occurs = OccursAt-outer (drop start hay) (drop later hay) literal (later - start) k
           (later-part start later ordered fits) occurs
 

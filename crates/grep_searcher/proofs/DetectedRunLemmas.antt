@@ -11,7 +11,7 @@ use Rattle.grep_report.specs.declared.binary_detection.BinaryDetection.TheVarian
 use Rattle.grep_definitions.specs.Plans.{IsAskedWith, Outcome, Plan, Planned, Settings, SearcherState, Steps}
 use Rattle.grep_definitions.specs.Plans.{is_across, refusal_of, search_plan}
 use Rattle.grep_definitions.specs.Searches.{IsPoint, IsRead, IsSearchOf, IsUnlessRefusedBy, Look, asked, look_at}
-use Rattle.grep_definitions.specs.Searches.{look_of, plan_with, ran, searched_bytes, view_in}
+use Rattle.grep_definitions.specs.Searches.{look_of, plan_with, ran, searched_bytes, view_in, viewed_plan}
 use Rattle.grep_definitions.specs.SinkFolds.{FailsAtStep}
 use Rattle.grep_definitions.specs.SliceSearches.{IsSliceRead, IsSliceSearch, IsSliceSearchedIf}
 use Rattle.grep_definitions.proofs.KnownReaderLemmas.{taken-input}
@@ -20,7 +20,6 @@ use Rattle.grep_definitions.proofs.SinkFoldLemmas.{made-fails, not-refused}
 use Rattle.grep_searcher.specs.DetectedRuns.{DecodedSlicesFailWith, DecodedSlicesRunWith, IsKnownRunWith}
 use Rattle.grep_searcher.specs.DetectedRuns.{IsReaderRunWith, IsRunWith, KnownReadersFailWith, KnownReadersRunWith}
 use Rattle.grep_searcher.specs.DetectedRuns.{ReadersFailWith, ReadersRunWith, SlicesFailWith, SlicesRunWith}
-use Rattle.grep_searcher.specs.DetectedRuns.{viewed_plan}
 
 module _ {S E F : Type 0} (step : Steps S E) (errors : ErrorMakers F E) (matcher : MatcherFacts F) where
   -- a search of what is seen of some bytes is a run, if it ended in `Ok` or the matcher never fails

@@ -3,21 +3,15 @@
 use Rattle.std.specs.Prelude.{◌≡◌, ◌⊎◌, ℕ, true, false, List, length, Option, Some, Result}
 use Rattle.std.specs.Prelude.{Ok, Err}
 use Rattle.grep_decode.specs.Source.{ReadResult}
-use Rattle.grep_matcher.specs.Meanings.{MatcherFacts, Meaning}
+use Rattle.grep_matcher.specs.Meanings.{MatcherFacts}
 use Rattle.grep_report.specs.ErrorMakers.{ErrorMakers}
-use Rattle.grep_definitions.specs.Plans.{IsLawful, IsRun, Plan, Settings, SearcherState, Steps}
-use Rattle.grep_definitions.specs.Plans.{search_plan}
+use Rattle.grep_definitions.specs.Plans.{IsLawful, IsRun, Settings, SearcherState, Steps}
 use Rattle.grep_definitions.specs.Searches.{BinaryPoint, IsCutSearch, IsInput, IsPoint}
 use Rattle.grep_definitions.specs.Searches.{IsReaderSearch, IsReaderSearched, Look, look_of}
-use Rattle.grep_definitions.specs.Searches.{plan_with, searched_bytes, view_in}
+use Rattle.grep_definitions.specs.Searches.{plan_with, searched_bytes, viewed_plan}
 use Rattle.grep_definitions.specs.SliceSearches.{IsSliceRead, IsSliceSearched}
 use Rattle.grep_definitions.specs.SliceSearches.{is_searched_unchanged}
 use Rattle.grep_searcher.specs.SearchFailures.{IsFaultless}
-
--- the plan of what is searched of some decoded bytes, by where binary bytes are looked for
-abbrev pub viewed_plan : Settings → Meaning → Look → List ℕ → Plan
-viewed_plan settings meaning look bytes =
-    search_plan settings meaning (view_in settings look bytes)
 
 module _ {S E F : Type 0} (step : Steps S E) (errors : ErrorMakers F E)
     (matcher : MatcherFacts F) where

@@ -29,7 +29,8 @@ ghost use Rattle.grep_searcher.specs.Units.{FirstMatchIsFirstUnit, MatchesAreUni
 ghost use Rattle.grep_searcher.specs.Units.{MatchesAreWithinCount, UnitsAreCounted};
 ghost use Rattle.grep_definitions.specs.FileSearches.{IsFileRead};
 ghost use Rattle.grep_definitions.specs.SinkFolds.{RunsFold, RunsFoldAll, RunsFoldMatches};
-ghost use Rattle.grep_definitions.specs.SinkFolds.{SearchesRun, InputsAreSearched, ReaderSearchesRun, SearchesFail};
+ghost use Rattle.grep_definitions.specs.SinkFolds.{SearchesRun, InputsAreSearched};
+ghost use Rattle.grep_definitions.specs.SinkFolds.{ReaderSearchesRun, SearchesFail};
 ghost use Rattle.grep_definitions.specs.SinkFolds.{ReaderSearchesFail, KnownReadersRun};
 ghost use Rattle.grep_report.specs.ErrorMakers.{makers_of};
 
@@ -250,9 +251,10 @@ where
         R.remaining R.step }
 {}
 
-/// The search of the lines that were seen of a reader is one of each input that begins with what was
-/// taken: it made the calls of that input's plan, under binary detection too, and also if it ended
-/// in an error of the sink's or of the matcher's. Pass the sink, since a closure's type has no name.
+/// The search of the lines that were seen of a reader is one of each input that begins with what
+/// was taken: it made the calls of that input's plan, under binary detection too, and also if it
+/// ended in an error of the sink's or of the matcher's. Pass the sink, since a closure's type has
+/// no name.
 pub fn inputs_are_searched<A: Allocator + Copy, M: Matcher, R: Source, S: Sink>(_: &S)
 where
     S::Error: SinkError<A>,
@@ -337,9 +339,11 @@ where
         (makers_of M.Error.output S.Error.makers) (M.facts matcher) }
 {}
 
-/// So is a search of a reader, for each input that begins with what was taken; and for the decoded
-/// bytes of all that remained, if the reader says which bytes these are. How many first bytes were
-/// seen when `binary_data` came depends on how the reader cuts its input.
+/// Under any binary detection, a search of a reader with a lawful matcher that ended in `Ok` is a
+/// run along the plan of what is searched, with `binary_data` where it comes, for each input that
+/// begins with what was taken; and for the decoded bytes of all that remained, if the reader says
+/// which bytes these are. How many first bytes were seen when `binary_data` came depends on how the
+/// reader cuts its input. Pass the sink, since a closure's type has no name.
 pub fn detected_readers_run<A: Allocator + Copy, M: Matcher, R: Source, S: Sink>(_: &S)
 where
     S::Error: SinkError<A>,
@@ -349,8 +353,10 @@ where
         (makers_of M.Error.output S.Error.makers) (M.facts matcher) R.remaining R.step }
 {}
 
-/// What `detected_readers_run` says of a reader that says which bytes remain, of such a file. After
-/// `search_path` it is one that was opened.
+/// Under any binary detection, a search of a file that says which bytes remain, with a lawful
+/// matcher, that ended in `Ok` is a run along the plan of what is searched of the decoded bytes of
+/// all that remained, with `binary_data` where it comes. After `search_path` such a file is one
+/// that was opened. Pass the sink, since a closure's type has no name.
 pub fn detected_files_run<A: Allocator + Copy, M: Matcher, F: Read, S: Sink>(_: &S)
 where
     S::Error: SinkError<A>,
@@ -360,10 +366,10 @@ where
 {}
 
 /// Under any binary detection, if the matcher never fails and is lawful, and the search isn't
-/// refused, a search of a slice that ended in an error is a run along that plan too, in which a
-/// step of the sink failed; or the slice has to be decoded, and not all of it was: after the calls
-/// for the lines that were seen, with `binary_data` where it comes. Pass the sink, since a
-/// closure's type has no name.
+/// refused, a search of a slice that ended in an error is a run along the plan of what is searched,
+/// in which a step of the sink failed; or the slice has to be decoded, and not all of it was: after
+/// the calls for the lines that were seen, with `binary_data` where it comes. Pass the sink, since
+/// a closure's type has no name.
 pub fn detected_searches_fail<A: Allocator + Copy, M: Matcher, S: Sink>(_: &S)
 where
     S::Error: SinkError<A>,
@@ -373,7 +379,12 @@ where
         (makers_of M.Error.output S.Error.makers) (M.facts matcher) }
 {}
 
-/// So is a search of a reader, or its error is one of reading.
+/// Under any binary detection, if the matcher never fails and is lawful, and the search isn't
+/// refused, a search of a reader that ended in an error is a run along the plan of what is
+/// searched, in which a step of the sink failed, for each input that begins with what was taken,
+/// and for the decoded bytes of all that remained, if the reader says which bytes these are; or
+/// reading ended before the search did, after the calls for the lines that were seen or before
+/// `begin`. Pass the sink, since a closure's type has no name.
 pub fn detected_readers_fail<A: Allocator + Copy, M: Matcher, R: Source, S: Sink>(_: &S)
 where
     S::Error: SinkError<A>,
@@ -383,7 +394,11 @@ where
         (makers_of M.Error.output S.Error.makers) (M.facts matcher) R.remaining R.step }
 {}
 
-/// What `detected_readers_fail` says of a reader that says which bytes remain, of such a file.
+/// Under any binary detection, if the matcher never fails and is lawful, and the search isn't
+/// refused, a search of a file that says which bytes remain, and that ended in an error, is a run
+/// along the plan of what is searched of the decoded bytes of all that remained, in which a step of
+/// the sink failed; or reading ended before the search did, after the calls for the lines that were
+/// seen or before `begin`. Pass the sink, since a closure's type has no name.
 pub fn detected_files_fail<A: Allocator + Copy, M: Matcher, F: Read, S: Sink>(_: &S)
 where
     S::Error: SinkError<A>,

@@ -92,7 +92,7 @@ module _ (k : Settings) (bytes : List ℕ) (v i end : ℕ) where
         (AreMade-ended step k (joined_from at_line first ((q - first) + 1))
         (joined_from at_line (first + ((q - first) + 1)) (i - (q + 1))) old outcome new over through)
 
--- the same of a line of a window, for the walk at `start`
+-- what the calls of the lines before come to after a line of a window, for the walk at `start`
 module _ (k : Settings) (gone window input : List ℕ) (w : Walk) (start : ℕ)
     (inside : IsInWindow k gone window input start w)
     (end : ℕ) {S E : Type 0} (step : Steps S E) (old mid new : S) (first q p next offset : ℕ)

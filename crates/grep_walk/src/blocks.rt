@@ -6,7 +6,8 @@ ghost use Rattle.grep_lines.specs.Positions.{IsLineStart};
 ghost use Rattle.grep_matcher.specs.Lines.{byte_of};
 ghost use Rattle.grep_definitions.specs.Plans.{IsAskedAfter, IsAskedAt, is_below};
 ghost use Rattle.grep_definitions.specs.Plans.{position_after};
-ghost use Rattle.grep_walk.specs.TouchedUnits.{AreFound, AreLeft, IsFound, HasNoMore, IsPart, IsUnit};
+ghost use Rattle.grep_walk.specs.TouchedUnits.{AreFound, AreLeft, IsFound, HasNoMore};
+ghost use Rattle.grep_walk.specs.TouchedUnits.{IsPart, IsUnit};
 
 use crate::config::Config;
 use grep_lines::locate;
