@@ -1,52 +1,12 @@
 -- A search of a stream between two fills, after `binary_data` or without it.
-use Rattle.grep_definitions.specs.Plans.{
-  planned,
-  AreMade,
-  Planned,
-  begins,
-  binary_data,
-  Steps,
-  all_true,
-  Outcome,
-  failed,
-  joined_from,
-  Settings,
-}
-use Rattle.std.proofs.Common.{
-  ◌≡◌,
-  ℕ,
-  ◌+◌,
-  ◌<◌,
-  ◌≤◌,
-  Bool,
-  true,
-  false,
-  List,
-  [],
-  ◌++◌,
-  ◌∷◌,
-  length,
-  take,
-  drop,
-  Option,
-  Some,
-  None,
-  Ok,
-  Err,
-  inl,
-  inr,
-  refl,
-  sym,
-  ◌∙◌,
-  ap,
-  subst,
-  arith,
-  append_assoc,
-  length-append,
-  is_some,
-  append-nil,
-  ⊎_elim,
-}
+use Rattle.grep_definitions.specs.Plans.{line_plan, reports_end, selected_lines, planned, AreMade}
+use Rattle.grep_definitions.specs.Plans.{Planned, begins, binary_data, Steps, all_true, Outcome}
+use Rattle.grep_definitions.specs.Plans.{failed, joined_from, Settings}
+use Rattle.grep_definitions.specs.Plans
+use Rattle.std.proofs.Common.{◌≡◌, ℕ, ◌+◌, ◌<◌, ◌≤◌, Bool, true, false, List, [], ◌++◌, ◌∷◌, length}
+use Rattle.std.proofs.Common.{take, drop, Option, Some, None, Ok, Err, inl, inr, refl, sym, ◌∙◌, ap}
+use Rattle.std.proofs.Common.{subst, arith, append_assoc, length-append, is_some, append-nil}
+use Rattle.std.proofs.Common.{⊎_elim}
 use Rattle.std.proofs.lemmas.Bool.{cases_lt, false≢true}
 use Rattle.std.specs.Prelude.{◌&&◌}
 use Rattle.std.specs.declared.io.Error.{Error}
@@ -56,36 +16,21 @@ use Rattle.grep_line_buffer.specs.BufferStates.{BufferState, held_bytes, is_cut}
 use Rattle.grep_line_buffer.specs.Detections.{detected_bytes, found_in, is_quit}
 use Rattle.grep_matcher.specs.Lines.{lines, byte_of}
 use Rattle.grep_matcher.specs.Meanings.{Meaning, MatcherFacts}
-use Rattle.grep_definitions.specs.Searches.{
-  binary_of,
-  on_stream,
-  view_of,
-  quits,
-  IsCutAt,
-  IsCutSearch,
-  IsReaderSearch,
-  IsInput,
-  IsClosed,
-  IsFront,
-  reports_nothing,
-}
+use Rattle.grep_definitions.specs.Searches.{binary_of, on_stream, view_of, quits, IsCutAt}
+use Rattle.grep_definitions.specs.Searches.{IsCutSearch, IsReaderSearch, IsInput, IsClosed, IsFront}
+use Rattle.grep_definitions.specs.Searches.{reports_nothing}
 use Rattle.grep_definitions.specs.Searches
-use Rattle.grep_definitions.specs.LineSearch
-use Rattle.grep_definitions.specs.LineSearch.{turns, turns_before}
 use Rattle.grep_report.specs.ErrorMakers.{ErrorMakers}
-use Rattle.grep_definitions.proofs.SearchLawLemmas.{turn_count-le}
+use Rattle.grep_definitions.proofs.SearchLawLemmas.{reports_end-le}
 use Rattle.grep_walk.specs.declared.walk.Walk.{Walk}
 use Rattle.grep_core.specs.BinaryCalls.{FailsAtBinary, PassesBinary, Noted}
-use Rattle.grep_core.specs.Rolls.{HasEnded, HasMovedOn, HasSeen, HasPassedByte, IsReadingOn, IsReady, IsRolling, IsStreamCounted, IsStartAt, start_in, not_passed, was_passed}
+use Rattle.grep_core.specs.Rolls.{HasEnded, HasMovedOn, HasSeen, HasPassedByte, IsReadingOn}
+use Rattle.grep_core.specs.Rolls.{IsReady, IsRolling, IsStreamCounted, IsStartAt, start_in}
+use Rattle.grep_core.specs.Rolls.{not_passed, was_passed}
 use Rattle.grep_core.specs.SearchBuffers.{detection_of}
 use Rattle.grep_core.proofs.ReadingLemmas as reading
 use Rattle.grep_core.proofs.ReadingLemmas.{HasFilled, IsHeld, IsStream}
-use Rattle.grep_core.proofs.StreamSearchLemmas.{
-  goes-false,
-  goes-true,
-  noted-passed,
-  uncut-passed,
-}
+use Rattle.grep_core.proofs.StreamSearchLemmas.{goes-false, goes-true, noted-passed, uncut-passed}
 use Rattle.grep_core.proofs.StreamSearchLemmas as quitting
 use Rattle.grep_core.proofs.RollingLemmas as rolls
 use Rattle.grep_core.proofs.StreamViewLemmas.{as-found}
@@ -150,18 +95,18 @@ module _ {R : Type 0} {remaining : R → Option (List ℕ)} {read_step : R → R
     seen-length = omega (arith, so_far.between.at, length-append so_far.gone old.shown)
 
     -- the calls so far are those for the lines that were seen
-    reported-so_far : AreMadeFrom step k on.start (turns k meaning seen) all_true sink.sink
+    reported-so_far : AreMadeFrom step k on.start (line_plan k meaning seen).calls all_true sink.sink
     reported-so_far = (rolls.counted-seen so_far.between).reported
 
     -- without `binary_data` they are calls from the first state on
-    plain-so_far : sink.binary ≡ None → AreMade step k first (turns k meaning seen) all_true sink.sink
+    plain-so_far : sink.binary ≡ None → AreMade step k first (line_plan k meaning seen).calls all_true sink.sink
     plain-so_far unknown =
         go (subst (IsStartAt step k meaning so_far.given w.offset first on.start) unknown on.passed)
       where
         go : IsStartAt step k meaning so_far.given w.offset first on.start None
-            → AreMade step k first (turns k meaning seen) all_true sink.sink
+            → AreMade step k first (line_plan k meaning seen).calls all_true sink.sink
         go (not_passed same) = fresh-made step k first _ _ _
-            (subst (λ (start : Origin S). AreMadeFrom step k start (turns k meaning seen) all_true sink.sink) same
+            (subst (λ (start : Origin S). AreMadeFrom step k start (line_plan k meaning seen).calls all_true sink.sink) same
             reported-so_far)
 
     -- the lines that were seen are at the front of every input that begins with what was given, and hold no binary byte
@@ -246,7 +191,7 @@ module _ {R : Type 0} {remaining : R → Option (List ℕ)} {read_step : R → R
       found-is : found_in (detection_of k.binary_detection) (byte_of k.line_terminator) raw ≡ Some offset
       found-is = sym (reading.found-there held-now) ∙ is
 
-      made-so_far : AreMade step k first (turns k meaning seen-then) all_true sink.sink
+      made-so_far : AreMade step k first (line_plan k meaning seen-then).calls all_true sink.sink
       made-so_far = plain-so_far on fill.fitting.terminator known unknown
 
       -- the byte is at an offset that the buffer has room for
@@ -319,7 +264,7 @@ module _ {R : Type 0} {remaining : R → Option (List ℕ)} {read_step : R → R
 
       -- `binary_data` returned true, and the search goes on from then
       passed-here : {next : S} → step sink.sink k (binary_data offset) (Ok true) next → quits k.binary_detection ≡ false
-          → HasPassedByte step k meaning raw w.offset first offset (record { before = turns k meaning seen-then; state = next })
+          → HasPassedByte step k meaning raw w.offset first offset (record { before = (line_plan k meaning seen-then).calls; state = next })
       passed-here called goes_on = record {
         seen = seen-then;
         mid = sink.sink;
@@ -384,27 +329,27 @@ module _ {R : Type 0} {remaining : R → Option (List ℕ)} {read_step : R → R
     -- the walk goes on from the state after `binary_data`, before which the calls for these lines were made
     module _ (sink' : S) where
       abbrev start-passed : Origin S
-      start-passed = record { before = turns k meaning seen-then; state = sink' }
+      start-passed = record { before = (line_plan k meaning seen-then).calls; state = sink' }
 
-      skip-all : (calls : List Planned) → calls ≡ turns k meaning seen-then
+      skip-all : (calls : List Planned) → calls ≡ (line_plan k meaning seen-then).calls
           → AreMadeFrom step k start-passed calls all_true sink'
       skip-all calls all = record {
         later = [];
-        all = all ∙ sym (append-nil (turns k meaning seen-then));
+        all = all ∙ sym (append-nil (line_plan k meaning seen-then).calls);
         made = (refl, refl);
       }
 
       no-calls : (lines_seen : List ℕ) → lines_seen ≡ []
-          → turns k meaning lines_seen ≡ planned begins 0 ∷ []
+          → (line_plan k meaning lines_seen).calls ≡ planned begins 0 ∷ []
       no-calls lines_seen is =
-          let none_turned : LineSearch.turn_count k meaning [] ≡ 0 = omega (
+          let none_reportable : reports_end k meaning [] ≡ 0 = omega (
             arith,
-            turn_count-le k meaning [],
+            reports_end-le k meaning [],
             no-lines,
           ) in
-          ap (turns k meaning) is
-          ∙ ap (λ n. planned begins 0 ∷ joined_from (LineSearch.turns_at k meaning []) 0 n)
-          none_turned
+          ap (λ xs. (line_plan k meaning xs).calls) is
+          ∙ ap (λ n. planned begins 0 ∷ joined_from (Plans.calls_at k [] (selected_lines k meaning [])) 0 n)
+          none_reportable
         where
           no-lines : length (lines (byte_of k.line_terminator) []) ≡ 0
           no-lines = refl
@@ -529,7 +474,7 @@ module _ {R : Type 0} {remaining : R → Option (List ℕ)} {read_step : R → R
             (sym there.known) (passed-further low there.passed);
       }
 
-    -- no line may have a turn: the search ends once the first bytes are read
+    -- no line may be reported: the search ends once the first bytes are read
     pub counted-idle : reports_nothing k ≡ true → IsStreamCounted step k meaning remaining read_step reader first
         (record { count = w.offset; binary = sink.binary }) r' sink.sink
     counted-idle idle =

@@ -5,89 +5,35 @@ use Rattle.grep_decode.specs.DecoderStates.{DecoderState, Decodes, IsDone, IsWai
 use Rattle.grep_decode.specs.Source.{ReadResult}
 use Rattle.grep_definitions.proofs.FrontLemmas.{front-whole}
 use Rattle.grep_definitions.proofs.SearchModeLemmas.{look-plain, look-quit}
-use Rattle.grep_definitions.proofs.PlanLemmas.{plans-turns}
 use Rattle.grep_definitions.proofs.PlannedReaderLemmas.{contents-read}
 use Rattle.grep_definitions.proofs.PlannedStreamLemmas.{undetected-read}
-use Rattle.grep_definitions.proofs.PlannedSliceLemmas.{plain-fault, quit-fault, until-planned, IsSearched}
-use Rattle.grep_definitions.specs.Plans.{
-  search_plan,
-  is_across,
-  IsRun,
-  Steps,
-  Outcome,
-  finishes,
-  finish_result,
-  counted,
-  Settings,
-  SearcherState,
-}
-use Rattle.grep_definitions.specs.Searches.{
-  in_contents,
-  look_at,
-  nowhere,
-  on_stream,
-  look_of,
-  view_in,
-  IsInput,
-  CutsContents,
-  IsBelowLimit,
-  of_full,
-  of_no_memory,
-  IsPoint,
-  IsReaderSearch,
-  IsSeenOf,
-  Look,
-  ran,
-  IsRead,
-}
+use Rattle.grep_definitions.proofs.PlannedSliceLemmas.{plain-fault, quit-fault, until-planned}
+use Rattle.grep_definitions.proofs.PlannedSliceLemmas.{IsSearched}
+use Rattle.grep_definitions.specs.Plans.{is_across, Steps, Outcome, finishes, finish_result}
+use Rattle.grep_definitions.specs.Plans.{counted, Settings, SearcherState, plan_in}
+use Rattle.grep_definitions.specs.Searches.{in_contents, look_at, nowhere, on_stream, look_of}
+use Rattle.grep_definitions.specs.Searches.{view_in, IsInput, CutsContents, IsBelowLimit, of_full}
+use Rattle.grep_definitions.specs.Searches.{of_no_memory, IsPoint, IsReaderSearch, IsSeenOf, Look}
+use Rattle.grep_definitions.specs.Searches.{ran, IsRead}
 use Rattle.grep_definitions.specs.ReaderRuns.{IsUnreadIn, of_contents, of_failed_read}
-use Rattle.grep_definitions.specs.SearchTurns.{calls_across, calls_if, search_turns, search_byte_count}
 use Rattle.grep_definitions.specs.ContentsSearches.{IsFaultIn, IsSearchedAlong}
-use Rattle.grep_definitions.specs.SinkRuns.{plan_of}
 use Rattle.grep_definitions.specs.SliceSearches.{IsSliceSearch}
 use Rattle.grep_line_buffer.specs.Contents.{IsBelow, ContentsFail, FailsAfter}
 use Rattle.grep_line_buffer.specs.Fills.{IfRead, UnlessRead}
 use Rattle.grep_line_buffer.specs.declared.fill_error.FillError.{FillError}
-use Rattle.grep_line_buffer.specs.declared.fill_error.FillError.TheVariants.{Read, HeapLimit, Offset, Memory}
+use Rattle.grep_line_buffer.specs.declared.fill_error.FillError.TheVariants.{Read, HeapLimit}
+use Rattle.grep_line_buffer.specs.declared.fill_error.FillError.TheVariants.{Offset, Memory}
 use Rattle.grep_matcher.specs.Meanings.{MatcherFacts, Meaning}
 use Rattle.grep_report.specs.BinaryDetections.{quit_byte_of}
 use Rattle.grep_walk.proofs.FinishLemmas.{searched-finish}
 use Rattle.grep_walk.specs.Walks.{Counted}
 use Rattle.grep_report.specs.ErrorMakers.{ErrorMakers}
 use Rattle.grep_report.specs.declared.binary_detection.BinaryDetection.{BinaryDetection}
-use Rattle.grep_report.specs.declared.binary_detection.BinaryDetection.TheVariants.{
-  None as no_detection,
-  Quit,
-  Convert,
-}
-use Rattle.std.proofs.Common.{
-  ◌≡◌,
-  ℕ,
-  Bool,
-  true,
-  false,
-  List,
-  Some,
-  None,
-  Result,
-  Ok,
-  Err,
-  refl,
-  ap,
-  sym,
-  subst,
-  length,
-  inl,
-  Option,
-  ◌≤◌,
-  ◌∙◌,
-  not,
-  [],
-  ◌++◌,
-  arith,
-  append-nil,
-  length-append,
-}
+use Rattle.grep_report.specs.declared.binary_detection.BinaryDetection.TheVariants.{None as no_detection}
+use Rattle.grep_report.specs.declared.binary_detection.BinaryDetection.TheVariants.{Quit, Convert}
+use Rattle.std.proofs.Common.{◌≡◌, ℕ, Bool, true, false, List, Some, None, Result, Ok, Err, refl}
+use Rattle.std.proofs.Common.{ap, sym, subst, length, inl, Option, ◌≤◌, ◌∙◌, not, [], ◌++◌, arith}
+use Rattle.std.proofs.Common.{append-nil, length-append}
 use Rattle.std.specs.declared.io.Error.{Error}
 use Rattle.grep_core.proofs.ReadingLemmas as reading
 
@@ -95,26 +41,19 @@ use Rattle.grep_core.proofs.ReadingLemmas as reading
 module _ {S E F : Type 0} (step : Steps S E) (errors : ErrorMakers F E) (matcher : MatcherFacts F) (k : Settings)
     (bytes : List ℕ)
     (old : S) where
-  along : {result : Result (Unit {0}) E} {new : S}
-      → IsRun step k old (plan_of (search_turns k matcher.meaning bytes) (search_byte_count k matcher.meaning bytes))
-      result new
-      → IsRun step k old (search_plan k matcher.meaning bytes) result new
-  along {result} {new} run =
-      rw (plans-turns k matcher.meaning bytes) run
-
   pub searched-at : (b : ℕ) → quit_byte_of k.binary_detection ≡ Some b → {across : Bool} → across
       ≡ is_across k matcher.meaning
       → (result : Result (Unit {0}) E) (new : S)
-      → IsSearchedUntil step errors matcher (calls_if k matcher.meaning across) b k bytes old result new
+      → IsSearchedUntil step errors matcher across b k bytes old result new
       → IsBytesSearched step errors matcher (look_at k.binary_detection false) k bytes old result new
   searched-at b is mode result new searched =
       subst (λ look. IsBytesSearched step errors matcher look k bytes old result new)
       (sym (look-quit _ b is))
-      (go result (subst (λ m. IsSearchedUntil step errors matcher (calls_if k matcher.meaning m) b k bytes old result
+      (go result (subst (λ m. IsSearchedUntil step errors matcher m b k bytes old result
       new) mode searched))
     where
       go : (result : Result (Unit {0}) E)
-          → IsSearchedUntil step errors matcher (calls_if k matcher.meaning (is_across k matcher.meaning)) b k bytes old
+          → IsSearchedUntil step errors matcher (is_across k matcher.meaning) b k bytes old
           result new
           → IsBytesSearched step errors matcher (in_contents b) k bytes old result new
       go (Ok u) run = run
@@ -130,11 +69,11 @@ module _ {S E F : Type 0} (step : Steps S E) (errors : ErrorMakers F E) (matcher
           → IsBytesSearched step errors matcher (look_at d false) k bytes old result new
           → IsSearched step errors matcher k bytes old
           (IsPoint k matcher.meaning bytes (look_at d false) (length bytes)) result new
-      go no_detection is (Ok u) run = ran None refl (along run) tt
+      go no_detection is (Ok u) run = ran None refl run tt
       go no_detection is (Err e) fault = plain-fault step errors matcher k bytes old _ (λ calls. refl) e new fault
       go (Quit b) is (Ok u) run = until-planned step errors matcher k bytes old b is (length bytes) (Ok u) new run
       go (Quit b) is (Err e) fault = quit-fault step errors matcher k bytes old b is (length bytes) e new fault
-      go (Convert b) is (Ok u) run = ran None refl (along run) tt
+      go (Convert b) is (Ok u) run = ran None refl run tt
       go (Convert b) is (Err e) fault = plain-fault step errors matcher k bytes old _ (λ calls. refl) e new fault
 
 module _ {R : Type 0} (remaining : R → Option (List ℕ)) (read_step : R → ReadResult → R → Type 0)
@@ -265,17 +204,17 @@ module _ {R : Type 0} {remaining : R → Option (List ℕ)} {read_step : R → R
 module _ {S E F : Type 0} (step : Steps S E) (errors : ErrorMakers F E) (matcher : MatcherFacts F) (k : Settings)
     (bytes : List ℕ) (old : S) (across : is_across k matcher.meaning ≡ true) where
   pub finished-across : {count : ℕ} {outcome : Outcome E} {mid : S} (result : Result (Unit {0}) E) {new : S}
-      → Counted step k old ((calls_across k matcher.meaning).turns bytes) ((calls_across k matcher.meaning).byte_count bytes)
+      → Counted step k old (plan_in k matcher.meaning bytes true).calls (plan_in k matcher.meaning bytes true).finish.count
       count outcome mid
       → step mid k (finishes count None) (finish_result result) new
       → IsSearchedAlong step errors matcher k bytes old result new
   finished-across {count} {outcome} {mid} result {new} counted finish =
       searched-finish step errors matcher k bytes old count outcome mid result new
-      (subst (λ m. Counted step k old ((calls_if k matcher.meaning m).turns bytes)
-      ((calls_if k matcher.meaning m).byte_count bytes) count outcome mid) (sym across) counted)
+      (subst (λ m. Counted step k old (plan_in k matcher.meaning bytes m).calls
+      (plan_in k matcher.meaning bytes m).finish.count count outcome mid) (sym across) counted)
       finish
 
-  pub failed-across : {e : E} {new : S} → IsFaultIn step errors matcher (calls_across k matcher.meaning) k bytes old e new
+  pub failed-across : {e : E} {new : S} → IsFaultIn step errors matcher true k bytes old e new
       → IsSearchedAlong step errors matcher k bytes old (Err e) new
   failed-across {e} {new} fault =
-      subst (λ m. IsFaultIn step errors matcher (calls_if k matcher.meaning m) k bytes old e new) (sym across) fault
+      subst (λ m. IsFaultIn step errors matcher m k bytes old e new) (sym across) fault

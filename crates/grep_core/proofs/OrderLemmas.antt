@@ -1,29 +1,7 @@
 -- Calls in order of a sink that passes them on: one to which the first binary byte is noted, and one that looks for a
 -- byte in each report.
-use Rattle.std.proofs.Common.{
-  ◌≡◌,
-  ℕ,
-  Bool,
-  true,
-  false,
-  Option,
-  Some,
-  None,
-  length,
-  List,
-  [],
-  refl,
-  sym,
-  ap,
-  subst,
-  ◌∙◌,
-  inl,
-  inr,
-  ◌+◌,
-  ◌∷◌,
-  ◌≤◌,
-  arith,
-}
+use Rattle.std.proofs.Common.{◌≡◌, ℕ, Bool, true, false, Option, Some, None, length, List, [], refl}
+use Rattle.std.proofs.Common.{sym, ap, subst, ◌∙◌, inl, inr, ◌+◌, ◌∷◌, ◌≤◌, arith}
 use Rattle.std.specs.Prelude.{Result, Ok, Err, ◌&&◌}
 use Rattle.grep_core.proofs.StreamViewLemmas.{undetected}
 use Rattle.std.specs.Option.{option_map}
@@ -33,37 +11,15 @@ use Rattle.std.proofs.lemmas.List.Elements.{All-nil, All-cons}
 use Rattle.std.specs.declared.io.Error.{Error}
 use Rattle.grep_decode.specs.DecoderStates.{Calls, DecoderState, Decodes}
 use Rattle.grep_decode.specs.Source.{ReadResult}
-use Rattle.grep_definitions.specs.Searches.{
-  is_detecting,
-  planned_binary,
-  IsReadingError,
-  IsInOrder,
-  ran_in_order,
-  comes_between,
-}
+use Rattle.grep_definitions.specs.Searches.{is_detecting, planned_binary, IsReadingError, IsInOrder}
+use Rattle.grep_definitions.specs.Searches.{ran_in_order, comes_between}
 use Rattle.grep_definitions.specs.CallOrder.{HasCalled, HasCalledTo}
 use Rattle.grep_definitions.specs.ReaderRuns.{HasFailedRead}
 use Rattle.grep_report.specs.ErrorMakers.{ErrorMakers}
 use Rattle.grep_matcher.specs.Meanings.{MatcherFacts}
-use Rattle.grep_definitions.specs.Plans.{
-  Settings,
-  Call,
-  begins,
-  matches,
-  context,
-  breaks,
-  binary_data,
-  finishes,
-  Steps,
-  all_true,
-  stopped,
-  failed,
-  IsRun,
-  Planned,
-  counted,
-  planned,
-  is_binary_data,
-}
+use Rattle.grep_definitions.specs.Plans.{Settings, Call, begins, matches, context, breaks}
+use Rattle.grep_definitions.specs.Plans.{binary_data, finishes, Steps, all_true, stopped, failed}
+use Rattle.grep_definitions.specs.Plans.{IsRun, Planned, counted, planned, is_binary_data}
 use Rattle.grep_definitions.specs.SinkRuns.{outcome_of}
 use Rattle.grep_definitions.proofs.CallOrderLemmas as order
 use Rattle.grep_core.specs.declared.quitting.Quitting.{Quitting}
@@ -73,8 +29,10 @@ use Rattle.grep_line_buffer.specs.BufferStates.{BufferState, held_bytes}
 use Rattle.grep_line_buffer.specs.Detections.{first_of, found_in}
 use Rattle.grep_report.specs.declared.binary_detection.BinaryDetection.{BinaryDetection}
 use Rattle.grep_line_buffer.specs.declared.fill_error.FillError.{FillError}
-use Rattle.grep_line_buffer.specs.declared.fill_error.FillError.TheVariants.{Read, HeapLimit, Offset, Memory}
-use Rattle.grep_core.specs.QuittingSinks.{IsLookedAt, IsMadeAfter, Quits, count_to, end_result, watch_of, first_quit}
+use Rattle.grep_line_buffer.specs.declared.fill_error.FillError.TheVariants.{Read, HeapLimit}
+use Rattle.grep_line_buffer.specs.declared.fill_error.FillError.TheVariants.{Offset, Memory}
+use Rattle.grep_core.specs.QuittingSinks.{IsLookedAt, IsMadeAfter, Quits, count_to, end_result}
+use Rattle.grep_core.specs.QuittingSinks.{watch_of, first_quit}
 
 -- a fill finds no byte if none is looked for
 pub clear-filled : (d : BinaryDetection) (old new : BufferState) (given : List ℕ)

@@ -1,69 +1,24 @@
 -- A search of whole contents that ends at a byte, by a sink that looks for it in each report: the calls that it makes of
 -- the sink that it has.
 use Rattle.grep_core.specs.InputSearches.{IsSearchedUntil}
-use Rattle.grep_core.specs.QuittingSinks.{
-  Watch,
-  IsQuittingStep,
-  end_result,
-  IsLookedAt,
-  IsMadeAfter,
-  count_to,
-  Quits,
-  watch_of,
-  first_quit,
-}
+use Rattle.grep_core.specs.QuittingSinks.{Watch, IsQuittingStep, end_result, IsLookedAt}
+use Rattle.grep_core.specs.QuittingSinks.{IsMadeAfter, count_to, Quits, watch_of, first_quit}
 use Rattle.grep_core.specs.declared.quitting.Quitting.{Quitting}
-use Rattle.grep_definitions.proofs.BreakLemmas.{AreTurns, no_turns, report_turn, break_turn}
+use Rattle.grep_definitions.proofs.BreakLemmas.{AreReports, no_reports, plain_report, broken_report}
 use Rattle.grep_definitions.proofs.SinkRunLemmas.{AreMade-append, AreMade-ended}
-use Rattle.grep_definitions.specs.Searches.{
-  position_of,
-  call_at,
-  offset_at,
-  plan_with,
-  point_at,
-  point_unless,
-  planned_binary,
-  with_offset,
-}
+use Rattle.grep_definitions.specs.Plans.{reports_end, selected_lines, touched_lines, Call, Planned}
+use Rattle.grep_definitions.specs.Plans.{begins, matches, context, breaks, binary_data, finishes}
+use Rattle.grep_definitions.specs.Plans.{is_break, reported_bytes, reported_from, Steps, Outcome}
+use Rattle.grep_definitions.specs.Plans.{all_true, stopped, failed, AreMade, IsFinished, IsRun}
+use Rattle.grep_definitions.specs.Plans.{finish_result, Finish, counted, planned, joined_from}
+use Rattle.grep_definitions.specs.Plans.{Settings, plan_in, IsAskedIn}
+use Rattle.grep_definitions.specs.Plans
+use Rattle.grep_definitions.specs.Searches.{position_of, call_at, offset_at, plan_with, point_at}
+use Rattle.grep_definitions.specs.Searches.{point_unless, planned_binary, with_offset}
 use Rattle.grep_definitions.specs.BinaryLaws.{holds_byte, first_look}
-use Rattle.grep_definitions.specs.ContentsSearches.{
-  IsFaultIn,
-  IsQuitFault,
-  IsRunUntil,
-  of_sink,
-  of_matcher,
-  of_quit_sink,
-  of_quit_matcher,
-}
-use Rattle.grep_definitions.specs.Plans.{
-  Call,
-  Planned,
-  begins,
-  matches,
-  context,
-  breaks,
-  binary_data,
-  finishes,
-  is_break,
-  reported_bytes,
-  reported_from,
-  Steps,
-  Outcome,
-  all_true,
-  stopped,
-  failed,
-  AreMade,
-  IsFinished,
-  IsRun,
-  finish_result,
-  Finish,
-  counted,
-  planned,
-  joined_from,
-  Settings,
-}
+use Rattle.grep_definitions.specs.ContentsSearches.{IsFaultIn, IsQuitFault, IsRunUntil, of_sink}
+use Rattle.grep_definitions.specs.ContentsSearches.{of_matcher, of_quit_sink, of_quit_matcher}
 use Rattle.grep_definitions.specs.SearchLaws.{is_report}
-use Rattle.grep_definitions.specs.SearchTurns.{calls_if}
 use Rattle.grep_definitions.specs.SinkRuns.{plan_of}
 use Rattle.grep_lines.proofs.ReplaceLemmas.{position-found}
 use Rattle.grep_matcher.specs.Meanings.{Meaning, MatcherFacts}
@@ -72,47 +27,14 @@ use Rattle.grep_report.specs.declared.binary_detection.BinaryDetection.TheVarian
 use Rattle.grep_walk.proofs.FinishLemmas.{run-finish}
 use Rattle.grep_walk.specs.Walks.{Counted}
 use Rattle.memchr.specs.Find.{IsFirstByte, is_byte}
-use Rattle.std.proofs.Common.{
-  ◌≡◌,
-  ◌⊎◌,
-  ℕ,
-  zero,
-  suc,
-  ◌+◌,
-  ◌-◌,
-  ◌<◌,
-  Bool,
-  true,
-  false,
-  List,
-  [],
-  ◌∷◌,
-  ◌++◌,
-  take,
-  if◌then◌else◌,
-  ◌==◌,
-  Result,
-  Ok,
-  Err,
-  Option,
-  None,
-  Some,
-  refl,
-  sym,
-  ap,
-  ◌∙◌,
-  arith,
-  inl,
-  inr,
-  subst,
-}
+use Rattle.std.proofs.Common.{◌≡◌, ◌⊎◌, ℕ, zero, suc, ◌+◌, ◌-◌, ◌<◌, Bool, true, false, List, []}
+use Rattle.std.proofs.Common.{◌∷◌, ◌++◌, take, if◌then◌else◌, ◌==◌, Result, Ok, Err, Option, None}
+use Rattle.std.proofs.Common.{Some, refl, sym, ap, ◌∙◌, arith, inl, inr, subst}
 use Rattle.std.proofs.Math.Nat.{min_comm}
 use Rattle.std.proofs.lemmas.Bool.{le-leb}
 use Rattle.std.proofs.lemmas.List.{take_min}
 use Rattle.std.specs.List.{position, position_or_len}
 use Rattle.std.specs.Prelude.{is_some, filter, nat_le, min, length}
-use Rattle.grep_definitions.specs.AcrossLines
-use Rattle.grep_definitions.specs.LineSearch
 use Rattle.grep_line_buffer.proofs.FirstPositionLemmas as first
 use Rattle.grep_definitions.proofs.BreakLemmas as pairs
 
@@ -138,32 +60,32 @@ IsPlain (failed e) = Unit {0}
 module _ (b : ℕ) where
   -- no break of a report that holds the byte
   abbrev IsApart : Planned → List Planned → Type 0
-  IsApart turn later = (is_break turn.call ≡ false) ⊎ ((n : ℕ) → position (holds_byte b) later ≡ Some n → 0 < n)
+  IsApart call later = (is_break call.call ≡ false) ⊎ ((n : ℕ) → position (holds_byte b) later ≡ Some n → 0 < n)
 
   -- the calls before a later report that holds the byte, with one more call before them
-  before-more : (turn : Planned) (later : List Planned) (n : ℕ) → (is_break turn.call ≡ false) ⊎ (0 < n)
-      → calls_before b (turn ∷ later) (suc n) ≡ turn ∷ calls_before b later n
-  before-more turn later zero (inl plain) = rw plain (ap (λ l. turn ∷ l) (go (is_break (call_at b later 0).call)))
+  before-more : (call : Planned) (later : List Planned) (n : ℕ) → (is_break call.call ≡ false) ⊎ (0 < n)
+      → calls_before b (call ∷ later) (suc n) ≡ call ∷ calls_before b later n
+  before-more call later zero (inl plain) = rw plain (ap (λ l. call ∷ l) (go (is_break (call_at b later 0).call)))
     where
       go : (c : Bool) → [] ≡ take (if c then 0 else 0) later
       go true = refl
       go false = refl
-  before-more turn later zero (inr some) = absurd (omega (arith, some))
-  before-more turn later (suc n) apart =
+  before-more call later zero (inr some) = absurd (omega (arith, some))
+  before-more call later (suc n) apart =
       let one : suc (suc n) - 1 ≡ suc n = omega arith in
       let less : suc n - 1 ≡ n = omega arith in
       rw (one, less) (go (is_break (call_at b later n).call))
     where
-      go : (c : Bool) → take (if c then suc n else suc (suc n)) (turn ∷ later) ≡ turn
+      go : (c : Bool) → take (if c then suc n else suc (suc n)) (call ∷ later) ≡ call
           ∷ take (if c then n else suc n) later
       go true = refl
       go false = refl
 
-  apart-at : (turn : Planned) (later : List Planned) (n : ℕ) → IsApart turn later → position (holds_byte b) later ≡ Some
+  apart-at : (call : Planned) (later : List Planned) (n : ℕ) → IsApart call later → position (holds_byte b) later ≡ Some
       n
-      → (is_break turn.call ≡ false) ⊎ (0 < n)
-  apart-at turn later n (inl plain) is = inl plain
-  apart-at turn later n (inr far) is = inr (far n is)
+      → (is_break call.call ≡ false) ⊎ (0 < n)
+  apart-at call later n (inl plain) is = inl plain
+  apart-at call later n (inr far) is = inr (far n is)
 
 module _ {S E : Type 0} (step : Steps S E) (may_call : S → Type 0) (k : Settings) (b : ℕ) where
   -- what came of a call that ended the search, or of `binary_data`
@@ -171,44 +93,44 @@ module _ {S E : Type 0} (step : Steps S E) (may_call : S → Type 0) (k : Settin
   IsEnd outcome (Ok goes_on) = (finish : Finish) × (outcome ≡ stopped finish)
   IsEnd outcome (Err e) = outcome ≡ failed e
 
-  -- what the sink had of some turns: no report holds the byte; or the search ended before the first one that does, or
+  -- what the sink had of some calls: no report holds the byte; or the search ended before the first one that does, or
   -- at it
-  pub data HasQuit (turns : List Planned) (old : S) (outcome : Outcome E) (new : Watch S) : Type 0 where
-    unheld : position (holds_byte b) turns ≡ None → new.found ≡ None → AreMade step k old turns outcome new.sink
-        → HasQuit turns old outcome new
-    ended_before : (n : ℕ) → position (holds_byte b) turns ≡ Some n → new.found ≡ None → (outcome ≡ all_true → ⊥)
-        → AreMade step k old (calls_before b turns n) outcome new.sink → HasQuit turns old outcome new
-    ended_at : (n : ℕ) → position (holds_byte b) turns ≡ Some n → new.found ≡ Some (offset_at b turns n) → (mid : S)
-        → AreMade step k old (calls_before b turns n) all_true mid → (returned : Result Bool E)
-        → step mid k (binary_data (offset_at b turns n)) returned new.sink → IsEnd outcome returned
-        → HasQuit turns old outcome new
+  pub data HasQuit (calls : List Planned) (old : S) (outcome : Outcome E) (new : Watch S) : Type 0 where
+    unheld : position (holds_byte b) calls ≡ None → new.found ≡ None → AreMade step k old calls outcome new.sink
+        → HasQuit calls old outcome new
+    ended_before : (n : ℕ) → position (holds_byte b) calls ≡ Some n → new.found ≡ None → (outcome ≡ all_true → ⊥)
+        → AreMade step k old (calls_before b calls n) outcome new.sink → HasQuit calls old outcome new
+    ended_at : (n : ℕ) → position (holds_byte b) calls ≡ Some n → new.found ≡ Some (offset_at b calls n) → (mid : S)
+        → AreMade step k old (calls_before b calls n) all_true mid → (returned : Result Bool E)
+        → step mid k (binary_data (offset_at b calls n)) returned new.sink → IsEnd outcome returned
+        → HasQuit calls old outcome new
 
   -- one more call before them, that doesn't hold the byte
-  quits-more : (turn : Planned) {later : List Planned} {old mid : S} {outcome : Outcome E} {new : Watch S}
-      → holds_byte b turn ≡ false → IsApart b turn later → step old k turn.call (Ok true) mid
-      → HasQuit later mid outcome new → HasQuit (turn ∷ later) old outcome new
-  quits-more turn {later} {mid} free apart made (unheld none clear reported) =
-      unheld (first.position-never (holds_byte b) turn later free none) clear (inl (mid, made, reported))
-  quits-more turn {later} {old} {mid} {outcome} {new} free apart made (ended_before n is clear some reported) =
-      ended_before (suc n) (first.position-later (holds_byte b) turn later n free is) clear some
-      (rw (before-more b turn later n (apart-at b turn later n apart is))
+  quits-more : (call : Planned) {later : List Planned} {old mid : S} {outcome : Outcome E} {new : Watch S}
+      → holds_byte b call ≡ false → IsApart b call later → step old k call.call (Ok true) mid
+      → HasQuit later mid outcome new → HasQuit (call ∷ later) old outcome new
+  quits-more call {later} {mid} free apart made (unheld none clear reported) =
+      unheld (first.position-never (holds_byte b) call later free none) clear (inl (mid, made, reported))
+  quits-more call {later} {old} {mid} {outcome} {new} free apart made (ended_before n is clear some reported) =
+      ended_before (suc n) (first.position-later (holds_byte b) call later n free is) clear some
+      (rw (before-more b call later n (apart-at b call later n apart is))
       (inl (mid, made, reported)))
-  quits-more turn {later} {old} {mid} free apart made (ended_at n is found last reported returned called end) =
-      ended_at (suc n) (first.position-later (holds_byte b) turn later n free is) found last
-      (rw (before-more b turn later n (apart-at b turn later n apart is))
+  quits-more call {later} {old} {mid} free apart made (ended_at n is found last reported returned called end) =
+      ended_at (suc n) (first.position-later (holds_byte b) call later n free is) found last
+      (rw (before-more b call later n (apart-at b call later n apart is))
       (inl (mid, made, reported))) returned called end
 
   -- or it ended at that call
-  quits-none : (turn : Planned) (later : List Planned) (old : S) (outcome : Outcome E) (new : Watch S)
-      → holds_byte b turn ≡ false → IsApart b turn later → new.found ≡ None → (outcome ≡ all_true → ⊥)
-      → ((rest : List Planned) → AreMade step k old (turn ∷ rest) outcome new.sink)
-      → HasQuit (turn ∷ later) old outcome new
-  quits-none turn later old outcome new free apart clear some reported = go (position (holds_byte b) later) refl
+  quits-none : (call : Planned) (later : List Planned) (old : S) (outcome : Outcome E) (new : Watch S)
+      → holds_byte b call ≡ false → IsApart b call later → new.found ≡ None → (outcome ≡ all_true → ⊥)
+      → ((rest : List Planned) → AreMade step k old (call ∷ rest) outcome new.sink)
+      → HasQuit (call ∷ later) old outcome new
+  quits-none call later old outcome new free apart clear some reported = go (position (holds_byte b) later) refl
     where
-      go : (found : Option ℕ) → position (holds_byte b) later ≡ found → HasQuit (turn ∷ later) old outcome new
-      go None is = unheld (first.position-never (holds_byte b) turn later free is) clear (reported later)
-      go (Some n) is = ended_before (suc n) (first.position-later (holds_byte b) turn later n free is) clear some
-          (rw (before-more b turn later n (apart-at b turn later n apart is))
+      go : (found : Option ℕ) → position (holds_byte b) later ≡ found → HasQuit (call ∷ later) old outcome new
+      go None is = unheld (first.position-never (holds_byte b) call later free is) clear (reported later)
+      go (Some n) is = ended_before (suc n) (first.position-later (holds_byte b) call later n free is) clear some
+          (rw (before-more b call later n (apart-at b call later n apart is))
           (reported (calls_before b later n)))
 
   abbrev Q : Steps (Watch S) E
@@ -216,77 +138,77 @@ module _ {S E : Type 0} (step : Steps S E) (may_call : S → Type 0) (k : Settin
 
   -- what followed a call
   abbrev Went : Planned → Result Bool E → Watch S → List Planned → Outcome E → Watch S → Type 0
-  Went turn (Ok true) mid later outcome new = AreMade Q k mid later outcome new
-  Went turn (Ok false) mid later outcome new = (outcome ≡ stopped turn.if_false) × (new ≡ mid)
-  Went turn (Err e) mid later outcome new = (outcome ≡ failed e) × (new ≡ mid)
+  Went call (Ok true) mid later outcome new = AreMade Q k mid later outcome new
+  Went call (Ok false) mid later outcome new = (outcome ≡ stopped call.if_false) × (new ≡ mid)
+  Went call (Err e) mid later outcome new = (outcome ≡ failed e) × (new ≡ mid)
 
-  first-call : (turn : Planned) (later : List Planned) (old : Watch S) (outcome : Outcome E) (new : Watch S)
-      → AreMade Q k old (turn ∷ later) outcome new
-      → (result : Result Bool E) × (mid : Watch S) × Q old k turn.call result mid
-      × Went turn result mid later outcome new
-  first-call turn later old outcome new (inl (mid, made, rest)) = (Ok true, mid, made, rest)
-  first-call turn later old outcome new (inr (inl (is, made))) = (Ok false, new, made, (is, refl))
-  first-call turn later old outcome new (inr (inr (e, is, made))) = (Err e, new, made, (is, refl))
+  first-call : (call : Planned) (later : List Planned) (old : Watch S) (outcome : Outcome E) (new : Watch S)
+      → AreMade Q k old (call ∷ later) outcome new
+      → (result : Result Bool E) × (mid : Watch S) × Q old k call.call result mid
+      × Went call result mid later outcome new
+  first-call call later old outcome new (inl (mid, made, rest)) = (Ok true, mid, made, rest)
+  first-call call later old outcome new (inr (inl (is, made))) = (Ok false, new, made, (is, refl))
+  first-call call later old outcome new (inr (inr (e, is, made))) = (Err e, new, made, (is, refl))
 
-  -- a call that didn't return true ended the search; a break is a turn that ends as the report after it does
-  halts : (gap turn : Planned) (later more : List Planned) (old : S) (mid : Watch S) {outcome : Outcome E} {new : Watch S}
-      (result : Result Bool E) → (result ≡ Ok true → ⊥) → gap.if_false ≡ turn.if_false → holds_byte b gap ≡ false
+  -- a call that didn't return true ended the search; a break has the count of the report after it
+  halts : (gap call : Planned) (later more : List Planned) (old : S) (mid : Watch S) {outcome : Outcome E} {new : Watch S}
+      (result : Result Bool E) → (result ≡ Ok true → ⊥) → gap.if_false ≡ call.if_false → holds_byte b gap ≡ false
       → IsApart b gap later → step old k gap.call result mid.sink → mid.found ≡ None
-      → Went turn result mid more outcome new → HasQuit (gap ∷ later) old outcome new
-  halts gap turn later more old mid (Ok true) some same_end free apart made clear went = absurd (some refl)
-  halts gap turn later more old mid {outcome} {new} (Ok false) some same_end free apart made clear (stops, same) =
+      → Went call result mid more outcome new → HasQuit (gap ∷ later) old outcome new
+  halts gap call later more old mid (Ok true) some same_end free apart made clear went = absurd (some refl)
+  halts gap call later more old mid {outcome} {new} (Ok false) some same_end free apart made clear (stops, same) =
       quits-none gap later old _ new free apart (ap (λ (w : Watch S). w.found) same ∙ clear)
       (λ all. let never = sym all ∙ stops in cc)
       (λ rest. inr (inl (
         stops ∙ ap (λ f. stopped f) (sym same_end),
         subst (λ (w : Watch S). step old k gap.call (Ok false) w.sink) (sym same) made,
       )))
-  halts gap turn later more old mid {outcome} {new} (Err e) some same_end free apart made clear (fails, same) =
+  halts gap call later more old mid {outcome} {new} (Err e) some same_end free apart made clear (fails, same) =
       quits-none gap later old _ new free apart (ap (λ (w : Watch S). w.found) same ∙ clear)
       (λ all. let never = sym all ∙ fails in cc)
       (λ rest. inr (inr (e, fails, subst (λ (w : Watch S). step old k gap.call (Err e) w.sink) (sym same) made)))
 
   -- a report that is made
-  quits-report : (turn : Planned) {later : List Planned} {old : S} (mid : Watch S) {outcome : Outcome E} {new : Watch S}
-      → (result : Result Bool E) → is_break turn.call ≡ false → holds_byte b turn ≡ false
-      → step old k turn.call result mid.sink → mid.found ≡ None → Went turn result mid later outcome new
+  quits-report : (call : Planned) {later : List Planned} {old : S} (mid : Watch S) {outcome : Outcome E} {new : Watch S}
+      → (result : Result Bool E) → is_break call.call ≡ false → holds_byte b call ≡ false
+      → step old k call.call result mid.sink → mid.found ≡ None → Went call result mid later outcome new
       → (AreMade Q k mid later outcome new → HasQuit later mid.sink outcome new)
-      → HasQuit (turn ∷ later) old outcome new
-  quits-report turn {later} {old} mid {outcome} {new} (Ok true) is free made clear went rest =
-      quits-more turn free (inl is) made (rest went)
-  quits-report turn {later} mid (Ok false) is free made clear went rest =
-      halts turn turn later later _ mid _ (λ all. cc) refl free (inl is) made clear went
-  quits-report turn {later} mid (Err e) is free made clear went rest =
-      halts turn turn later later _ mid _ (λ all. cc) refl free (inl is) made clear went
+      → HasQuit (call ∷ later) old outcome new
+  quits-report call {later} {old} mid {outcome} {new} (Ok true) is free made clear went rest =
+      quits-more call free (inl is) made (rest went)
+  quits-report call {later} mid (Ok false) is free made clear went rest =
+      halts call call later later _ mid _ (λ all. cc) refl free (inl is) made clear went
+  quits-report call {later} mid (Err e) is free made clear went rest =
+      halts call call later later _ mid _ (λ all. cc) refl free (inl is) made clear went
 
   -- the calls before a first report that holds the byte
-  none-before : (turn : Planned) (later : List Planned) → calls_before b (turn ∷ later) 0 ≡ []
-  none-before turn later = go (is_break turn.call)
+  none-before : (call : Planned) (later : List Planned) → calls_before b (call ∷ later) 0 ≡ []
+  none-before call later = go (is_break call.call)
     where
-      go : (c : Bool) → take (if c then 0 else 0) (turn ∷ later) ≡ []
+      go : (c : Bool) → take (if c then 0 else 0) (call ∷ later) ≡ []
       go true = refl
       go false = refl
 
   -- the search ended at a report
-  end-of : (turn : Planned) (later : List Planned) (mid : Watch S) (outcome : Outcome E) (new : Watch S)
+  end-of : (call : Planned) (later : List Planned) (mid : Watch S) (outcome : Outcome E) (new : Watch S)
       (returned : Result Bool E)
-      → Went turn (end_result returned) mid later outcome new → (new ≡ mid) × IsEnd outcome returned
-  end-of turn later mid outcome new (Ok goes_on) (stops, same) = (same, (turn.if_false, stops))
-  end-of turn later mid outcome new (Err e) (fails, same) = (same, fails)
+      → Went call (end_result returned) mid later outcome new → (new ≡ mid) × IsEnd outcome returned
+  end-of call later mid outcome new (Ok goes_on) (stops, same) = (same, (call.if_false, stops))
+  end-of call later mid outcome new (Err e) (fails, same) = (same, fails)
 
   -- its first report that holds the byte is call n, and nothing was made before it
-  at-byte : (turns : List Planned) (n : ℕ) (turn : Planned) (later : List Planned) (old : S) (mid : Watch S)
+  at-byte : (calls : List Planned) (n : ℕ) (call : Planned) (later : List Planned) (old : S) (mid : Watch S)
       {outcome : Outcome E} {new : Watch S} (index : ℕ) {result : Result Bool E}
-      → position_of b (reported_bytes turn.call) ≡ Some index → position (holds_byte b) turns ≡ Some n
-      → call_at b turns n ≡ turn → calls_before b turns n ≡ []
-      → mid.found ≡ Some (reported_from turn.call + index) → (returned : Result Bool E) → result ≡ end_result returned
-      → step old k (binary_data (reported_from turn.call + index)) returned mid.sink
-      → Went turn result mid later outcome new → HasQuit turns old outcome new
-  at-byte turns n turn later old mid {outcome} {new} index holds is there none found returned ends called went =
-      let end = end-of turn later mid _ new _ (subst (λ r. Went turn r mid later outcome new) ends went) in
-      let offset : offset_at b turns n ≡ reported_from turn.call + index =
+      → position_of b (reported_bytes call.call) ≡ Some index → position (holds_byte b) calls ≡ Some n
+      → call_at b calls n ≡ call → calls_before b calls n ≡ []
+      → mid.found ≡ Some (reported_from call.call + index) → (returned : Result Bool E) → result ≡ end_result returned
+      → step old k (binary_data (reported_from call.call + index)) returned mid.sink
+      → Went call result mid later outcome new → HasQuit calls old outcome new
+  at-byte calls n call later old mid {outcome} {new} index holds is there none found returned ends called went =
+      let end = end-of call later mid _ new _ (subst (λ r. Went call r mid later outcome new) ends went) in
+      let offset : offset_at b calls n ≡ reported_from call.call + index =
       ap (λ (p : Planned). reported_from p.call + position_or_len (λ x. x == b) (reported_bytes p.call)) there
-      ∙ ap (λ i. reported_from turn.call + i) (first.position-is (λ x. x == b) _ index holds) in
+      ∙ ap (λ i. reported_from call.call + i) (first.position-is (λ x. x == b) _ index holds) in
       ended_at n is (ap (λ (w : Watch S). w.found) end.0 ∙ found ∙ ap (λ n. Some n) (sym offset)) old
       (rw none (refl, refl)) returned
       (rw (offset, end.0) called)
@@ -302,95 +224,95 @@ module _ {S E : Type 0} (step : Steps S E) (may_call : S → Type 0) (k : Settin
   looked (binary_data offset) old result mid is made = cc
   looked (finishes count binary) old result mid is made = cc
 
-  -- such turns, from any state between two reports
+  -- such calls, from any state between two reports
   abbrev QuitsFrom : List Planned → Outcome E → Watch S → Type 0
-  QuitsFrom turns outcome new =
-      (mid : Watch S) → mid.has_break ≡ false → mid.found ≡ None → AreMade Q k mid turns outcome new
-      → HasQuit turns mid.sink outcome new
+  QuitsFrom calls outcome new =
+      (mid : Watch S) → mid.has_break ≡ false → mid.found ≡ None → AreMade Q k mid calls outcome new
+      → HasQuit calls mid.sink outcome new
 
-  pub quits : (turns : List Planned) → AreTurns turns → (old : Watch S) (outcome : Outcome E) (new : Watch S)
-      → old.has_break ≡ false → old.found ≡ None → AreMade Q k old turns outcome new
-      → HasQuit turns old.sink outcome new
-  quits [] no_turns old outcome new whole clear (all, same) =
+  pub quits : (calls : List Planned) → AreReports calls → (old : Watch S) (outcome : Outcome E) (new : Watch S)
+      → old.has_break ≡ false → old.found ≡ None → AreMade Q k old calls outcome new
+      → HasQuit calls old.sink outcome new
+  quits [] no_reports old outcome new whole clear (all, same) =
       unheld refl (ap (λ (w : Watch S). w.found) same ∙ clear) (all, ap (λ (w : Watch S). w.sink) same)
-  quits (turn ∷ later) (report_turn is plain joined) old outcome new whole clear reported =
-      let made = first-call turn later old _ new reported in
+  quits (call ∷ later) (plain_report is plain joined) old outcome new whole clear reported =
+      let made = first-call call later old _ new reported in
       go (λ mid none empty. quits _ joined mid _ new none empty)
-      (position_of b (reported_bytes turn.call)) refl made.0 made.1 (looked _ old _ _ is made.2)
+      (position_of b (reported_bytes call.call)) refl made.0 made.1 (looked _ old _ _ is made.2)
       made.3
     where
       go : QuitsFrom later outcome new
-          → (at : Option ℕ) → position_of b (reported_bytes turn.call) ≡ at → (result : Result Bool E) (mid : Watch S)
-          → IsLookedAt step may_call at (reported_from turn.call) old k turn.call result mid
-          → Went turn result mid later outcome new
-          → HasQuit (turn ∷ later) old.sink outcome new
+          → (at : Option ℕ) → position_of b (reported_bytes call.call) ≡ at → (result : Result Bool E) (mid : Watch S)
+          → IsLookedAt step may_call at (reported_from call.call) old k call.call result mid
+          → Went call result mid later outcome new
+          → HasQuit (call ∷ later) old.sink outcome new
       go quits_later None free result mid (same, none, made) went =
-          let alone = subst (λ c. IsMadeAfter step may_call c old.sink k turn.call result mid.sink) whole made in
-          quits-report turn mid _ (report-no-break _ is) (ap is_some free) alone
+          let alone = subst (λ c. IsMadeAfter step may_call c old.sink k call.call result mid.sink) whole made in
+          quits-report call mid _ (report-no-break _ is) (ap is_some free) alone
           (same ∙ clear) went
           (quits_later mid none (same ∙ clear))
       go quits_later (Some index) holds result mid (found, whole_now, (returned, ends, called)) went =
-          at-byte (turn ∷ later) 0 turn later _ mid index holds
-          (first.position-first (holds_byte b) turn later (ap is_some holds)) refl (none-before turn later) found
+          at-byte (call ∷ later) 0 call later _ mid index holds
+          (first.position-first (holds_byte b) call later (ap is_some holds)) refl (none-before call later) found
           returned ends called went
-  quits (gap ∷ turn ∷ later) (break_turn off is plain same_end joined) old outcome new whole clear reported =
+  quits (gap ∷ call ∷ later) (broken_report off is plain same_end joined) old outcome new whole clear reported =
       let made = first-call gap _ old _ new reported in
       let held : (made.1 ≡ record old { has_break = true }) × (made.0 ≡ Ok true) =
       subst (λ call. Q old k call made.0 made.1) off made.2 in
-      let rest : AreMade Q k (record old { has_break = true }) (turn ∷ later) outcome new =
-      subst (λ w. AreMade Q k w (turn ∷ later) outcome new) held.0
-      (subst (λ r. Went gap r made.1 (turn ∷ later) outcome new) held.1 made.3) in
-      let next = first-call turn later _ _ new rest in
+      let rest : AreMade Q k (record old { has_break = true }) (call ∷ later) outcome new =
+      subst (λ w. AreMade Q k w (call ∷ later) outcome new) held.0
+      (subst (λ r. Went gap r made.1 (call ∷ later) outcome new) held.1 made.3) in
+      let next = first-call call later _ _ new rest in
       go (λ mid none empty. quits _ joined mid _ new none empty)
-      (position_of b (reported_bytes turn.call)) refl next.0 next.1
+      (position_of b (reported_bytes call.call)) refl next.0 next.1
       (looked _ _ _ _ is next.2) next.3
     where
       gap-free : holds_byte b gap ≡ false
       gap-free = rw off refl
 
-      apart : holds_byte b turn ≡ false → IsApart b gap (turn ∷ later)
-      apart free = inr (λ n at. let some = rw free at (first.position-is (holds_byte b) (turn ∷ later) n at) in
+      apart : holds_byte b call ≡ false → IsApart b gap (call ∷ later)
+      apart free = inr (λ n at. let some = rw free at (first.position-is (holds_byte b) (call ∷ later) n at) in
           omega (arith, some))
 
-      nothing : calls_before b (gap ∷ turn ∷ later) 1 ≡ []
+      nothing : calls_before b (gap ∷ call ∷ later) 1 ≡ []
       nothing = rw off refl
 
       after : QuitsFrom later outcome new
-          → (result : Result Bool E) (mid : Watch S) → holds_byte b turn ≡ false → mid.found ≡ None → mid.has_break
+          → (result : Result Bool E) (mid : Watch S) → holds_byte b call ≡ false → mid.found ≡ None → mid.has_break
           ≡ false
-          → IsMadeAfter step may_call true old.sink k turn.call result mid.sink → Went turn result mid later outcome new
-          → HasQuit (gap ∷ turn ∷ later) old.sink outcome new
+          → IsMadeAfter step may_call true old.sink k call.call result mid.sink → Went call result mid later outcome new
+          → HasQuit (gap ∷ call ∷ later) old.sink outcome new
       after quits_later result mid free none whole (inl (m, may, broken, made)) went =
           quits-more gap gap-free (apart free)
           (rw off broken)
-          (quits-report turn mid _ (report-no-break _ is) free made none went
+          (quits-report call mid _ (report-no-break _ is) free made none went
           (quits_later mid whole none))
       after quits_later result mid free none whole (inr (never, broken)) went =
-          halts gap turn _ later _ mid _ never same_end gap-free (apart free)
+          halts gap call _ later _ mid _ never same_end gap-free (apart free)
           (rw off broken) none went
 
       go : QuitsFrom later outcome new
-          → (at : Option ℕ) → position_of b (reported_bytes turn.call) ≡ at → (result : Result Bool E) (mid : Watch S)
-          → IsLookedAt step may_call at (reported_from turn.call) (record old { has_break = true }) k turn.call result
+          → (at : Option ℕ) → position_of b (reported_bytes call.call) ≡ at → (result : Result Bool E) (mid : Watch S)
+          → IsLookedAt step may_call at (reported_from call.call) (record old { has_break = true }) k call.call result
           mid
-          → Went turn result mid later outcome new → HasQuit (gap ∷ turn ∷ later) old.sink outcome new
+          → Went call result mid later outcome new → HasQuit (gap ∷ call ∷ later) old.sink outcome new
       go quits_later None free result mid (same, whole, made) went =
           after quits_later result mid (ap is_some free) (same ∙ clear) whole made went
       go quits_later (Some index) holds result mid (found, whole_now, (returned, ends, called)) went =
-          at-byte (gap ∷ turn ∷ later) 1 turn later _ mid index holds
-          (first.position-later (holds_byte b) gap (turn ∷ later) 0 gap-free
-          (first.position-first (holds_byte b) turn later (ap is_some holds))) refl nothing found returned ends called
+          at-byte (gap ∷ call ∷ later) 1 call later _ mid index holds
+          (first.position-later (holds_byte b) gap (call ∷ later) 0 gap-free
+          (first.position-first (holds_byte b) call later (ap is_some holds))) refl nothing found returned ends called
           went
 
-  -- and of `begin` and some turns
-  pub quits-begun : (end : ℕ) {turns : List Planned} → AreTurns turns
+  -- and of `begin` and some calls
+  pub quits-begun : (end : ℕ) {calls : List Planned} → AreReports calls
       → (old : Watch S) {outcome : Outcome E} {new : Watch S}
       → old.has_break ≡ false → old.found ≡ None
-      → AreMade Q k old (planned begins end ∷ turns) outcome new
-      → HasQuit (planned begins end ∷ turns) old.sink outcome new
-  quits-begun end {turns} joined old {outcome} {new} whole clear reported =
+      → AreMade Q k old (planned begins end ∷ calls) outcome new
+      → HasQuit (planned begins end ∷ calls) old.sink outcome new
+  quits-begun end {calls} joined old {outcome} {new} whole clear reported =
       let begin : Planned = (planned begins end) in
-      let made = first-call begin turns old _ new reported in
+      let made = first-call begin calls old _ new reported in
       quits-report begin _ _ refl refl made.2.2 (made.2.0 ∙ clear) made.3
       (quits _ joined _ _ new (made.2.1 ∙ whole) (made.2.0 ∙ clear))
 
@@ -409,10 +331,10 @@ module _ {S E : Type 0} (step : Steps S E) (may_call : S → Type 0) (k : Settin
   finish-passed (failed e) mid count finish result new plain clear is (fails, same) =
       (fails, ap (λ (w : Watch S). w.sink) same)
 
-  pub quits-run : {turns : List Planned} {old : S} (count : ℕ) {outcome : Outcome E} {mid : Watch S}
-      {result : Result (Unit {0}) E} (new : Watch S) → IsPlain outcome → HasQuit turns old outcome mid
+  pub quits-run : {calls : List Planned} {old : S} (count : ℕ) {outcome : Outcome E} {mid : Watch S}
+      {result : Result (Unit {0}) E} (new : Watch S) → IsPlain outcome → HasQuit calls old outcome mid
       → IsFinished Q k outcome mid (counted count) result new
-      → IsRun step k old (plan_with (Quit b) (point_unless b turns None) (plan_of turns count)) result new.sink
+      → IsRun step k old (plan_with (Quit b) (point_unless b calls None) (plan_of calls count)) result new.sink
   quits-run count {outcome} {mid} {result} new plain (unheld none clear reported) finished =
       rw none (record {
         outcome = outcome;
@@ -420,7 +342,7 @@ module _ {S E : Type 0} (step : Steps S E) (may_call : S → Type 0) (k : Settin
         made = reported;
         finished = finish-passed _ mid count _ _ new plain clear (λ is. refl) finished;
       })
-  quits-run {turns} {old} count {outcome} {mid} {result} new plain (ended_before n is clear some reported) finished =
+  quits-run {calls} {old} count {outcome} {mid} {result} new plain (ended_before n is clear some reported) finished =
       rw is (record {
         outcome = outcome;
         mid = mid.sink;
@@ -428,12 +350,12 @@ module _ {S E : Type 0} (step : Steps S E) (may_call : S → Type 0) (k : Settin
             reported;
         finished = finish-passed _ mid count _ _ new plain clear (λ is. absurd (some is)) finished;
       })
-  quits-run {turns} {old} count {outcome} {mid} {result} new plain
+  quits-run {calls} {old} count {outcome} {mid} {result} new plain
       (ended_at n is found last reported returned called end) finished =
       rw is (at returned called end finished)
     where
       offset : ℕ
-      offset = offset_at b turns n
+      offset = offset_at b calls n
 
       closed : (end : Finish) → outcome ≡ stopped end → IsFinished Q k outcome mid (counted count) result new
           → step mid.sink k (finishes offset (Some offset)) (finish_result result) new.sink
@@ -441,15 +363,15 @@ module _ {S E : Type 0} (step : Steps S E) (may_call : S → Type 0) (k : Settin
           let made = subst (λ o. IsFinished Q k o mid (counted count) result new) stops finished in
           subst (λ f. step mid.sink k (finishes (count_to f end.count) f) (finish_result result) new.sink) found made.2
 
-      with-binary : (o : Outcome E) → AreMade step k last (planned_binary (point_at b turns n) ∷ []) o mid.sink
-          → AreMade step k old (calls_before b turns n ++ planned_binary (point_at b turns n) ∷ []) o mid.sink
+      with-binary : (o : Outcome E) → AreMade step k last (planned_binary (point_at b calls n) ∷ []) o mid.sink
+          → AreMade step k old (calls_before b calls n ++ planned_binary (point_at b calls n) ∷ []) o mid.sink
       with-binary o made =
           AreMade-append step k _ _ old last o _ reported
           made
 
       at : (returned : Result Bool E) → step last k (binary_data offset) returned mid.sink → IsEnd outcome returned
           → IsFinished Q k outcome mid (counted count) result new
-          → IsRun step k old (plan_with (Quit b) (Some (point_at b turns n)) (plan_of turns count)) result new.sink
+          → IsRun step k old (plan_with (Quit b) (Some (point_at b calls n)) (plan_of calls count)) result new.sink
       at (Ok true) called (end, stops) finished = record {
         outcome = all_true;
         mid = mid.sink;
@@ -471,8 +393,8 @@ module _ {S E : Type 0} (step : Steps S E) (may_call : S → Type 0) (k : Settin
           }
 
   -- all of them were made: no report holds the byte
-  pub quits-all : {turns : List Planned} {old : S} {new : Watch S} → HasQuit turns old all_true new
-      → (position (holds_byte b) turns ≡ None) × AreMade step k old turns all_true new.sink
+  pub quits-all : {calls : List Planned} {old : S} {new : Watch S} → HasQuit calls old all_true new
+      → (position (holds_byte b) calls ≡ None) × AreMade step k old calls all_true new.sink
   quits-all (unheld none clear reported) = (none, reported)
   quits-all (ended_before n is clear some reported) = absurd (some refl)
   quits-all (ended_at n is found last reported (Ok goes_on) called (end, stops)) =
@@ -480,26 +402,26 @@ module _ {S E : Type 0} (step : Steps S E) (may_call : S → Type 0) (k : Settin
   quits-all (ended_at n is found last reported (Err e) called fails) = cc
 
 -- a call of a search that returned false leaves it without
-made-plain : {S E : Type 0} (step : Steps S E) (k : Settings) (turns : List Planned) → AreTurns turns → (old : S)
-    (outcome : Outcome E) (new : S) → AreMade step k old turns outcome new → IsPlain outcome
-made-plain step k [] no_turns old outcome new (is, same) = subst IsPlain (sym is) tt
-made-plain step k (turn ∷ later) (report_turn report plain rest) old outcome new (inl (mid, made, more)) =
+made-plain : {S E : Type 0} (step : Steps S E) (k : Settings) (calls : List Planned) → AreReports calls → (old : S)
+    (outcome : Outcome E) (new : S) → AreMade step k old calls outcome new → IsPlain outcome
+made-plain step k [] no_reports old outcome new (is, same) = subst IsPlain (sym is) tt
+made-plain step k (call ∷ later) (plain_report report plain rest) old outcome new (inl (mid, made, more)) =
     made-plain step k later rest mid _ new more
-made-plain step k (gap ∷ turn ∷ later) (break_turn off report plain same rest) old outcome new (inl (mid, made, more)) =
-    made-plain step k (turn ∷ later) (report_turn report plain rest) mid _ new more
-made-plain step k (turn ∷ later) (report_turn report plain rest) old outcome new (inr (inl (is, made))) =
+made-plain step k (gap ∷ call ∷ later) (broken_report off report plain same rest) old outcome new (inl (mid, made, more)) =
+    made-plain step k (call ∷ later) (plain_report report plain rest) mid _ new more
+made-plain step k (call ∷ later) (plain_report report plain rest) old outcome new (inr (inl (is, made))) =
     subst IsPlain (sym is) plain
-made-plain step k (gap ∷ turn ∷ later) (break_turn off report plain same rest) old outcome new (inr (inl (is, made))) =
+made-plain step k (gap ∷ call ∷ later) (broken_report off report plain same rest) old outcome new (inr (inl (is, made))) =
     subst IsPlain (sym (is ∙ ap (λ f. stopped f) same)) plain
-made-plain step k (turn ∷ later) are old outcome new (inr (inr (e, is, made))) = subst IsPlain (sym is) tt
+made-plain step k (call ∷ later) are old outcome new (inr (inr (e, is, made))) = subst IsPlain (sym is) tt
 
 module _ {S E : Type 0} (step : Steps S E) (may_call : S → Type 0) (k : Settings) (b : ℕ) where
   -- the same calls, without the reference
-  watched : (turns : List Planned) (old : Quitting S) (outcome : Outcome E) (new : Quitting S) → old.byte ≡ b
-      → AreMade (Quits step may_call) k old turns outcome new
-      → (new.byte ≡ b) × AreMade (IsQuittingStep step may_call b) k (watch_of old) turns outcome (watch_of new)
+  watched : (calls : List Planned) (old : Quitting S) (outcome : Outcome E) (new : Quitting S) → old.byte ≡ b
+      → AreMade (Quits step may_call) k old calls outcome new
+      → (new.byte ≡ b) × AreMade (IsQuittingStep step may_call b) k (watch_of old) calls outcome (watch_of new)
   watched [] old outcome new is (all, same) = (ap (λ (q : Quitting S). q.byte) same ∙ is, (all, ap watch_of same))
-  watched (turn ∷ later) old outcome new is (inl (mid, made, rest)) =
+  watched (call ∷ later) old outcome new is (inl (mid, made, rest)) =
       let next = watched later mid _ new (made.1 ∙ is) rest in (
         next.0,
         inl (
@@ -508,14 +430,14 @@ module _ {S E : Type 0} (step : Steps S E) (may_call : S → Type 0) (k : Settin
           next.1,
         ),
       )
-  watched (turn ∷ later) old outcome new is (inr (inl (stops, made))) = (
+  watched (call ∷ later) old outcome new is (inr (inl (stops, made))) = (
     made.1 ∙ is,
     inr (inl (
       stops,
       rw (sym is) made.2,
     )),
   )
-  watched (turn ∷ later) old outcome new is (inr (inr (e, fails, made))) = (
+  watched (call ∷ later) old outcome new is (inr (inr (e, fails, made))) = (
     made.1 ∙ is,
     inr (inr (
       e,
@@ -525,22 +447,22 @@ module _ {S E : Type 0} (step : Steps S E) (may_call : S → Type 0) (k : Settin
   )
 
   -- a search by a sink that has made no call yet ended in `finish`
-  until-run : {turns : List Planned} → AreTurns turns → (count : ℕ) {old : Quitting S}
+  until-run : {calls : List Planned} → AreReports calls → (count : ℕ) {old : Quitting S}
       → old.byte ≡ b → old.has_break ≡ false
       → old.found ≡ None → {result : Result (Unit {0}) E} {new : Quitting S}
-      → IsRun (Quits step may_call) k old (plan_of (planned begins 0 ∷ turns) count) result new
-      → IsRun step k old.sink.now (plan_with (Quit b) (point_unless b (planned begins 0 ∷ turns) None)
-      (plan_of (planned begins 0 ∷ turns) count)) result new.sink.now
-  until-run {turns} are count {old} is whole clear {result} {new} run =
-      let all : List Planned = planned begins 0 ∷ turns in
+      → IsRun (Quits step may_call) k old (plan_of (planned begins 0 ∷ calls) count) result new
+      → IsRun step k old.sink.now (plan_with (Quit b) (point_unless b (planned begins 0 ∷ calls) None)
+      (plan_of (planned begins 0 ∷ calls) count)) result new.sink.now
+  until-run {calls} are count {old} is whole clear {result} {new} run =
+      let all : List Planned = planned begins 0 ∷ calls in
       let made = watched all old _ _ is run.made in
       quits-run step may_call k b count _ (plain run.made)
       (quits-begun step may_call k b 0 are _ whole clear
       made.1)
       (closed run.outcome made.0 run.finished)
     where
-      plain : AreMade (Quits step may_call) k old (planned begins 0 ∷ turns) run.outcome run.mid → IsPlain run.outcome
-      plain (inl (mid, made, rest)) = made-plain (Quits step may_call) k turns are mid _ _ rest
+      plain : AreMade (Quits step may_call) k old (planned begins 0 ∷ calls) run.outcome run.mid → IsPlain run.outcome
+      plain (inl (mid, made, rest)) = made-plain (Quits step may_call) k calls are mid _ _ rest
       plain (inr (inl (is, made))) = subst IsPlain (sym is) refl
       plain (inr (inr (e, is, made))) = subst IsPlain (sym is) tt
 
@@ -556,12 +478,12 @@ module _ {S E : Type 0} (step : Steps S E) (may_call : S → Type 0) (k : Settin
 module _ (k : Settings) (meaning : Meaning) (bytes : List ℕ) where
   -- the calls after `begin`
   abbrev after : Bool → List Planned
-  after true = joined_from (AcrossLines.turns_at k meaning bytes) 0 (AcrossLines.turn_count k meaning bytes)
-  after false = joined_from (LineSearch.turns_at k meaning bytes) 0 (LineSearch.turn_count k meaning bytes)
+  after true = joined_from (Plans.calls_at k bytes (touched_lines k meaning bytes)) 0 (Plans.line_count k bytes)
+  after false = joined_from (Plans.calls_at k bytes (selected_lines k meaning bytes)) 0 (reports_end k meaning bytes)
 
-  are-turns : (across : Bool) → AreTurns (after across)
-  are-turns true = pairs.turns-across k meaning bytes
-  are-turns false = pairs.turns-by_line k meaning bytes
+  are-reports : (across : Bool) → AreReports (after across)
+  are-reports true = pairs.calls-across k meaning bytes
+  are-reports false = pairs.calls-by_line k meaning bytes
 
 -- where the byte is in the bytes that are looked at first
 pub first-found : (b : ℕ) (bytes : List ℕ) {n : ℕ} {found : Option ℕ} → n ≡ min (length bytes) first_look
@@ -596,18 +518,18 @@ pub quit-searched : {S E F : Type 0} {step : Steps S E} (errors : ErrorMakers F 
     (bytes : List ℕ) (across : Bool) (offset : ℕ) → position_of b (take first_look bytes) ≡ Some offset → {old : S}
     {result : Result (Unit {0}) E} {new : S}
     → IsRun step k old (first_quit offset) result new
-    → IsSearchedUntil step errors matcher (calls_if k matcher.meaning across) b k bytes old result new
+    → IsSearchedUntil step errors matcher across b k bytes old result new
 quit-searched {step} errors matcher {k} b bytes across offset is {old} {result} {new} run = go across result
     (run-until across)
   where
     run-until : (across : Bool)
-        → IsRunUntil step errors matcher (calls_if k matcher.meaning across) b k bytes old result new
+        → IsRunUntil step errors matcher across b k bytes old result new
     run-until true = rw is run
     run-until false = rw is run
 
     go : (across : Bool) (result : Result (Unit {0}) _)
-        → IsRunUntil step errors matcher (calls_if k matcher.meaning across) b k bytes old result new
-        → IsSearchedUntil step errors matcher (calls_if k matcher.meaning across) b k bytes old result new
+        → IsRunUntil step errors matcher across b k bytes old result new
+        → IsSearchedUntil step errors matcher across b k bytes old result new
     go across (Ok u) run = run
     go across (Err e) run = of_quit_sink run
 
@@ -618,27 +540,26 @@ module _ {S E F : Type 0} (step : Steps S E) (may_call : S → Type 0) (errors :
     (whole : old.has_break ≡ false) (clear : old.found ≡ None) where
   -- a search that ended in `finish`
   searched-until : (across : Bool) {result : Result (Unit {0}) E} {new : Quitting S}
-      → IsRun (Quits step may_call) k old (plan_of ((calls_if k matcher.meaning across).turns bytes)
-      ((calls_if k matcher.meaning across).byte_count bytes)) result new
-      → IsRunUntil step errors matcher (calls_if k matcher.meaning across) b k bytes old.sink.now result new.sink.now
-  searched-until true run = rw none (until-run _ may_call k b (are-turns k matcher.meaning bytes true)
+      → IsRun (Quits step may_call) k old (plan_in k matcher.meaning bytes across) result new
+      → IsRunUntil step errors matcher across b k bytes old.sink.now result new.sink.now
+  searched-until true run = rw none (until-run _ may_call k b (are-reports k matcher.meaning bytes true)
       _ is whole clear run)
-  searched-until false run = rw none (until-run _ may_call k b (are-turns k matcher.meaning bytes false)
+  searched-until false run = rw none (until-run _ may_call k b (are-reports k matcher.meaning bytes false)
       _ is whole clear run)
 
-  -- the matcher's error came after calls that were all made: those whose turn ends at or before some offset
-  through : (across : Bool) {turns : List Planned} → AreTurns turns → (offset : ℕ) (haystack : List ℕ) (error : F)
+  -- the matcher's error came after calls that were all made: those whose count is at most some offset
+  through : (across : Bool) {calls : List Planned} → AreReports calls → (offset : ℕ) (haystack : List ℕ) (error : F)
       {made : List Planned} {e : E} (new : Quitting S)
-      → made ≡ filter (λ turn. nat_le turn.if_false.count offset) (planned begins 0 ∷ turns)
-      → (calls_if k matcher.meaning across).IsAsked bytes haystack made → matcher.fails haystack error
+      → made ≡ filter (λ call. nat_le call.if_false.count offset) (planned begins 0 ∷ calls)
+      → IsAskedIn k matcher.meaning bytes across haystack made → matcher.fails haystack error
       → errors.is_message error e → AreMade (Quits step may_call) k old made all_true new
-      → IsQuitFault step errors matcher (calls_if k matcher.meaning across) b k bytes old.sink.now e new.sink.now
-  through across {turns} all offset haystack error {made} new before asked fails message reported =
-      let later : List Planned = filter (λ turn. nat_le turn.if_false.count offset) turns in
+      → IsQuitFault step errors matcher across b k bytes old.sink.now e new.sink.now
+  through across {calls} all offset haystack error {made} new before asked fails message reported =
+      let later : List Planned = filter (λ call. nat_le call.if_false.count offset) calls in
       let begun : made ≡ planned begins 0 ∷ later = before ∙ (rw (le-leb 0 offset (omega arith)) refl) in
       let seen = watched step may_call k b made old _ new is reported in
       let calls = quits-all step may_call k b (quits-begun step may_call k b 0
-      (pairs.turns-through _ turns all) _
+      (pairs.calls-through _ calls all) _
       whole clear
       (subst (λ l. AreMade (IsQuittingStep step may_call b) k (watch_of old) l all_true (watch_of new)) begun seen.1)) in
       of_quit_matcher haystack error made asked fails message
@@ -647,22 +568,22 @@ module _ {S E F : Type 0} (step : Steps S E) (may_call : S → Type 0) (errors :
 
   -- a search that ended in an error before
   pub fault-until : (across : Bool) {e : E} {new : Quitting S}
-      → IsFaultIn (Quits step may_call) errors matcher (calls_if k matcher.meaning across) k bytes old e new
-      → IsQuitFault step errors matcher (calls_if k matcher.meaning across) b k bytes old.sink.now e new.sink.now
+      → IsFaultIn (Quits step may_call) errors matcher across k bytes old e new
+      → IsQuitFault step errors matcher across b k bytes old.sink.now e new.sink.now
   fault-until across (of_sink run) = of_quit_sink (searched-until _ run)
   fault-until true (of_matcher haystack error made asked fails message reported) =
-      through true (are-turns k matcher.meaning bytes true) _ _ error _ asked.before asked fails message reported
+      through true (are-reports k matcher.meaning bytes true) _ _ error _ asked.before asked fails message reported
   fault-until false (of_matcher haystack error made asked fails message reported) =
-      through false (are-turns k matcher.meaning bytes false) _ _ error _ asked.before asked fails message reported
+      through false (are-reports k matcher.meaning bytes false) _ _ error _ asked.before asked fails message reported
 
   -- `finish` ends what was counted
   pub until-finished : (across : Bool) {count : ℕ} {outcome : Outcome E} {mid : Quitting S}
       (result : Result (Unit {0}) E)
       (new : Quitting S)
-      → Counted (Quits step may_call) k old ((calls_if k matcher.meaning across).turns bytes)
-      ((calls_if k matcher.meaning across).byte_count bytes) count outcome mid
+      → Counted (Quits step may_call) k old (plan_in k matcher.meaning bytes across).calls
+      (plan_in k matcher.meaning bytes across).finish.count count outcome mid
       → Quits step may_call mid k (finishes count None) (finish_result result) new
-      → IsSearchedUntil step errors matcher (calls_if k matcher.meaning across) b k bytes old.sink.now result
+      → IsSearchedUntil step errors matcher across b k bytes old.sink.now result
       new.sink.now
   until-finished across {count} {outcome} {mid} (Ok u) new counted finish =
       searched-until _ (run-finish _ k old

@@ -6,78 +6,28 @@ use Rattle.grep_decode.proofs.DecoderLemmas.{Decodes-append, done-gives, waits-f
 use Rattle.grep_decode.proofs.StartedLemmas as starts
 use Rattle.grep_line_buffer.proofs.GivenLemmas.{fills-continue}
 use Rattle.grep_decode.specs.Decoded.{by_label, found_mark}
-use Rattle.grep_decode.specs.DecoderStates.{
-  DecoderState,
-  Decodes,
-  HasReadNothing,
-  IsDone,
-  IsSettled,
-  LooksForMark,
-  decode_by,
-  mode_of,
-  IsWaiting,
-  started,
-  still_to_give,
-}
+use Rattle.grep_decode.specs.DecoderStates.{DecoderState, Decodes, HasReadNothing, IsDone}
+use Rattle.grep_decode.specs.DecoderStates.{IsSettled, LooksForMark, decode_by, mode_of, IsWaiting}
+use Rattle.grep_decode.specs.DecoderStates.{started, still_to_give}
 use Rattle.grep_decode.specs.Source.{ReadResult}
 use Rattle.grep_decode.specs.declared.label.Label.{Label}
 use Rattle.grep_decode.specs.declared.label.Label.TheVariants.{Utf8, Utf16Le, Utf16Be}
 use Rattle.grep_decode.specs.declared.mode.Mode.TheVariants.{Passing}
 use Rattle.grep_definitions.specs.Plans.{is_across, Settings}
-use Rattle.grep_definitions.specs.Searches.{
-  before_quit,
-  view_of,
-  AreWaiting,
-  IsInput,
-  encoding_after,
-  encoding_of,
-  IsReadForLine,
-  searched_bytes,
-  Taken,
-}
+use Rattle.grep_definitions.specs.Searches.{before_quit, view_of, AreWaiting, IsInput}
+use Rattle.grep_definitions.specs.Searches.{encoding_after, encoding_of, IsReadForLine}
+use Rattle.grep_definitions.specs.Searches.{searched_bytes, Taken}
 use Rattle.grep_definitions.specs.DecodedInputs.{IsDecodedFront, passes_after, passes_unchanged}
 use Rattle.grep_line_buffer.proofs.DetectionLemmas.{length-detected_bytes, uncut-none}
-use Rattle.grep_line_buffer.specs.BufferStates.{
-  BufferState,
-  empty_buffer,
-  is_cut,
-  held_bytes,
-  IsFilled,
-  IsSameBuffer,
-  IsWithin,
-}
+use Rattle.grep_line_buffer.specs.BufferStates.{BufferState, empty_buffer, is_cut, held_bytes}
+use Rattle.grep_line_buffer.specs.BufferStates.{IsFilled, IsSameBuffer, IsWithin}
 use Rattle.grep_line_buffer.specs.Detections.{detected_bytes, found_in, is_quit}
 use Rattle.grep_line_buffer.specs.Fills.{HasWaitedForLine, Fills}
 use Rattle.grep_matcher.specs.Lines.{byte_of}
 use Rattle.grep_matcher.specs.Meanings.{Meaning}
-use Rattle.std.proofs.Common.{
-  ◌≡◌,
-  ◌≢◌,
-  ◌⊎◌,
-  ℕ,
-  ◌+◌,
-  ◌<◌,
-  ◌≤◌,
-  true,
-  false,
-  List,
-  [],
-  ◌++◌,
-  length,
-  Option,
-  Some,
-  None,
-  refl,
-  sym,
-  subst,
-  ◌∙◌,
-  ap,
-  ap₂,
-  arith,
-  append-nil,
-  append_assoc,
-  length-append,
-}
+use Rattle.std.proofs.Common.{◌≡◌, ◌≢◌, ◌⊎◌, ℕ, ◌+◌, ◌<◌, ◌≤◌, true, false, List, [], ◌++◌, length}
+use Rattle.std.proofs.Common.{Option, Some, None, refl, sym, subst, ◌∙◌, ap, ap₂, arith, append-nil}
+use Rattle.std.proofs.Common.{append_assoc, length-append}
 use Rattle.std.proofs.Math.Bool.{and-false}
 use Rattle.std.proofs.lemmas.Bool.{false≢true}
 use Rattle.std.specs.List.{concat}

@@ -1,77 +1,28 @@
 -- A search of a reader, fill by fill, against the calls that are defined for every input that begins with what was
 -- read.
 use Rattle.grep_core.proofs.ReadingLemmas.{HasFilled, IsHeld, IsStream}
-use Rattle.grep_core.specs.Rolls.{
-  IsBetween,
-  IsCountedFor,
-  IsLast,
-  IsNext,
-  IsReady,
-  HasEnded,
-  HasMovedOn,
-  start_in,
-  HasCounted,
-  HasFailed,
-  HasSeen,
-  IsRolling,
-}
+use Rattle.grep_core.specs.Rolls.{IsBetween, IsCountedFor, IsLast, IsNext, IsReady, HasEnded}
+use Rattle.grep_core.specs.Rolls.{HasMovedOn, start_in, HasCounted, HasFailed, HasSeen, IsRolling}
 use Rattle.grep_core.specs.SearchBuffers.{IsFitting, detection_of}
 use Rattle.grep_decode.specs.DecoderStates.{DecoderState, Decodes, IsDone, started}
 use Rattle.grep_decode.specs.Source.{ReadResult}
 use Rattle.grep_definitions.proofs.BoolLemmas.{clash}
-use Rattle.grep_definitions.proofs.FrontLemmas.{
-  closed-append,
-  closed-drop,
-  count-after,
-  lines-fit,
-  longer-front,
-  turns-within,
-  unreported-passed,
-}
-use Rattle.grep_definitions.proofs.LimitLemmas.{turn_above}
-use Rattle.grep_definitions.specs.Searches.{
-  is_detecting,
-  binary_of,
-  view_of,
-  GoesOnAfter,
-  IsClosed,
-  IsTooLong,
-  reports_nothing,
-  IsInput,
-  IsFront,
-  reads_lines,
-}
+use Rattle.grep_definitions.proofs.FrontLemmas.{closed-append, closed-drop, count-after, lines-fit}
+use Rattle.grep_definitions.proofs.FrontLemmas.{longer-front, calls-within, unreported-passed}
+use Rattle.grep_definitions.proofs.LimitLemmas.{reportable-above}
+use Rattle.grep_definitions.specs.Plans.{line_plan, reports_end, Steps, Outcome, all_true, begins}
+use Rattle.grep_definitions.specs.Plans.{is_reported, line_count, selected_lines, Settings}
+use Rattle.grep_definitions.specs.Plans
+use Rattle.grep_definitions.specs.Searches.{is_detecting, binary_of, view_of, GoesOnAfter, IsClosed}
+use Rattle.grep_definitions.specs.Searches.{IsTooLong, reports_nothing, IsInput, IsFront}
+use Rattle.grep_definitions.specs.Searches.{reads_lines}
 use Rattle.grep_definitions.specs.LineWalks.{IsNear, IsOpen}
-use Rattle.grep_definitions.specs.Plans.{
-  Steps,
-  Outcome,
-  all_true,
-  begins,
-  is_reported,
-  line_count,
-  selected_lines,
-  Settings,
-}
-use Rattle.grep_line_buffer.proofs.BufferStateLemmas.{
-  IsUncut,
-  long-shown,
-  uncut-filled,
-  grown,
-  same-buffer,
-  closed-filled,
-  last-filled,
-  unended-filled,
-}
+use Rattle.grep_line_buffer.proofs.BufferStateLemmas.{IsUncut, long-shown, uncut-filled, grown}
+use Rattle.grep_line_buffer.proofs.BufferStateLemmas.{same-buffer, closed-filled, last-filled}
+use Rattle.grep_line_buffer.proofs.BufferStateLemmas.{unended-filled}
 use Rattle.grep_line_buffer.proofs.DetectionLemmas.{detected_bytes-nil, found-nil}
-use Rattle.grep_line_buffer.specs.BufferStates.{
-  BufferState,
-  held_bytes,
-  is_cut,
-  IsWithin,
-  empty_buffer,
-  GrowsIfFull,
-  IsSameBuffer,
-}
+use Rattle.grep_line_buffer.specs.BufferStates.{BufferState, held_bytes, is_cut, IsWithin}
+use Rattle.grep_line_buffer.specs.BufferStates.{empty_buffer, GrowsIfFull, IsSameBuffer}
 use Rattle.grep_line_buffer.specs.Detections.{detected_bytes, found_in, is_quit}
 use Rattle.grep_matcher.proofs.LineLemmas.{lines-append}
 use Rattle.grep_matcher.specs.Lines.{lines, byte_of}
@@ -80,52 +31,22 @@ use Rattle.grep_report.specs.ErrorMakers.{ErrorMakers}
 use Rattle.grep_walk.proofs.UncountedLemmas.{near-same}
 use Rattle.grep_walk.proofs.WalkLemmas.{start_walk, reported-begin}
 use Rattle.grep_walk.proofs.WindowLemmas.{roll-input}
-use Rattle.grep_walk.proofs.WindowSearchLemmas.{line-seen, passed-end, searched-rolled, searched-start}
+use Rattle.grep_walk.proofs.WindowSearchLemmas.{line-seen, passed-end, searched-rolled}
+use Rattle.grep_walk.proofs.WindowSearchLemmas.{searched-start}
 use Rattle.grep_walk.specs.Origins.{Origin, fresh}
 use Rattle.grep_walk.specs.WalkFaults.{IsWalkFault}
 use Rattle.grep_walk.specs.Walks.{AreCounts, with_counts, IsCount, IsWalk}
 use Rattle.grep_walk.specs.Windows.{HasPassed, HasSearched, IsInWindow}
 use Rattle.grep_walk.specs.declared.walk.Walk.{Walk}
-use Rattle.std.proofs.Common.{
-  ◌≡◌,
-  ℕ,
-  ◌+◌,
-  ◌-◌,
-  ◌<◌,
-  ◌≤◌,
-  ◌&&◌,
-  ◌==◌,
-  Bool,
-  true,
-  false,
-  List,
-  [],
-  ◌++◌,
-  length,
-  take,
-  drop,
-  Option,
-  Some,
-  inl,
-  inr,
-  refl,
-  sym,
-  ◌∙◌,
-  ap,
-  subst,
-  arith,
-  append-nil,
-  append_assoc,
-  length-append,
-  length-drop,
-  Ok,
-}
+use Rattle.std.proofs.Common.{◌≡◌, ℕ, ◌+◌, ◌-◌, ◌<◌, ◌≤◌, ◌&&◌, ◌==◌, Bool, true, false, List, []}
+use Rattle.std.proofs.Common.{◌++◌, length, take, drop, Option, Some, inl, inr, refl, sym, ◌∙◌, ap}
+use Rattle.std.proofs.Common.{subst, arith, append-nil, append_assoc, length-append, length-drop}
+use Rattle.std.proofs.Common.{Ok}
 use Rattle.std.proofs.Math.Bool.{and-false}
 use Rattle.std.proofs.lemmas.Bool.{false≢true}
 use Rattle.std.proofs.lemmas.List.{get_or_append_left, length-take-le, take-append-drop}
 use Rattle.std.proofs.lemmas.List.Elements.{All-append}
 use Rattle.std.specs.Prelude.{All, not, ◌||◌, is_some}
-use Rattle.grep_definitions.specs.LineSearch
 use Rattle.grep_core.proofs.ReadingLemmas as reading
 use Rattle.grep_core.proofs.StreamViewLemmas.{as-found}
 use Rattle.grep_line_buffer.proofs.InputViewLemmas as views
@@ -282,7 +203,7 @@ module _ {S E : Type 0} {step : Steps S E} {k : Settings} {meaning : Meaning}
               let all : line ≡ line_count k seen = omega (arith, passed.all, more) in
               let kept = near-same k w line v passed.searched.counts in
               unreported-passed k meaning seen v w.after_context_left
-              (subst (λ n. IsNear k meaning seen v n w.after_context_left) all walk.near)
+              (subst (λ n. IsNear k seen (selected_lines k meaning seen) v n w.after_context_left) all walk.near)
               i (omega (arith, low, below, more, between.few, kept, passed.all)) below
 
       -- and the search goes on after them, whatever follows
@@ -290,7 +211,7 @@ module _ {S E : Type 0} {step : Steps S E} {k : Settings} {meaning : Meaning}
       goes-on {bytes} back is = record {
         front = record { after = back; whole = is; closed = λ _. shut; held = between.fits };
         closed = shut;
-        has_turn = by-cases (reports_nothing k) refl;
+        may_report = by-cases (reports_nothing k) refl;
       }
         where
           shut : IsClosed t seen
@@ -298,8 +219,8 @@ module _ {S E : Type 0} {step : Steps S E} {k : Settings} {meaning : Meaning}
 
           by-cases : (idle : Bool) → reports_nothing k ≡ idle
               → (is_detecting k.binary_detection && length (lines t seen) == 0) ≡ false
-              → length (lines t seen) < LineSearch.line_count k meaning bytes
-              → length (lines t seen) < LineSearch.turn_count k meaning bytes
+              → length (lines t seen) < Plans.line_count k bytes
+              → length (lines t seen) < reports_end k meaning bytes
           by-cases true idle more less =
               let unread = between.idle idle in
               absurd (false≢true (sym more ∙ (ap (λ d. d && length (lines t seen) == 0) unread.detecting
@@ -312,8 +233,8 @@ module _ {S E : Type 0} {step : Steps S E} {k : Settings} {meaning : Meaning}
               let input : gone ++ ((old.shown ++ back) ++ []) ≡ bytes =
               ap (λ xs. gone ++ xs) (append-nil (old.shown ++ back))
               ∙ (sym (append_assoc gone old.shown back) ∙ sym is) in
-              subst (λ i. i < LineSearch.turn_count k meaning bytes) line
-              (turn_above k meaning bytes
+              subst (λ i. i < reports_end k meaning bytes) line
+              (reportable-above k meaning bytes
               (subst (λ xs. IsOpen k meaning xs count w.after_context_left w.match_count) input walk.opened)
               (subst (λ i. i < length (lines t bytes)) (sym line) less))
 
@@ -413,7 +334,7 @@ module _ {S E : Type 0} {step : Steps S E} {k : Settings} {meaning : Meaning}
               idle = λ idle. absurd (clash idle busy);
             })
 
--- a search that reads though no line may have a turn looks for a binary byte
+-- a search that reads though no line may be reported looks for a binary byte
 idle-detects : (idle detecting : Bool) → idle ≡ true → (not idle || detecting) ≡ true → detecting ≡ true
 idle-detects true detecting is reads = reads
 idle-detects false detecting is reads = cc
@@ -592,12 +513,12 @@ module _ {R : Type 0} {remaining : R → Option (List ℕ)} {read_step : R → R
             (append-nil new.shown)
             (ended.counted so_far.gone first so_far.between.opens ready [] nothing (λ _. refl));
         all = λ bytes input all.
-            let count = subst (λ o. IsCount o (LineSearch.byte_count k meaning (view_of k bytes)) w'.offset) all
+            let count = subst (λ o. IsCount o (line_plan k meaning (view_of k bytes)).finish.count w'.offset) all
             (over bytes input).is_count in
             let text : view_of k bytes ≡ shown ++ after bytes input = (front bytes input).whole in
-            subst (λ xs. LineSearch.turn_count k meaning xs ≤ length (lines (t_of k) shown)) (sym text)
-            (turns-within k meaning shown _ (front bytes input).closed
-            (subst (λ xs. LineSearch.byte_count k meaning xs ≤ length shown) text (omega (arith, count, high))));
+            subst (λ xs. reports_end k meaning xs ≤ length (lines (t_of k) shown)) (sym text)
+            (calls-within k meaning shown _ (front bytes input).closed
+            (subst (λ xs. (line_plan k meaning xs).finish.count ≤ length shown) text (omega (arith, count, high))));
         ahead = λ limit is passes.
             let few = reading.taken-few k reads-now passes (fill.settled so_far.between.unended so_far.uncut)
             (fill.passing so_far.between.unended so_far.uncut) in

@@ -1,60 +1,34 @@
 -- What a search of a stream comes to: before its first line, at `binary_data` and after it, and at `finish`.
 use Rattle.grep_core.proofs.ReadingLemmas.{IsStream}
 use Rattle.grep_core.specs.BinaryCalls.{Noted, PassesBinary}
-use Rattle.grep_core.specs.Rolls.{
-  HasCounted,
-  HasFailed,
-  HasSeen,
-  IsCountedFor,
-  IsStartAt,
-  IsEnding,
-  IsMadeTo,
-  IsStreamCounted,
-  not_passed,
-  was_passed,
-  HasBegun,
-}
+use Rattle.grep_core.specs.Rolls.{HasCounted, HasFailed, HasSeen, IsCountedFor, IsStartAt, IsEnding}
+use Rattle.grep_core.specs.Rolls.{IsMadeTo, IsStreamCounted, not_passed, was_passed, HasBegun}
 use Rattle.grep_core.specs.SearchBuffers.{detection_of}
 use Rattle.grep_decode.specs.DecoderStates.{DecoderState}
 use Rattle.grep_decode.specs.Source.{ReadResult}
 use Rattle.grep_definitions.proofs.BoolLemmas.{clash}
-use Rattle.grep_definitions.proofs.FirstTurnLemmas.{turns-begin}
-use Rattle.grep_definitions.proofs.FrontLemmas.{turns-within, front-none}
+use Rattle.grep_definitions.proofs.FirstCallLemmas.{front_calls-begin}
+use Rattle.grep_definitions.proofs.FrontLemmas.{calls-within, front-none}
 use Rattle.grep_definitions.proofs.PlannedReaderLemmas.{passes-unchanged}
 use Rattle.grep_definitions.proofs.PlannedStreamLemmas.{stream-point, binary-made}
 use Rattle.grep_definitions.proofs.SeenLineLemmas.{asked-begin, calls-begin, plan-same}
 use Rattle.grep_definitions.proofs.SeenSearchLemmas.{on-ok}
-use Rattle.grep_definitions.proofs.SearchModeLemmas.{asked-with, calls-are, finish-is, with-calls, with-finish}
-use Rattle.grep_definitions.proofs.SinkRunLemmas.{all-by, AreMade-append, outcome_by, made-binary, by-none, by-some}
-use Rattle.grep_definitions.specs.Plans.{
-  search_plan,
-  is_across,
-  selection_in,
-  Steps,
-  Planned,
-  Plan,
-  AreMade,
-  Outcome,
-  all_true,
-  stopped,
-  failed,
-  counted,
-  Finish,
-  IsRun,
-  begins,
-  finish_after,
-  finishes,
-  finish_result,
-  IsFinished,
-  start,
-  line_count,
-  Settings,
-  SearcherState,
-}
-use Rattle.grep_definitions.specs.Searches.{quits, on_stream, binary_of, view_of, BinaryPoint, plan_with, calls_with, planned_binary, with_offset, IsInput, searched_bytes, Taken, reports_nothing, IsPoint, IsCutAt, IsReaderSearch, IsSearchOf, EachPoint, EachAsked, ran, asked, IsStreamPoint, IsRead}
+use Rattle.grep_definitions.proofs.SearchModeLemmas.{asked-with, calls-are, finish-is, with-calls}
+use Rattle.grep_definitions.proofs.SearchModeLemmas.{with-finish}
+use Rattle.grep_definitions.proofs.SinkRunLemmas.{all-by, AreMade-append, outcome_by, made-binary}
+use Rattle.grep_definitions.proofs.SinkRunLemmas.{by-none, by-some}
+use Rattle.grep_definitions.specs.Plans.{line_plan, search_plan, is_across, selection_in, Steps}
+use Rattle.grep_definitions.specs.Plans.{Planned, Plan, AreMade, Outcome, all_true, stopped, failed}
+use Rattle.grep_definitions.specs.Plans.{counted, Finish, IsRun, begins, finish_after, finishes}
+use Rattle.grep_definitions.specs.Plans.{finish_result, IsFinished, start, line_count, Settings}
+use Rattle.grep_definitions.specs.Plans.{SearcherState}
+use Rattle.grep_definitions.specs.Searches.{quits, on_stream, binary_of, view_of, BinaryPoint}
+use Rattle.grep_definitions.specs.Searches.{plan_with, calls_with, planned_binary, with_offset}
+use Rattle.grep_definitions.specs.Searches.{IsInput, searched_bytes, Taken, reports_nothing}
+use Rattle.grep_definitions.specs.Searches.{IsPoint, IsCutAt, IsReaderSearch, IsSearchOf, EachPoint}
+use Rattle.grep_definitions.specs.Searches.{EachAsked, ran, asked, IsStreamPoint, IsRead}
 use Rattle.grep_definitions.specs.SinkRuns.{after_binary}
 use Rattle.grep_definitions.specs.DecodedInputs.{passes_unchanged}
-use Rattle.grep_definitions.specs.LineSearch.{byte_count, turns, through}
 use Rattle.grep_core.proofs.StreamViewLemmas.{as-found}
 use Rattle.grep_line_buffer.proofs.DetectionLemmas.{first-none, found-nil}
 use Rattle.grep_line_buffer.specs.BufferStates.{BufferState, is_cut}
@@ -64,47 +38,15 @@ use Rattle.grep_matcher.specs.Meanings.{Meaning, MatcherFacts}
 use Rattle.grep_report.specs.BinaryDetections.{quit_byte_of}
 use Rattle.grep_report.specs.ErrorMakers.{ErrorMakers}
 use Rattle.grep_report.specs.declared.binary_detection.BinaryDetection.{BinaryDetection}
-use Rattle.grep_report.specs.declared.binary_detection.BinaryDetection.TheVariants.{
-  None as no_detection,
-  Quit,
-  Convert,
-}
+use Rattle.grep_report.specs.declared.binary_detection.BinaryDetection.TheVariants.{None as no_detection}
+use Rattle.grep_report.specs.declared.binary_detection.BinaryDetection.TheVariants.{Quit, Convert}
 use Rattle.grep_walk.proofs.OriginLemmas.{fresh-made}
 use Rattle.grep_walk.specs.Origins.{AreMadeFrom, Origin, fresh}
 use Rattle.grep_walk.specs.WalkFaults.{IsWalkFault, at_call, at_question}
 use Rattle.grep_walk.specs.Walks.{IsCount}
-use Rattle.std.proofs.Common.{
-  ◌≡◌,
-  ℕ,
-  Bool,
-  true,
-  false,
-  inl,
-  inr,
-  Option,
-  Some,
-  None,
-  refl,
-  sym,
-  ◌∙◌,
-  ap,
-  List,
-  ◌∷◌,
-  ◌++◌,
-  subst,
-  arith,
-  length,
-  map,
-  take,
-  drop,
-  length-append,
-  Err,
-  ◌≤◌,
-  ◌+◌,
-  [],
-  Ok,
-  Result,
-}
+use Rattle.std.proofs.Common.{◌≡◌, ℕ, Bool, true, false, inl, inr, Option, Some, None, refl, sym}
+use Rattle.std.proofs.Common.{◌∙◌, ap, List, ◌∷◌, ◌++◌, subst, arith, length, map, take, drop}
+use Rattle.std.proofs.Common.{length-append, Err, ◌≤◌, ◌+◌, [], Ok, Result}
 use Rattle.std.proofs.KnownBytes.{Consumes-nil}
 use Rattle.std.proofs.Math.Seq.{take-append_seam, drop-append_seam}
 use Rattle.std.proofs.lemmas.Bool.{false≢true}
@@ -112,7 +54,6 @@ use Rattle.std.proofs.lemmas.List.{append-nil}
 use Rattle.std.proofs.lemmas.Option.{none-some}
 use Rattle.std.specs.List.{concat}
 use Rattle.std.specs.Prelude.{is_none, is_some, ◌&&◌, ◌||◌, not}
-use Rattle.grep_definitions.specs.LineSearch
 use Rattle.grep_walk.proofs.WalkLemmas as walks
 
 -- what returned true and goes on doesn't end the search
@@ -200,7 +141,7 @@ module _ {S E : Type 0} {step : Steps S E} {k : Settings} {meaning : Meaning} (b
       (fresh-made step k old made _ last
       (subst (λ (origin : Origin S). AreMadeFrom step k origin made outcome last) same so_far))
   made-with (was_passed offset start) {made} {outcome} {last} so_far =
-      let front : List Planned = LineSearch.turns k meaning start.seen in
+      let front : List Planned = (line_plan k meaning start.seen).calls in
       let later : List Planned = so_far.later in
       let is = so_far.all ∙ ap (λ cs. cs ++ later) start.made in
       let point : BinaryPoint = record {
@@ -224,7 +165,7 @@ module _ {S E : Type 0} {step : Steps S E} {k : Settings} {meaning : Meaning} (b
 
   -- so are all calls of an input
   made-along : {found : Option ℕ} (start : IsStartAt step k meaning given at old next found) (bytes : List ℕ)
-      {outcome : Outcome E} {last : S} → AreMadeFrom step k next (LineSearch.turns k meaning bytes) outcome last
+      {outcome : Outcome E} {last : S} → AreMadeFrom step k next (line_plan k meaning bytes).calls outcome last
       → AreMade step k old (plan_with k.binary_detection (point_of start) (search_plan k meaning bytes)).calls
       (outcome_by found outcome) last
   made-along {found} start bytes {outcome} {last} so_far =
@@ -232,14 +173,14 @@ module _ {S E : Type 0} {step : Steps S E} {k : Settings} {meaning : Meaning} (b
     where
       go : {found : Option ℕ} (start : IsStartAt step k meaning given at old next found)
           → (plan_with k.binary_detection (point_of start) (search_plan k meaning bytes)).calls
-          ≡ calls_with (point_of start) (LineSearch.turns k meaning bytes)
+          ≡ calls_with (point_of start) (line_plan k meaning bytes).calls
       go (not_passed same) = calls-are k meaning by_line bytes
       go (was_passed offset start) =
           with-calls _ start.goes_on (point_of (was_passed offset start)) (search_plan k meaning bytes)
           ∙ ap (calls_with (point_of (was_passed offset start))) (calls-are k meaning by_line bytes)
 
   ending-along : {found : Option ℕ} (start : IsStartAt step k meaning given at old next found) (bytes : List ℕ)
-      (count : ℕ) (outcome : Outcome E) → IsCount outcome (LineSearch.byte_count k meaning bytes) count
+      (count : ℕ) (outcome : Outcome E) → IsCount outcome (line_plan k meaning bytes).finish.count count
       → IsEnding (outcome_by found outcome)
       (plan_with k.binary_detection (point_of start) (search_plan k meaning bytes)).finish
       (record { count = count; binary = found })
@@ -248,7 +189,7 @@ module _ {S E : Type 0} {step : Steps S E} {k : Settings} {meaning : Meaning} (b
     where
       go : {found : Option ℕ} (start : IsStartAt step k meaning given at old next found)
           → (plan_with k.binary_detection (point_of start) (search_plan k meaning bytes)).finish
-          ≡ record { count = LineSearch.byte_count k meaning bytes; binary = found }
+          ≡ record { count = (line_plan k meaning bytes).finish.count; binary = found }
       go (not_passed same) = finish-is k meaning by_line bytes
       go (was_passed offset start) =
           with-finish _ start.goes_on (record {
@@ -269,7 +210,7 @@ module _ {S E : Type 0} {step : Steps S E} {k : Settings} {meaning : Meaning} (b
       → IsPoint k meaning bytes on_stream n made (point_of start)
   is-point (not_passed same) so_far later is n clear = clear refl
   is-point (was_passed offset start) {made} so_far later is n clear =
-      let front : List Planned = LineSearch.turns k meaning start.seen in
+      let front : List Planned = (line_plan k meaning start.seen).calls in
       let rest : List Planned = so_far.later in
       let all = so_far.all ∙ ap (λ cs. cs ++ rest) start.made in
       let position : length (search_plan k meaning start.seen).calls ≡ length front =
@@ -305,13 +246,13 @@ module _ {S E : Type 0} {step : Steps S E} {k : Settings} {meaning : Meaning} (b
 
     -- among the calls over some bytes
     plan-point : (over : List ℕ) {outcome : Outcome E} {last : S}
-        → AreMadeFrom step k next (LineSearch.turns k meaning over) outcome last → (bytes : List ℕ) → One bytes
+        → AreMadeFrom step k next (line_plan k meaning over).calls outcome last → (bytes : List ℕ) → One bytes
         → IsPoint k meaning bytes on_stream (length input.seen) (search_plan k meaning over).calls (point_of start)
     plan-point over so_far bytes is =
         rw (calls-are k meaning by_line over) (point-at so_far bytes is)
 
     -- the calls for the lines that were seen
-    pub seen-made : {last : S} → AreMadeFrom step k next (LineSearch.turns k meaning input.seen) all_true last
+    pub seen-made : {last : S} → AreMadeFrom step k next (line_plan k meaning input.seen).calls all_true last
         → (point : Option BinaryPoint) × ((bytes : List ℕ) → One bytes → IsPoint k meaning bytes on_stream
         (length input.seen) (search_plan k meaning input.seen).calls point)
         × (quits k.binary_detection ≡ true → point ≡ None)
@@ -407,7 +348,7 @@ module _ {R : Type 0} {remaining : R → Option (List ℕ)} {read_step : R → R
     (taken : Taken remaining read_step reader reader') (seen : List ℕ)
     (offset : ℕ) (cut : (bytes : List ℕ) → IsInput k taken.ended taken.pieces bytes → IsCutAt k meaning bytes seen
     offset)
-    (mid : S) (before : AreMade step k old (LineSearch.turns k meaning seen) all_true mid) where
+    (mid : S) (before : AreMade step k old (line_plan k meaning seen).calls all_true mid) where
   abbrev plan : List ℕ → Plan
   plan bytes = search_plan k meaning bytes
 
@@ -420,7 +361,7 @@ module _ {R : Type 0} {remaining : R → Option (List ℕ)} {read_step : R → R
   abbrev pub finish : Finish
   finish = record { count = length seen; binary = Some offset }
 
-  plan-calls : (bytes : List ℕ) → (plan bytes).calls ≡ LineSearch.turns k meaning bytes
+  plan-calls : (bytes : List ℕ) → (plan bytes).calls ≡ (line_plan k meaning bytes).calls
   plan-calls = calls-are k meaning stream.by_line
 
   abbrev IsOne : List ℕ → Type 0
@@ -443,10 +384,10 @@ module _ {R : Type 0} {remaining : R → Option (List ℕ)} {read_step : R → R
       later)
   calls-begun bytes one =
       let there = (cut bytes one).front in
-      let begun = turns-begin k meaning seen _ there.closed stream.built in (
+      let begun = front_calls-begin k meaning seen _ there.closed stream.built in (
         begun.0,
         plan-calls _
-            ∙ (ap (LineSearch.turns k meaning) there.front.whole ∙ begun.1
+            ∙ (ap (λ xs. (line_plan k meaning xs).calls) there.front.whole ∙ begun.1
             ∙ ap (λ cs. cs ++ begun.0) (sym (plan-calls seen))),
       )
 
@@ -519,7 +460,7 @@ module _ {R : Type 0} {remaining : R → Option (List ℕ)} {read_step : R → R
       ahead = ahead;
     }
 
--- a search reads, unless no line may have a turn and it looks for no binary byte
+-- a search reads, unless no line may be reported and it looks for no binary byte
 pub idle-unread : (idle detecting : Bool) → (not idle || detecting) ≡ false → idle ≡ true
 idle-unread true detecting unread = refl
 idle-unread false detecting unread = absurd (false≢true (sym unread))
@@ -561,11 +502,11 @@ module _ {R : Type 0} (remaining : R → Option (List ℕ)) (read_step : R → R
           input = seen-none;
           outcome = outcome;
           over_seen = over [];
-          all = λ bytes input all. turns-within k meaning [] (view_of k bytes)
+          all = λ bytes input all. calls-within k meaning [] (view_of k bytes)
               (λ more some. absurd (omega (arith, some)))
               (omega (
                 arith,
-                none-counted (byte_count k meaning (view_of k bytes)) (over (view_of k bytes)).is_count
+                none-counted (line_plan k meaning (view_of k bytes)).finish.count (over (view_of k bytes)).is_count
                     all,
               ));
           ahead = ahead;
@@ -587,7 +528,7 @@ module _ {R : Type 0} (remaining : R → Option (List ℕ)) (read_step : R → R
       counted-unbegun stops = counted-unread _
           (λ bytes. walks.counted-unbegun k meaning bytes step old new stops)
 
-      -- no line may have a turn
+      -- no line may be reported
       pub counted-idle : reports_nothing k ≡ true → step old k begins (Ok true) new → IsUnread reader old new
       counted-idle idle goes = counted-unread _ (λ bytes. walks.counted-idle k meaning bytes step _ new
           idle (walks.reported-begin k meaning bytes step old new goes))
@@ -600,7 +541,7 @@ module _ {R : Type 0} (remaining : R → Option (List ℕ)) (read_step : R → R
   fault-begin step errors matcher {state} by_line built {reader} {old} e new fails =
       let made : (bytes : List ℕ) → IsWalkFault step errors matcher state.settings bytes (fresh old) e new =
       λ bytes. at_call (record {
-        later = turns state.settings matcher.meaning bytes;
+        later = (line_plan state.settings matcher.meaning bytes).calls;
         all = refl;
         made = inr (inr (
           e,

@@ -6,7 +6,8 @@ use Rattle.grep_line_buffer.proofs.InputViewLemmas.{unquit, viewed}
 use Rattle.grep_line_buffer.specs.Detections.{found_in}
 use Rattle.grep_line_buffer.specs.declared.detection.Detection.TheVariants.{None as detects_nothing}
 use Rattle.grep_report.specs.declared.binary_detection.BinaryDetection.{BinaryDetection}
-use Rattle.grep_report.specs.declared.binary_detection.BinaryDetection.TheVariants.{None as no_detection, Quit, Convert}
+use Rattle.grep_report.specs.declared.binary_detection.BinaryDetection.TheVariants.{None as no_detection}
+use Rattle.grep_report.specs.declared.binary_detection.BinaryDetection.TheVariants.{Quit, Convert}
 
 pub as-viewed : (d : BinaryDetection) (t : ℕ) (bytes : List ℕ) → stream_view d t bytes ≡ viewed (detection_of d) t bytes
 as-viewed no_detection t bytes = refl

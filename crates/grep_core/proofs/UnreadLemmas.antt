@@ -1,68 +1,25 @@
 -- Why a reader's input wasn't searched to its end: a fill of the line buffer failed.
-use Rattle.std.proofs.Common.{
-  ◌≡◌,
-  ◌≢◌,
-  ℕ,
-  ◌+◌,
-  ◌<◌,
-  ◌≤◌,
-  Bool,
-  false,
-  true,
-  List,
-  [],
-  ◌++◌,
-  length,
-  Option,
-  Some,
-  None,
-  Err,
-  refl,
-  sym,
-  ◌∙◌,
-  ap,
-  subst,
-  arith,
-  ⊎_elim,
-  append_assoc,
-  length-append,
-}
+use Rattle.std.proofs.Common.{◌≡◌, ◌≢◌, ℕ, ◌+◌, ◌<◌, ◌≤◌, Bool, false, true, List, [], ◌++◌, length}
+use Rattle.std.proofs.Common.{Option, Some, None, Err, refl, sym, ◌∙◌, ap, subst, arith, ⊎_elim}
+use Rattle.std.proofs.Common.{append_assoc, length-append}
 use Rattle.std.proofs.lemmas.Bool.{cases_lt, false≢true}
 use Rattle.std.specs.Prelude.{All, IfSome}
 use Rattle.std.specs.declared.io.Error.{Error}
 use Rattle.grep_decode.specs.DecoderStates.{DecoderState, Decodes, IsWaiting, started}
 use Rattle.grep_decode.specs.Source.{ReadResult}
 use Rattle.grep_line_buffer.specs.declared.fill_error.FillError.{FillError}
-use Rattle.grep_line_buffer.specs.declared.fill_error.FillError.TheVariants.{Read, HeapLimit, Offset, Memory}
-use Rattle.grep_line_buffer.specs.BufferStates.{
-  BufferState,
-  held_bytes,
-  is_cut,
-  GrowsIfFull,
-  HasNoLine,
-  IsSameBuffer,
-  IsWithin,
-}
+use Rattle.grep_line_buffer.specs.declared.fill_error.FillError.TheVariants.{Read, HeapLimit}
+use Rattle.grep_line_buffer.specs.declared.fill_error.FillError.TheVariants.{Offset, Memory}
+use Rattle.grep_line_buffer.specs.BufferStates.{BufferState, held_bytes, is_cut, GrowsIfFull}
+use Rattle.grep_line_buffer.specs.BufferStates.{HasNoLine, IsSameBuffer, IsWithin}
 use Rattle.grep_line_buffer.specs.Detections.{detected_bytes}
 use Rattle.grep_line_buffer.specs.Fills.{FailsToFill, FillFails, Fills, IfRead, UnlessRead}
 use Rattle.grep_matcher.specs.Meanings.{Meaning}
 use Rattle.grep_matcher.specs.Lines.{byte_of}
 use Rattle.grep_definitions.specs.Plans.{is_at, Settings, SearcherState, Steps}
-use Rattle.grep_definitions.specs.Searches.{
-  before_quit,
-  view_of,
-  CutsShort,
-  IsCrowded,
-  IsCut,
-  IsInput,
-  StopsInLines,
-  Taken,
-  of_limit,
-  of_lines,
-  of_memory,
-  of_offset,
-  of_reader,
-}
+use Rattle.grep_definitions.specs.Searches.{before_quit, view_of, CutsShort, IsCrowded, IsCut}
+use Rattle.grep_definitions.specs.Searches.{IsInput, StopsInLines, Taken, of_limit, of_lines}
+use Rattle.grep_definitions.specs.Searches.{of_memory, of_offset, of_reader}
 use Rattle.grep_walk.specs.declared.walk.Walk.{Walk}
 use Rattle.grep_core.specs.Rolls.{IsRolling}
 use Rattle.grep_core.specs.SearchBuffers.{IsFitting, IsMadeOf, least_size}

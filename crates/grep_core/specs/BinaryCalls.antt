@@ -1,7 +1,7 @@
 -- How the first binary byte of a stream is reported. The contracts of private functions cite
 -- these definitions; no public contract does.
-use Rattle.std.specs.Prelude.{◌≡◌, ◌⊎◌, ◌&&◌, Bool, true, ℕ, Option, None, Some}
-use Rattle.std.specs.Prelude.{is_none, is_some, Ok, Err}
+use Rattle.std.specs.Prelude.{◌≡◌, ◌⊎◌, ◌&&◌, Bool, true, ℕ, Option, None, Some, is_none, is_some}
+use Rattle.std.specs.Prelude.{Ok, Err}
 use Rattle.grep_report.specs.BinaryDetections.{quit_byte_of}
 use Rattle.grep_definitions.specs.Plans.{Settings, binary_data, Steps}
 

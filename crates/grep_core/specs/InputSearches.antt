@@ -1,9 +1,8 @@
 -- A search of whole contents that isn't refused, by where it looks for binary bytes. The contracts
 -- of private functions cite these definitions, or proofs do; no public contract does.
-use Rattle.std.specs.Prelude.{ℕ, List, Result, Ok, Err}
+use Rattle.std.specs.Prelude.{Bool, ℕ, List, Result, Ok, Err}
 use Rattle.grep_definitions.specs.Searches.{Look, nowhere, in_contents, on_stream}
-use Rattle.grep_definitions.specs.SearchTurns.{SearchCalls, search_calls}
-use Rattle.grep_definitions.specs.Plans.{Settings, Steps}
+use Rattle.grep_definitions.specs.Plans.{Settings, Steps, is_across}
 use Rattle.grep_report.specs.ErrorMakers.{ErrorMakers}
 use Rattle.grep_matcher.specs.Meanings.{MatcherFacts}
 use Rattle.grep_definitions.specs.ContentsSearches.{IsQuitFault, IsRunUntil, IsSearchedAlong}
@@ -15,17 +14,17 @@ module _ {S E F : Type 0} (step : Steps S E) (errors : ErrorMakers F E)
   IsBytesSearched nowhere settings bytes old result new =
       IsSearchedAlong step errors matcher settings bytes old result new
   IsBytesSearched (in_contents b) settings bytes old (Ok u) new =
-      IsRunUntil step errors matcher (search_calls settings matcher.meaning) b settings bytes old
+      IsRunUntil step errors matcher (is_across settings matcher.meaning) b settings bytes old
       (Ok u) new
   IsBytesSearched (in_contents b) settings bytes old (Err e) new =
       IsQuitFault step errors matcher
-      (search_calls settings matcher.meaning) b settings bytes old e new
+      (is_across settings matcher.meaning) b settings bytes old e new
   IsBytesSearched on_stream settings bytes old result new = ⊥
 
   -- whole contents with these calls, up to a byte, or it ends in a fault
-  abbrev pub IsSearchedUntil : SearchCalls → ℕ → Settings → List ℕ → S → Result (Unit {0}) E → S
+  abbrev pub IsSearchedUntil : Bool → ℕ → Settings → List ℕ → S → Result (Unit {0}) E → S
       → Type 0
-  IsSearchedUntil calls b settings bytes old (Ok u) new =
-      IsRunUntil step errors matcher calls b settings bytes old (Ok u) new
-  IsSearchedUntil calls b settings bytes old (Err e) new =
-      IsQuitFault step errors matcher calls b settings bytes old e new
+  IsSearchedUntil across b settings bytes old (Ok u) new =
+      IsRunUntil step errors matcher across b settings bytes old (Ok u) new
+  IsSearchedUntil across b settings bytes old (Err e) new =
+      IsQuitFault step errors matcher across b settings bytes old e new

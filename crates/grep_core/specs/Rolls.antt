@@ -1,8 +1,7 @@
 -- A search of a reader, fill by fill of a line buffer: `gone` are the bytes that were moved past.
 -- The contracts of private functions cite these definitions; no public contract does.
 use Rattle.std.specs.Prelude.{◌≡◌, ◌⊎◌, ℕ, ◌+◌, ◌-◌, ◌<◌, ◌≤◌, ◌^◌, ◌&&◌, Bool, true, false, Ok}
-use Rattle.std.specs.Prelude.{List, [], ◌++◌, length, take, drop, All, Option, Some, None, ◌∷◌}
-use Rattle.std.specs.Prelude.{min}
+use Rattle.std.specs.Prelude.{List, [], ◌++◌, length, take, drop, All, Option, Some, None, ◌∷◌, min}
 use Rattle.std.specs.List.{concat}
 use Rattle.grep_decode.specs.DecoderStates.{DecoderState}
 use Rattle.grep_decode.specs.Source.{ReadResult}
@@ -10,16 +9,14 @@ use Rattle.grep_line_buffer.specs.BufferStates.{BufferState, is_cut, Lacks}
 use Rattle.grep_core.specs.HeldViews.{HoldsGiven}
 use Rattle.grep_matcher.specs.Lines.{byte_of, lines}
 use Rattle.grep_matcher.specs.Meanings.{Meaning, MatcherFacts}
-use Rattle.grep_definitions.specs.Plans.{search_plan, AreMade, Finish, Plan, Planned, begins}
-use Rattle.grep_definitions.specs.Plans.{binary_data}
-use Rattle.grep_definitions.specs.Plans.{Steps, Outcome, all_true, stopped, failed, planned}
-use Rattle.grep_definitions.specs.Plans.{Settings}
+use Rattle.grep_definitions.specs.Plans.{line_plan, reports_end, search_plan, AreMade, Finish, Plan}
+use Rattle.grep_definitions.specs.Plans.{Planned, begins, binary_data, Steps, Outcome, all_true}
+use Rattle.grep_definitions.specs.Plans.{stopped, failed, planned, Settings}
 use Rattle.grep_definitions.specs.Searches.{binary_of, is_detecting, on_stream, view_of}
 use Rattle.grep_definitions.specs.Searches.{BinaryPoint, plan_with, quits, IsCutAt, IsPoint}
 use Rattle.grep_definitions.specs.Searches.{IsInput, IsClosed, IsFront, IsTooLong, Taken}
 use Rattle.grep_definitions.specs.Searches.{IsReadForLine, reports_nothing, reads_lines}
 use Rattle.grep_definitions.specs.DecodedInputs.{passes_unchanged}
-use Rattle.grep_definitions.specs.LineSearch.{turns, turn_count, byte_count}
 use Rattle.grep_report.specs.ErrorMakers.{ErrorMakers}
 use Rattle.grep_core.specs.BinaryCalls.{Noted}
 use Rattle.grep_walk.specs.declared.walk.Walk.{Walk}
@@ -52,8 +49,8 @@ module _ {S E : Type 0} (step : Steps S E) (settings : Settings) (meaning : Mean
   -- the calls were counted for an input
   abbrev pub IsCountedFor : Origin S → List ℕ → ℕ → Outcome E → S → Type 0
   IsCountedFor first input count outcome new =
-      CountedFrom step settings first (turns settings meaning input)
-      (byte_count settings meaning input) count outcome new
+      CountedFrom step settings first (line_plan settings meaning input).calls
+      (line_plan settings meaning input).finish.count count outcome new
 
   -- a search in which no line may be reported has read nothing yet, and looks for a binary byte
   pub record IsIdle (gone : List ℕ) (buffer : BufferState) (first : Origin S) (now : S) : Type 0
@@ -157,7 +154,7 @@ module _ {S E : Type 0} (step : Steps S E) (settings : Settings) (meaning : Mean
       pub over_seen : IsCountedFor first input.seen count outcome new
       pub all : (bytes : List ℕ) → IsInput settings input.taken.ended input.taken.pieces bytes
           → outcome ≡ all_true
-          → turn_count settings meaning (view_of settings bytes)
+          → reports_end settings meaning (view_of settings bytes)
           ≤ length (lines (byte_of settings.line_terminator) input.seen)
       pub ahead : (limit : ℕ) → settings.heap_limit ≡ Some limit
           → passes_unchanged settings (concat input.taken.pieces) ≡ true
@@ -189,10 +186,10 @@ module _ {S E : Type 0} (step : Steps S E) (settings : Settings) (meaning : Mean
       : Type 0 where
     pub seen : List ℕ
     pub mid : S
-    pub before : AreMade step settings old (turns settings meaning seen) all_true mid
+    pub before : AreMade step settings old (line_plan settings meaning seen).calls all_true mid
     pub call : step mid settings (binary_data offset) (Ok true) next.state
     pub goes_on : quits settings.binary_detection ≡ false
-    pub made : next.before ≡ turns settings meaning seen
+    pub made : next.before ≡ (line_plan settings meaning seen).calls
     pub passed : length seen ≤ at
     pub cut : (later : List ℕ) → IsCutAt settings meaning (given ++ later) seen offset
 
@@ -250,7 +247,7 @@ pub record IsStreamCounted {S E : Type 0} (step : Steps S E) (settings : Setting
   pub all : outcome ≡ all_true
       → (quits settings.binary_detection ≡ true → finish.binary ≡ None)
       → (bytes : List ℕ) → IsInput settings taken.ended taken.pieces bytes
-      → turn_count settings meaning (view_of settings bytes)
+      → reports_end settings meaning (view_of settings bytes)
       ≤ length (lines (byte_of settings.line_terminator) seen)
   pub ahead : (limit : ℕ) → settings.heap_limit ≡ Some limit
       → passes_unchanged settings (concat taken.pieces) ≡ true

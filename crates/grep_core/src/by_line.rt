@@ -3,8 +3,8 @@
 ghost use Rattle.std.specs.Prelude.{◌≡◌, ◌≤◌, ◌<◌, ◌+◌, ◌-◌, ◌^◌, ℕ, true, false, length, List};
 ghost use Rattle.std.specs.Prelude.{IfOk, IfErr, IsOk};
 ghost use Rattle.grep_matcher.specs.Meanings.{IsInfallible};
+ghost use Rattle.grep_definitions.specs.Plans.{line_plan};
 ghost use Rattle.grep_definitions.specs.CallOrder.{BeginsInOrder, GoesOnInOrder};
-ghost use Rattle.grep_definitions.specs.LineSearch.{turns, byte_count};
 ghost use Rattle.grep_definitions.specs.Plans.{IsLawful, Outcome, NeverFails};
 ghost use Rattle.grep_definitions.specs.ContentsSearches.{IsLineFault};
 ghost use Rattle.grep_walk.specs.LookAheads.{AreQuestions};
@@ -38,8 +38,8 @@ impl<'c, A: Allocator + Copy, T> Search<'c, A, T> {
             IsLawful (M.facts matcher.now) self.now.config
             → (outcome : Outcome C.Error)
             × Counted C.step self.now.config sink.old
-            (turns self.now.config (M.facts matcher.now).meaning bytes.now)
-            (byte_count self.now.config (M.facts matcher.now).meaning bytes.now)
+            (line_plan self.now.config (M.facts matcher.now).meaning bytes.now).calls
+            (line_plan self.now.config (M.facts matcher.now).meaning bytes.now).finish.count
             count outcome sink.new) }
         ensures fault { IfErr result (λ e.
             IsLawful (M.facts matcher.now) self.now.config
@@ -108,8 +108,8 @@ impl<'c, A: Allocator + Copy, T> Search<'c, A, T> {
             → HasSearched C.step self.now.config (M.facts matcher.now).meaning gone window.now input
             first start walk.old sink.old
             → CountedFrom C.step self.now.config first
-            (turns self.now.config (M.facts matcher.now).meaning input)
-            (byte_count self.now.config (M.facts matcher.now).meaning input)
+            (line_plan self.now.config (M.facts matcher.now).meaning input).calls
+            (line_plan self.now.config (M.facts matcher.now).meaning input).finish.count
             walk.new.offset outcome sink.new)) }
         ensures fault { IfErr result (λ e.
             IsLawful (M.facts matcher.now) self.now.config

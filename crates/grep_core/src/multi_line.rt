@@ -3,8 +3,7 @@ ghost use Rattle.std.specs.Prelude.{◌<◌, ◌+◌, ◌-◌, ◌&&◌, ◌==�
 ghost use Rattle.grep_matcher.specs.Meanings.{IsInfallible};
 ghost use Rattle.grep_definitions.specs.CallOrder.{BeginsInOrder, EndsInOrder};
 ghost use Rattle.grep_definitions.specs.ContentsSearches.{IsFaultIn};
-ghost use Rattle.grep_definitions.specs.SearchTurns.{calls_across};
-ghost use Rattle.grep_definitions.specs.Plans.{begins, Outcome, NeverFails};
+ghost use Rattle.grep_definitions.specs.Plans.{begins, plan_in, Outcome, NeverFails};
 ghost use Rattle.grep_walk.specs.Walks.{Counted};
 ghost use Rattle.grep_core.specs.Configured.{IsConfigured};
 ghost use Rattle.grep_report.specs.ErrorMakers.{makers_of};
@@ -30,12 +29,12 @@ impl<'c, A: Allocator + Copy, T> Search<'c, A, T> {
         requires may_call { C.may_call sink.old }
         ensures reported { IfOk result (λ count. (outcome : Outcome C.Error)
             × Counted C.step self.now.config sink.old
-            ((calls_across self.now.config (M.facts matcher.now).meaning).turns bytes.now)
-            ((calls_across self.now.config (M.facts matcher.now).meaning).byte_count bytes.now)
+            (plan_in self.now.config (M.facts matcher.now).meaning bytes.now true).calls
+            (plan_in self.now.config (M.facts matcher.now).meaning bytes.now true).finish.count
             count outcome sink.new) }
         ensures fault { IfErr result (λ e. IsFaultIn C.step
             (makers_of M.Error.output C.Error.makers) (M.facts matcher.now)
-            (calls_across self.now.config (M.facts matcher.now).meaning)
+            true
             self.now.config bytes.now sink.old e sink.new) }
         ensures succeeds { NeverFails C.step C.may_call → IsInfallible (M.facts matcher.now).fails
             → IsOk result }
@@ -64,14 +63,14 @@ impl<'c, A: Allocator + Copy, T> Search<'c, A, T> {
         ensures reported { IfOk result (λ count. (first : C.Sink)
             → C.step first self.now.config begins (Ok true) sink.old
             → (outcome : Outcome C.Error) × Counted C.step self.now.config first
-            ((calls_across self.now.config (M.facts matcher.now).meaning).turns bytes.now)
-            ((calls_across self.now.config (M.facts matcher.now).meaning).byte_count bytes.now)
+            (plan_in self.now.config (M.facts matcher.now).meaning bytes.now true).calls
+            (plan_in self.now.config (M.facts matcher.now).meaning bytes.now true).finish.count
             count outcome sink.new) }
         ensures fault { IfErr result (λ e. (first : C.Sink)
             → C.step first self.now.config begins (Ok true) sink.old
             → IsFaultIn C.step
             (makers_of M.Error.output C.Error.makers) (M.facts matcher.now)
-            (calls_across self.now.config (M.facts matcher.now).meaning)
+            true
             self.now.config bytes.now first e sink.new) }
         ensures succeeds { NeverFails C.step C.may_call → IsInfallible (M.facts matcher.now).fails
             → IsOk result }

@@ -7,8 +7,7 @@ ghost use Rattle.grep_report.specs.BinaryDetections.{quit_byte_of};
 ghost use Rattle.grep_definitions.specs.CallOrder.{BeginsInOrder};
 ghost use Rattle.grep_definitions.specs.Searches.{IsInOrder};
 ghost use Rattle.grep_definitions.specs.SliceSearches.{IsSliceSearch};
-ghost use Rattle.grep_definitions.specs.Plans.{IsLawful, NeverFails, Outcome};
-ghost use Rattle.grep_definitions.specs.SearchTurns.{calls_if};
+ghost use Rattle.grep_definitions.specs.Plans.{plan_in, IsLawful, NeverFails, Outcome};
 ghost use Rattle.grep_definitions.specs.ContentsSearches.{IsFaultIn};
 ghost use Rattle.grep_walk.specs.Walks.{Counted};
 ghost use Rattle.grep_report.specs.ErrorMakers.{makers_of};
@@ -82,15 +81,14 @@ impl<'c, A: Allocator + Copy, T> Search<'c, A, T> {
             (is_across ≡ false → IsLawful (M.facts matcher.now) self.now.config)
             → (outcome : Outcome C.Error)
             × Counted C.step self.now.config sink.old
-            ((calls_if self.now.config (M.facts matcher.now).meaning is_across).turns bytes.now)
-            ((calls_if self.now.config (M.facts matcher.now).meaning is_across).byte_count
-            bytes.now)
+            (plan_in self.now.config (M.facts matcher.now).meaning bytes.now is_across).calls
+            (plan_in self.now.config (M.facts matcher.now).meaning bytes.now is_across).finish.count
             count outcome sink.new) }
         ensures fault { IfErr result (λ e.
             (is_across ≡ false → IsLawful (M.facts matcher.now) self.now.config)
             → IsFaultIn C.step
             (makers_of M.Error.output C.Error.makers) (M.facts matcher.now)
-            (calls_if self.now.config (M.facts matcher.now).meaning is_across)
+            is_across
             self.now.config bytes.now sink.old e sink.new) }
         ensures succeeds { NeverFails C.step C.may_call → IsInfallible (M.facts matcher.now).fails
             → IsOk result }

@@ -4,11 +4,11 @@ ghost use Rattle.std.specs.Prelude.{◌≡◌, ◌≤◌, ◌<◌, ◌+◌, ◌-
 ghost use Rattle.std.specs.Prelude.{slice_range};
 ghost use Rattle.grep_definitions.specs.CallOrder.{HasCalled};
 ghost use Rattle.grep_definitions.specs.Plans.{context, AreMade, NeverFails};
-ghost use Rattle.grep_definitions.specs.LineTurns.{is_gap, break_turns, after_turns};
+ghost use Rattle.grep_definitions.specs.LineCalls.{is_gap, break_calls, after_calls};
 ghost use Rattle.grep_definitions.specs.SearchLaws.{number_of};
-ghost use Rattle.grep_definitions.specs.LineTurns.{before_turns, pending_turns, match_turns};
+ghost use Rattle.grep_definitions.specs.LineCalls.{before_calls, pending_calls, selected_calls};
 ghost use Rattle.grep_definitions.specs.SinkRuns.{outcome_of};
-ghost use Rattle.grep_walk.specs.Walks.{chooses, counts_lines, trails, line_turns, line_end};
+ghost use Rattle.grep_walk.specs.Walks.{chooses, counts_lines, trails, line_calls, line_end};
 ghost use Rattle.grep_walk.specs.Windows.{IsInWindow, IsLineIn};
 ghost use Rattle.grep_core.specs.Configured.{IsConfigured};
 
@@ -48,7 +48,7 @@ impl<'c, A: Allocator + Copy, T> Search<'c, A, T> {
             → (counts_lines self.now.config ≡ true
             → IsInWindow self.now.config gone window.now input start walk.now)
             → AreMade C.step self.now.config sink.old
-            (line_turns self.now.config input walk.now (slice_range window.now start end)
+            (line_calls self.now.config input walk.now (slice_range window.now start end)
             (chooses verdict) (trails verdict))
             (outcome_of (line_end walk.now (slice_range window.now start end)) result) sink.new }
         ensures succeeds { NeverFails C.step C.may_call → IsOk result }
@@ -100,7 +100,7 @@ impl<'c, A: Allocator + Copy, T> Search<'c, A, T> {
         requires configured { IsConfigured (C.settings self.now.searcher.now) self.now.config }
         requires may_call { C.may_call sink.old }
         ensures reported { (stop : ℕ) → AreMade C.step self.now.config sink.old
-            (after_turns self.now.config (trails verdict) walk.now.next_unreported walk.now.line
+            (after_calls self.now.config (trails verdict) walk.now.next_unreported walk.now.line
             walk.now.offset stop (slice_range window.now start end))
             (outcome_of stop result) sink.new }
         ensures succeeds { NeverFails C.step C.may_call → IsOk result }
@@ -140,7 +140,7 @@ impl<'c, A: Allocator + Copy, T> Search<'c, A, T> {
             → (counts_lines self.now.config ≡ true
             → IsInWindow self.now.config gone window.now input start walk.now)
             → (end : ℕ) → AreMade C.step self.now.config sink.old
-            (pending_turns self.now.config input walk.now.next_unreported walk.now.line end
+            (pending_calls self.now.config input walk.now.next_unreported walk.now.line end
             walk.now.next_unreported (walk.now.line - walk.now.next_unreported))
             (outcome_of end result) sink.new }
         ensures succeeds { NeverFails C.step C.may_call → IsOk result }
@@ -180,7 +180,7 @@ impl<'c, A: Allocator + Copy, T> Search<'c, A, T> {
             → IsInWindow self.now.config gone window.now input start walk.now
             → IsLineIn self.now.config gone window.now first index
             → (end : ℕ) → AreMade C.step self.now.config sink.old
-            (pending_turns self.now.config input walk.now.next_unreported walk.now.line end
+            (pending_calls self.now.config input walk.now.next_unreported walk.now.line end
             index (walk.now.line - index))
             (outcome_of end result) sink.new }
         ensures succeeds { NeverFails C.step C.may_call → IsOk result }
@@ -223,7 +223,7 @@ impl<'c, A: Allocator + Copy, T> Search<'c, A, T> {
         requires configured { IsConfigured (C.settings self.now.searcher.now) self.now.config }
         requires may_call { C.may_call sink.old }
         ensures reported { (end : ℕ) → AreMade C.step self.now.config sink.old
-            (before_turns self.now.config walk.now.next_unreported index walk.now.line
+            (before_calls self.now.config walk.now.next_unreported index walk.now.line
             (number_of self.now.config index) offset end line.now)
             (outcome_of end result) sink.new }
         ensures succeeds { NeverFails C.step C.may_call → IsOk result }
@@ -254,7 +254,7 @@ impl<'c, A: Allocator + Copy, T> Search<'c, A, T> {
         requires configured { IsConfigured (C.settings self.now.searcher.now) self.now.config }
         requires may_call { C.may_call sink.old }
         ensures reported { (stop : ℕ) → AreMade C.step self.now.config sink.old
-            (match_turns self.now.config walk.now.next_unreported walk.now.line walk.now.offset
+            (selected_calls self.now.config walk.now.next_unreported walk.now.line walk.now.offset
             stop
             (slice_range window.now start end))
             (outcome_of stop result) sink.new }
@@ -279,7 +279,7 @@ impl<'c, A: Allocator + Copy, T> Search<'c, A, T> {
         requires configured { IsConfigured (C.settings self.now.searcher.now) self.now.config }
         requires may_call { C.may_call sink.old }
         ensures reported { (end : ℕ)
-            → AreMade C.step self.now.config sink.old (break_turns is_gap end)
+            → AreMade C.step self.now.config sink.old (break_calls is_gap end)
             (outcome_of end result) sink.new }
         ensures succeeds { NeverFails C.step C.may_call → IsOk result }
         ensures may_call { C.may_call sink.new }

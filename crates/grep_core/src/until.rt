@@ -4,7 +4,6 @@ ghost use Rattle.grep_matcher.specs.Meanings.{IsInfallible};
 ghost use Rattle.grep_definitions.specs.Searches.{is_detecting, position_of, IsInOrder};
 ghost use Rattle.grep_definitions.specs.BinaryLaws.{first_look};
 ghost use Rattle.grep_definitions.specs.Plans.{IsLawful, NeverFails, IsRun};
-ghost use Rattle.grep_definitions.specs.SearchTurns.{calls_if};
 ghost use Rattle.grep_core.specs.InputSearches.{IsSearchedUntil};
 ghost use Rattle.grep_core.specs.Configured.{IsConfigured};
 ghost use Rattle.grep_core.specs.QuittingSinks.{first_quit};
@@ -41,7 +40,7 @@ impl<'c, A: Allocator + Copy, T> Search<'c, A, T> {
             → IsLawful (M.facts matcher.now) self.now.config)
             → IsSearchedUntil C.step
             (makers_of M.Error.output C.Error.makers) (M.facts matcher.now)
-            (calls_if self.now.config (M.facts matcher.now).meaning is_across)
+            is_across
             byte self.now.config bytes.now sink.old result sink.new }
         ensures in_order { IsInOrder C.step
             (makers_of M.Error.output C.Error.makers) (M.facts matcher.now) self.now.config
@@ -96,7 +95,7 @@ impl<'c, A: Allocator + Copy, T> Search<'c, A, T> {
             → IsLawful (M.facts matcher.now) self.now.config)
             → IsSearchedUntil C.step
             (makers_of M.Error.output C.Error.makers) (M.facts matcher.now)
-            (calls_if self.now.config (M.facts matcher.now).meaning is_across)
+            is_across
             sink.old.byte self.now.config bytes.now sink.old.sink.now result sink.new.sink.now }
         ensures in_order { IsInOrder C.step
             (makers_of M.Error.output C.Error.makers) (M.facts matcher.now) self.now.config

@@ -1,30 +1,7 @@
 -- The plans of searches across lines at some inputs, as the checker computes them.
-use Rattle.std.proofs.Common.{
-  ◌≡◌,
-  ℕ,
-  ◌+◌,
-  ◌<◌,
-  ◌≤◌,
-  ◌&&◌,
-  true,
-  false,
-  List,
-  [],
-  ◌∷◌,
-  length,
-  Option,
-  Some,
-  None,
-  codes,
-  refl,
-  sym,
-  ap,
-  subst,
-  ◌∙◌,
-  arith,
-  ⊎_elim,
-  if◌then◌else◌,
-}
+use Rattle.std.proofs.Common.{◌≡◌, ℕ, ◌+◌, ◌<◌, ◌≤◌, ◌&&◌, true, false, List, [], ◌∷◌, length}
+use Rattle.std.proofs.Common.{Option, Some, None, codes, refl, sym, ap, subst, ◌∙◌, arith, ⊎_elim}
+use Rattle.std.proofs.Common.{if◌then◌else◌}
 use Rattle.std.proofs.Math.Bool.{and-false}
 use Rattle.std.proofs.lemmas.Bool.{cases_lt, le-ltb}
 use Rattle.std.specs.Prelude.{nat_eq, nat_le, nat_lt, ◌==◌}
@@ -33,18 +10,13 @@ use Rattle.grep_matcher.specs.declared.line_terminator.LineTerminator.TheVariant
 use Rattle.grep_matcher.specs.Literals.{literal_meaning}
 use Rattle.grep_matcher.specs.FindResults.{plain}
 use Rattle.grep_matcher.specs.Meanings.{Meaning}
-use Rattle.grep_report.specs.declared.sink_context.SinkContextKind.TheVariants.{Before, After, Other}
-use Rattle.grep_definitions.specs.Plans.{
-  is_across,
-  search_plan,
-  IsAskedWith,
-  all_matches,
-  is_touched,
-  touches,
-  Settings,
-}
+use Rattle.grep_report.specs.declared.sink_context.SinkContextKind.TheVariants.{Before, After}
+use Rattle.grep_report.specs.declared.sink_context.SinkContextKind.TheVariants.{Other}
+use Rattle.grep_definitions.specs.Plans.{is_across, search_plan, IsAskedWith, all_matches}
+use Rattle.grep_definitions.specs.Plans.{is_touched, touches, Settings}
 use Rattle.grep_definitions.specs.BuiltSettings.{default_settings}
-use Rattle.grep_definitions.proofs.WorkedExamples.{has_a, begun, match_call, context_call, break_call, plan_of}
+use Rattle.grep_definitions.proofs.WorkedExamples.{has_a, begun, match_call, context_call}
+use Rattle.grep_definitions.proofs.WorkedExamples.{break_call, plan_of}
 
 -- the settings that let a search run across lines
 abbrev wide : Settings

@@ -1,55 +1,14 @@
 -- What the calls across lines report.
-use Rattle.grep_definitions.specs.Plans.{
-  planned,
-  Planned,
-  matches,
-  context,
-  breaks,
-  Settings,
-  count_below,
-  is_below,
-  Kind,
-  matched,
-  in_context,
-  all_matches,
-  matches_up_to,
-  touches,
-  is_touched,
-  is_free,
-  has_room,
-  selects_free,
-}
-use Rattle.std.proofs.Common.{
-  ◌≡◌,
-  ℕ,
-  ◌+◌,
-  ◌-◌,
-  ◌<◌,
-  ◌≤◌,
-  Bool,
-  true,
-  false,
-  not,
-  ◌&&◌,
-  List,
-  [],
-  ◌∷◌,
-  length,
-  refl,
-  sym,
-  ap,
-  ◌∙◌,
-  arith,
-  ◌⊎◌,
-  ⊎_elim,
-  inl,
-  inr,
-  Option,
-  Some,
-  None,
-  if◌then◌else◌,
-  ltb-false,
-}
+use Rattle.grep_definitions.specs.Plans.{across_plan, calls_at, continues, is_touched_selected}
+use Rattle.grep_definitions.specs.Plans.{line, line_count, number, start, touched_lines, planned}
+use Rattle.grep_definitions.specs.Plans.{Planned, matches, context, breaks, Settings, count_below}
+use Rattle.grep_definitions.specs.Plans.{is_below, Kind, matched, in_context, all_matches}
+use Rattle.grep_definitions.specs.Plans.{matches_up_to, touches, is_touched, is_free, has_room}
+use Rattle.grep_definitions.specs.Plans.{selects_free}
+use Rattle.grep_definitions.specs.Plans
+use Rattle.std.proofs.Common.{◌≡◌, ℕ, ◌+◌, ◌-◌, ◌<◌, ◌≤◌, Bool, true, false, not, ◌&&◌, List, []}
+use Rattle.std.proofs.Common.{◌∷◌, length, refl, sym, ap, ◌∙◌, arith, ◌⊎◌, ⊎_elim, inl, inr, Option}
+use Rattle.std.proofs.Common.{Some, None, if◌then◌else◌, ltb-false}
 use Rattle.std.proofs.Math.Bool.{and-false}
 use Rattle.std.proofs.lemmas.Bool.{cases_Bool, le-leb}
 use Rattle.std.proofs.lemmas.List.{length-take}
@@ -59,37 +18,30 @@ use Rattle.grep_matcher.specs.Lines.{byte_of}
 use Rattle.grep_matcher.specs.Meanings.{Meaning}
 use Rattle.grep_lines.specs.Blocks.{block_start, block_end}
 use Rattle.grep_report.specs.declared.sink_context.SinkContextKind.TheVariants.{After}
-use Rattle.grep_definitions.specs.LineSearch.{line_count, line, number, start}
-use Rattle.grep_definitions.specs.AcrossLines
-use Rattle.grep_definitions.specs.AcrossLines.{is_selected, continues_unit, turns_at}
 use Rattle.grep_definitions.specs.SearchLaws.{AreReportsInOrder, report_calls}
 use Rattle.grep_definitions.proofs.BoolLemmas.{both_true, and-both, or-cases, or-first, or-second}
-use Rattle.grep_definitions.proofs.BelowLemmas.{some_below-some, count_below-none, count_below-once, count_below-either}
+use Rattle.grep_definitions.proofs.BelowLemmas.{some_below-some, count_below-none, count_below-once}
+use Rattle.grep_definitions.proofs.BelowLemmas.{count_below-either}
 use Rattle.grep_definitions.proofs.RunLemmas.{begins_run, begins_run-either, is_inside-run}
 use Rattle.grep_matcher.proofs.LineStartLemmas.{line_start-ascends, line_start-more, line_start-le}
 use Rattle.grep_definitions.proofs.ReportLemmas.{IsReported, in_order-joined, report_calls-broken}
 use Rattle.grep_definitions.proofs.UnitLemmas.{unit-lines}
-use Rattle.grep_definitions.proofs.SearchLawLemmas.{
-  matches_in,
-  matches-joined,
-  kind-selected,
-  count_below-weaker,
-  count_below-limited,
-}
+use Rattle.grep_definitions.proofs.SearchLawLemmas.{matches_in, matches-joined, kind-selected}
+use Rattle.grep_definitions.proofs.SearchLawLemmas.{count_below-weaker, count_below-limited}
 
 module _ (k : Settings) (meaning : Meaning) (bytes : List ℕ) where
   -- how many lines there are, where each starts, and its calls
   abbrev n : ℕ
-  n = line_count k meaning bytes
+  n = line_count k bytes
 
   abbrev at : ℕ → ℕ
-  at = start k meaning bytes
+  at = start k bytes
 
   abbrev T : ℕ → List Planned
-  T = turns_at k meaning bytes
+  T = calls_at k bytes (touched_lines k meaning bytes)
 
   abbrev selected : ℕ → Bool
-  selected = is_selected k meaning bytes
+  selected = is_touched_selected k meaning bytes
 
   -- the lines that one match touches are one run
   abbrev touched_by : ℕ × ℕ → ℕ → Bool
@@ -142,7 +94,7 @@ module _ (k : Settings) (meaning : Meaning) (bytes : List ℕ) where
 
   -- whether a unit begins at a line
   abbrev begins_unit : ℕ → Bool
-  begins_unit i = selected i && not (continues_unit k meaning bytes i)
+  begins_unit i = selected i && not (continues k bytes (touched_lines k meaning bytes) i)
 
   -- there are at most as many units as the limit has
   units-few : (limit m : ℕ) → has_room k limit ≡ false → count_below begins_unit m ≤ limit
@@ -171,55 +123,55 @@ module _ (k : Settings) (meaning : Meaning) (bytes : List ℕ) where
   abbrev broken : ℕ → Bool → List Planned
   broken i b =
       if b
-      then (planned breaks (AcrossLines.turn_end k meaning bytes i (AcrossLines.kind k meaning bytes i)))
-      ∷ AcrossLines.report k meaning bytes i (AcrossLines.kind k meaning bytes i)
-      else AcrossLines.report k meaning bytes i (AcrossLines.kind k meaning bytes i)
+      then (planned breaks (Plans.count_at k bytes (touched_lines k meaning bytes) i (Plans.kind k bytes (touched_lines k meaning bytes) i)))
+      ∷ Plans.report k bytes (touched_lines k meaning bytes) i (Plans.kind k bytes (touched_lines k meaning bytes) i)
+      else Plans.report k bytes (touched_lines k meaning bytes) i (Plans.kind k bytes (touched_lines k meaning bytes) i)
 
   -- a selected line that is in the unit of the line before it has no report
-  unreported : (i : ℕ) → selected i ≡ true → continues_unit k meaning bytes i ≡ true → report_calls (T i) ≡ []
+  unreported : (i : ℕ) → selected i ≡ true → continues k bytes (touched_lines k meaning bytes) i ≡ true → report_calls (T i) ≡ []
   unreported i here goes_on =
-      let kind : AcrossLines.kind k meaning bytes i ≡ Some matched = rw here refl in
-      report_calls-broken (AcrossLines.breaks_before k meaning bytes i) _ _
-      ∙ (ap (λ o. report_calls (AcrossLines.report k meaning bytes i o)) kind ∙ (rw goes_on refl))
+      let kind : Plans.kind k bytes (touched_lines k meaning bytes) i ≡ Some matched = rw here refl in
+      report_calls-broken (Plans.breaks_before k bytes (touched_lines k meaning bytes) i) _ _
+      ∙ (ap (λ o. report_calls (Plans.report k bytes (touched_lines k meaning bytes) i o)) kind ∙ (rw goes_on refl))
 
   -- a line has one report at most, of its bytes or of those of the unit that begins there
   reported-line : (i : ℕ) → i < n → (report_calls (T i) ≡ []) ⊎ IsReported T at i
   reported-line i inside =
-      go (AcrossLines.kind k meaning bytes i) refl (report_calls-broken (AcrossLines.breaks_before k meaning bytes i) _
+      go (Plans.kind k bytes (touched_lines k meaning bytes) i) refl (report_calls-broken (Plans.breaks_before k bytes (touched_lines k meaning bytes) i) _
       _)
     where
       above : at i < at (i + 1)
       above = line_start-ascends (byte_of k.line_terminator) bytes i inside
 
-      go : (o : Option Kind) → AcrossLines.kind k meaning bytes i ≡ o
-          → report_calls (T i) ≡ report_calls (AcrossLines.report k meaning bytes i o)
+      go : (o : Option Kind) → Plans.kind k bytes (touched_lines k meaning bytes) i ≡ o
+          → report_calls (T i) ≡ report_calls (Plans.report k bytes (touched_lines k meaning bytes) i o)
           → (report_calls (T i) ≡ []) ⊎ IsReported T at i
       go None kind is = inl is
       go (Some matched) kind is =
-          let here = kind-selected (selected i) (AcrossLines.follows_selected k meaning bytes i)
-          (AcrossLines.precedes_selected k meaning bytes i) k.passthru kind in
+          let here = kind-selected (selected i) (Plans.follows_selected k bytes (touched_lines k meaning bytes) i)
+          (Plans.precedes_selected k bytes (touched_lines k meaning bytes) i) k.passthru kind in
           ⊎_elim
-          (λ (goes_on : continues_unit k meaning bytes i ≡ true). inl (unreported i here goes_on))
-          (λ (first : continues_unit k meaning bytes i ≡ false).
+          (λ (goes_on : continues k bytes (touched_lines k meaning bytes) i ≡ true). inl (unreported i here goes_on))
+          (λ (first : continues k bytes (touched_lines k meaning bytes) i ≡ false).
           let unit = unit-lines k meaning bytes i inside here in
           inr (record {
-            call = matches (number k meaning bytes i) (at i) (AcrossLines.unit k meaning bytes i);
-            next = AcrossLines.unit_end k meaning bytes i;
+            call = matches (number k bytes i) (at i) (Plans.report_lines k bytes (touched_lines k meaning bytes) i);
+            next = Plans.report_end k bytes (touched_lines k meaning bytes) i;
             reports = is ∙ (rw first refl);
             later = unit.later;
             above = omega (
               arith,
               above,
               line_start-le (byte_of k.line_terminator) bytes (i + 1)
-                  (AcrossLines.unit_end k meaning bytes i) (omega arith),
+                  (Plans.report_end k bytes (touched_lines k meaning bytes) i) (omega arith),
             );
             from = refl;
             to = unit.size;
             alone = λ j low high. unreported j (unit.hits j low high).0 (unit.hits j low high).1;
           }))
-          (cases_Bool (continues_unit k meaning bytes i))
+          (cases_Bool (continues k bytes (touched_lines k meaning bytes) i))
       go (Some (in_context c)) kind is = inr (record {
-        call = context c (number k meaning bytes i) (at i) (line k meaning bytes i);
+        call = context c (number k bytes i) (at i) (line k bytes i);
         next = i + 1;
         reports = is;
         later = omega arith;
@@ -230,40 +182,40 @@ module _ (k : Settings) (meaning : Meaning) (bytes : List ℕ) where
       })
 
   -- the reports ascend
-  pub in_order-across : AreReportsInOrder (report_calls (AcrossLines.turns k meaning bytes))
+  pub in_order-across : AreReportsInOrder (report_calls (across_plan k meaning bytes).calls)
   in_order-across = in_order-joined T at n (line_start-ascends (byte_of k.line_terminator) bytes)
       reported-line
 
   -- a line after a selected one that isn't selected itself is reported as the line after it
-  pub turns_at-follows : (i j : ℕ) → selected i ≡ false → selected j ≡ true → j < i → i - j ≤ k.after_context
-      → T i ≡ planned (context After (number k meaning bytes i) (at i) (line k meaning bytes i)) (at (i + 1)) ∷ []
-  turns_at-follows i j misses hit less close =
+  pub calls_at-follows : (i j : ℕ) → selected i ≡ false → selected j ≡ true → j < i → i - j ≤ k.after_context
+      → T i ≡ planned (context After (number k bytes i) (at i) (line k bytes i)) (at (i + 1)) ∷ []
+  calls_at-follows i j misses hit less close =
       let near = le-leb (i - j) k.after_context close in
-      let follows : AcrossLines.follows_selected k meaning bytes i
+      let follows : Plans.follows_selected k bytes (touched_lines k meaning bytes) i
       ≡ true = some_below-some _ i j less (rw (near, hit) refl) in
-      let kind : AcrossLines.kind k meaning bytes i ≡ Some (in_context After) = rw (misses, follows) refl in
+      let kind : Plans.kind k bytes (touched_lines k meaning bytes) i ≡ Some (in_context After) = rw (misses, follows) refl in
       rw (kind, and-false (nat_lt 0 (k.after_context + k.before_context))) refl
 
   -- a match is reported at a line only if a unit begins there
-  matches-report : (i : ℕ) (kind : Option Kind) → AcrossLines.kind k meaning bytes i ≡ kind
-      → matches_in (AcrossLines.report k meaning bytes i kind) ≤ (if begins_unit i then 1 else 0)
+  matches-report : (i : ℕ) (kind : Option Kind) → Plans.kind k bytes (touched_lines k meaning bytes) i ≡ kind
+      → matches_in (Plans.report k bytes (touched_lines k meaning bytes) i kind) ≤ (if begins_unit i then 1 else 0)
   matches-report i None is = omega arith
   matches-report i (Some matched) is =
-      let here = kind-selected (selected i) (AcrossLines.follows_selected k meaning bytes i)
-      (AcrossLines.precedes_selected k meaning bytes i) k.passthru is in
+      let here = kind-selected (selected i) (Plans.follows_selected k bytes (touched_lines k meaning bytes) i)
+      (Plans.precedes_selected k bytes (touched_lines k meaning bytes) i) k.passthru is in
       ⊎_elim
       (λ yes. rw yes (omega arith))
-      (λ (no : continues_unit k meaning bytes i ≡ false). rw (here, no) (omega arith))
-      (cases_Bool (continues_unit k meaning bytes i))
+      (λ (no : continues k bytes (touched_lines k meaning bytes) i ≡ false). rw (here, no) (omega arith))
+      (cases_Bool (continues k bytes (touched_lines k meaning bytes) i))
   matches-report i (Some (in_context c)) is = omega arith
 
   matches-line : (i : ℕ) → matches_in (T i) ≤ (if begins_unit i then 1 else 0)
-  matches-line i = go (AcrossLines.breaks_before k meaning bytes i)
+  matches-line i = go (Plans.breaks_before k bytes (touched_lines k meaning bytes) i)
     where
       go : (b : Bool) → matches_in (broken i b) ≤ (if begins_unit i then 1 else 0)
-      go true = matches-report i (AcrossLines.kind k meaning bytes i) refl
-      go false = matches-report i (AcrossLines.kind k meaning bytes i) refl
+      go true = matches-report i (Plans.kind k bytes (touched_lines k meaning bytes) i) refl
+      go false = matches-report i (Plans.kind k bytes (touched_lines k meaning bytes) i) refl
 
   -- the calls report no more matches than the limit has
-  pub matches-across : (limit : ℕ) → has_room k limit ≡ false → matches_in (AcrossLines.turns k meaning bytes) ≤ limit
+  pub matches-across : (limit : ℕ) → has_room k limit ≡ false → matches_in (across_plan k meaning bytes).calls ≤ limit
   matches-across limit is = omega (arith, matches-joined T begins_unit matches-line n, units-few limit n is)

@@ -1,74 +1,42 @@
 -- The calls of a search across lines, as a walk over units of selected lines and over the lines between them makes
 -- them.
-use Rattle.grep_definitions.specs.Plans.{
-  planned,
-  Planned,
-  begins,
-  Settings,
-  some_below,
-  joined_from,
-  matched,
-  in_context,
-  selects_free,
-}
-use Rattle.std.proofs.Common.{
-  ◌≡◌,
-  ℕ,
-  suc,
-  ◌+◌,
-  ◌-◌,
-  ◌<◌,
-  ◌≤◌,
-  Bool,
-  true,
-  false,
-  not,
-  ◌&&◌,
-  ◌||◌,
-  List,
-  [],
-  ◌∷◌,
-  ◌++◌,
-  refl,
-  sym,
-  ap,
-  subst,
-  ◌∙◌,
-  arith,
-  ⊎_elim,
-  Some,
-  None,
-  if◌then◌else◌,
-}
+use Rattle.grep_definitions.specs.LineWalks.{IsNear}
+use Rattle.grep_definitions.specs.Plans.{across_plan, calls_at, continues, is_touched_selected}
+use Rattle.grep_definitions.specs.Plans.{line, line_count, number, start, touched_lines, planned}
+use Rattle.grep_definitions.specs.Plans.{Planned, begins, Settings, some_below, joined_from}
+use Rattle.grep_definitions.specs.Plans.{matched, in_context, selects_free}
+use Rattle.grep_definitions.specs.Plans
+use Rattle.std.proofs.Common.{◌≡◌, ℕ, suc, ◌+◌, ◌-◌, ◌<◌, ◌≤◌, Bool, true, false, not, ◌&&◌, ◌||◌}
+use Rattle.std.proofs.Common.{List, [], ◌∷◌, ◌++◌, refl, sym, ap, subst, ◌∙◌, arith, ⊎_elim, Some}
+use Rattle.std.proofs.Common.{None, if◌then◌else◌}
 use Rattle.std.proofs.Math.Bool.{and-false}
 use Rattle.std.proofs.lemmas.Bool.{lt-ltb, lt-leb, le-leb, cases_Bool, cases_lt}
 use Rattle.std.proofs.lemmas.List.{append-nil}
 use Rattle.std.specs.Prelude.{nat_lt, nat_le, slice_range}
 use Rattle.grep_matcher.specs.Meanings.{Meaning}
-use Rattle.grep_report.specs.declared.sink_context.SinkContextKind.TheVariants.{Before, After, Other}
-use Rattle.grep_definitions.specs.LineSearch.{line_count, line, start, number}
-use Rattle.grep_definitions.specs.LineTurns.{before_turns, pending_turns, match_turns, context_turns, is_gap}
+use Rattle.grep_report.specs.declared.sink_context.SinkContextKind.TheVariants.{Before, After}
+use Rattle.grep_report.specs.declared.sink_context.SinkContextKind.TheVariants.{Other}
+use Rattle.grep_definitions.specs.LineCalls.{before_calls, pending_calls, selected_calls}
+use Rattle.grep_definitions.specs.LineCalls.{context_calls, is_gap}
 use Rattle.grep_definitions.specs.SearchLaws.{number_of}
-use Rattle.grep_definitions.specs.Selections.{IsNear, no_line}
-use Rattle.grep_definitions.specs.AcrossLines
-use Rattle.grep_definitions.specs.AcrossLines.{is_selected, continues_unit, turns_at}
-use Rattle.grep_definitions.proofs.BelowLemmas.{joined_from-add, joined_from-equal, joined_from-none, headed-through}
+use Rattle.grep_definitions.proofs.BelowLemmas.{joined_from-add, joined_from-equal}
+use Rattle.grep_definitions.proofs.BelowLemmas.{joined_from-none, headed-through}
 use Rattle.grep_definitions.proofs.RunLemmas.{run_end, IsRunEnd-run_end, IsRunEnd-one}
 use Rattle.grep_definitions.proofs.SelectionLemmas
 use Rattle.grep_definitions.proofs.LineSliceLemmas.{number-line, slice-line}
 
 module _ (k : Settings) (meaning : Meaning) (bytes : List ℕ) where
   abbrev pub n : ℕ
-  n = line_count k meaning bytes
+  n = line_count k bytes
 
   abbrev pub starts : ℕ → ℕ
-  starts = start k meaning bytes
+  starts = start k bytes
 
   abbrev pub S : ℕ → Bool
-  S = is_selected k meaning bytes
+  S = is_touched_selected k meaning bytes
 
   abbrev pub T : ℕ → List Planned
-  T = turns_at k meaning bytes
+  T = calls_at k bytes (touched_lines k meaning bytes)
 
   -- the bytes of the lines from one up to another
   abbrev pub span : ℕ → ℕ → List ℕ
@@ -78,7 +46,7 @@ module _ (k : Settings) (meaning : Meaning) (bytes : List ℕ) where
   Bare = k.passthru ≡ true → (k.after_context ≡ 0) × (k.before_context ≡ 0)
 
   abbrev pub Near : ℕ → ℕ → ℕ → Type 0
-  Near v i left = IsNear k S no_line n n v i left
+  Near v i left = IsNear k bytes (touched_lines k meaning bytes) v i left
 
   -- `begin`, and the calls of the first i lines
   abbrev pub front : ℕ → List Planned
@@ -91,7 +59,7 @@ module _ (k : Settings) (meaning : Meaning) (bytes : List ℕ) where
   B = k.before_context
 
   abbrev is_reported : ℕ → Bool
-  is_reported = AcrossLines.is_reported k meaning bytes
+  is_reported = Plans.is_reported k bytes (touched_lines k meaning bytes)
 
   -- and then those of the lines up to a later one
   pub front-through : (v i : ℕ) → v ≤ i → front i ≡ front v ++ joined_from T v (i - v)
@@ -99,7 +67,7 @@ module _ (k : Settings) (meaning : Meaning) (bytes : List ℕ) where
 
   -- before the first line
   pub near-none : Near 0 0 0
-  near-none = SelectionLemmas.IsNear-none k S no_line n n
+  near-none = SelectionLemmas.IsNear-none k bytes (touched_lines k meaning bytes)
 
   -- lines that aren't selected are passed unreported
   pub near-skipped : {v i : ℕ} (e : ℕ) → Near v i 0 → k.passthru ≡ false → i ≤ e → e ≤ n
@@ -118,29 +86,29 @@ module _ (k : Settings) (meaning : Meaning) (bytes : List ℕ) where
 
   pub front-missed : Bare → {v i left : ℕ} → Near v i left → i < n → S i ≡ false
       → front (if nat_lt 0 left || k.passthru then i + 1 else v)
-      ≡ front v ++ (if nat_lt 0 left then context_turns After (number_of k i) (starts i) (starts (i + 1))
+      ≡ front v ++ (if nat_lt 0 left then context_calls After (number_of k i) (starts i) (starts (i + 1))
       (span i (i + 1))
-      else (if k.passthru then context_turns Other (number_of k i) (starts i) (starts (i + 1)) (span i (i + 1))
+      else (if k.passthru then context_calls Other (number_of k i) (starts i) (starts (i + 1)) (span i (i + 1))
       else []))
   front-missed bare {v} {i} {left} near inside missed =
       SelectionLemmas.headed-missed near (planned begins 0) T _ _ after other
     where
-      is_number : number k meaning bytes i ≡ number_of k i
+      is_number : number k bytes i ≡ number_of k i
       is_number = number-line k bytes i inside
 
-      is_line : line k meaning bytes i ≡ span i (i + 1)
+      is_line : line k bytes i ≡ span i (i + 1)
       is_line = sym (slice-line k bytes i)
 
-      after : 0 < left → T i ≡ context_turns After (number_of k i) (starts i) (starts (i + 1)) (span i (i + 1))
+      after : 0 < left → T i ≡ context_calls After (number_of k i) (starts i) (starts (i + 1)) (span i (i + 1))
       after some =
-          let kind : AcrossLines.kind k meaning bytes i ≡ Some (in_context After) =
+          let kind : Plans.kind k bytes (touched_lines k meaning bytes) i ≡ Some (in_context After) =
           SelectionLemmas.kind-after near missed some in
           rw (kind, and-false (nat_lt 0 (A + B)), is_number, is_line) refl
 
-      other : left ≡ 0 → k.passthru ≡ true → T i ≡ context_turns Other (number_of k i) (starts i) (starts (i + 1))
+      other : left ≡ 0 → k.passthru ≡ true → T i ≡ context_calls Other (number_of k i) (starts i) (starts (i + 1))
           (span i (i + 1))
       other none is_p =
-          let kind : AcrossLines.kind k meaning bytes i ≡ Some (in_context Other) =
+          let kind : Plans.kind k bytes (touched_lines k meaning bytes) i ≡ Some (in_context Other) =
           SelectionLemmas.kind-other near missed none is_p (bare is_p).1 in
           rw (kind, and-false (nat_lt 0 (A + B)), is_number, is_line) refl
 
@@ -149,7 +117,7 @@ module _ (k : Settings) (meaning : Meaning) (bytes : List ℕ) where
   near-unit i e some high hits =
       let sum : (e - 1) + 1 ≡ e = omega arith in
       subst (λ x. Near x x k.after_context) sum
-      (SelectionLemmas.IsNear-hit k S no_line n n (e - 1) (omega arith) (hits (e - 1) (omega arith) (omega arith)))
+      (SelectionLemmas.IsNear-hit k bytes (touched_lines k meaning bytes) (e - 1) (omega arith) (hits (e - 1) (omega arith) (omega arith)))
 
   module _ {v i left : ℕ} (e : ℕ) (near : Near v i left) (some : i < e) (high : e ≤ n)
       (hits : (j : ℕ) → i ≤ j → j < e → S j ≡ true)
@@ -161,7 +129,7 @@ module _ (k : Settings) (meaning : Meaning) (bytes : List ℕ) where
     hit = hits i (omega arith) some
 
     -- the unit ends there
-    end-is : AcrossLines.unit_end k meaning bytes i ≡ e
+    end-is : Plans.report_end k bytes (touched_lines k meaning bytes) i ≡ e
     end-is = ⊎_elim
         (λ inverted. rw inverted (sym (alone inverted)))
         (λ plain. ap (λ b. if not b then run_end S n i else i + 1) plain
@@ -171,25 +139,25 @@ module _ (k : Settings) (meaning : Meaning) (bytes : List ℕ) where
 
     -- the calls of a line before it that was passed
     passed-is : (j : ℕ) → v ≤ j → j < i
-        → T j ≡ before_turns k v j i (number k meaning bytes j) (starts j) (starts e) (line k meaning bytes j)
+        → T j ≡ before_calls k v j i (number k bytes j) (starts j) (starts e) (line k bytes j)
     passed-is j low less = ⊎_elim far close (cases_lt B (i - j))
       where
-        is_kind : AcrossLines.kind k meaning bytes j ≡ (if nat_le (i - j) B then Some (in_context Before) else None)
+        is_kind : Plans.kind k bytes (touched_lines k meaning bytes) j ≡ (if nat_le (i - j) B then Some (in_context Before) else None)
         is_kind = SelectionLemmas.kind-passed near inside inside hit j low less
 
-        far : B < i - j → T j ≡ before_turns k v j i (number k meaning bytes j) (starts j) (starts e)
-            (line k meaning bytes j)
+        far : B < i - j → T j ≡ before_calls k v j i (number k bytes j) (starts j) (starts e)
+            (line k bytes j)
         far out =
             let test = lt-leb (i - j) B out in
-            let kind : AcrossLines.kind k meaning bytes j ≡ None = is_kind
+            let kind : Plans.kind k bytes (touched_lines k meaning bytes) j ≡ None = is_kind
             ∙ ap (λ b. if b then Some (in_context Before) else None) test in
             rw (kind, and-false (nat_lt 0 (A + B)), test) refl
 
-        close : i - j ≤ B → T j ≡ before_turns k v j i (number k meaning bytes j) (starts j) (starts e)
-            (line k meaning bytes j)
+        close : i - j ≤ B → T j ≡ before_calls k v j i (number k bytes j) (starts j) (starts e)
+            (line k bytes j)
         close inner =
             let test = le-leb (i - j) B inner in
-            let kind : AcrossLines.kind k meaning bytes j ≡ Some (in_context Before) = is_kind
+            let kind : Plans.kind k bytes (touched_lines k meaning bytes) j ≡ Some (in_context Before) = is_kind
             ∙ ap (λ b. if b then Some (in_context Before) else None) test in
             let gap : (nat_lt 0 (A + B) && true && not (is_reported (j - 1)) && some_below is_reported j)
             ≡ is_gap k v j i =
@@ -198,9 +166,9 @@ module _ (k : Settings) (meaning : Meaning) (bytes : List ℕ) where
             rw (kind, gap, found, end-is, test) refl
 
     -- those of its first line
-    hit-is : continues_unit k meaning bytes i ≡ false → T i ≡ match_turns k v i (starts i) (starts e) (span i e)
+    hit-is : continues k bytes (touched_lines k meaning bytes) i ≡ false → T i ≡ selected_calls k v i (starts i) (starts e) (span i e)
     hit-is first =
-        let kind : AcrossLines.kind k meaning bytes i ≡ Some matched = rw hit refl in
+        let kind : Plans.kind k bytes (touched_lines k meaning bytes) i ≡ Some matched = rw hit refl in
         let gap : (nat_lt 0 (A + B) && true && not (is_reported (i - 1)) && some_below is_reported i)
         ≡ (nat_lt 0 A && is_gap k v i i) =
         SelectionLemmas.gap-hit near inside inside hit in
@@ -212,11 +180,11 @@ module _ (k : Settings) (meaning : Meaning) (bytes : List ℕ) where
     later-is j less below =
         let plain : selects_free k ≡ false = ⊎_elim (λ yes. absurd (omega (arith, alone yes))) (λ no. no)
         (cases_Bool (selects_free k)) in
-        let kind : AcrossLines.kind k meaning bytes j
+        let kind : Plans.kind k bytes (touched_lines k meaning bytes) j
         ≡ Some matched = let here = hits j (omega arith) below in rw here refl in
         let before = hits (j - 1) (omega arith) (omega arith) in
         let above = lt-ltb 0 j (omega arith) in
-        let goes_on : continues_unit k meaning bytes j ≡ true =
+        let goes_on : continues k bytes (touched_lines k meaning bytes) j ≡ true =
         ap (λ b. not b && nat_lt 0 j && S (j - 1)) plain ∙ rw (above, before) refl in
         let reported : is_reported (j - 1) ≡ true = let test = lt-ltb (j - 1) n (omega arith) in rw (before, test)
         refl in
@@ -225,9 +193,9 @@ module _ (k : Settings) (meaning : Meaning) (bytes : List ℕ) where
   -- the calls of a unit: those of the lines before it, and the match at its first line
   pub front-unit : {v i left : ℕ} (e : ℕ) → Near v i left → i < e → e ≤ n → ((j : ℕ) → i ≤ j → j < e → S j ≡ true)
       → (selects_free k ≡ false → e < n → S e ≡ false) → (selects_free k ≡ true → e ≡ i + 1)
-      → continues_unit k meaning bytes i ≡ false
-      → front e ≡ front v ++ (pending_turns k bytes v i (starts e) v (i - v)
-      ++ match_turns k v i (starts i) (starts e) (span i e))
+      → continues k bytes (touched_lines k meaning bytes) i ≡ false
+      → front e ≡ front v ++ (pending_calls k bytes v i (starts e) v (i - v)
+      ++ selected_calls k v i (starts i) (starts e) (span i e))
   front-unit {v} {i} e near some high hits closed alone first =
       let reach = near.low in
       let sum : e - v ≡ (i - v) + suc (e - (i + 1)) = omega arith in
@@ -243,17 +211,17 @@ module _ (k : Settings) (meaning : Meaning) (bytes : List ℕ) where
       ∙ (ap (λ m. joined_from T v (i - v) ++ joined_from T m (suc (e - (i + 1)))) at
       ∙ (ap (λ xs. joined_from T v (i - v) ++ (T i ++ xs)) rest
       ∙ (ap (λ xs. joined_from T v (i - v) ++ xs) (append-nil (T i) ∙ here)
-      ∙ ap (λ xs. xs ++ match_turns k v i (starts i) (starts e) (span i e)) pending)))))
+      ∙ ap (λ xs. xs ++ selected_calls k v i (starts i) (starts e) (span i e)) pending)))))
 
   -- after the last line
-  pub front-done : {v left : ℕ} → Near v n left → AcrossLines.turns k meaning bytes ≡ front v
+  pub front-done : {v left : ℕ} → Near v n left → (across_plan k meaning bytes).calls ≡ front v
   front-done {v} near =
       front-through v n near.low
       ∙ (ap (λ xs. front v ++ xs) (joined_from-none T v (n - v) none) ∙ append-nil (front v))
     where
       none : (j : ℕ) → v ≤ j → j < v + (n - v) → T j ≡ []
       none j low below =
-          let kind : AcrossLines.kind k meaning bytes j ≡ None =
+          let kind : Plans.kind k bytes (touched_lines k meaning bytes) j ≡ None =
           SelectionLemmas.kind-done near (λ q late inner. absurd (omega arith)) j low
           (omega arith) in
           rw (kind, and-false (nat_lt 0 (A + B))) refl

@@ -1,42 +1,17 @@
 -- Where searches end at a binary byte, and what is searched of converted bytes, at some inputs, as the checker computes
 -- them.
-use Rattle.std.proofs.Common.{
-  ◌≡◌,
-  ℕ,
-  true,
-  false,
-  List,
-  [],
-  ◌∷◌,
-  ◌++◌,
-  Some,
-  None,
-  inl,
-  inr,
-  refl,
-  codes,
-  arith,
-  get_or,
-}
+use Rattle.std.proofs.Common.{◌≡◌, ℕ, true, false, List, [], ◌∷◌, ◌++◌, Some, None, inl, inr, refl}
+use Rattle.std.proofs.Common.{codes, arith, get_or}
 use Rattle.grep_matcher.specs.Lines.{lines}
 use Rattle.grep_report.specs.declared.binary_detection.BinaryDetection.TheVariants.{Quit, Convert}
 use Rattle.grep_report.specs.declared.sink_context.SinkContextKind.TheVariants.{Before, After}
 use Rattle.grep_definitions.specs.Plans.{search_plan, binary_data, Finish, Planned, Plan, Settings}
-use Rattle.grep_definitions.specs.Searches.{
-  before_quit,
-  binary_position,
-  stream_view,
-  look_of,
-  nowhere,
-  in_contents,
-  on_stream,
-  contents_point,
-  point_unless,
-  plan_with,
-  IsTooLong,
-}
+use Rattle.grep_definitions.specs.Searches.{before_quit, binary_position, stream_view, look_of}
+use Rattle.grep_definitions.specs.Searches.{nowhere, in_contents, on_stream, contents_point}
+use Rattle.grep_definitions.specs.Searches.{point_unless, plan_with, IsTooLong}
 use Rattle.grep_definitions.specs.BuiltSettings.{default_settings}
-use Rattle.grep_definitions.proofs.WorkedExamples.{has_a, begun, match_call, context_call, break_call, plan_of}
+use Rattle.grep_definitions.proofs.WorkedExamples.{has_a, begun, match_call, context_call}
+use Rattle.grep_definitions.proofs.WorkedExamples.{break_call, plan_of}
 
 module _ (settings : Settings) (bytes : List ℕ) where
   -- the calls of whole contents as if they had no binary byte

@@ -1,34 +1,7 @@
 -- Which reports hold a byte at which a search ends.
-use Rattle.std.proofs.Common.{
-  ◌≡◌,
-  ℕ,
-  ◌+◌,
-  ◌-◌,
-  ◌<◌,
-  ◌≤◌,
-  Bool,
-  true,
-  false,
-  List,
-  [],
-  ◌∷◌,
-  ◌++◌,
-  length,
-  take,
-  drop,
-  Option,
-  None,
-  Some,
-  refl,
-  sym,
-  ap,
-  subst,
-  ◌∙◌,
-  arith,
-  if◌then◌else◌,
-  ◌==◌,
-  ⊎_elim,
-}
+use Rattle.std.proofs.Common.{◌≡◌, ℕ, ◌+◌, ◌-◌, ◌<◌, ◌≤◌, Bool, true, false, List, [], ◌∷◌, ◌++◌}
+use Rattle.std.proofs.Common.{length, take, drop, Option, None, Some, refl, sym, ap, subst, ◌∙◌}
+use Rattle.std.proofs.Common.{arith, if◌then◌else◌, ◌==◌, ⊎_elim}
 use Rattle.std.proofs.lemmas.List.{drop-take, take_all, take_at, take-take}
 use Rattle.std.proofs.lemmas.List.Elements.{All-nil, All-cons, All-take, All-drop}
 use Rattle.std.proofs.lemmas.Option.{none-some}
@@ -37,98 +10,77 @@ use Rattle.std.specs.List.{position}
 use Rattle.std.specs.Option.{option_map}
 use Rattle.grep_matcher.specs.Meanings.{Meaning}
 use Rattle.grep_matcher.specs.Lines.{byte_of}
-use Rattle.grep_definitions.specs.Searches.{
-  binary_position,
-  position_of,
-  stream_view,
-  BinaryPoint,
-  call_at,
-  contents_point,
-  point_at,
-  point_unless,
-}
-use Rattle.grep_definitions.specs.BinaryLaws.{
-  first_look,
-  holds_byte,
-  QuitReportsAreClear,
-  CountedReportsAreClear,
-  SeenLinesAreClear,
-}
-use Rattle.grep_definitions.specs.Plans.{
-  calls_at,
-  joined_from,
-  Settings,
-  is_across,
-  selection_in,
-  Planned,
-  begins,
-  is_break,
-  planned,
-}
-use Rattle.grep_definitions.specs.LineSearch
+use Rattle.grep_definitions.specs.Plans.{line_plan, reports_end, selected_lines, calls_at}
+use Rattle.grep_definitions.specs.Plans.{joined_from, Settings, is_across, selection_in, Planned}
+use Rattle.grep_definitions.specs.Plans.{begins, is_break, planned}
+use Rattle.grep_definitions.specs.Plans
+use Rattle.grep_definitions.specs.Searches.{binary_position, position_of, stream_view, BinaryPoint}
+use Rattle.grep_definitions.specs.Searches.{call_at, contents_point, point_at, point_unless}
+use Rattle.grep_definitions.specs.BinaryLaws.{first_look, holds_byte, QuitReportsAreClear}
+use Rattle.grep_definitions.specs.BinaryLaws.{CountedReportsAreClear, SeenLinesAreClear}
 use Rattle.grep_definitions.proofs.LineReportLemmas.{reports-line}
 use Rattle.grep_matcher.proofs.LineStartLemmas.{line_start-within, line_start-le}
 use Rattle.grep_definitions.proofs.ListLemmas.{All-joined_from}
-use Rattle.grep_definitions.proofs.SearchLawLemmas.{turn_count-le}
-use Rattle.grep_definitions.proofs.TurnEndLemmas.{ends-late}
+use Rattle.grep_definitions.proofs.SearchLawLemmas.{reports_end-le}
+use Rattle.grep_definitions.proofs.CountLemmas.{ends-late}
 use Rattle.grep_definitions.proofs.LineSliceLemmas.{slice-line}
 use Rattle.grep_lines.proofs.PositionLemmas.{none-passes, position-none, position-take-before}
 
 module _ (b : ℕ) where
   abbrev AreClear : List Planned → Type 0
-  AreClear = All (λ turn. holds_byte b turn ≡ false)
+  AreClear = All (λ call. holds_byte b call ≡ false)
 
   -- the calls before the first report that holds the byte
-  clear-before : (turns : List Planned) (n m : ℕ) → position (holds_byte b) turns ≡ Some n → m ≤ n
-      → AreClear (take m turns)
-  clear-before turns n m is low =
-      none-passes (holds_byte b) (take m turns) (position-take-before (holds_byte b) m turns n is low)
+  clear-before : (calls : List Planned) (n m : ℕ) → position (holds_byte b) calls ≡ Some n → m ≤ n
+      → AreClear (take m calls)
+  clear-before calls n m is low =
+      none-passes (holds_byte b) (take m calls) (position-take-before (holds_byte b) m calls n is low)
 
-  clear-calls : (turns : List Planned) (n : ℕ) → position (holds_byte b) turns ≡ Some n
-      → AreClear (take (point_at b turns n).position turns)
-  clear-calls turns n is = go (is_break (call_at b turns (n - 1)).call)
+  clear-calls : (calls : List Planned) (n : ℕ) → position (holds_byte b) calls ≡ Some n
+      → AreClear (take (point_at b calls n).position calls)
+  clear-calls calls n is = go (is_break (call_at b calls (n - 1)).call)
     where
-      go : (c : Bool) → AreClear (take (if c then n - 1 else n) turns)
-      go true = clear-before turns n (n - 1) is (omega arith)
-      go false = clear-before turns n n is (omega arith)
+      go : (c : Bool) → AreClear (take (if c then n - 1 else n) calls)
+      go true = clear-before calls n (n - 1) is (omega arith)
+      go false = clear-before calls n n is (omega arith)
 
   -- of calls that begin with `begin`, which reports nothing
   module _ (later : List Planned) (bytes : List ℕ) where
-    abbrev turns : List Planned
-    turns = planned begins 0 ∷ later
+    abbrev calls : List Planned
+    calls = planned begins 0 ∷ later
 
     abbrev before_of : Option BinaryPoint → List Planned
     before_of None = []
-    before_of (Some point) = take point.position turns
+    before_of (Some point) = take point.position calls
 
-    begun-clear : AreClear (take 1 turns)
+    begun-clear : AreClear (take 1 calls)
     begun-clear =
-        All-cons (λ turn. holds_byte b turn ≡ false) (planned begins 0) (take 0 later) refl
-        (All-nil (λ turn. holds_byte b turn ≡ false))
+        All-cons (λ call. holds_byte b call ≡ false) (planned begins 0) (take 0 later) refl
+        (All-nil (λ call. holds_byte b call ≡ false))
 
-    pub clear-point : (point : BinaryPoint) → contents_point b bytes turns ≡ Some point
-        → AreClear (take point.position turns)
+    pub clear-point : (point : BinaryPoint) → contents_point b bytes calls ≡ Some point
+        → AreClear (take point.position calls)
     clear-point point is = by (position_of b (take first_look bytes)) is
       where
-        reported : (o : Option ℕ) → position (holds_byte b) turns ≡ o
-            → option_map (point_at b turns) o ≡ Some point → AreClear (take point.position turns)
+        reported : (o : Option ℕ) → position (holds_byte b) calls ≡ o
+            → option_map (point_at b calls) o ≡ Some point → AreClear (take point.position calls)
         reported None found is = absurd (none-some point is)
-        reported (Some n) found is = subst AreClear (ap before_of is) (clear-calls turns n found)
+        reported (Some n) found is = subst AreClear (ap before_of is) (clear-calls calls n found)
 
-        by : (o : Option ℕ) → point_unless b turns o ≡ Some point → AreClear (take point.position turns)
-        by None is = reported (position (holds_byte b) turns) refl is
+        by : (o : Option ℕ) → point_unless b calls o ≡ Some point → AreClear (take point.position calls)
+        by None is = reported (position (holds_byte b) calls) refl is
         by (Some offset) is = subst AreClear (ap before_of is) begun-clear
 
-    pub clear-all : contents_point b bytes turns ≡ None → AreClear turns
+    pub clear-all : contents_point b bytes calls ≡ None → AreClear calls
     clear-all is = by (position_of b (take first_look bytes)) is
       where
-        reported : (o : Option ℕ) → position (holds_byte b) turns ≡ o → option_map (point_at b turns) o ≡ None
-            → AreClear turns
-        reported None found is = none-passes (holds_byte b) turns found
-        reported (Some n) found is = absurd (none-some (point_at b turns n) (sym is))
+        reported : (o : Option ℕ) → position (holds_byte b) calls ≡ o → option_map (point_at b calls) o ≡ None
+            → AreClear calls
+        reported None found is = none-passes (holds_byte b) calls found
+        reported (Some n) found is = absurd (none-some (point_at b calls n) (sym is))
 
-        by : (o : Option ℕ) → point_unless b turns o ≡ None → AreClear turns
-        by None is = reported (position (holds_byte b) turns) refl is
+        by : (o : Option ℕ) → point_unless b calls o ≡ None → AreClear calls
+        by None is = reported (position (holds_byte b) calls) refl is
         by (Some offset) is = absurd (none-some _ (sym is))
 
 pub quit_reports-clear : QuitReportsAreClear
@@ -151,27 +103,27 @@ slice-clear p bytes s e count up low clear =
 
 module _ (k : Settings) (meaning : Meaning) (bytes : List ℕ) where
   module _ (b count : ℕ) (clear : position_of b (take count bytes) ≡ None) where
-    line-clear : (i : ℕ) → i < LineSearch.line_count k meaning bytes → LineSearch.start k meaning bytes (i + 1) ≤ count
-        → position_of b (LineSearch.line k meaning bytes i) ≡ None
+    line-clear : (i : ℕ) → i < Plans.line_count k bytes → Plans.start k bytes (i + 1) ≤ count
+        → position_of b (Plans.line k bytes i) ≡ None
     line-clear i inside low =
         let up = line_start-le (byte_of k.line_terminator) bytes i (i + 1) (omega arith) in
         ap (position_of b) (sym (slice-line k bytes i))
-        ∙ slice-clear (λ x. x == b) bytes (LineSearch.start k meaning bytes i)
-        (LineSearch.start k meaning bytes (i + 1)) count up low
+        ∙ slice-clear (λ x. x == b) bytes (Plans.start k bytes i)
+        (Plans.start k bytes (i + 1)) count up low
         clear
 
-    pub lines-clear : All (λ turn. turn.if_false.count ≤ count → holds_byte b turn ≡ false)
-        (LineSearch.turns k meaning bytes)
+    pub lines-clear : All (λ call. call.if_false.count ≤ count → holds_byte b call ≡ false)
+        (line_plan k meaning bytes).calls
     lines-clear =
         All-cons P (planned begins 0)
-        (joined_from (LineSearch.turns_at k meaning bytes) 0 (LineSearch.turn_count k meaning bytes)) (λ low. refl)
-        (All-joined_from P (LineSearch.turns_at k meaning bytes) 0 (LineSearch.turn_count k meaning bytes)
-        (λ i low high. each i (omega (arith, turn_count-le k meaning bytes))))
+        (joined_from (Plans.calls_at k bytes (selected_lines k meaning bytes)) 0 (reports_end k meaning bytes)) (λ low. refl)
+        (All-joined_from P (Plans.calls_at k bytes (selected_lines k meaning bytes)) 0 (reports_end k meaning bytes)
+        (λ i low high. each i (omega (arith, reports_end-le k meaning bytes))))
       where
         P : Planned → Type 0
-        P turn = turn.if_false.count ≤ count → holds_byte b turn ≡ false
+        P call = call.if_false.count ≤ count → holds_byte b call ≡ false
 
-        each : (i : ℕ) → i < LineSearch.line_count k meaning bytes → All P (LineSearch.turns_at k meaning bytes i)
+        each : (i : ℕ) → i < Plans.line_count k bytes → All P (Plans.calls_at k bytes (selected_lines k meaning bytes) i)
         each i inside j d below low = ⊎_elim
             (λ none. ap (λ xs. is_some (position_of b xs)) none)
             (λ line.
@@ -186,12 +138,12 @@ counted_reports-clear b k meaning bytes count clear = lines-clear k meaning byte
 pub seen_lines-clear : SeenLinesAreClear
 seen_lines-clear b k meaning bytes seen quits front clear =
     All-cons P (planned begins 0)
-    (joined_from (LineSearch.turns_at k meaning seen) 0 (LineSearch.turn_count k meaning seen)) refl
-    (All-joined_from P (LineSearch.turns_at k meaning seen) 0 (LineSearch.turn_count k meaning seen)
-    (λ i low high. each i (omega (arith, turn_count-le k meaning seen))))
+    (joined_from (Plans.calls_at k seen (selected_lines k meaning seen)) 0 (reports_end k meaning seen)) refl
+    (All-joined_from P (Plans.calls_at k seen (selected_lines k meaning seen)) 0 (reports_end k meaning seen)
+    (λ i low high. each i (omega (arith, reports_end-le k meaning seen))))
   where
     P : Planned → Type 0
-    P turn = holds_byte b turn ≡ false
+    P call = holds_byte b call ≡ false
 
     whole : bytes ≡ seen ++ front.after
     whole = sym (ap (λ d. stream_view d (byte_of k.line_terminator) bytes) quits) ∙ front.whole
@@ -202,7 +154,7 @@ seen_lines-clear b k meaning bytes seen quits front clear =
         ∙ ap (take (length seen)) (sym whole)))
         ∙ (sym (ap (λ d. binary_position d (byte_of k.line_terminator) (take (length seen) bytes)) quits) ∙ clear)
 
-    each : (i : ℕ) → i < LineSearch.line_count k meaning seen → All P (LineSearch.turns_at k meaning seen i)
+    each : (i : ℕ) → i < Plans.line_count k seen → All P (Plans.calls_at k seen (selected_lines k meaning seen) i)
     each i inside j d below = ⊎_elim
         (λ none. ap (λ xs. is_some (position_of b xs)) none)
         (λ line. ap (λ xs. is_some (position_of b xs)) line

@@ -1,33 +1,7 @@
 -- The whole lines that matches extend over: in which order they are, and where they are in the bytes from a line on.
-use Rattle.std.proofs.Common.{
-  ◌≡◌,
-  ℕ,
-  ◌+◌,
-  ◌-◌,
-  ◌<◌,
-  ◌≤◌,
-  ◌==◌,
-  Bool,
-  true,
-  false,
-  ◌&&◌,
-  List,
-  ◌++◌,
-  length,
-  take,
-  drop,
-  slice_index,
-  refl,
-  sym,
-  ◌∙◌,
-  ap,
-  arith,
-  ⊎_elim,
-  cond,
-  if◌then◌else◌,
-  length-append,
-  take_all,
-}
+use Rattle.std.proofs.Common.{◌≡◌, ℕ, ◌+◌, ◌-◌, ◌<◌, ◌≤◌, ◌==◌, Bool, true, false, ◌&&◌, List, ◌++◌}
+use Rattle.std.proofs.Common.{length, take, drop, slice_index, refl, sym, ◌∙◌, ap, arith, ⊎_elim}
+use Rattle.std.proofs.Common.{cond, if◌then◌else◌, length-append, take_all}
 use Rattle.std.proofs.lemmas.Bool.{cases_lt, le-ltb}
 use Rattle.std.proofs.lemmas.List.{get_or-drop}
 use Rattle.std.proofs.lemmas.List.Folds.{concat-append}
@@ -39,14 +13,8 @@ use Rattle.grep_matcher.specs.Lines.{lines, line_start}
 use Rattle.grep_lines.specs.Blocks.{lines_before, block_start, block_end}
 use Rattle.grep_lines.specs.Positions.{IsLineStart}
 use Rattle.grep_lines.proofs.LineStepLemmas.{IsAt-start}
-use Rattle.grep_definitions.proofs.TouchLemmas.{
-  same-tests,
-  rises,
-  holder,
-  block_start-line,
-  block_end-line,
-  block_end-empty,
-}
+use Rattle.grep_definitions.proofs.TouchLemmas.{same-tests, rises, holder, block_start-line}
+use Rattle.grep_definitions.proofs.TouchLemmas.{block_end-line, block_end-empty}
 use Rattle.grep_matcher.proofs.LineStartLemmas.{line_start-le}
 
 module _ (t : ℕ) (bytes : List ℕ) where

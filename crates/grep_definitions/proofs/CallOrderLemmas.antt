@@ -1,167 +1,110 @@
 -- Calls in order, put together.
-use Rattle.std.proofs.Common.{
-  ◌≡◌,
-  ℕ,
-  inl,
-  inr,
-  List,
-  [],
-  ◌∷◌,
-  ◌++◌,
-  Bool,
-  true,
-  false,
-  refl,
-  sym,
-  subst,
-  ap,
-  ◌∙◌,
-  Option,
-  None,
-  map,
-  arith,
-  cond,
-}
+use Rattle.std.proofs.Common.{◌≡◌, ℕ, inl, inr, List, [], ◌∷◌, ◌++◌, Bool, true, false, refl, sym}
+use Rattle.std.proofs.Common.{subst, ap, ◌∙◌, Option, None, map, arith, cond}
 use Rattle.std.specs.Prelude.{Result, Ok, Err, ◌+◌, ◌-◌, ◌≤◌, ◌&&◌, if◌then◌else◌, nat_le, nat_lt}
 use Rattle.std.proofs.lemmas.List.Sums.{sum_by-append, sum_by-cons}
 use Rattle.grep_report.specs.declared.sink_context.SinkContextKind.TheVariants.{Before}
 use Rattle.std.specs.declared.io.Error.{Error}
-use Rattle.std.proofs.lemmas.List.Elements.{All-nil, All-cons, All-append, All-head, All-tail, All-map}
-use Rattle.grep_definitions.specs.Searches.{
-  is_detecting,
-  AreInOrder,
-  HasBegun,
-  IsInOrder,
-  ran_in_order,
-  asked_in_order,
-  read_in_order,
-  comes_between,
-}
-use Rattle.grep_definitions.specs.CallOrder.{
-  AreInner,
-  after_begin,
-  EndsAt,
-  HasCalled,
-  HasBegunWith,
-  HasCalledTo,
-  HasBegunTo,
-  HasFailedIn,
-  of_call,
-  of_question,
-  BeginsInOrder,
-  EndsInOrder,
-  GoesOnInOrder,
-  ReadsInOrder,
-  binary_count,
-}
+use Rattle.std.proofs.lemmas.List.Elements.{All-nil, All-cons, All-append, All-head, All-tail}
+use Rattle.std.proofs.lemmas.List.Elements.{All-map}
+use Rattle.grep_definitions.specs.Searches.{is_detecting, AreInOrder, HasBegun, IsInOrder}
+use Rattle.grep_definitions.specs.Searches.{ran_in_order, asked_in_order, read_in_order}
+use Rattle.grep_definitions.specs.Searches.{comes_between}
+use Rattle.grep_definitions.specs.CallOrder.{AreInner, after_begin, EndsAt, HasCalled, HasBegunWith}
+use Rattle.grep_definitions.specs.CallOrder.{HasCalledTo, HasBegunTo, HasFailedIn, of_call}
+use Rattle.grep_definitions.specs.CallOrder.{of_question, BeginsInOrder, EndsInOrder, GoesOnInOrder}
+use Rattle.grep_definitions.specs.CallOrder.{ReadsInOrder, binary_count}
 use Rattle.grep_report.specs.ErrorMakers.{ErrorMakers}
 use Rattle.grep_matcher.specs.Meanings.{MatcherFacts}
-use Rattle.grep_definitions.specs.Plans.{
-  Settings,
-  Call,
-  Planned,
-  begins,
-  breaks,
-  context,
-  finishes,
-  matches,
-  Steps,
-  Outcome,
-  all_true,
-  stopped,
-  failed,
-  finish_result,
-  AreMade,
-  IsFinished,
-  Finish,
-  binary_data,
-  counted,
-  is_binary_data,
-  planned,
-}
-use Rattle.grep_definitions.specs.LineTurns.{before_turns, broken_turns, is_gap, match_turns, one_turn}
+use Rattle.grep_definitions.specs.Plans.{Settings, Call, Planned, begins, breaks, context, finishes}
+use Rattle.grep_definitions.specs.Plans.{matches, Steps, Outcome, all_true, stopped, failed}
+use Rattle.grep_definitions.specs.Plans.{finish_result, AreMade, IsFinished, Finish, binary_data}
+use Rattle.grep_definitions.specs.Plans.{counted, is_binary_data, planned}
+use Rattle.grep_definitions.specs.LineCalls.{before_calls, broken_calls, is_gap, selected_calls}
+use Rattle.grep_definitions.specs.LineCalls.{one_call}
 use Rattle.grep_definitions.specs.SearchLaws.{number_of}
 use Rattle.grep_definitions.specs.SinkRuns.{outcome_of, with_binary}
-use Rattle.grep_definitions.proofs.SinkRunLemmas.{AreMade-append, AreMade-one, made-binary, outcome_with}
+use Rattle.grep_definitions.proofs.SinkRunLemmas.{AreMade-append, AreMade-one, made-binary}
+use Rattle.grep_definitions.proofs.SinkRunLemmas.{outcome_with}
 
--- a turn of a call between `begin` and `finish`
+-- a planned call between `begin` and `finish`
 abbrev pub IsInner : Settings → Planned → Type 0
-IsInner k turn = comes_between (is_detecting k.binary_detection) turn.call ≡ true
+IsInner k call = comes_between (is_detecting k.binary_detection) call.call ≡ true
 
 pub inner-one : (k : Settings) (call : Call) (end : ℕ) → comes_between (is_detecting k.binary_detection) call ≡ true
-    → AreInner k (one_turn call end)
+    → AreInner k (one_call call end)
 inner-one k call end inner = All-cons (IsInner k) (planned call end) [] inner (All-nil (IsInner k))
 
 pub inner-broken : (k : Settings) (gap : Bool) (call : Call) (end : ℕ)
-    → comes_between (is_detecting k.binary_detection) call ≡ true → AreInner k (broken_turns gap call end)
+    → comes_between (is_detecting k.binary_detection) call ≡ true → AreInner k (broken_calls gap call end)
 inner-broken k true call end inner =
-    All-cons (IsInner k) (planned breaks end) (one_turn call end) refl (inner-one k call end inner)
+    All-cons (IsInner k) (planned breaks end) (one_call call end) refl (inner-one k call end inner)
 inner-broken k false call end inner = inner-one k call end inner
 
--- the turns of a line before a match
+-- the calls of a line before a match
 pub inner-before : (k : Settings) (v j i : ℕ) (number : Option ℕ) (offset end : ℕ) (line : List ℕ)
-    → AreInner k (before_turns k v j i number offset end line)
+    → AreInner k (before_calls k v j i number offset end line)
 inner-before k v j i number offset end line =
     elim (nat_le (i - j) k.before_context) as (λ near. AreInner k
-    (if near then broken_turns (is_gap k v j i) (context Before number offset line) end else [])) [
+    (if near then broken_calls (is_gap k v j i) (context Before number offset line) end else [])) [
       | true ↦ inner-broken k (is_gap k v j i) (context Before number offset line) end refl
       | false ↦ All-nil (IsInner k)
     ]
 
 -- and of a match
-pub inner-match : (k : Settings) (v i offset end : ℕ) (line : List ℕ) → AreInner k (match_turns k v i offset end line)
+pub inner-match : (k : Settings) (v i offset end : ℕ) (line : List ℕ) → AreInner k (selected_calls k v i offset end line)
 inner-match k v i offset end line =
     inner-broken k (nat_lt 0 k.after_context && is_gap k v i i) (matches (number_of k i) offset line) end refl
 
 -- how many calls are `binary_data`
 binary-append : (front back : List Planned) → binary_count (front ++ back) ≡ binary_count front + binary_count back
-binary-append = sum_by-append (λ turn. cond (is_binary_data turn.call) 1 0)
+binary-append = sum_by-append (λ call. cond (is_binary_data call.call) 1 0)
 
-pub binary-cons : (turn : Planned) (later : List Planned)
-    → binary_count (turn ∷ later) ≡ cond (is_binary_data turn.call) 1 0 + binary_count later
-binary-cons = sum_by-cons (λ turn. cond (is_binary_data turn.call) 1 0)
+pub binary-cons : (call : Planned) (later : List Planned)
+    → binary_count (call ∷ later) ≡ cond (is_binary_data call.call) 1 0 + binary_count later
+binary-cons = sum_by-cons (λ call. cond (is_binary_data call.call) 1 0)
 
-binary-with : (binary : Option ℕ) (turns : List Planned) → binary_count (map (with_binary binary) turns) ≡ binary_count turns
+binary-with : (binary : Option ℕ) (calls : List Planned) → binary_count (map (with_binary binary) calls) ≡ binary_count calls
 binary-with binary [] = refl
-binary-with binary (turn ∷ later) =
-    binary-cons (with_binary binary turn) (map (with_binary binary) later)
-    ∙ (ap (λ n. cond (is_binary_data turn.call) 1 0 + n) (binary-with binary later) ∙ sym (binary-cons turn later))
+binary-with binary (call ∷ later) =
+    binary-cons (with_binary binary call) (map (with_binary binary) later)
+    ∙ (ap (λ n. cond (is_binary_data call.call) 1 0 + n) (binary-with binary later) ∙ sym (binary-cons call later))
 
 -- one call that isn't, also after a break
-binary-one : (call : Call) (end : ℕ) → is_binary_data call ≡ false → binary_count (one_turn call end) ≡ 0
+binary-one : (call : Call) (end : ℕ) → is_binary_data call ≡ false → binary_count (one_call call end) ≡ 0
 binary-one call end plain = binary-cons (planned call end) [] ∙ ap (λ b. cond b 1 0 + 0) plain
 
 binary-broken : (gap : Bool) (call : Call) (end : ℕ) → is_binary_data call ≡ false
-    → binary_count (broken_turns gap call end) ≡ 0
+    → binary_count (broken_calls gap call end) ≡ 0
 binary-broken true call end plain =
-    binary-cons (planned breaks end) (one_turn call end) ∙ ap (λ n. 0 + n) (binary-one call end plain)
+    binary-cons (planned breaks end) (one_call call end) ∙ ap (λ n. 0 + n) (binary-one call end plain)
 binary-broken false call end plain = binary-one call end plain
 
 binary-before : (k : Settings) (v j i : ℕ) (number : Option ℕ) (offset end : ℕ) (line : List ℕ)
-    → binary_count (before_turns k v j i number offset end line) ≡ 0
+    → binary_count (before_calls k v j i number offset end line) ≡ 0
 binary-before k v j i number offset end line =
     elim (nat_le (i - j) k.before_context) as (λ near. binary_count
-    (if near then broken_turns (is_gap k v j i) (context Before number offset line) end else []) ≡ 0) [
+    (if near then broken_calls (is_gap k v j i) (context Before number offset line) end else []) ≡ 0) [
       | true ↦ binary-broken (is_gap k v j i) (context Before number offset line) end refl
       | false ↦ refl
     ]
 
 -- none of the calls is if at most none is
-none-binary : (turn : Planned) (later : List Planned) → binary_count (turn ∷ later) ≤ 0
-    → (is_binary_data turn.call ≡ false) × (binary_count later ≤ 0)
-none-binary turn later few = go (is_binary_data turn.call) refl
+none-binary : (call : Planned) (later : List Planned) → binary_count (call ∷ later) ≤ 0
+    → (is_binary_data call.call ≡ false) × (binary_count later ≤ 0)
+none-binary call later few = go (is_binary_data call.call) refl
   where
-    go : (b : Bool) → is_binary_data turn.call ≡ b → (is_binary_data turn.call ≡ false) × (binary_count later ≤ 0)
+    go : (b : Bool) → is_binary_data call.call ≡ b → (is_binary_data call.call ≡ false) × (binary_count later ≤ 0)
     go true is =
-        let one : cond (is_binary_data turn.call) 1 0 ≡ 1 = ap {B = ℕ} (λ b. cond b 1 0) is in
-        absurd (omega (arith, few, binary-cons turn later, one))
-    go false is = (is, omega (arith, few, binary-cons turn later))
+        let one : cond (is_binary_data call.call) 1 0 ≡ 1 = ap {B = ℕ} (λ b. cond b 1 0) is in
+        absurd (omega (arith, few, binary-cons call later, one))
+    go false is = (is, omega (arith, few, binary-cons call later))
 
 module _ {S E : Type 0} (step : Steps S E) (k : Settings) where
   -- no call
   pub called-none : {bound : ℕ} (old : S) → HasCalled step k bound old all_true old
   called-none old = record {
-    turns = [];
+    calls = [];
     inner = All-nil (IsInner k);
     few = omega arith;
     reported = (refl, refl);
@@ -173,7 +116,7 @@ module _ {S E : Type 0} (step : Steps S E) (k : Settings) where
       → is_binary_data call ≡ false → HasCalled step k bound old (outcome_of end result) new
   called-one call end old result new made inner plain =
       record {
-        turns = one_turn call end;
+        calls = one_call call end;
         inner = inner-one k call end inner;
         few = omega (arith, binary-one call end plain);
         reported = AreMade-one step k call end old result new made;
@@ -185,7 +128,7 @@ module _ {S E : Type 0} (step : Steps S E) (k : Settings) where
       → HasCalled step k 1 old (outcome_of end result) new
   called-binary offset end old result new made detecting =
       record {
-        turns = one_turn (binary_data offset) end;
+        calls = one_call (binary_data offset) end;
         inner = inner-one k (binary_data offset) end detecting;
         few = omega (arith, binary-cons (planned (binary_data offset) end) []);
         reported = AreMade-one step k (binary_data offset) end old result new made;
@@ -194,11 +137,11 @@ module _ {S E : Type 0} (step : Steps S E) (k : Settings) where
   -- those of a line before a match
   pub called-before : (v j i : ℕ) (number : Option ℕ) (offset end : ℕ) (line : List ℕ) (old : S) (outcome : Outcome E)
       (new : S)
-      → AreMade step k old (before_turns k v j i number offset end line) outcome new
+      → AreMade step k old (before_calls k v j i number offset end line) outcome new
       → HasCalled step k 0 old outcome new
   called-before v j i number offset end line old outcome new reported =
       record {
-        turns = before_turns k v j i number offset end line;
+        calls = before_calls k v j i number offset end line;
         inner = inner-before k v j i number offset end line;
         few = omega (arith, binary-before k v j i number offset end line);
         reported = reported;
@@ -206,10 +149,10 @@ module _ {S E : Type 0} (step : Steps S E) (k : Settings) where
 
   -- and of a match
   pub called-match : (v i offset end : ℕ) (line : List ℕ) (old : S) (outcome : Outcome E) (new : S)
-      → AreMade step k old (match_turns k v i offset end line) outcome new → HasCalled step k 0 old outcome new
+      → AreMade step k old (selected_calls k v i offset end line) outcome new → HasCalled step k 0 old outcome new
   called-match v i offset end line old outcome new reported =
       record {
-        turns = match_turns k v i offset end line;
+        calls = selected_calls k v i offset end line;
         inner = inner-match k v i offset end line;
         few = omega (
           arith,
@@ -225,10 +168,10 @@ module _ {S E : Type 0} (step : Steps S E) (k : Settings) where
       → HasCalled step k bound old outcome new
   called-after enough old mid outcome new first later =
       record {
-        turns = first.turns ++ later.turns;
-        inner = All-append (IsInner k) first.turns later.turns first.inner later.inner;
-        few = omega (arith, binary-append first.turns later.turns);
-        reported = AreMade-append step k first.turns later.turns old mid outcome new first.reported later.reported;
+        calls = first.calls ++ later.calls;
+        inner = All-append (IsInner k) first.calls later.calls first.inner later.inner;
+        few = omega (arith, binary-append first.calls later.calls);
+        reported = AreMade-append step k first.calls later.calls old mid outcome new first.reported later.reported;
       }
 
   pub called-after-to : {before after bound : ℕ} → before + after ≤ bound → (old mid : S) (count : ℕ) (new : S)
@@ -250,7 +193,7 @@ module _ {S E : Type 0} (step : Steps S E) (k : Settings) where
   pub called-most : {bound most : ℕ} → bound ≤ most → (old : S) (outcome : Outcome E) (new : S)
       → HasCalled step k bound old outcome new → HasCalled step k most old outcome new
   called-most enough old outcome new called = record {
-    turns = called.turns;
+    calls = called.calls;
     inner = called.inner;
     few = omega arith;
     reported = called.reported;
@@ -260,7 +203,7 @@ module _ {S E : Type 0} (step : Steps S E) (k : Settings) where
   pub begun-one : {bound : ℕ} (old : S) (result : Result Bool E) (new : S) → step old k begins result new
       → HasBegunWith step k bound old (outcome_of 0 result) new
   begun-one old result new made = record {
-    turns = [];
+    calls = [];
     inner = All-nil (IsInner k);
     few = omega arith;
     reported = AreMade-one step k begins 0 old result new made;
@@ -270,7 +213,7 @@ module _ {S E : Type 0} (step : Steps S E) (k : Settings) where
   pub begun-then : {bound : ℕ} (old mid : S) (outcome : Outcome E) (new : S) → step old k begins (Ok true) mid
       → HasCalled step k bound mid outcome new → HasBegunWith step k bound old outcome new
   begun-then old mid outcome new begun called = record {
-    turns = called.turns;
+    calls = called.calls;
     inner = called.inner;
     few = called.few;
     reported = inl (mid, begun, called.reported);
@@ -304,38 +247,38 @@ module _ {S E : Type 0} (step : Steps S E) (k : Settings) where
   -- what each call keeps is kept
   pub reported-keeps : {X : Type 0} (name : S → X)
       → ((s : S) (call : Call) (result : Result Bool E) (t : S) → step s k call result t → name t ≡ name s)
-      → (turns : List Planned) (old : S) (outcome : Outcome E) (new : S) → AreMade step k old turns outcome new
+      → (calls : List Planned) (old : S) (outcome : Outcome E) (new : S) → AreMade step k old calls outcome new
       → name new ≡ name old
   reported-keeps name each [] old outcome new (is, same) = ap name same
-  reported-keeps name each (turn ∷ later) old outcome new (inl (mid, made, reported)) =
-      reported-keeps name each later mid outcome new reported ∙ each old turn.call (Ok true) mid made
-  reported-keeps name each (turn ∷ later) old outcome new (inr (inl (is, made))) = each old turn.call (Ok false) new
+  reported-keeps name each (call ∷ later) old outcome new (inl (mid, made, reported)) =
+      reported-keeps name each later mid outcome new reported ∙ each old call.call (Ok true) mid made
+  reported-keeps name each (call ∷ later) old outcome new (inr (inl (is, made))) = each old call.call (Ok false) new
       made
-  reported-keeps name each (turn ∷ later) old outcome new (inr (inr (e, is, made))) = each old turn.call (Err e) new
+  reported-keeps name each (call ∷ later) old outcome new (inr (inr (e, is, made))) = each old call.call (Err e) new
       made
 
   module _ {F : Type 0} (errors : ErrorMakers F E) (matcher : MatcherFacts F) where
     -- `begin` and such calls are in order, if `finish` has an offset only if binary bytes are looked for
-    in-order : (binary : Option ℕ) → (is_detecting k.binary_detection ≡ false → binary ≡ None) → (turns : List Planned)
-        → AreInner k turns → binary_count turns ≤ 1
-        → AreInOrder step errors matcher k (map (with_binary binary) (after_begin turns))
-    in-order binary plain turns inner few = record {
+    in-order : (binary : Option ℕ) → (is_detecting k.binary_detection ≡ false → binary ≡ None) → (calls : List Planned)
+        → AreInner k calls → binary_count calls ≤ 1
+        → AreInOrder step errors matcher k (map (with_binary binary) (after_begin calls))
+    in-order binary plain calls inner few = record {
       first = with_binary binary (planned begins 0);
-      later = map (with_binary binary) turns;
+      later = map (with_binary binary) calls;
       all = refl;
       begin = (refl, refl);
-      inner = All-map (IsInner k) (with_binary binary) turns inner;
-      once = omega (arith, binary-with binary turns);
-      plain = λ none. All-map (λ (call : Planned). call.if_false.binary ≡ None) (with_binary binary) (after_begin turns)
+      inner = All-map (IsInner k) (with_binary binary) calls inner;
+      once = omega (arith, binary-with binary calls);
+      plain = λ none. All-map (λ (call : Planned). call.if_false.binary ≡ None) (with_binary binary) (after_begin calls)
           (λ n d below. plain none);
     }
 
     begun-in-order : {bound : ℕ} → bound ≤ 1 → (old new : S) → HasBegunWith step k bound old all_true new
         → HasBegun step errors matcher k old new
     begun-in-order once old new begun = (
-      map (with_binary None) (after_begin begun.turns),
-      in-order None (λ none. refl) begun.turns begun.inner (omega arith),
-      made-binary step k None (after_begin begun.turns) old all_true new begun.reported,
+      map (with_binary None) (after_begin begun.calls),
+      in-order None (λ none. refl) begun.calls begun.inner (omega arith),
+      made-binary step k None (after_begin begun.calls) old all_true new begun.reported,
     )
 
     ordered-run : {IsOfReading : Error → Type 0} {bound : ℕ} → bound ≤ 1 → (old mid : S) (count : ℕ) (binary : Option ℕ)
@@ -344,14 +287,14 @@ module _ {S E : Type 0} (step : Steps S E) (k : Settings) where
         → step mid k (finishes count binary) (finish_result result) new
         → IsInOrder step errors matcher k IsOfReading old result new
     ordered-run once old mid count binary result new noted to made =
-        let turns = to.called.turns in
+        let calls = to.called.calls in
         ran_in_order (record {
-          calls = map (with_binary binary) (after_begin turns);
+          calls = map (with_binary binary) (after_begin calls);
           finish = record { count = count; binary = binary };
-        }) (in-order binary noted turns to.called.inner (omega arith)) noted (record {
+        }) (in-order binary noted calls to.called.inner (omega arith)) noted (record {
           outcome = outcome_with binary to.outcome;
           mid = mid;
-          made = made-binary step k binary (after_begin turns) old to.outcome mid to.called.reported;
+          made = made-binary step k binary (after_begin calls) old to.outcome mid to.called.reported;
           finished = finished to.outcome mid count binary result new to.ends made;
         })
 
@@ -360,13 +303,13 @@ module _ {S E : Type 0} (step : Steps S E) (k : Settings) where
         → HasBegunWith step k bound old (failed e) new → IsInOrder step errors matcher k IsOfReading old (Err e) new
     ordered-failed once old e new begun =
         ran_in_order (record {
-          calls = map (with_binary None) (after_begin begun.turns);
+          calls = map (with_binary None) (after_begin begun.calls);
           finish = record { count = 0; binary = None };
-        }) (in-order None (λ none. refl) begun.turns begun.inner (omega arith)) (λ none. refl)
+        }) (in-order None (λ none. refl) begun.calls begun.inner (omega arith)) (λ none. refl)
         (record {
           outcome = failed e;
           mid = new;
-          made = made-binary step k None (after_begin begun.turns) old (failed e) new begun.reported;
+          made = made-binary step k None (after_begin begun.calls) old (failed e) new begun.reported;
           finished = (refl, refl);
         })
 
@@ -414,10 +357,10 @@ module _ {S E : Type 0} (step : Steps S E) (k : Settings) where
       pub begun-keeps : (old : S) (result : Result ℕ E) (new : S) → BeginsInOrder step k errors matcher old result new
           → name new ≡ name old
       begun-keeps old (Ok count) new to =
-          reported-keeps name each (after_begin to.called.turns) old to.outcome new to.called.reported
+          reported-keeps name each (after_begin to.called.calls) old to.outcome new to.called.reported
       begun-keeps old (Err e) new fails =
           failed-keeps (HasBegunWith step k 0 old) old
-          (λ outcome t called. reported-keeps name each (after_begin called.turns) old outcome t called.reported) e new
+          (λ outcome t called. reported-keeps name each (after_begin called.calls) old outcome t called.reported) e new
           fails
 
     -- it ends the search
@@ -489,25 +432,25 @@ module _ {S T E : Type 0} (step : Steps S E) (around : Steps T E) (k : Settings)
   module _ (one : (call : Call) (end : ℕ) (old : T) (result : Result Bool E) (new : T)
       → comes_between (is_detecting k.binary_detection) call ≡ true → is_binary_data call ≡ false → Holds old
       → around old k call result new → Passes old result end new) where
-    passed-all : (turns : List Planned) (old : T) (outcome : Outcome E) (new : T) → AreInner k turns
-        → binary_count turns ≤ 0 → Holds old → AreMade around k old turns outcome new → HasPassed old outcome new
+    passed-all : (calls : List Planned) (old : T) (outcome : Outcome E) (new : T) → AreInner k calls
+        → binary_count calls ≤ 0 → Holds old → AreMade around k old calls outcome new → HasPassed old outcome new
     passed-all [] old outcome new inner few holds (is, same) =
         subst (λ o. HasPassed old o new) (sym is) (subst (λ t. HasPassed old all_true t) (sym same)
         (holds, called-none step k (view old)))
-    passed-all (turn ∷ later) old outcome new inner few holds (inl (mid, made, reported)) =
-        let plain = none-binary turn later few in
-        let here = one turn.call turn.if_false.count old (Ok true) mid (All-head (IsInner k) turn later inner) plain.0
+    passed-all (call ∷ later) old outcome new inner few holds (inl (mid, made, reported)) =
+        let plain = none-binary call later few in
+        let here = one call.call call.if_false.count old (Ok true) mid (All-head (IsInner k) call later inner) plain.0
         holds made in
         passed-then old mid outcome new here.1
-        (passed-all later mid outcome new (All-tail (IsInner k) turn later inner) plain.1 here.0 reported)
-    passed-all (turn ∷ later) old outcome new inner few holds (inr (inl (is, made))) =
+        (passed-all later mid outcome new (All-tail (IsInner k) call later inner) plain.1 here.0 reported)
+    passed-all (call ∷ later) old outcome new inner few holds (inr (inl (is, made))) =
         subst (λ o. HasPassed old o new) (sym is)
-        (one turn.call turn.if_false.count old (Ok false) new (All-head (IsInner k) turn later inner)
-        (none-binary turn later few).0 holds made)
-    passed-all (turn ∷ later) old outcome new inner few holds (inr (inr (e, is, made))) =
+        (one call.call call.if_false.count old (Ok false) new (All-head (IsInner k) call later inner)
+        (none-binary call later few).0 holds made)
+    passed-all (call ∷ later) old outcome new inner few holds (inr (inr (e, is, made))) =
         subst (λ o. HasPassed old o new) (sym is)
-        (one turn.call turn.if_false.count old (Err e) new (All-head (IsInner k) turn later inner)
-        (none-binary turn later few).0 holds made)
+        (one call.call call.if_false.count old (Err e) new (All-head (IsInner k) call later inner)
+        (none-binary call later few).0 holds made)
 
     passed-ended : (old : T) (count : ℕ) (outcome : Outcome E) (new : T) → EndsAt outcome count
         → HasPassed old outcome new
@@ -528,56 +471,56 @@ module _ {S T E : Type 0} (step : Steps S E) (around : Steps T E) (k : Settings)
           (held : (new : T) (count : ℕ) → Holds new → count_of new count ≡ count) where
         passed-begun : (old : T) (e : E) (new : T) → Holds old → HasBegunWith around k 0 old (failed e) new
             → HasBegunWith step k 1 (view old) (failed e) (view new)
-        passed-begun old e new holds with_turns =
-            go with_turns.turns with_turns.inner with_turns.few with_turns.reported
+        passed-begun old e new holds with_calls =
+            go with_calls.calls with_calls.inner with_calls.few with_calls.reported
           where
-            go : (turns : List Planned) → AreInner k turns → binary_count turns ≤ 0
-                → AreMade around k old (after_begin turns) (failed e) new
+            go : (calls : List Planned) → AreInner k calls → binary_count calls ≤ 0
+                → AreMade around k old (after_begin calls) (failed e) new
                 → HasBegunWith step k 1 (view old) (failed e) (view new)
-            go turns inner few (inl (mid, made, reported)) =
+            go calls inner few (inl (mid, made, reported)) =
                 let first = begun old (Ok true) mid holds made in
                 begun-then step k (view old) (view mid) (failed e) (view new) first.1
-                (passed-all turns mid (failed e) new inner few first.0 reported)
-            go turns inner few (inr (inl (is, made))) = cc
-            go turns inner few (inr (inr (error, is, made))) =
+                (passed-all calls mid (failed e) new inner few first.0 reported)
+            go calls inner few (inr (inl (is, made))) = cc
+            go calls inner few (inr (inr (error, is, made))) =
                 let same : error ≡ e = cc in
                 subst (λ x. HasBegunWith step k 1 (view old) (failed x) (view new)) same
                 (begun-one step k (view old) (Err error) (view new) (begun old (Err error) new holds made).1)
 
         passed-begun-true : (old new : T) → Holds old → HasBegunWith around k 0 old all_true new
             → HasBegunWith step k 1 (view old) all_true (view new)
-        passed-begun-true old new holds with_turns =
-            go with_turns.turns with_turns.inner with_turns.few with_turns.reported
+        passed-begun-true old new holds with_calls =
+            go with_calls.calls with_calls.inner with_calls.few with_calls.reported
           where
-            go : (turns : List Planned) → AreInner k turns → binary_count turns ≤ 0
-                → AreMade around k old (after_begin turns) all_true new
+            go : (calls : List Planned) → AreInner k calls → binary_count calls ≤ 0
+                → AreMade around k old (after_begin calls) all_true new
                 → HasBegunWith step k 1 (view old) all_true (view new)
-            go turns inner few (inl (mid, made, reported)) =
+            go calls inner few (inl (mid, made, reported)) =
                 let first = begun old (Ok true) mid holds made in
                 begun-then step k (view old) (view mid) all_true (view new) first.1
                 (called-most step k (omega arith) (view mid) all_true (view new)
-                (passed-all turns mid all_true new inner few first.0 reported).1)
-            go turns inner few (inr (inl (is, made))) = cc
-            go turns inner few (inr (inr (error, is, made))) = cc
+                (passed-all calls mid all_true new inner few first.0 reported).1)
+            go calls inner few (inr (inl (is, made))) = cc
+            go calls inner few (inr (inr (error, is, made))) = cc
 
         pub passed-begun-to : (old : T) (count : ℕ) (new : T) → Holds old → HasBegunTo around k 0 old count new
             → HasBegunTo step k 1 (view old) (count_of new count) (view new)
         passed-begun-to old count new holds to =
-            go to.outcome to.ends to.called.turns to.called.inner to.called.few to.called.reported
+            go to.outcome to.ends to.called.calls to.called.inner to.called.few to.called.reported
           where
-            go : (outcome : Outcome E) → EndsAt outcome count → (turns : List Planned) → AreInner k turns
-                → binary_count turns ≤ 0 → AreMade around k old (after_begin turns) outcome new
+            go : (outcome : Outcome E) → EndsAt outcome count → (calls : List Planned) → AreInner k calls
+                → binary_count calls ≤ 0 → AreMade around k old (after_begin calls) outcome new
                 → HasBegunTo step k 1 (view old) (count_of new count) (view new)
-            go outcome ends turns inner few (inl (mid, made, reported)) =
+            go outcome ends calls inner few (inl (mid, made, reported)) =
                 let first = begun old (Ok true) mid holds made in
                 begun-to step k (view old) (view mid) (count_of new count) (view new) first.1
-                (passed-ended mid count outcome new ends (passed-all turns mid outcome new inner few first.0 reported))
-            go outcome ends turns inner few (inr (inl (is, made))) =
+                (passed-ended mid count outcome new ends (passed-all calls mid outcome new inner few first.0 reported))
+            go outcome ends calls inner few (inr (inl (is, made))) =
                 let first = begun old (Ok false) new holds made in
                 let none : count ≡ 0 = sym (ap (λ (f : Finish). f.count) (subst (λ o. EndsAt o count) is ends)) in
                 subst (λ n. HasBegunTo step k 1 (view old) n (view new)) (sym (held new count first.0 ∙ none))
                 (begun-to-0 step k (view old) false (view new) first.1)
-            go outcome ends turns inner few (inr (inr (error, is, made))) = absurd (subst (λ o. EndsAt o count) is ends)
+            go outcome ends calls inner few (inr (inr (error, is, made))) = absurd (subst (λ o. EndsAt o count) is ends)
 
         pub passed-begun-failed : (old : T) (e : E) (new : T) → Holds old
             → HasFailedIn around k errors matcher (HasBegunWith around k 0 old) e new

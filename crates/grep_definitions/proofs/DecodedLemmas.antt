@@ -1,5 +1,6 @@
 -- Which inputs are searched as they are.
-use Rattle.std.proofs.Common.{◌≡◌, Bool, true, false, not, ◌||◌, ◌&&◌, ◌++◌, Option, Some, None, refl, ap}
+use Rattle.std.proofs.Common.{◌≡◌, Bool, true, false, not, ◌||◌, ◌&&◌, ◌++◌, Option, Some, None}
+use Rattle.std.proofs.Common.{refl, ap}
 use Rattle.std.specs.Prelude.{is_some, if◌then◌else◌}
 use Rattle.grep_decode.proofs.DecodedTextLemmas.{unchanged-decoded}
 use Rattle.grep_decode.specs.Decoded.{by_mark, found_mark, mark_of, marked}
@@ -7,13 +8,8 @@ use Rattle.grep_decode.specs.declared.label.Label.{Label}
 use Rattle.grep_decode.specs.declared.label.Label.TheVariants.{Utf8}
 use Rattle.grep_definitions.specs.Searches.{searched_bytes, encoding_after, encoding_of}
 use Rattle.grep_definitions.specs.SliceSearches.{is_searched_unchanged}
-use Rattle.grep_definitions.specs.SearchLaws.{
-  MarkedPasses,
-  UnchangedIsInput,
-  UnchangedPasses,
-  UnsniffedIsUnchanged,
-  UnmarkedIsUnchanged,
-}
+use Rattle.grep_definitions.specs.SearchLaws.{MarkedPasses, UnchangedIsInput, UnchangedPasses}
+use Rattle.grep_definitions.specs.SearchLaws.{UnsniffedIsUnchanged, UnmarkedIsUnchanged}
 
 pub unchanged-input : UnchangedIsInput
 unfolding searched_bytes is_searched_unchanged

@@ -1,32 +1,7 @@
 -- What the definitions say of the first lines does not depend on the lines after them.
-use Rattle.std.proofs.Common.{
-  ◌≡◌,
-  ℕ,
-  zero,
-  suc,
-  ◌+◌,
-  ◌-◌,
-  ◌<◌,
-  ◌≤◌,
-  Bool,
-  true,
-  ◌&&◌,
-  List,
-  [],
-  ◌++◌,
-  length,
-  take,
-  get_or,
-  slice_index,
-  refl,
-  ap,
-  ◌∙◌,
-  arith,
-  Some,
-  None,
-  length-append,
-  if◌then◌else◌,
-}
+use Rattle.std.proofs.Common.{◌≡◌, ℕ, zero, suc, ◌+◌, ◌-◌, ◌<◌, ◌≤◌, Bool, true, ◌&&◌, List, []}
+use Rattle.std.proofs.Common.{◌++◌, length, take, get_or, slice_index, refl, ap, ◌∙◌, arith, Some}
+use Rattle.std.proofs.Common.{None, length-append, if◌then◌else◌}
 use Rattle.std.proofs.lemmas.Bool.{lt-ltb}
 use Rattle.std.proofs.lemmas.List.{get_or_append_left, take-append-le}
 use Rattle.std.specs.Prelude.{nat_eq, nat_lt, nat_le, count_by}
@@ -34,9 +9,9 @@ use Rattle.std.specs.List.{concat}
 use Rattle.grep_matcher.specs.Lines.{byte_of, lines}
 use Rattle.grep_matcher.specs.Meanings.{Meaning}
 use Rattle.grep_matcher.proofs.LineLemmas.{lines-append}
+use Rattle.grep_definitions.specs.Plans.{selected_lines, Settings, some_below, count_below}
+use Rattle.grep_definitions.specs.Plans.{first_below}
 use Rattle.grep_definitions.specs.Plans
-use Rattle.grep_definitions.specs.Plans.{Settings, some_below, count_below, first_below}
-use Rattle.grep_definitions.specs.LineSearch
 use Rattle.grep_matcher.proofs.LineStartLemmas.{line_start-within}
 
 -- as many pass if the tests agree
@@ -80,12 +55,12 @@ module _ (k : Settings) (meaning : Meaning) (front back : List ℕ)
   all_lines = lines-append (byte_of k.line_terminator) front back closed
 
   -- a line of the front is that line of the whole
-  pub line-same : (i : ℕ) → i < n → LineSearch.line k meaning whole i ≡ LineSearch.line k meaning front i
+  pub line-same : (i : ℕ) → i < n → Plans.line k whole i ≡ Plans.line k front i
   line-same i below = ap (λ ls. get_or ls i []) all_lines ∙ get_or_append_left (lines (byte_of k.line_terminator) front)
       (lines (byte_of k.line_terminator) back) [] i below
 
   -- it begins at the same offset
-  pub start-same : (i : ℕ) → i ≤ n → LineSearch.start k meaning whole i ≡ LineSearch.start k meaning front i
+  pub start-same : (i : ℕ) → i ≤ n → Plans.start k whole i ≡ Plans.start k front i
   start-same i inside = ap (λ ls. length (concat (take i ls))) all_lines
       ∙ ap (λ ls. length (concat ls))
       (take-append-le i (lines (byte_of k.line_terminator) front) (lines (byte_of k.line_terminator) back) inside)
@@ -137,19 +112,19 @@ module _ (k : Settings) (meaning : Meaning) (front back : List ℕ)
       rw (is_chosen-same i below, before) refl
 
   -- it follows a selected line in both or in neither
-  pub follows-same : (i : ℕ) → i < n → LineSearch.follows_selected k meaning whole i
-      ≡ LineSearch.follows_selected k meaning front i
+  pub follows-same : (i : ℕ) → i < n → Plans.follows_selected k whole (selected_lines k meaning whole) i
+      ≡ Plans.follows_selected k front (selected_lines k meaning front) i
   follows-same i below = some_below-same (λ j. nat_le (i - j) k.after_context
       && Plans.is_selected k meaning whole j)
       (λ j. nat_le (i - j) k.after_context && Plans.is_selected k meaning front j) i
       (λ j less. ap (λ b. nat_le (i - j) k.after_context && b) (is_selected-same j (omega arith)))
 
   -- it has the same number
-  pub number-same : (i : ℕ) → i ≤ n → LineSearch.number k meaning whole i ≡ LineSearch.number k meaning front i
+  pub number-same : (i : ℕ) → i ≤ n → Plans.number k whole i ≡ Plans.number k front i
   number-same i inside =
-      let cut : take (LineSearch.start k meaning whole i) whole
-      ≡ take (LineSearch.start k meaning front i) front = ap (λ p. take p whole)
-      (start-same i inside) ∙ take-append-le (LineSearch.start k meaning front i) front back
+      let cut : take (Plans.start k whole i) whole
+      ≡ take (Plans.start k front i) front = ap (λ p. take p whole)
+      (start-same i inside) ∙ take-append-le (Plans.start k front i) front back
       (line_start-within (byte_of k.line_terminator) front i) in
       ap (λ bs. if k.line_number then Some (count_by (λ b. nat_eq b (byte_of k.line_terminator)) bs + 1) else None) cut
 

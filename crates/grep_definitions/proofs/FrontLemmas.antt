@@ -1,65 +1,32 @@
 -- The front of an input, by whole lines, bytes that end in the terminator, and how many bytes the line after them has.
-use Rattle.std.proofs.Common.{
-  ◌≡◌,
-  ◌≢◌,
-  ℕ,
-  ◌+◌,
-  ◌-◌,
-  ◌<◌,
-  ◌≤◌,
-  List,
-  [],
-  ◌∷◌,
-  ◌++◌,
-  length,
-  take,
-  drop,
-  get_or,
-  inl,
-  inr,
-  refl,
-  sym,
-  ◌∙◌,
-  ap,
-  subst,
-  arith,
-  ⊎_elim,
-  append-nil,
-  append_assoc,
-  length-append,
-  length-drop,
-}
+use Rattle.std.proofs.Common.{◌≡◌, ◌≢◌, ℕ, ◌+◌, ◌-◌, ◌<◌, ◌≤◌, List, [], ◌∷◌, ◌++◌, length, take}
+use Rattle.std.proofs.Common.{drop, get_or, inl, inr, refl, sym, ◌∙◌, ap, subst, arith, ⊎_elim}
+use Rattle.std.proofs.Common.{append-nil, append_assoc, length-append, length-drop}
 use Rattle.std.proofs.Math.Seq.{take-append-add, get_or-append_right}
 use Rattle.std.proofs.Math.Bool.{and-false}
 use Rattle.std.proofs.lemmas.Bool.{cases_Bool, cases_lt, ltb-true}
-use Rattle.std.proofs.lemmas.List.{
-  take-append-le,
-  take-append-drop,
-  take_all,
-  take_at,
-  get_or-append-add,
-  get_or-drop,
-  get_or-take,
-  length-take-le,
-  nil_from_length,
-}
+use Rattle.std.proofs.lemmas.List.{take-append-le, take-append-drop, take_all, take_at}
+use Rattle.std.proofs.lemmas.List.{get_or-append-add, get_or-drop, get_or-take, length-take-le}
+use Rattle.std.proofs.lemmas.List.{nil_from_length}
 use Rattle.std.proofs.lemmas.List.Elements.{All-get_or, All-weaker}
 use Rattle.std.proofs.lemmas.List.Folds.{concat-append}
 use Rattle.std.specs.List.{concat}
-use Rattle.std.specs.Prelude.{◌&&◌, All, Bool, true, false, is_some, nat_lt, nat_le, None, slice_index, slice_index_or}
+use Rattle.std.specs.Prelude.{◌&&◌, All, Bool, false, is_some, nat_lt, nat_le, None, slice_index}
+use Rattle.std.specs.Prelude.{slice_index_or}
 use Rattle.grep_matcher.specs.Lines.{byte_of, lines, line_start}
 use Rattle.grep_matcher.specs.Meanings.{Meaning}
 use Rattle.grep_matcher.proofs.LineLemmas.{AreLines-lines, lines-append}
 use Rattle.grep_lines.specs.Positions.{IsLineStart}
+use Rattle.grep_definitions.specs.Plans.{line_plan, is_reported, is_selected, line_count}
+use Rattle.grep_definitions.specs.Plans.{reports_end, selected_lines, Settings}
+use Rattle.grep_definitions.specs.Plans
 use Rattle.grep_definitions.specs.Searches.{IsBelowLimit, IsClosed, IsCrowded, IsFront, IsTooLong}
 use Rattle.grep_definitions.specs.LineWalks.{IsNear}
-use Rattle.grep_definitions.specs.Plans.{is_reported, is_selected, line_count, reports_end, selected_lines, Settings}
 use Rattle.grep_definitions.proofs.BelowLemmas.{some_below-find}
 use Rattle.grep_definitions.proofs.BoolLemmas.{both_true, clash}
 use Rattle.grep_matcher.proofs.LineLengthLemmas.{lines-within, lines-end, first-long, first-open}
 use Rattle.grep_definitions.proofs.SearchLawLemmas as laws
 use Rattle.grep_lines.proofs.LineRangeLemmas.{comes-from}
-use Rattle.grep_definitions.specs.LineSearch
 
 module _ (t : ℕ) where
   -- two closed parts are closed
@@ -171,20 +138,20 @@ open-long t least tail more lacks some enough =
 
 -- lines that a walk has passed to the end of some bytes aren't reported by the calls for them
 pub unreported-passed : (k : Settings) (meaning : Meaning) (bytes : List ℕ) (v left : ℕ)
-    → IsNear k meaning bytes v (line_count k bytes) left → (i : ℕ) → v ≤ i → i < line_count k bytes
+    → IsNear k bytes (selected_lines k meaning bytes) v (line_count k bytes) left → (i : ℕ) → v ≤ i → i < line_count k bytes
     → is_reported k bytes (selected_lines k meaning bytes) i ≡ false
 unreported-passed k meaning bytes v left near i low below =
     let out = near.passed i low below in
     let plain : k.passthru ≡ false = ⊎_elim (λ yes. absurd (omega (arith, near.bare yes)))
     (λ no. no) (cases_Bool k.passthru) in
     let apart = unpreceded in
-    let none : LineSearch.kind k meaning bytes i ≡ None = rw (out.0, out.1, apart, plain) refl in
+    let none : Plans.kind k bytes (selected_lines k meaning bytes) i ≡ None = rw (out.0, out.1, apart, plain) refl in
     ap (λ o. nat_lt i (reports_end k meaning bytes) && is_some o) none ∙ and-false (nat_lt i (reports_end k meaning bytes))
   where
     before : ℕ → Bool
     before j = nat_lt i j && nat_le (j - i) k.before_context && is_selected k meaning bytes j
 
-    unpreceded : LineSearch.precedes_selected k meaning bytes i ≡ false
+    unpreceded : Plans.precedes_selected k bytes (selected_lines k meaning bytes) i ≡ false
     unpreceded = ⊎_elim
         (λ holds.
         let found = some_below-find before (line_count k bytes) holds in
@@ -193,7 +160,7 @@ unreported-passed k meaning bytes v left near i low below =
         let above = ltb-true i found.0 (both_true (nat_lt i found.0) _ both.0).0 in
         absurd (clash both.1 (near.passed found.0 (omega arith) found.1).0))
         (λ no. no)
-        (cases_Bool (LineSearch.precedes_selected k meaning bytes i))
+        (cases_Bool (Plans.precedes_selected k bytes (selected_lines k meaning bytes) i))
 
 -- a buffer that shows some lines after those that are gone, and holds bytes after them that end none, can't hold the
 -- next line
@@ -239,28 +206,28 @@ crowded k meaning gone shown tail later least opens shut unreported lacks few so
     t : ℕ
     t = byte_of k.line_terminator
 
--- if the byte count is within the lines that were seen, each line with a turn was seen
-pub turns-within : (k : Settings) (meaning : Meaning) (seen back : List ℕ)
+-- if the byte count is within the lines that were seen, each line that may be reported was seen
+pub calls-within : (k : Settings) (meaning : Meaning) (seen back : List ℕ)
     → (0 < length back → IsClosed (byte_of k.line_terminator) seen)
-    → LineSearch.byte_count k meaning (seen ++ back) ≤ length seen
-    → LineSearch.turn_count k meaning (seen ++ back) ≤ length (lines (byte_of k.line_terminator) seen)
-turns-within k meaning seen back closed within = go back closed within
+    → (line_plan k meaning (seen ++ back)).finish.count ≤ length seen
+    → reports_end k meaning (seen ++ back) ≤ length (lines (byte_of k.line_terminator) seen)
+calls-within k meaning seen back closed within = go back closed within
   where
     t : ℕ
     t = byte_of k.line_terminator
 
-    few : (bytes : List ℕ) → LineSearch.turn_count k meaning bytes ≤ length (lines t bytes)
-    few bytes = laws.turn_count-le k meaning bytes
+    few : (bytes : List ℕ) → reports_end k meaning bytes ≤ length (lines t bytes)
+    few bytes = laws.reports_end-le k meaning bytes
 
     above : (bytes : List ℕ) (m : ℕ) → line_start t bytes m ≡ length seen
-        → LineSearch.byte_count k meaning bytes ≤ length seen
-        → LineSearch.turn_count k meaning bytes ≤ m
+        → (line_plan k meaning bytes).finish.count ≤ length seen
+        → reports_end k meaning bytes ≤ m
     above bytes m is within = comes-from {t = t} {bytes = bytes} (record { listed = few bytes; begins = refl }) m (omega arith)
 
     go : (back : List ℕ) → (0 < length back → IsClosed t seen)
-        → LineSearch.byte_count k meaning (seen ++ back) ≤ length seen
-        → LineSearch.turn_count k meaning (seen ++ back) ≤ length (lines t seen)
-    go [] closed within = subst (λ xs. LineSearch.turn_count k meaning xs ≤ length (lines t seen))
+        → (line_plan k meaning (seen ++ back)).finish.count ≤ length seen
+        → reports_end k meaning (seen ++ back) ≤ length (lines t seen)
+    go [] closed within = subst (λ xs. reports_end k meaning xs ≤ length (lines t seen))
         (sym (append-nil seen)) (few seen)
     go (b ∷ back) closed within =
         let shut = closed (omega arith) in

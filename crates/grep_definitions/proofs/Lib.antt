@@ -1,6 +1,6 @@
 pub mod AcrossExamples
 pub mod AcrossLemmas
-pub mod AcrossTurnEndLemmas
+pub mod AcrossCountLemmas
 pub mod AcrossWalkLemmas
 pub mod AsByLineLemmas
 pub mod BelowLemmas
@@ -14,7 +14,7 @@ pub mod ContextLemmas
 pub mod MatchCountLemmas
 pub mod DecodedLemmas
 pub mod FirstLineLemmas
-pub mod FirstTurnLemmas
+pub mod FirstCallLemmas
 pub mod FrontLemmas
 pub mod KnownReaderLemmas
 pub mod LimitLemmas
@@ -23,7 +23,6 @@ pub mod LineSliceLemmas
 pub mod ListLemmas
 pub mod MatchCallLemmas
 pub mod SearchModeLemmas
-pub mod PlanLemmas
 pub mod PlannedLawLemmas
 pub mod PlannedReaderLemmas
 pub mod PlannedSliceLemmas
@@ -40,6 +39,6 @@ pub mod SinkFoldLemmas
 pub mod SinkRunLemmas
 pub mod SuccessiveMatchLemmas
 pub mod TouchLemmas
-pub mod TurnEndLemmas
+pub mod CountLemmas
 pub mod UnitLemmas
 pub mod WorkedExamples

@@ -1,63 +1,22 @@
--- Limits and stops along a walk, against the last turn as it is defined.
-use Rattle.std.proofs.Common.{
-  ◌≡◌,
-  ℕ,
-  suc,
-  ◌+◌,
-  ◌-◌,
-  ◌<◌,
-  ◌≤◌,
-  Bool,
-  true,
-  false,
-  not,
-  ◌&&◌,
-  length,
-  List,
-  refl,
-  sym,
-  ◌∙◌,
-  ap,
-  arith,
-  ⊎_elim,
-  Option,
-  Some,
-  None,
-  if◌then◌else◌,
-}
+-- Limits and stops along a walk, against the last line that may be reported.
+use Rattle.std.proofs.Common.{◌≡◌, ℕ, suc, ◌+◌, ◌-◌, ◌<◌, ◌≤◌, Bool, true, false, not, ◌&&◌, length}
+use Rattle.std.proofs.Common.{List, refl, sym, ◌∙◌, ap, arith, ⊎_elim, Option, Some, None}
+use Rattle.std.proofs.Common.{if◌then◌else◌}
 use Rattle.std.proofs.Math.Bool.{or-true, or-false, and-false, and-true}
 use Rattle.std.proofs.lemmas.Bool.{lt-ltb, cases_Bool}
 use Rattle.std.specs.Prelude.{nat_lt, IfSome}
 use Rattle.std.specs.Option.{option_map}
 use Rattle.grep_matcher.specs.Lines.{byte_of, lines}
 use Rattle.grep_matcher.specs.Meanings.{Meaning}
+use Rattle.grep_definitions.specs.Plans.{end_by_limit, end_by_stop, reports_end, Settings}
+use Rattle.grep_definitions.specs.Plans.{some_below, count_below, first_below, has_room, at_most}
 use Rattle.grep_definitions.specs.Plans
-use Rattle.grep_definitions.specs.Plans.{
-  Settings,
-  some_below,
-  count_below,
-  first_below,
-  has_room,
-  at_most,
-}
-use Rattle.grep_definitions.specs.LineSearch
 use Rattle.grep_definitions.specs.LineWalks.{IsOpen}
-use Rattle.grep_definitions.proofs.BelowLemmas.{
-  some_below-none,
-  some_below-some,
-  first_below-here,
-  first_below-of,
-  first_below-more,
-  first_below-nowhere,
-  first_below-late,
-  count_below-le,
-  room-first,
-  room-le,
-  at_most-over,
-  at_most-above,
-  at_most-next,
-  at_most-some,
-}
+use Rattle.grep_definitions.proofs.BelowLemmas.{some_below-none, some_below-some, first_below-here}
+use Rattle.grep_definitions.proofs.BelowLemmas.{first_below-of, first_below-more}
+use Rattle.grep_definitions.proofs.BelowLemmas.{first_below-nowhere, first_below-late}
+use Rattle.grep_definitions.proofs.BelowLemmas.{count_below-le, room-first, room-le, at_most-over}
+use Rattle.grep_definitions.proofs.BelowLemmas.{at_most-above, at_most-next, at_most-some}
 use Rattle.grep_definitions.proofs.BoolLemmas.{both_true, clash}
 
 module _ (k : Settings) (meaning : Meaning) (bytes : List ℕ) where
@@ -77,17 +36,17 @@ module _ (k : Settings) (meaning : Meaning) (bytes : List ℕ) where
   fills = Plans.fills_limit k meaning bytes
 
   abbrev by_stop : Option ℕ
-  by_stop = LineSearch.turns_by_stop k meaning bytes
+  by_stop = end_by_stop k meaning bytes
 
   abbrev by_limit : Option ℕ
-  by_limit = LineSearch.turns_by_limit k meaning bytes
+  by_limit = end_by_limit k meaning bytes
 
-  abbrev turned : ℕ
-  turned = LineSearch.turn_count k meaning bytes
+  abbrev reportable : ℕ
+  reportable = reports_end k meaning bytes
 
-  -- no line from the i-th on has a turn
+  -- no line from the i-th on may be reported
   pub record IsDone (i : ℕ) : Type 0 where
-    pub last : turned ≡ i
+    pub last : reportable ≡ i
     pub silent : (q : ℕ) → i ≤ q → q < n → Plans.is_selected k meaning bytes q ≡ false
 
   -- a line that isn't chosen isn't selected
@@ -172,15 +131,15 @@ module _ (k : Settings) (meaning : Meaning) (bytes : List ℕ) where
           clash (filled-room f.0 (first_below-of fills i f.0 f.1).1) none)
           (cases_Bool (has_room k c)))
 
-  -- the line that the walk is at has a turn
-  pub turn_above : {i left c : ℕ} → IsOpen k meaning bytes i left c → i < n → i < turned
-  turn_above {i} {left} {c} opened inside = at_most-above by_limit i (at_most by_stop n)
+  -- the line that the walk is at may be reported
+  pub reportable-above : {i left c : ℕ} → IsOpen k meaning bytes i left c → i < n → i < reportable
+  reportable-above {i} {left} {c} opened inside = at_most-above by_limit i (at_most by_stop n)
       (limit_bound (omega arith) opened)
       (at_most-above by_stop i n (stop_bound opened) inside)
 
   -- at the end each line has one
-  pub turn_all : {left c : ℕ} → IsOpen k meaning bytes n left c → turned ≡ n
-  turn_all {left} {c} opened =
+  pub reportable-all : {left c : ℕ} → IsOpen k meaning bytes n left c → reportable ≡ n
+  reportable-all {left} {c} opened =
       let s = at_most-over by_stop n (stop_bound opened) in
       ap (λ m. at_most by_limit m) s ∙ at_most-over by_limit n (limit_bound (omega arith) opened)
 
@@ -305,12 +264,12 @@ module _ (k : Settings) (meaning : Meaning) (bytes : List ℕ) where
           }
 
   -- limit 0 without passthru
-  pub turn_none : k.passthru ≡ false → has_room k 0 ≡ false → turned ≡ 0
-  turn_none plain full = let x : ℕ = at_most by_stop n in rw (plain, full) (omega arith)
+  pub reportable-none : k.passthru ≡ false → has_room k 0 ≡ false → reportable ≡ 0
+  reportable-none plain full = let x : ℕ = at_most by_stop n in rw (plain, full) (omega arith)
 
   pub IsDone-none : k.passthru ≡ false → has_room k 0 ≡ false → IsDone 0
   IsDone-none plain full = record {
-    last = turn_none plain full;
+    last = reportable-none plain full;
     silent = λ q low below. selected-none q (
         let none : has_room k (count_below hits q) ≡ false = room-le k 0 _ (omega arith) full in rw none (and-false _));
   }

@@ -1,52 +1,13 @@
 -- The matches that are reported, and the matched lines: those that are selected, or trailing after a selected one.
+use Rattle.grep_definitions.specs.Plans.{end_by_limit, end_by_stop, line_plan, reports_end}
+use Rattle.grep_definitions.specs.Plans.{selected_lines, planned, Call, Planned, breaks, matches}
+use Rattle.grep_definitions.specs.Plans.{Settings, some_below, count_below, first_below}
+use Rattle.grep_definitions.specs.Plans.{joined_from, in_context, has_room}
 use Rattle.grep_definitions.specs.Plans
-use Rattle.grep_definitions.specs.Plans.{
-  planned,
-  Call,
-  Planned,
-  breaks,
-  matches,
-  Settings,
-  some_below,
-  count_below,
-  first_below,
-  is_below,
-  is_at,
-  joined_from,
-  in_context,
-  has_room,
-}
 use Rattle.std.proofs.Math.Bool.{and-false}
-use Rattle.std.proofs.Common.{
-  ◌≡◌,
-  ℕ,
-  zero,
-  suc,
-  ◌+◌,
-  ◌-◌,
-  ◌<◌,
-  ◌≤◌,
-  Bool,
-  true,
-  false,
-  ◌&&◌,
-  ◌||◌,
-  List,
-  [],
-  ◌∷◌,
-  ◌++◌,
-  length,
-  refl,
-  sym,
-  ◌∙◌,
-  ap,
-  arith,
-  ⊎_elim,
-  Option,
-  Some,
-  None,
-  if◌then◌else◌,
-}
+use Rattle.std.proofs.Common.{◌≡◌, ℕ, zero, suc, ◌+◌, ◌-◌, ◌<◌, ◌≤◌, Bool, true, false, ◌&&◌, ◌||◌}
+use Rattle.std.proofs.Common.{List, [], ◌∷◌, ◌++◌, length, refl, sym, ◌∙◌, ap, arith, ⊎_elim}
+use Rattle.std.proofs.Common.{Option, Some, None, if◌then◌else◌}
 use Rattle.std.proofs.lemmas.Bool.{ltb-true, cases_lt}
 use Rattle.std.proofs.lemmas.List.{map-append, length-append, length-map}
 use Rattle.std.proofs.lemmas.List.Elements.{filter-append}
@@ -56,38 +17,20 @@ use Rattle.std.specs.Option.{option_map}
 use Rattle.grep_matcher.specs.Lines.{byte_of}
 use Rattle.grep_matcher.specs.Meanings.{Meaning}
 use Rattle.grep_lines.proofs.LineStepLemmas.{lines-numbered}
-use Rattle.grep_report.specs.declared.sink_context.SinkContextKind.TheVariants.{Before, After, Other}
+use Rattle.grep_report.specs.declared.sink_context.SinkContextKind.TheVariants.{Before, After}
+use Rattle.grep_report.specs.declared.sink_context.SinkContextKind.TheVariants.{Other}
 use Rattle.grep_definitions.proofs.LineSliceLemmas.{line-report}
-use Rattle.grep_definitions.specs.SearchLaws.{
-  is_match,
-  is_matched,
-  match_calls,
-  match_of,
-  matched_lines,
-  FirstMatchIsFirst,
-  MatchesAreCounted,
-  MatchesAreMatchedLines,
-}
-use Rattle.grep_definitions.specs.LineSearch
+use Rattle.grep_definitions.specs.SearchLaws.{is_match, is_matched, match_calls, match_of}
+use Rattle.grep_definitions.specs.SearchLaws.{matched_lines, FirstMatchIsFirst, MatchesAreCounted}
+use Rattle.grep_definitions.specs.SearchLaws.{MatchesAreMatchedLines}
 use Rattle.grep_definitions.proofs.BoolLemmas.{both_true, not_false, clash}
-use Rattle.grep_definitions.proofs.BelowLemmas.{
-  first_below-before,
-  first_below-here,
-  first_below-of,
-  first_below-late,
-  first_below-more,
-  first_below-none,
-  first_below-nowhere,
-  some_below-false,
-  some_below-none,
-  count_below-le,
-  at_most-above,
-  joined_from-more,
-  joined_from-equal,
-  room-le,
-  room-first,
-}
-use Rattle.grep_definitions.proofs.SearchLawLemmas.{turn_count-le}
+use Rattle.grep_definitions.proofs.BelowLemmas.{first_below-before, first_below-here}
+use Rattle.grep_definitions.proofs.BelowLemmas.{first_below-of, first_below-late, first_below-more}
+use Rattle.grep_definitions.proofs.BelowLemmas.{first_below-none, first_below-nowhere}
+use Rattle.grep_definitions.proofs.BelowLemmas.{some_below-false, some_below-none, count_below-le}
+use Rattle.grep_definitions.proofs.BelowLemmas.{at_most-above, joined_from-more, joined_from-equal}
+use Rattle.grep_definitions.proofs.BelowLemmas.{room-le, room-first}
+use Rattle.grep_definitions.proofs.SearchLawLemmas.{reports_end-le}
 use Rattle.grep_definitions.proofs.SearchModeLemmas.{plan-by_line}
 
 -- the numbers below n that pass, each as a list of one
@@ -155,8 +98,8 @@ map-passing f p i (suc n) =
 -- the matches of joined calls
 match_calls-append : (front back : List Planned) → match_calls (front ++ back) ≡ match_calls front ++ match_calls back
 match_calls-append front back =
-    rw (map-append (λ turn. turn.call) front back) (filter-append is_match (map (λ turn. turn.call) front)
-    (map (λ turn. turn.call) back))
+    rw (map-append (λ call. call.call) front back) (filter-append is_match (map (λ call. call.call) front)
+    (map (λ call. call.call) back))
 
 match_calls-joined : (f : ℕ → List Planned) (i n : ℕ) → match_calls (joined_from f i n)
     ≡ joined_from (λ j. match_calls (f j)) i n
@@ -167,7 +110,7 @@ match_calls-joined f i (suc n) =
 
 module _ (k : Settings) (meaning : Meaning) (bytes : List ℕ) where
   abbrev n : ℕ
-  n = LineSearch.line_count k meaning bytes
+  n = Plans.line_count k bytes
 
   abbrev hits : ℕ → Bool
   hits = Plans.hits k meaning bytes
@@ -181,8 +124,8 @@ module _ (k : Settings) (meaning : Meaning) (bytes : List ℕ) where
   abbrev ends : ℕ → Bool
   ends = Plans.ends_search k meaning bytes
 
-  -- a selected line comes before each bound of the turns
-  stop-bound : (i : ℕ) → selected i ≡ true → IfSome (LineSearch.turns_by_stop k meaning bytes) (λ b. i < b)
+  -- a selected line comes before each bound of the reports
+  stop-bound : (i : ℕ) → selected i ≡ true → IfSome (end_by_stop k meaning bytes) (λ b. i < b)
   stop-bound i taken = go (first_below ends n) refl
       (not_false _ (both_true (Plans.is_chosen k meaning bytes i) _ taken).1)
     where
@@ -192,7 +135,7 @@ module _ (k : Settings) (meaning : Meaning) (bytes : List ℕ) where
       go (Some u) is none = let late = first_below-late ends i n u none is in omega arith
 
   limit-bound : (i : ℕ) → Plans.is_chosen k meaning bytes i ≡ true
-      → IfSome (LineSearch.turns_by_limit k meaning bytes) (λ b. i < b)
+      → IfSome (end_by_limit k meaning bytes) (λ b. i < b)
   limit-bound i taken = go k.passthru (has_room k 0) refl (first_below fills n) refl
     where
       room : has_room k (count_below hits i) ≡ true
@@ -223,35 +166,34 @@ module _ (k : Settings) (meaning : Meaning) (bytes : List ℕ) where
       let hit = both_true (hits i) _ (both_true (Plans.is_chosen k meaning bytes i) _ taken).0 in
       ltb-true i n (both_true (nat_lt i n) _ hit.0).0
 
-  -- so it has a turn
-  pub selected-turned : (i : ℕ) → selected i ≡ true → i < LineSearch.turn_count k meaning bytes
-  selected-turned i taken =
+  -- so it may be reported
+  pub selected-reportable : (i : ℕ) → selected i ≡ true → i < reports_end k meaning bytes
+  selected-reportable i taken =
       let chosen = both_true (Plans.is_chosen k meaning bytes i) _ taken in
-      at_most-above (LineSearch.turns_by_limit k meaning bytes) i _
+      at_most-above (end_by_limit k meaning bytes) i _
       (limit-bound i chosen.0)
-      (at_most-above (LineSearch.turns_by_stop k meaning bytes) i n (stop-bound i taken) (selected-inside i taken))
+      (at_most-above (end_by_stop k meaning bytes) i n (stop-bound i taken) (selected-inside i taken))
 
-  -- how many lines have a turn
-  abbrev turned : ℕ
-  turned = LineSearch.turn_count k meaning bytes
+  -- how many lines may be reported
+  abbrev reportable : ℕ
+  reportable = reports_end k meaning bytes
 
   -- the match of a line, if it is one
   abbrev match_at : ℕ → List Call
   match_at i = if is_matched k meaning bytes i then match_of k bytes i ∷ [] else []
 
   match_calls-kind : (i : ℕ) → i < n
-      → match_calls (LineSearch.report k meaning bytes i (LineSearch.kind k meaning bytes i)) ≡ match_at i
+      → match_calls (Plans.report k bytes (selected_lines k meaning bytes) i (Plans.kind k bytes (selected_lines k meaning bytes) i)) ≡ match_at i
   match_calls-kind i inside =
-      go (selected i) (LineSearch.follows_selected k meaning bytes i) (Plans.is_trailing k meaning bytes i)
-      (LineSearch.precedes_selected k meaning bytes i) k.passthru
+      go (selected i) (Plans.follows_selected k bytes (selected_lines k meaning bytes) i) (Plans.is_trailing k meaning bytes i)
+      (Plans.precedes_selected k bytes (selected_lines k meaning bytes) i) k.passthru
     where
-      one : match_calls (LineSearch.report k meaning bytes i (Some Plans.matched)) ≡ match_of k bytes i ∷ []
-      one = ap match_calls (line-report k bytes meaning i) ∙ ap (λ number. matches number (LineSearch.start k meaning
-          bytes i) (LineSearch.line k meaning bytes i) ∷ [])
+      one : match_calls (Plans.report k bytes (selected_lines k meaning bytes) i (Some Plans.matched)) ≡ match_of k bytes i ∷ []
+      one = ap match_calls (line-report k bytes meaning i) ∙ ap (λ number. matches number (Plans.start k bytes i) (Plans.line k bytes i) ∷ [])
           (rw (lines-numbered (byte_of k.line_terminator) bytes i inside) refl)
 
       go : (a b t c d : Bool)
-          → match_calls (LineSearch.report k meaning bytes i (if a then Some Plans.matched
+          → match_calls (Plans.report k bytes (selected_lines k meaning bytes) i (if a then Some Plans.matched
           else (if b then Some (if t then Plans.matched else in_context After)
           else (if c then Some (in_context Before) else (if d then Some (in_context Other) else None)))))
           ≡ (if a || (b && t) then match_of k bytes i ∷ [] else [])
@@ -263,12 +205,12 @@ module _ (k : Settings) (meaning : Meaning) (bytes : List ℕ) where
       go false false t false false = refl
 
   abbrev report : ℕ → List Planned
-  report i = LineSearch.report k meaning bytes i (LineSearch.kind k meaning bytes i)
+  report i = Plans.report k bytes (selected_lines k meaning bytes) i (Plans.kind k bytes (selected_lines k meaning bytes) i)
 
-  match_calls-line : (i : ℕ) → i < n → match_calls (LineSearch.turns_at k meaning bytes i) ≡ match_at i
+  match_calls-line : (i : ℕ) → i < n → match_calls (Plans.calls_at k bytes (selected_lines k meaning bytes) i) ≡ match_at i
   match_calls-line i inside =
-      go (LineSearch.breaks_before k meaning bytes i)
-      (LineSearch.turn_end k meaning bytes i (LineSearch.kind k meaning bytes i))
+      go (Plans.breaks_before k bytes (selected_lines k meaning bytes) i)
+      (Plans.count_at k bytes (selected_lines k meaning bytes) i (Plans.kind k bytes (selected_lines k meaning bytes) i))
     where
       go : (b : Bool) (end : ℕ) → match_calls (if b then planned breaks end ∷ report i else report i)
           ≡ match_at i
@@ -276,49 +218,49 @@ module _ (k : Settings) (meaning : Meaning) (bytes : List ℕ) where
       go false end = match_calls-kind i inside
 
   -- the matches are those of the matched lines
-  pub match_calls-turns : match_calls (LineSearch.turns k meaning bytes)
+  pub match_calls-plan : match_calls (line_plan k meaning bytes).calls
       ≡ map (match_of k bytes) (matched_lines k meaning bytes)
-  match_calls-turns =
-      match_calls-joined (LineSearch.turns_at k meaning bytes) 0 turned
-      ∙ joined_from-equal _ match_at 0 turned (λ j low high. match_calls-line j
-      (omega (arith, turn_count-le k meaning bytes)))
-      ∙ sym (map-passing (match_of k bytes) (is_matched k meaning bytes) 0 turned)
+  match_calls-plan =
+      match_calls-joined (Plans.calls_at k bytes (selected_lines k meaning bytes)) 0 reportable
+      ∙ joined_from-equal _ match_at 0 reportable (λ j low high. match_calls-line j
+      (omega (arith, reports_end-le k meaning bytes)))
+      ∙ sym (map-passing (match_of k bytes) (is_matched k meaning bytes) 0 reportable)
 
-  pub length-match_calls : length (match_calls (LineSearch.turns k meaning bytes))
-      ≡ count_below (is_matched k meaning bytes) turned
+  pub length-match_calls : length (match_calls (line_plan k meaning bytes).calls)
+      ≡ count_below (is_matched k meaning bytes) reportable
   length-match_calls =
-      ap length match_calls-turns ∙ length-map (matched_lines k meaning bytes) (match_of k bytes)
-      ∙ length-passing (is_matched k meaning bytes) turned
+      ap length match_calls-plan ∙ length-map (matched_lines k meaning bytes) (match_of k bytes)
+      ∙ length-passing (is_matched k meaning bytes) reportable
 
   -- the first matched line is the first selected one
-  first-matched : first_below (is_matched k meaning bytes) turned ≡ first_below selected n
+  first-matched : first_below (is_matched k meaning bytes) reportable ≡ first_below selected n
   first-matched = go (first_below selected n) refl
     where
       -- before the first selected line, no line is matched
       unmatched : (j : ℕ) → ((i : ℕ) → i ≤ j → selected i ≡ false) → is_matched k meaning bytes j ≡ false
       unmatched j none =
-          let follows : LineSearch.follows_selected k meaning bytes j ≡ false =
+          let follows : Plans.follows_selected k bytes (selected_lines k meaning bytes) j ≡ false =
           some_below-none _ j (λ i less. let no = none i (omega arith) in rw no
           (and-false (nat_le (j - i) k.after_context))) in
           rw (none j (omega arith), follows) refl
 
-      go : (found : Option ℕ) → first_below selected n ≡ found → first_below (is_matched k meaning bytes) turned ≡ found
+      go : (found : Option ℕ) → first_below selected n ≡ found → first_below (is_matched k meaning bytes) reportable ≡ found
       go None is =
           let none = first_below-none selected n is in
-          first_below-nowhere (is_matched k meaning bytes) turned (some_below-none _ turned
+          first_below-nowhere (is_matched k meaning bytes) reportable (some_below-none _ reportable
           (λ j less. unmatched j (λ i low. some_below-false selected n i none
-          (omega (arith, turn_count-le k meaning bytes)))))
+          (omega (arith, reports_end-le k meaning bytes)))))
       go (Some q) is =
           let taken = (first_below-of selected n q is).1 in
-          first_below-here (is_matched k meaning bytes) turned q (selected-turned q taken) (rw taken refl)
+          first_below-here (is_matched k meaning bytes) reportable q (selected-reportable q taken) (rw taken refl)
           (some_below-none _ q (λ j less. unmatched j (λ i low. first_below-before selected n q i is (omega arith))))
 
-  pub first-match_calls : slice_get (match_calls (LineSearch.turns k meaning bytes)) 0
+  pub first-match_calls : slice_get (match_calls (line_plan k meaning bytes).calls) 0
       ≡ option_map (match_of k bytes) (first_below selected n)
   first-match_calls =
-      ap (λ xs. slice_get xs 0) match_calls-turns ∙ slice_get-map (match_of k bytes)
+      ap (λ xs. slice_get xs 0) match_calls-plan ∙ slice_get-map (match_of k bytes)
       (matched_lines k meaning bytes) 0
-      ∙ ap (option_map (match_of k bytes)) (first-passing (is_matched k meaning bytes) turned ∙ first-matched)
+      ∙ ap (option_map (match_of k bytes)) (first-passing (is_matched k meaning bytes) reportable ∙ first-matched)
 
 -- no more numbers pass than there are
 pub count_below-few : (p : ℕ → Bool) (n : ℕ) → count_below p n ≤ n
@@ -333,7 +275,7 @@ count_below-few p (suc n) = go (p n) (count_below-few p n)
 pub matches-are_matched_lines : MatchesAreMatchedLines
 matches-are_matched_lines k meaning bytes by_line =
     ap (λ plan. match_calls plan.calls) (plan-by_line k meaning bytes by_line)
-    ∙ match_calls-turns k meaning bytes
+    ∙ match_calls-plan k meaning bytes
 
 pub matches-are_counted : MatchesAreCounted
 matches-are_counted k meaning bytes by_line =

@@ -1,65 +1,27 @@
 -- How many matches are reported, whether lines are numbered or not.
-use Rattle.std.proofs.Common.{
-  ◌≡◌,
-  ℕ,
-  zero,
-  suc,
-  ◌+◌,
-  Bool,
-  true,
-  false,
-  List,
-  [],
-  ◌∷◌,
-  ◌++◌,
-  length,
-  refl,
-  ◌∙◌,
-  ap,
-  Option,
-  Some,
-  None,
-  if◌then◌else◌,
-}
+use Rattle.std.proofs.Common.{◌≡◌, ℕ, zero, suc, ◌+◌, Bool, true, false, List, [], ◌∷◌, ◌++◌}
+use Rattle.std.proofs.Common.{length, refl, ◌∙◌, ap, Option, Some, None, if◌then◌else◌}
 use Rattle.std.proofs.lemmas.List.{map-append, length-append}
 use Rattle.std.proofs.lemmas.List.Elements.{filter-append}
 use Rattle.std.specs.Prelude.{map}
 use Rattle.grep_matcher.specs.Meanings.{Meaning}
-use Rattle.grep_definitions.specs.Plans.{
-  is_across,
-  selection_in,
-  Planned,
-  breaks,
-  planned,
-  Kind,
-  matched,
-  in_context,
-  Selection,
-  breaks_before,
-  calls_at,
-  joined_from,
-  kind,
-  line_count,
-  report,
-  reports_plan,
-  reports_end,
-  selected_lines,
-  touched_lines,
-  Settings,
-}
+use Rattle.grep_definitions.specs.Plans.{is_across, selection_in, Planned, breaks, planned, Kind}
+use Rattle.grep_definitions.specs.Plans.{matched, in_context, Selection, breaks_before, calls_at}
+use Rattle.grep_definitions.specs.Plans.{joined_from, kind, line_count, report, reports_plan}
+use Rattle.grep_definitions.specs.Plans.{reports_end, selected_lines, touched_lines, Settings}
+use Rattle.grep_definitions.specs.Plans.{continues}
 use Rattle.grep_definitions.specs.CountLaws.{NumbersChangeNoBytes, NumbersChangeNoCount}
 use Rattle.grep_definitions.specs.Searches.{searched_bytes}
-use Rattle.grep_definitions.specs.Selections.{continues}
 use Rattle.grep_definitions.specs.SearchLaws.{is_match, match_calls}
 
 -- how many of some calls report a match
 abbrev match_count : List Planned → ℕ
-match_count turns = length (match_calls turns)
+match_count calls = length (match_calls calls)
 
 match_count-append : (front back : List Planned) → match_count (front ++ back) ≡ match_count front + match_count back
 match_count-append front back =
-    rw (map-append (λ turn. turn.call) front back)
-    (ap length (filter-append is_match (map (λ turn. turn.call) front) (map (λ turn. turn.call) back))
+    rw (map-append (λ call. call.call) front back)
+    (ap length (filter-append is_match (map (λ call. call.call) front) (map (λ call. call.call) back))
     ∙ length-append (match_calls front) (match_calls back))
 
 -- if each line has as many, so have they all

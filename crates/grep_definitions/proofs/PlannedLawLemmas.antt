@@ -1,19 +1,20 @@
 -- Laws of plans, put together.
-use Rattle.std.proofs.Common.{◌≡◌, ◌+◌, Bool, List, [], ◌∷◌, ◌++◌, arith, map, refl, sym, ap, subst, ◌∙◌}
+use Rattle.std.proofs.Common.{◌≡◌, ◌+◌, Bool, List, [], ◌∷◌, ◌++◌, arith, map, refl, sym, ap, subst}
+use Rattle.std.proofs.Common.{◌∙◌}
 use Rattle.std.specs.Prelude.{cond, count_by}
 use Rattle.std.specs.List.{flat_map, fold}
 use Rattle.std.specs.List.Sorted.{IsStrictlyIncreasing}
 use Rattle.grep_definitions.specs.AcrossLaws
 use Rattle.grep_definitions.specs.BinaryLaws.{SeenLinesBegin}
 use Rattle.grep_definitions.specs.SearchLaws
-use Rattle.grep_definitions.specs.SearchLaws.{line_plan, is_match}
-use Rattle.grep_definitions.specs.Plans.{reports_end, Planned}
+use Rattle.grep_definitions.specs.SearchLaws.{is_match}
+use Rattle.grep_definitions.specs.Plans.{line_plan, reports_end, Planned, across_plan}
 use Rattle.grep_definitions.proofs.AcrossLemmas as across
-use Rattle.grep_definitions.proofs.AsByLineLemmas.{turns-same}
+use Rattle.grep_definitions.proofs.AsByLineLemmas.{calls-same}
 use Rattle.grep_definitions.proofs.BelowLemmas.{room-none}
-use Rattle.grep_definitions.proofs.FirstTurnLemmas.{turns-begin}
+use Rattle.grep_definitions.proofs.FirstCallLemmas.{front_calls-begin}
 use Rattle.grep_definitions.proofs.SearchLawLemmas as by_line
-use Rattle.grep_definitions.proofs.UnitLemmas.{bytes-turns, edges-turns}
+use Rattle.grep_definitions.proofs.UnitLemmas.{bytes-calls, edges-calls}
 
 fold-map : {X Y A : Type 0} (g : A → Y → A) (f : X → Y) (a : A) (xs : List X)
     → fold g a (map f xs) ≡ fold (λ a x. g a (f x)) a xs
@@ -35,11 +36,11 @@ reports-ascend k meaning bytes = by_line.in_order-by_line k meaning bytes
 
 pub after-wins : SearchLaws.AfterWins
 after-wins k meaning bytes i j has misses hit less close =
-    by_line.turns_at-follows k meaning bytes i j has misses hit less close
+    by_line.calls_at-follows k meaning bytes i j has misses hit less close
 
 pub first_lines-begin : SearchLaws.FirstLinesBegin
 first_lines-begin k meaning front back closed built =
-    turns-begin k meaning front back closed built
+    front_calls-begin k meaning front back closed built
 
 pub at_most-limit : SearchLaws.AtMostLimit
 at_most-limit k meaning bytes limit is =
@@ -55,29 +56,29 @@ reports-ascend_across k meaning bytes = across.in_order-across k meaning bytes
 
 pub after-wins_across : AcrossLaws.AfterWins
 after-wins_across k meaning bytes i j has misses hit less close =
-    across.turns_at-follows k meaning bytes i j misses hit less close
+    across.calls_at-follows k meaning bytes i j misses hit less close
 
 pub at_most-limit_across : AcrossLaws.AtMostLimit
 at_most-limit_across k meaning bytes limit is =
     omega (
       arith,
-      count_by-map is_match (λ (call : Planned). call.call) (AcrossLaws.across_plan k meaning bytes).calls,
+      count_by-map is_match (λ (call : Planned). call.call) (across_plan k meaning bytes).calls,
       across.matches-across k meaning bytes limit (room-none k limit is),
     )
 
 pub selected-reported : AcrossLaws.SelectedAreReported
 selected-reported k meaning bytes =
-    flat_map-map AcrossLaws.report_bytes (λ call. call.call) (AcrossLaws.across_plan k meaning bytes).calls
-    ∙ bytes-turns k meaning bytes
+    flat_map-map AcrossLaws.report_bytes (λ call. call.call) (across_plan k meaning bytes).calls
+    ∙ bytes-calls k meaning bytes
 
 pub reports-apart : AcrossLaws.ReportsAreApart
 reports-apart k meaning bytes plain =
     subst IsStrictlyIncreasing
-    (sym (flat_map-map AcrossLaws.report_edges (λ call. call.call) (AcrossLaws.across_plan k meaning bytes).calls))
-    (edges-turns k meaning bytes plain)
+    (sym (flat_map-map AcrossLaws.report_edges (λ call. call.call) (across_plan k meaning bytes).calls))
+    (edges-calls k meaning bytes plain)
 
 pub as-by_line : AcrossLaws.ReportsAreAsByLine
-as-by_line k meaning other bytes inverted same each none = turns-same k meaning other bytes inverted same each none
+as-by_line k meaning other bytes inverted same each none = calls-same k meaning other bytes inverted same each none
 
 -- ---- binary bytes
 pub seen_lines-begin_all : SeenLinesBegin

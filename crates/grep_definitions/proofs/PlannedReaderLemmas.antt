@@ -1,27 +1,7 @@
 -- A search of whole contents that were read is one of their reader.
-use Rattle.std.proofs.Common.{
-  ◌≡◌,
-  ◌∙◌,
-  ◌≤◌,
-  ℕ,
-  true,
-  false,
-  List,
-  [],
-  Option,
-  Some,
-  None,
-  Result,
-  length,
-  refl,
-  sym,
-  ap,
-  subst,
-  arith,
-  append-nil,
-}
+use Rattle.std.proofs.Common.{◌≡◌, ◌∙◌, ◌≤◌, ℕ, true, false, List, [], Option, Some, None, Result}
+use Rattle.std.proofs.Common.{length, refl, sym, ap, subst, arith, append-nil}
 use Rattle.std.specs.Io.KnownBytes.{Consumes}
-use Rattle.std.specs.List.{concat}
 use Rattle.std.specs.declared.io.Error.{Error}
 use Rattle.grep_decode.specs.Decoded.{found_mark}
 use Rattle.grep_decode.specs.Source.{ReadResult}
@@ -33,32 +13,13 @@ use Rattle.grep_definitions.proofs.BoolLemmas.{clash}
 use Rattle.grep_definitions.proofs.PlannedSliceLemmas.{IsSearched}
 use Rattle.grep_definitions.proofs.SeenSearchLemmas.{on-ok, search-map}
 use Rattle.grep_definitions.specs.DecodedInputs.{IsDecodedFront, passes_after, passes_unchanged}
-use Rattle.grep_definitions.specs.Plans.{
-  is_across,
-  line_count,
-  search_plan,
-  selection_in,
-  IsAskedWith,
-  SearcherState,
-  Settings,
-  Steps,
-}
+use Rattle.grep_definitions.specs.Plans.{is_across, line_count, search_plan, selection_in}
+use Rattle.grep_definitions.specs.Plans.{IsAskedWith, SearcherState, Settings, Steps}
 use Rattle.grep_definitions.specs.ReaderRuns
 use Rattle.grep_definitions.specs.Searches
-use Rattle.grep_definitions.specs.Searches.{
-  encoding_after,
-  encoding_of,
-  view_in,
-  IsBelowLimit,
-  IsCutSearch,
-  IsDecodedSoFar,
-  IsInput,
-  IsPoint,
-  IsReaderSearch,
-  IsSeenOf,
-  Look,
-  Taken,
-}
+use Rattle.grep_definitions.specs.Searches.{encoding_after, encoding_of, view_in, IsBelowLimit}
+use Rattle.grep_definitions.specs.Searches.{IsCutSearch, IsDecodedSoFar, IsInput, IsPoint}
+use Rattle.grep_definitions.specs.Searches.{IsReaderSearch, IsSeenOf, Look, Taken}
 
 pub so-far : {k : Settings} {pieces : List (List ℕ)} {came : List ℕ} → IsDecodedFront k pieces came
     → IsDecodedSoFar k pieces came

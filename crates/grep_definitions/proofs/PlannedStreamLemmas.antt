@@ -1,35 +1,7 @@
 -- Where a binary byte of a stream is reported, in the plan of a search by line, and a stream in which none is looked for.
-use Rattle.std.proofs.Common.{
-  ◌≡◌,
-  ℕ,
-  Bool,
-  true,
-  false,
-  List,
-  [],
-  ◌∷◌,
-  ◌++◌,
-  Some,
-  refl,
-  ap,
-  ◌∙◌,
-  arith,
-  length,
-  map,
-  take,
-  drop,
-  length-append,
-  Option,
-  None,
-  Result,
-  Ok,
-  Err,
-  inl,
-  inr,
-  sym,
-  subst,
-  ◌≤◌,
-}
+use Rattle.std.proofs.Common.{◌≡◌, ℕ, Bool, true, false, List, [], ◌∷◌, ◌++◌, Some, refl, ap, ◌∙◌}
+use Rattle.std.proofs.Common.{arith, length, map, take, drop, length-append, Option, None, Result}
+use Rattle.std.proofs.Common.{Ok, Err, inl, inr, sym, subst, ◌≤◌}
 use Rattle.std.proofs.lemmas.Option.{none-some}
 use Rattle.std.proofs.Math.Seq.{take-append_seam}
 use Rattle.grep_decode.specs.Source.{ReadResult}
@@ -38,43 +10,13 @@ use Rattle.grep_matcher.specs.Meanings.{MatcherFacts, Meaning}
 use Rattle.grep_report.specs.ErrorMakers.{ErrorMakers}
 use Rattle.grep_report.specs.declared.binary_detection.BinaryDetection.{BinaryDetection}
 use Rattle.grep_report.specs.declared.binary_detection.BinaryDetection.TheVariants.{None as no_detection}
-use Rattle.grep_definitions.specs.Plans.{
-  search_plan,
-  Steps,
-  Planned,
-  Plan,
-  Outcome,
-  all_true,
-  is_across,
-  line_count,
-  selection_in,
-  AreMade,
-  SearcherState,
-  Settings,
-  IsAskedWith,
-}
-use Rattle.grep_definitions.specs.Searches.{
-  BinaryPoint,
-  quits,
-  plan_with,
-  planned_binary,
-  asked,
-  binary_position,
-  nowhere,
-  on_stream,
-  ran,
-  stream_view,
-  view_of,
-  IsCutAt,
-  IsCutSearch,
-  IsFront,
-  IsPoint,
-  IsRead,
-  IsReaderSearch,
-  IsSearchOf,
-  IsStreamPoint,
-  Points,
-}
+use Rattle.grep_definitions.specs.Plans.{search_plan, Steps, Planned, Plan, Outcome, all_true}
+use Rattle.grep_definitions.specs.Plans.{is_across, line_count, selection_in, AreMade}
+use Rattle.grep_definitions.specs.Plans.{SearcherState, Settings, IsAskedWith}
+use Rattle.grep_definitions.specs.Searches.{BinaryPoint, quits, plan_with, planned_binary}
+use Rattle.grep_definitions.specs.Searches.{binary_position, nowhere, on_stream, stream_view}
+use Rattle.grep_definitions.specs.Searches.{view_of, IsCutAt, IsCutSearch, IsFront, IsPoint, IsRead}
+use Rattle.grep_definitions.specs.Searches.{IsReaderSearch, IsStreamPoint}
 use Rattle.grep_definitions.specs.SinkRuns.{after_binary}
 use Rattle.grep_definitions.proofs.BoolLemmas.{clash}
 use Rattle.grep_definitions.proofs.SeenSearchLemmas.{search-map}

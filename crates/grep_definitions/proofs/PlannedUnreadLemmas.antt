@@ -3,15 +3,8 @@ use Rattle.std.proofs.Common.{◌≡◌, ◌∙◌, ℕ, Bool, true, false, List
 use Rattle.std.specs.declared.io.Error.{Error}
 use Rattle.grep_decode.specs.Source.{ReadResult}
 use Rattle.grep_matcher.specs.Meanings.{Meaning}
-use Rattle.grep_definitions.specs.Searches.{
-  view_of,
-  IsUnread,
-  of_lines,
-  of_reader,
-  of_contents,
-  of_failed_read,
-  of_buffers,
-}
+use Rattle.grep_definitions.specs.Searches.{view_of, IsUnread, of_lines, of_reader, of_contents}
+use Rattle.grep_definitions.specs.Searches.{of_failed_read, of_buffers}
 use Rattle.grep_definitions.specs.Plans.{is_across, SearcherState}
 use Rattle.grep_definitions.specs.ReaderRuns
 use Rattle.grep_definitions.proofs.PlannedReaderLemmas.{consumes-none, so-far}

@@ -1,56 +1,19 @@
 -- A reader that is seen through another that refers to it: if each call of the one is a call of the other, and the
 -- reference stays the same, a search of the one is a search of the other.
-use Rattle.std.proofs.Common.{
-  ◌≡◌,
-  ◌∙◌,
-  ℕ,
-  Bool,
-  true,
-  false,
-  List,
-  [],
-  ◌∷◌,
-  Option,
-  Some,
-  None,
-  ap,
-  inl,
-  inr,
-  sym,
-  subst,
-}
+use Rattle.std.proofs.Common.{◌≡◌, ◌∙◌, ℕ, Bool, true, false, List, [], ◌∷◌, Option, Some, None, ap}
+use Rattle.std.proofs.Common.{inl, inr, sym, subst}
 use Rattle.std.specs.Prelude.{Result, Ok, Err}
 use Rattle.std.specs.declared.io.Error.{Error}
 use Rattle.grep_decode.specs.Source.{ReadResult, Pulls}
 use Rattle.grep_matcher.specs.Meanings.{Meaning, MatcherFacts}
 use Rattle.grep_report.specs.declared.config_error.ConfigError.{ConfigError}
-use Rattle.grep_definitions.specs.Searches.{
-  Look,
-  look_of,
-  Points,
-  IsSearchOf,
-  HasReadLines,
-  IsReaderSearch,
-  IsRead,
-  IsUnlessRefusedBy,
-  IsReaderSearched,
-  ran,
-  asked,
-  Reads,
-  Taken,
-  IsCut,
-  IsUnread,
-  IsReadingError,
-  of_lines,
-  of_reader,
-  IsReadForLine,
-  of_contents,
-  of_failed_read,
-  of_buffers,
-}
+use Rattle.grep_definitions.specs.Searches.{Look, look_of, HasReadLines, IsReaderSearch, IsRead}
+use Rattle.grep_definitions.specs.Searches.{IsUnlessRefusedBy, IsReaderSearched, Reads, Taken}
+use Rattle.grep_definitions.specs.Searches.{IsCut, IsUnread, IsReadingError, of_lines, of_reader}
+use Rattle.grep_definitions.specs.Searches.{IsReadForLine, of_contents, of_failed_read, of_buffers}
 use Rattle.grep_definitions.proofs.SeenSearchLemmas.{on-ok-map, search-map}
 use Rattle.grep_report.specs.ErrorMakers.{ErrorMakers}
-use Rattle.grep_definitions.specs.Plans.{refusal_of, Steps, Plan, Outcome, Settings, SearcherState, Finish}
+use Rattle.grep_definitions.specs.Plans.{refusal_of, Steps, SearcherState, Finish}
 
 module _ {R T N : Type 0} (view : R → T) (name : R → N) (remaining : T → Option (List ℕ))
     (read : R → ReadResult → R → Type 0) (seen_read : T → ReadResult → T → Type 0)

@@ -1,52 +1,23 @@
 -- The reports of lines ascend: each ends by the offset of each later one.
-use Rattle.grep_definitions.specs.Plans.{
-  planned,
-  Call,
-  Planned,
-  breaks,
-  reported_bytes,
-  reported_from,
-  joined_from,
-}
-use Rattle.std.proofs.Common.{
-  ◌≡◌,
-  ℕ,
-  zero,
-  suc,
-  ◌+◌,
-  ◌<◌,
-  ◌≤◌,
-  Bool,
-  true,
-  false,
-  List,
-  [],
-  ◌∷◌,
-  ◌++◌,
-  length,
-  refl,
-  sym,
-  ap,
-  subst,
-  ◌∙◌,
-  arith,
-  ◌⊎◌,
-  ⊎_elim,
-  if◌then◌else◌,
-}
+use Rattle.grep_definitions.specs.Plans.{planned, Call, Planned, breaks, reported_bytes}
+use Rattle.grep_definitions.specs.Plans.{reported_from, joined_from}
+use Rattle.std.proofs.Common.{◌≡◌, ℕ, zero, suc, ◌+◌, ◌<◌, ◌≤◌, Bool, true, false, List, [], ◌∷◌}
+use Rattle.std.proofs.Common.{◌++◌, length, refl, sym, ap, subst, ◌∙◌, arith, ◌⊎◌, ⊎_elim}
+use Rattle.std.proofs.Common.{if◌then◌else◌}
 use Rattle.std.proofs.lemmas.Bool.{cases_lt}
 use Rattle.std.proofs.lemmas.List.{map-append}
 use Rattle.std.proofs.lemmas.List.Elements.{All-nil, All-cons, All-weaker, filter-append}
 use Rattle.std.proofs.lemmas.List.Kept.{AllPairs-cons}
 use Rattle.std.specs.Prelude.{All, map, filter}
-use Rattle.grep_definitions.specs.SearchLaws.{reported_to, AreReportsInOrder, is_report, report_calls}
+use Rattle.grep_definitions.specs.SearchLaws.{reported_to, AreReportsInOrder, is_report}
+use Rattle.grep_definitions.specs.SearchLaws.{report_calls}
 
 -- the reports of some calls, and then those of the later calls
 report_calls-append : (front back : List Planned) → report_calls (front ++ back) ≡ report_calls front ++ report_calls
     back
 report_calls-append front back =
-    ap (filter is_report) (map-append (λ (turn : Planned). turn.call) front back)
-    ∙ filter-append is_report (map (λ (turn : Planned). turn.call) front) (map (λ (turn : Planned). turn.call) back)
+    ap (filter is_report) (map-append (λ (call : Planned). call.call) front back)
+    ∙ filter-append is_report (map (λ (call : Planned). call.call) front) (map (λ (call : Planned). call.call) back)
 
 -- some reports, of which the first isn't before a bound
 pub record InOrderFrom (low : ℕ) (reports : List Call) : Type 0 where
@@ -84,10 +55,10 @@ in_order-cons low report later above some follow = record {
 }
 
 -- a break is no report
-pub report_calls-broken : (broken : Bool) (end : ℕ) (turns : List Planned)
-    → report_calls (if broken then planned breaks end ∷ turns else turns) ≡ report_calls turns
-report_calls-broken true end turns = refl
-report_calls-broken false end turns = refl
+pub report_calls-broken : (broken : Bool) (end : ℕ) (calls : List Planned)
+    → report_calls (if broken then planned breaks end ∷ calls else calls) ≡ report_calls calls
+report_calls-broken true end calls = refl
+report_calls-broken false end calls = refl
 
 module _ (f : ℕ → List Planned) (start : ℕ → ℕ) where
   -- line i has a report, of itself and of the lines up to line `next`, which have none

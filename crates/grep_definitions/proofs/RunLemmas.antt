@@ -1,48 +1,15 @@
 -- Longest runs of numbers that pass a test, and lists joined over them.
-use Rattle.std.proofs.Common.{
-  ◌≡◌,
-  ℕ,
-  zero,
-  suc,
-  ◌+◌,
-  ◌-◌,
-  ◌<◌,
-  ◌≤◌,
-  Bool,
-  true,
-  false,
-  not,
-  ◌&&◌,
-  List,
-  [],
-  ◌∷◌,
-  ◌++◌,
-  if◌then◌else◌,
-  refl,
-  sym,
-  ap,
-  ◌∙◌,
-  arith,
-  ◌⊎◌,
-  ⊎_elim,
-  inl,
-  inr,
-  Option,
-  Some,
-  None,
-}
+use Rattle.std.proofs.Common.{◌≡◌, ℕ, zero, suc, ◌+◌, ◌-◌, ◌<◌, ◌≤◌, Bool, true, false, not, ◌&&◌}
+use Rattle.std.proofs.Common.{List, [], ◌∷◌, ◌++◌, if◌then◌else◌, refl, sym, ap, ◌∙◌, arith, ◌⊎◌}
+use Rattle.std.proofs.Common.{⊎_elim, inl, inr, Option, Some, None}
 use Rattle.std.proofs.lemmas.Bool.{lt-ltb, ltb-true, le-leb, leb-true, cases_Bool, cases_lt}
 use Rattle.std.specs.Prelude.{nat_lt, nat_le}
 use Rattle.std.specs.Option.{unwrap_or}
 use Rattle.std.specs.List.Sorted.{IsStrictlyIncreasing}
 use Rattle.grep_definitions.specs.Plans.{first_below, joined_from}
-use Rattle.grep_definitions.proofs.BelowLemmas.{
-  some_below-false,
-  first_below-of,
-  first_below-before,
-  first_below-none,
-  joined_from-add,
-}
+use Rattle.grep_definitions.proofs.BelowLemmas.{some_below-false, first_below-of}
+use Rattle.grep_definitions.proofs.BelowLemmas.{first_below-before, first_below-none}
+use Rattle.grep_definitions.proofs.BelowLemmas.{joined_from-add}
 use Rattle.grep_definitions.proofs.BoolLemmas.{both_true, and-both, not_false, clash}
 use Rattle.grep_definitions.proofs.SearchLawLemmas.{AscendFrom, IsStrictlyIncreasing-cons}
 

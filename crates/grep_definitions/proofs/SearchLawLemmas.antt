@@ -1,56 +1,13 @@
 -- What the calls of a line, and of the lines together, tell.
+use Rattle.grep_definitions.specs.Plans.{calls_at, end_by_limit, end_by_stop, line_plan}
+use Rattle.grep_definitions.specs.Plans.{reports_end, selected_lines, planned, Call, Planned}
+use Rattle.grep_definitions.specs.Plans.{matches, context, breaks, reported_bytes, reported_from}
+use Rattle.grep_definitions.specs.Plans.{Settings, count_below, first_below, has_room, at_most}
+use Rattle.grep_definitions.specs.Plans.{joined_from, Kind, matched, in_context}
 use Rattle.grep_definitions.specs.Plans
-use Rattle.grep_definitions.specs.Plans.{
-  planned,
-  Call,
-  Planned,
-  matches,
-  context,
-  breaks,
-  reported_bytes,
-  reported_from,
-  Settings,
-  count_below,
-  first_below,
-  has_room,
-  at_most,
-  joined_from,
-  Kind,
-  matched,
-  in_context,
-}
-use Rattle.std.proofs.Common.{
-  ◌≡◌,
-  ℕ,
-  zero,
-  suc,
-  ◌+◌,
-  ◌-◌,
-  ◌<◌,
-  ◌≤◌,
-  Bool,
-  true,
-  false,
-  List,
-  [],
-  ◌∷◌,
-  length,
-  slice_index,
-  refl,
-  sym,
-  ap,
-  subst,
-  ◌∙◌,
-  arith,
-  ◌⊎◌,
-  inl,
-  inr,
-  ⊎_elim,
-  Option,
-  Some,
-  None,
-  if◌then◌else◌,
-}
+use Rattle.std.proofs.Common.{◌≡◌, ℕ, zero, suc, ◌+◌, ◌-◌, ◌<◌, ◌≤◌, Bool, true, false, List, []}
+use Rattle.std.proofs.Common.{◌∷◌, length, slice_index, refl, sym, ap, subst, ◌∙◌, arith, ◌⊎◌, inl}
+use Rattle.std.proofs.Common.{inr, ⊎_elim, Option, Some, None, if◌then◌else◌}
 use Rattle.std.proofs.Math.Bool.{and-false}
 use Rattle.std.proofs.lemmas.Bool.{le-leb, leb-true, lt-ltb, cases_Bool, cases_lt}
 use Rattle.std.proofs.lemmas.List.Sums.{sum_by-append}
@@ -58,25 +15,15 @@ use Rattle.std.specs.Prelude.{nat_lt, nat_le, ◌&&◌, ◌||◌, not, is_some, 
 use Rattle.std.specs.List.Sorted.{IsStrictlyIncreasing}
 use Rattle.grep_matcher.specs.Lines.{byte_of}
 use Rattle.grep_matcher.specs.Meanings.{Meaning}
-use Rattle.grep_report.specs.declared.sink_context.SinkContextKind.TheVariants.{Before, After, Other}
+use Rattle.grep_report.specs.declared.sink_context.SinkContextKind.TheVariants.{Before, After}
+use Rattle.grep_report.specs.declared.sink_context.SinkContextKind.TheVariants.{Other}
 use Rattle.grep_definitions.proofs.LineSliceLemmas.{line-report, slice-line}
 use Rattle.grep_definitions.specs.SearchLaws.{AreReportsInOrder, is_match, is_matched, report_calls}
-use Rattle.grep_definitions.specs.LineSearch
-use Rattle.grep_definitions.specs.LineSearch.{turns_at}
-use Rattle.grep_definitions.proofs.BelowLemmas.{
-  some_below-some,
-  some_below-false,
-  some_below-find,
-  first_below-before,
-  first_below-none,
-  first_below-of,
-  count_below-either,
-  count_below-le,
-  count_below-none,
-  count_below-within,
-  room-le,
-  joined_from-more,
-}
+use Rattle.grep_definitions.proofs.BelowLemmas.{some_below-some, some_below-false, some_below-find}
+use Rattle.grep_definitions.proofs.BelowLemmas.{first_below-before, first_below-none}
+use Rattle.grep_definitions.proofs.BelowLemmas.{first_below-of, count_below-either, count_below-le}
+use Rattle.grep_definitions.proofs.BelowLemmas.{count_below-none, count_below-within, room-le}
+use Rattle.grep_definitions.proofs.BelowLemmas.{joined_from-more}
 use Rattle.grep_matcher.proofs.LineStartLemmas.{line_start-ascends, line_start-more}
 use Rattle.grep_definitions.proofs.BoolLemmas.{both_true, clash, not_false, or-cases}
 use Rattle.grep_definitions.proofs.ReportLemmas.{IsReported, in_order-joined, report_calls-broken}
@@ -112,7 +59,7 @@ AscendFrom low offsets = IsStrictlyIncreasing offsets × (0 < length offsets →
 
 -- how many matches some calls report
 abbrev pub matches_in : List Planned → ℕ
-matches_in = count_by (λ turn. is_match turn.call)
+matches_in = count_by (λ call. is_match call.call)
 
 -- some first lines report no more matches than numbers pass, if a line reports one at most, and only if its number
 -- passes
@@ -125,7 +72,7 @@ matches-joined f p one (suc m) =
     let sum : 0 + m ≡ m = omega arith in
     let more : matches_in (joined_from f 0 (suc m)) ≡ matches_in (joined_from f 0 m) + matches_in (f m) =
     ap (λ x. matches_in (joined_from f 0 x)) next ∙ ap matches_in (joined_from-more f 0 m)
-    ∙ sum_by-append (λ turn. cond (is_match turn.call) 1 0) (joined_from f 0 m) (f (0 + m))
+    ∙ sum_by-append (λ call. cond (is_match call.call) 1 0) (joined_from f 0 m) (f (0 + m))
     ∙ ap (λ x. matches_in (joined_from f 0 m) + matches_in (f x)) sum in
     let P : ℕ → Type 0 = λ x. x ≤ count_below p (suc m) in
     subst P (sym more) (go (p m) (one m) (matches-joined f p one m))
@@ -183,10 +130,10 @@ kind-selected a b c d is =
 module _ (k : Settings) (meaning : Meaning) (bytes : List ℕ) where
   -- how many lines there are, where each starts, whether it is chosen, and its calls
   abbrev n : ℕ
-  n = LineSearch.line_count k meaning bytes
+  n = Plans.line_count k bytes
 
   abbrev start : ℕ → ℕ
-  start = LineSearch.start k meaning bytes
+  start = Plans.start k bytes
 
   abbrev chosen : ℕ → Bool
   chosen = Plans.is_chosen k meaning bytes
@@ -198,28 +145,28 @@ module _ (k : Settings) (meaning : Meaning) (bytes : List ℕ) where
   is_open = Plans.is_open_at k meaning bytes
 
   abbrev T : ℕ → List Planned
-  T = turns_at k meaning bytes
+  T = calls_at k bytes (selected_lines k meaning bytes)
 
-  -- no more lines have a turn than there are
-  pub turn_count-le : LineSearch.turn_count k meaning bytes ≤ n
-  turn_count-le =
+  -- no more lines may be reported than there are
+  pub reports_end-le : reports_end k meaning bytes ≤ n
+  reports_end-le =
       omega (
         arith,
-        at_most-le (LineSearch.turns_by_limit k meaning bytes)
-            (at_most (LineSearch.turns_by_stop k meaning bytes) n),
-        at_most-le (LineSearch.turns_by_stop k meaning bytes) n,
+        at_most-le (end_by_limit k meaning bytes)
+            (at_most (end_by_stop k meaning bytes) n),
+        at_most-le (end_by_stop k meaning bytes) n,
       )
 
   -- a line after a selected one follows it
   follows-near : (i j : ℕ) → selected j ≡ true → j < i → i - j ≤ k.after_context
-      → LineSearch.follows_selected k meaning bytes i ≡ true
+      → Plans.follows_selected k bytes (selected_lines k meaning bytes) i ≡ true
   follows-near i j hit less close = let near = le-leb (i - j) k.after_context close in some_below-some _ i j less
       (rw (near, hit) refl)
 
-  -- and so is reported, if it has a turn
-  shown-near : (i j : ℕ) → i < LineSearch.turn_count k meaning bytes → selected j ≡ true → j ≤ i
+  -- and so is reported, if it may be
+  shown-near : (i j : ℕ) → i < reports_end k meaning bytes → selected j ≡ true → j ≤ i
       → i - j ≤ k.after_context
-      → LineSearch.is_reported k meaning bytes i ≡ true
+      → Plans.is_reported k bytes (selected_lines k meaning bytes) i ≡ true
   shown-near i j has hit low close = ⊎_elim
       (λ less. let here = lt-ltb i _ has in let follows = follows-near i j hit less close in rw (here, follows)
       (some (selected i)))
@@ -237,23 +184,23 @@ module _ (k : Settings) (meaning : Meaning) (bytes : List ℕ) where
 
   -- a line after a selected one that isn't selected itself, is reported as the line after it, and as a match if it is
   -- trailing
-  pub turns_at-follows : (i j : ℕ) → i < LineSearch.turn_count k meaning bytes → selected i ≡ false → selected j ≡ true
+  pub calls_at-follows : (i j : ℕ) → i < reports_end k meaning bytes → selected i ≡ false → selected j ≡ true
       → j < i → i - j ≤ k.after_context → T i
-      ≡ planned (if Plans.is_trailing k meaning bytes i then matches (LineSearch.number k meaning bytes i) (start
-      i) (LineSearch.line k meaning bytes i) else context After (LineSearch.number k meaning bytes i) (start i)
-      (LineSearch.line k meaning bytes i)) (start (i + 1)) ∷ []
-  turns_at-follows i j has misses hit less close = go (Plans.is_trailing k meaning bytes i) refl
+      ≡ planned (if Plans.is_trailing k meaning bytes i then matches (Plans.number k bytes i) (start
+      i) (Plans.line k bytes i) else context After (Plans.number k bytes i) (start i)
+      (Plans.line k bytes i)) (start (i + 1)) ∷ []
+  calls_at-follows i j has misses hit less close = go (Plans.is_trailing k meaning bytes i) refl
     where
-      is_kind : LineSearch.kind k meaning bytes i ≡ Some
+      is_kind : Plans.kind k bytes (selected_lines k meaning bytes) i ≡ Some
           (if Plans.is_trailing k meaning bytes i then matched else in_context After)
       is_kind = let follows = follows-near i j hit less close in rw (misses, follows) refl
 
-      shown : LineSearch.is_reported k meaning bytes (i - 1) ≡ true
+      shown : Plans.is_reported k bytes (selected_lines k meaning bytes) (i - 1) ≡ true
       shown = shown-near (i - 1) j (omega arith) hit (omega arith) (omega arith)
 
       go : (t : Bool) → Plans.is_trailing k meaning bytes i ≡ t → T i
-          ≡ planned (if t then matches (LineSearch.number k meaning bytes i) (start i) (LineSearch.line k meaning bytes
-          i) else context After (LineSearch.number k meaning bytes i) (start i) (LineSearch.line k meaning bytes i))
+          ≡ planned (if t then matches (Plans.number k bytes i) (start i) (Plans.line k bytes
+          i) else context After (Plans.number k bytes i) (start i) (Plans.line k bytes i))
           (start (i + 1)) ∷ []
       go true is =
           let kind = is_kind ∙ ap (λ b. Some (if b then matched else in_context After)) is in
@@ -265,11 +212,11 @@ module _ (k : Settings) (meaning : Meaning) (bytes : List ℕ) where
 
   -- a line has one report at most, of its bytes
   reported-line : (i : ℕ) → i < n → (report_calls (T i) ≡ []) ⊎ IsReported T start i
-  reported-line i inside = go (LineSearch.kind k meaning bytes i)
-      (report_calls-broken (LineSearch.breaks_before k meaning bytes i) _ _)
+  reported-line i inside = go (Plans.kind k bytes (selected_lines k meaning bytes) i)
+      (report_calls-broken (Plans.breaks_before k bytes (selected_lines k meaning bytes) i) _ _)
     where
       one : (call : Call) → report_calls (T i) ≡ call ∷ [] → reported_from call ≡ start i
-          → reported_bytes call ≡ LineSearch.line k meaning bytes i → IsReported T start i
+          → reported_bytes call ≡ Plans.line k bytes i → IsReported T start i
       one call is from own = record {
         call = call;
         next = i + 1;
@@ -281,44 +228,43 @@ module _ (k : Settings) (meaning : Meaning) (bytes : List ℕ) where
         alone = λ j above below. absurd (omega arith);
       }
 
-      go : (o : Option Kind) → report_calls (T i) ≡ report_calls (LineSearch.report k meaning bytes i o)
+      go : (o : Option Kind) → report_calls (T i) ≡ report_calls (Plans.report k bytes (selected_lines k meaning bytes) i o)
           → (report_calls (T i) ≡ []) ⊎ IsReported T start i
       go None is = inl is
       go (Some matched) is = inr (one _ is refl (slice-line k bytes i))
       go (Some (in_context c)) is = inr (one _ is refl refl)
 
   -- the reports ascend
-  pub in_order-by_line : AreReportsInOrder (report_calls (LineSearch.turns k meaning bytes))
-  in_order-by_line = in_order-joined T start (LineSearch.turn_count k meaning bytes)
-      (λ i below. line_start-ascends (byte_of k.line_terminator) bytes i (omega (arith, turn_count-le)))
-      (λ i below. reported-line i (omega (arith, turn_count-le)))
+  pub in_order-by_line : AreReportsInOrder (report_calls (line_plan k meaning bytes).calls)
+  in_order-by_line = in_order-joined T start (reports_end k meaning bytes)
+      (λ i below. line_start-ascends (byte_of k.line_terminator) bytes i (omega (arith, reports_end-le)))
+      (λ i below. reported-line i (omega (arith, reports_end-le)))
 
   -- whether a line is trailing in the context after a selected line
   abbrev late : ℕ → Bool
-  late i = LineSearch.follows_selected k meaning bytes i && Plans.is_trailing k meaning bytes i
+  late i = Plans.follows_selected k bytes (selected_lines k meaning bytes) i && Plans.is_trailing k meaning bytes i
 
   -- a report tells one match at most, and only where its line is a match
-  matches-report : (i : ℕ) (kind : Option Kind) → LineSearch.kind k meaning bytes i ≡ kind
-      → matches_in (LineSearch.report k meaning bytes i kind) ≤ (if is_matched k meaning bytes i then 1 else 0)
+  matches-report : (i : ℕ) (kind : Option Kind) → Plans.kind k bytes (selected_lines k meaning bytes) i ≡ kind
+      → matches_in (Plans.report k bytes (selected_lines k meaning bytes) i kind) ≤ (if is_matched k meaning bytes i then 1 else 0)
   matches-report i None is = omega arith
   matches-report i (Some matched) is =
-      let here = kind-matched (selected i) (LineSearch.follows_selected k meaning bytes i)
+      let here = kind-matched (selected i) (Plans.follows_selected k bytes (selected_lines k meaning bytes) i)
       (Plans.is_trailing k meaning bytes i)
-      (LineSearch.precedes_selected k meaning bytes i) k.passthru is in
+      (Plans.precedes_selected k bytes (selected_lines k meaning bytes) i) k.passthru is in
       rw here (omega arith)
   matches-report i (Some (in_context c)) is = omega arith
 
   -- only such a line is reported as a match, and once
   matches-line : (i : ℕ) → matches_in (T i) ≤ (if is_matched k meaning bytes i then 1 else 0)
-  matches-line i = go (LineSearch.breaks_before k meaning bytes i)
+  matches-line i = go (Plans.breaks_before k bytes (selected_lines k meaning bytes) i)
     where
       go : (b : Bool) → matches_in
-          (if b then (planned breaks (LineSearch.turn_end k meaning bytes i (LineSearch.kind k meaning bytes i)))
-          ∷ LineSearch.report k meaning bytes i (LineSearch.kind k meaning bytes i) else LineSearch.report k meaning
-          bytes i
-          (LineSearch.kind k meaning bytes i)) ≤ (if is_matched k meaning bytes i then 1 else 0)
-      go true = matches-report i (LineSearch.kind k meaning bytes i) refl
-      go false = matches-report i (LineSearch.kind k meaning bytes i) refl
+          (if b then (planned breaks (Plans.count_at k bytes (selected_lines k meaning bytes) i (Plans.kind k bytes (selected_lines k meaning bytes) i)))
+          ∷ Plans.report k bytes (selected_lines k meaning bytes) i (Plans.kind k bytes (selected_lines k meaning bytes) i) else Plans.report k bytes (selected_lines k meaning bytes) i
+          (Plans.kind k bytes (selected_lines k meaning bytes) i)) ≤ (if is_matched k meaning bytes i then 1 else 0)
+      go true = matches-report i (Plans.kind k bytes (selected_lines k meaning bytes) i) refl
+      go false = matches-report i (Plans.kind k bytes (selected_lines k meaning bytes) i) refl
 
   chosen-few : (limit m : ℕ) → has_room k limit ≡ false → count_below chosen m ≤ limit
   chosen-few limit m = count_below-limited k (Plans.hits k meaning bytes) limit m
@@ -334,7 +280,7 @@ module _ (k : Settings) (meaning : Meaning) (bytes : List ℕ) where
 
   late-is : (i : ℕ) → late i ≡ true → IsLate i
   late-is i is =
-      let parts = both_true (LineSearch.follows_selected k meaning bytes i) (Plans.is_trailing k meaning bytes i)
+      let parts = both_true (Plans.follows_selected k bytes (selected_lines k meaning bytes) i) (Plans.is_trailing k meaning bytes i)
       is in
       let found = some_below-find (λ j. nat_le (i - j) k.after_context && selected j) i parts.0 in
       let near = both_true (nat_le (i - found.0) k.after_context) (selected found.0) found.2 in

@@ -1,75 +1,34 @@
 -- What a search by line of the first lines of some bytes says of a search of all of them.
-use Rattle.std.proofs.Common.{
-  ◌≡◌,
-  ◌∙◌,
-  ◌⊎◌,
-  ℕ,
-  ◌+◌,
-  ◌-◌,
-  ◌<◌,
-  ◌≤◌,
-  Bool,
-  true,
-  false,
-  List,
-  [],
-  ◌∷◌,
-  ◌++◌,
-  Option,
-  Some,
-  None,
-  length,
-  refl,
-  sym,
-  ap,
-  subst,
-  inl,
-  inr,
-  arith,
-  append-nil,
-  length-append,
-  min,
-}
+use Rattle.std.proofs.Common.{◌≡◌, ◌∙◌, ℕ, ◌+◌, ◌-◌, ◌<◌, ◌≤◌, Bool, true, false, List, [], ◌∷◌}
+use Rattle.std.proofs.Common.{◌++◌, Some, None, length, refl, sym, ap, subst, inl, inr, arith}
+use Rattle.std.proofs.Common.{append-nil, min}
 use Rattle.std.proofs.Math.Bool.{and-false}
 use Rattle.std.proofs.lemmas.Bool.{lt-leb}
 use Rattle.std.proofs.lemmas.Option.{same_Some}
 use Rattle.std.proofs.lemmas.List.{drop-append-le, length-drop, take-append-le}
-use Rattle.std.proofs.lemmas.List.Elements.{All-cons, All-nil, All-weaker, filter-append}
-use Rattle.std.specs.Prelude.{All, drop, filter, nat_le, nat_lt, slice_range, take, ◌||◌}
-use Rattle.grep_matcher.proofs.LineStartLemmas.{line_start-ascends, line_start-le, line_start-within}
+use Rattle.std.proofs.lemmas.List.Elements.{All-nil, All-weaker, filter-append}
+use Rattle.std.specs.Prelude.{All, drop, nat_le, nat_lt, slice_range, take, ◌||◌}
+use Rattle.grep_matcher.proofs.LineStartLemmas.{line_start-ascends, line_start-le}
+use Rattle.grep_matcher.proofs.LineStartLemmas.{line_start-within}
 use Rattle.grep_matcher.specs.Lines.{byte_of, lines, strip}
 use Rattle.grep_matcher.specs.Meanings.{Meaning}
 use Rattle.grep_report.specs.declared.sink_context.SinkContextKind.TheVariants.{Before}
-use Rattle.grep_definitions.proofs.BelowLemmas.{headed, headed-through, joined_from-none, some_below-find, some_below-some}
+use Rattle.grep_definitions.proofs.BelowLemmas.{headed, headed-through, joined_from-none}
+use Rattle.grep_definitions.proofs.BelowLemmas.{some_below-find, some_below-some}
 use Rattle.grep_definitions.proofs.BoolLemmas.{clash}
 use Rattle.grep_definitions.proofs.FirstLineLemmas as prefix
 use Rattle.grep_definitions.proofs.FirstLineLemmas.{count_below-same, some_below-same, IsClosed}
-use Rattle.grep_definitions.proofs.FirstTurnLemmas as first
+use Rattle.grep_definitions.proofs.FirstCallLemmas as first
 use Rattle.grep_definitions.proofs.ListLemmas.{filter-none, All-joined_from}
-use Rattle.grep_definitions.proofs.MatchCallLemmas.{selected-turned}
-use Rattle.grep_definitions.proofs.SearchLawLemmas.{turn_count-le}
+use Rattle.grep_definitions.proofs.MatchCallLemmas.{selected-reportable}
+use Rattle.grep_definitions.proofs.SearchLawLemmas.{reports_end-le}
 use Rattle.grep_definitions.proofs.SearchModeLemmas.{calls-are, plan-by_line}
-use Rattle.grep_definitions.proofs.TurnEndLemmas.{ends-late, ends-turns_at}
-use Rattle.grep_definitions.specs.LineSearch
-use Rattle.grep_definitions.specs.LineSearch.{through, turns_at}
+use Rattle.grep_definitions.proofs.CountLemmas.{ends-late, ends-calls_at}
+use Rattle.grep_definitions.specs.Plans.{calls_at, line_plan, reports_end, selected_lines, through}
+use Rattle.grep_definitions.specs.Plans.{begins, has_room, in_context, is_across, is_open_at}
+use Rattle.grep_definitions.specs.Plans.{joined_from, line_count, planned, search_plan, stops_next}
+use Rattle.grep_definitions.specs.Plans.{IsAskedAhead, Kind, Planned, Settings, IsAskedIn}
 use Rattle.grep_definitions.specs.Plans
-use Rattle.grep_definitions.specs.Plans.{
-  begins,
-  has_room,
-  in_context,
-  is_across,
-  is_open_at,
-  joined_from,
-  line_count,
-  planned,
-  search_plan,
-  stops_next,
-  IsAskedAhead,
-  Kind,
-  Planned,
-  Settings,
-}
-use Rattle.grep_definitions.specs.Questions.{IsAskedByLine}
 use Rattle.grep_definitions.specs.Searches.{IsFront}
 use Rattle.grep_definitions.specs.SinkRuns.{plan_of}
 
@@ -85,30 +44,30 @@ abbrev ends-by : ℕ → Planned → Bool
 ends-by offset call = nat_le call.if_false.count offset
 
 -- calls that end after an offset aren't among those that end at or before it
-through-none : (offset : ℕ) (calls : List Planned) → All (λ turn. offset < turn.if_false.count) calls
+through-none : (offset : ℕ) (calls : List Planned) → All (λ call. offset < call.if_false.count) calls
     → through offset calls ≡ []
 through-none offset calls after = filter-none (ends-by offset) calls
-    (All-weaker (λ turn. offset < turn.if_false.count) (λ turn. ends-by offset turn ≡ false)
-    (λ turn above. lt-leb turn.if_false.count offset above) calls after)
+    (All-weaker (λ call. offset < call.if_false.count) (λ call. ends-by offset call ≡ false)
+    (λ call above. lt-leb call.if_false.count offset above) calls after)
 
 module _ (k : Settings) (meaning : Meaning) where
   abbrev t : ℕ
   t = byte_of k.line_terminator
 
   -- up to the start of a line, only calls of the lines before it end
-  through-before : (bytes : List ℕ) (i : ℕ) → i < LineSearch.turn_count k meaning bytes
-      → through (LineSearch.start k meaning bytes i) (LineSearch.turns k meaning bytes)
-      ≡ through (LineSearch.start k meaning bytes i) (headed (planned begins 0) (turns_at k meaning bytes) i)
+  through-before : (bytes : List ℕ) (i : ℕ) → i < reports_end k meaning bytes
+      → through (Plans.start k bytes i) (line_plan k meaning bytes).calls
+      ≡ through (Plans.start k bytes i) (headed (planned begins 0) (calls_at k bytes (selected_lines k meaning bytes)) i)
   through-before bytes i below =
-      let T = turns_at k meaning bytes in
+      let T = calls_at k bytes (selected_lines k meaning bytes) in
       let begin : Planned = planned begins 0 in
-      let count = LineSearch.turn_count k meaning bytes in
-      let at = LineSearch.start k meaning bytes i in
-      let up = line_start-ascends t bytes i (omega (arith, turn_count-le k meaning bytes)) in
+      let count = reports_end k meaning bytes in
+      let at = Plans.start k bytes i in
+      let up = line_start-ascends t bytes i (omega (arith, reports_end-le k meaning bytes)) in
       let none = through-none at (joined_from T i (count - i))
-      (All-joined_from (λ turn. at < turn.if_false.count) T i (count - i) (λ j low high.
-      All-weaker (λ turn. LineSearch.start k meaning bytes (i + 1) ≤ turn.if_false.count)
-      (λ turn. at < turn.if_false.count) (λ turn over. omega arith) (T j) (ends-late k meaning bytes i j low))) in
+      (All-joined_from (λ call. at < call.if_false.count) T i (count - i) (λ j low high.
+      All-weaker (λ call. Plans.start k bytes (i + 1) ≤ call.if_false.count)
+      (λ call. at < call.if_false.count) (λ call over. omega arith) (T j) (ends-late k meaning bytes i j low))) in
       ap (through at) (headed-through begin T i count (omega arith))
       ∙ (filter-append (ends-by at) (headed begin T i) (joined_from T i (count - i))
       ∙ (ap (λ cs. through at (headed begin T i) ++ cs) none ∙ append-nil _))
@@ -121,23 +80,23 @@ module _ (k : Settings) (meaning : Meaning) where
     n = first.n k meaning front back closed
 
     abbrev count_front : ℕ
-    count_front = LineSearch.turn_count k meaning front
+    count_front = reports_end k meaning front
 
     abbrev count_whole : ℕ
-    count_whole = LineSearch.turn_count k meaning whole
+    count_whole = reports_end k meaning whole
 
     few : min count_whole n ≡ count_front
     few = first.count-same k meaning front back closed
 
-    start-same : (i : ℕ) → i ≤ n → LineSearch.start k meaning whole i ≡ LineSearch.start k meaning front i
+    start-same : (i : ℕ) → i ≤ n → Plans.start k whole i ≡ Plans.start k front i
     start-same = prefix.start-same k meaning front back closed
 
     -- if each line that may be reported is of the front, each match is
     none-late : count_whole ≤ n → (i : ℕ) → first.IsLate k meaning front back closed i → ⊥
     none-late inside i late =
-        let found = some_below-find (first.near_before k meaning front back closed whole i) (LineSearch.line_count k meaning whole) late.precedes in
+        let found = some_below-find (first.near_before k meaning front back closed whole i) (Plans.line_count k whole) late.precedes in
         let near = first.near-from k meaning front back closed whole i found.0 found.2 in
-        let below = selected-turned k meaning whole found.0 near.chosen in
+        let below = selected-reportable k meaning whole found.0 near.chosen in
         clash
         (some_below-some (first.near_before k meaning front back closed front i) n found.0 (omega arith)
         (first.near-to k meaning front back closed front i found.0 (record {
@@ -148,42 +107,42 @@ module _ (k : Settings) (meaning : Meaning) where
         late.unpreceded
 
     -- so it has the same calls
-    pub turns-same : count_whole ≤ n → LineSearch.turns k meaning whole ≡ LineSearch.turns k meaning front
-    turns-same inside =
+    pub calls-same : count_whole ≤ n → (line_plan k meaning whole).calls ≡ (line_plan k meaning front).calls
+    calls-same inside =
         let same : count_whole ≡ count_front = omega (arith, few) in
-        let joined : joined_from (turns_at k meaning whole) 0 count_front
-        ≡ joined_from (turns_at k meaning front) 0 count_front = elim (first.split k meaning front back closed count_front (omega (arith, few))) [
+        let joined : joined_from (calls_at k whole (selected_lines k meaning whole)) 0 count_front
+        ≡ joined_from (calls_at k front (selected_lines k meaning front)) 0 count_front = elim (first.split k meaning front back closed count_front (omega (arith, few))) [
           | inl alike ↦ first.joined-same k meaning front back closed count_front alike (omega arith)
           | inr late ↦ absurd (none-late inside late.0 late.2)
         ] in
-        ap (λ m. planned begins 0 ∷ joined_from (turns_at k meaning whole) 0 m) same
+        ap (λ m. planned begins 0 ∷ joined_from (calls_at k whole (selected_lines k meaning whole)) 0 m) same
         ∙ ap (λ calls. planned begins 0 ∷ calls) joined
 
     -- and the same byte count
-    pub bytes-same : count_whole ≤ n → LineSearch.byte_count k meaning whole ≡ LineSearch.byte_count k meaning front
+    pub bytes-same : count_whole ≤ n → (line_plan k meaning whole).finish.count ≡ (line_plan k meaning front).finish.count
     bytes-same inside =
-        ap (LineSearch.start k meaning whole) (omega (arith, few)) ∙ start-same count_front (omega (arith, few))
+        ap (Plans.start k whole) (omega (arith, few)) ∙ start-same count_front (omega (arith, few))
 
     -- the calls of a late line end after the front
     late-after : (i : ℕ) → first.IsLate k meaning front back closed i
-        → All (λ turn. LineSearch.start k meaning whole n < turn.if_false.count) (turns_at k meaning whole i)
+        → All (λ call. Plans.start k whole n < call.if_false.count) (calls_at k whole (selected_lines k meaning whole) i)
     late-after i late =
         let s = first.same_selected k meaning front back closed i late.inside ∙ late.unselected in
         let f = prefix.follows-same k meaning front back closed i late.inside ∙ late.unfollowed in
         let p = late.precedes in
-        let is : LineSearch.kind k meaning whole i ≡ Some (in_context Before) = rw (s, f, p) refl in
+        let is : Plans.kind k whole (selected_lines k meaning whole) i ≡ Some (in_context Before) = rw (s, f, p) refl in
         let over = first.late-through k meaning front back closed i late in
-        All-weaker (λ turn. LineSearch.start k meaning whole n + 1 ≤ turn.if_false.count)
-        (λ turn. LineSearch.start k meaning whole n < turn.if_false.count) (λ turn low. omega arith) _
-        (ends-turns_at k meaning whole (LineSearch.start k meaning whole n + 1) i (λ kind same.
-        subst (λ (x : Kind). LineSearch.start k meaning whole n + 1 ≤ LineSearch.turn_end k meaning whole i (Some x))
+        All-weaker (λ call. Plans.start k whole n + 1 ≤ call.if_false.count)
+        (λ call. Plans.start k whole n < call.if_false.count) (λ call low. omega arith) _
+        (ends-calls_at k meaning whole (Plans.start k whole n + 1) i (λ kind same.
+        subst (λ (x : Kind). Plans.start k whole n + 1 ≤ Plans.count_at k whole (selected_lines k meaning whole) i (Some x))
         (sym (same_Some kind (in_context Before) (sym same ∙ is))) (omega (arith, over))))
 
     module _ (built : k.passthru ≡ true → k.before_context ≡ 0) where
-      -- up to a line that has a turn, the same calls end
+      -- up to a line that may be reported, the same calls are kept
       through-same : (i : ℕ) → i < count_front
-          → through (LineSearch.start k meaning whole i) (headed (planned begins 0) (turns_at k meaning whole) i)
-          ≡ through (LineSearch.start k meaning whole i) (headed (planned begins 0) (turns_at k meaning front) i)
+          → through (Plans.start k whole i) (headed (planned begins 0) (calls_at k whole (selected_lines k meaning whole)) i)
+          ≡ through (Plans.start k whole i) (headed (planned begins 0) (calls_at k front (selected_lines k meaning front)) i)
       through-same i below = elim (first.split k meaning front back closed i (omega (arith, few))) [
         | inl alike ↦ ap (λ calls. through at (begin ∷ calls))
             (first.joined-same k meaning front back closed i alike (omega arith))
@@ -191,41 +150,41 @@ module _ (k : Settings) (meaning : Meaning) where
       ]
         where
           at : ℕ
-          at = LineSearch.start k meaning whole i
+          at = Plans.start k whole i
 
           begin : Planned
           begin = planned begins 0
 
           -- between a late line and this one no call ends by then
           between : (j q : ℕ) → first.IsLate k meaning front back closed j → j ≤ q → q < i
-              → All (λ turn. at < turn.if_false.count) (turns_at k meaning whole q)
+              → All (λ call. at < call.if_false.count) (calls_at k whole (selected_lines k meaning whole) q)
           between j q late low less = elim (first.kind-same k meaning front back closed q (omega (arith, few))) [
             | inl alike ↦
                 let none = alike ∙ first.late-kind k meaning front back closed built j q late low (omega (arith, few)) in
-                subst (λ (calls : List Planned). All (λ turn. at < turn.if_false.count) calls)
+                subst (λ (calls : List Planned). All (λ call. at < call.if_false.count) calls)
                 (sym (unreported q none))
-                (All-nil (λ (turn : Planned). at < turn.if_false.count))
-            | inr later ↦ All-weaker (λ turn. LineSearch.start k meaning whole n < turn.if_false.count)
-                (λ turn. at < turn.if_false.count)
-                (λ turn over. omega (arith, line_start-le t whole i n (omega (arith, few))))
-                (turns_at k meaning whole q) (late-after q later)
+                (All-nil (λ (call : Planned). at < call.if_false.count))
+            | inr later ↦ All-weaker (λ call. Plans.start k whole n < call.if_false.count)
+                (λ call. at < call.if_false.count)
+                (λ call over. omega (arith, line_start-le t whole i n (omega (arith, few))))
+                (calls_at k whole (selected_lines k meaning whole) q) (late-after q later)
           ]
             where
-              unreported : (q : ℕ) → LineSearch.kind k meaning whole q ≡ None → turns_at k meaning whole q ≡ []
+              unreported : (q : ℕ) → Plans.kind k whole (selected_lines k meaning whole) q ≡ None → calls_at k whole (selected_lines k meaning whole) q ≡ []
               unreported q none = rw (none, and-false (nat_lt 0 (k.after_context + k.before_context))) refl
 
           -- from a late line on none does
           cut : (j : ℕ) → j < i → first.IsLate k meaning front back closed j → first.Same k meaning front back closed j
-              → through at (headed begin (turns_at k meaning whole) i)
-              ≡ through at (headed begin (turns_at k meaning front) i)
+              → through at (headed begin (calls_at k whole (selected_lines k meaning whole)) i)
+              ≡ through at (headed begin (calls_at k front (selected_lines k meaning front)) i)
           cut j less late alike =
-              let T = turns_at k meaning whole in
-              let U = turns_at k meaning front in
+              let T = calls_at k whole (selected_lines k meaning whole) in
+              let U = calls_at k front (selected_lines k meaning front) in
               let none = through-none at (joined_from T j (i - j))
-              (All-joined_from (λ turn. at < turn.if_false.count) T j (i - j)
+              (All-joined_from (λ call. at < call.if_false.count) T j (i - j)
               (λ q low high. between j q late low (omega arith))) in
               let empty = joined_from-none U j (i - j) (λ q low high.
-              first.late-turns k meaning front back closed built j q late low (omega (arith, few))) in
+              first.late-calls k meaning front back closed built j q late low (omega (arith, few))) in
               ap (through at) (headed-through begin T j i (omega arith))
               ∙ (filter-append (ends-by at) (headed begin T j) (joined_from T j (i - j))
               ∙ (ap (λ cs. through at (headed begin T j) ++ cs) none
@@ -235,32 +194,34 @@ module _ (k : Settings) (meaning : Meaning) where
               ∙ sym (headed-through begin U j i (omega arith))))))))
 
       -- a question in the front is one in the whole
-      pub asked-whole : {haystack : List ℕ} {made : List Planned} → IsAskedByLine k meaning front haystack made
-          → IsAskedByLine k meaning whole haystack made
+      pub asked-whole : {haystack : List ℕ} {made : List Planned} → IsAskedIn k meaning front false haystack made
+          → IsAskedIn k meaning whole false haystack made
       asked-whole {haystack} {made} asks = record {
         index = i;
-        has_turn = omega (arith, few, asks.has_turn);
-        room = ap (λ b. b || LineSearch.follows_selected k meaning whole i) opens
-            ∙ (ap (λ b. is_open_at k meaning front i || b)
-            (prefix.follows-same k meaning front back closed i inside) ∙ asks.room);
-        question = elim asks.question [
-          | inl alone ↦ inl (alone
-              ∙ ap (strip k.line_terminator) (sym (prefix.line-same k meaning front back closed i inside)))
-          | inr ahead ↦ inr (asked-ahead ahead)
-        ];
+        question = record {
+          may_report = omega (arith, few, asks.question.may_report);
+          room = ap (λ b. b || Plans.follows_selected k whole (selected_lines k meaning whole) i) opens
+              ∙ (ap (λ b. is_open_at k meaning front i || b)
+              (prefix.follows-same k meaning front back closed i inside) ∙ asks.question.room);
+          question = elim asks.question.question [
+            | inl alone ↦ inl (alone
+                ∙ ap (strip k.line_terminator) (sym (prefix.line-same k meaning front back closed i inside)))
+            | inr ahead ↦ inr (asked-ahead ahead)
+          ];
+        };
         before = asks.before
-            ∙ (through-before front i asks.has_turn
-            ∙ (ap (λ s. through s (headed (planned begins 0) (turns_at k meaning front) i)) (sym same)
-            ∙ (sym (through-same i asks.has_turn) ∙ sym (through-before whole i (omega (arith, few, asks.has_turn))))));
+            ∙ (through-before front i asks.question.may_report
+            ∙ (ap (λ s. through s (headed (planned begins 0) (calls_at k front (selected_lines k meaning front)) i)) (sym same)
+            ∙ (sym (through-same i asks.question.may_report) ∙ sym (through-before whole i (omega (arith, few, asks.question.may_report))))));
       }
         where
           i : ℕ
           i = asks.index
 
           inside : i < n
-          inside = omega (arith, few, asks.has_turn)
+          inside = omega (arith, few, asks.question.may_report)
 
-          same : LineSearch.start k meaning whole i ≡ LineSearch.start k meaning front i
+          same : Plans.start k whole i ≡ Plans.start k front i
           same = start-same i (omega (arith, inside))
 
           opens : is_open_at k meaning whole i ≡ is_open_at k meaning front i
@@ -279,11 +240,11 @@ module _ (k : Settings) (meaning : Meaning) where
             after = ahead.after;
             within = omega (arith, ahead.within, first.more_lines k meaning front back closed);
             lines = ahead.lines
-                ∙ (sym (slice-front front back (LineSearch.start k meaning front i)
-                (LineSearch.start k meaning front ahead.end) (line_start-within t front i)
+                ∙ (sym (slice-front front back (Plans.start k front i)
+                (Plans.start k front ahead.end) (line_start-within t front i)
                 (line_start-within t front ahead.end))
-                ∙ (ap (λ x. slice_range whole x (LineSearch.start k meaning front ahead.end)) (sym same)
-                ∙ ap (slice_range whole (LineSearch.start k meaning whole i))
+                ∙ (ap (λ x. slice_range whole x (Plans.start k front ahead.end)) (sym same)
+                ∙ ap (slice_range whole (Plans.start k whole i))
                 (sym (start-same ahead.end ahead.within))));
           }
 
@@ -300,16 +261,16 @@ of-front {k} {input} {seen} front P all more = subst P (sym front.whole) (go fro
 module _ {k : Settings} (meaning : Meaning) {input seen : List ℕ} (by_line : is_across k meaning ≡ false)
     (front : IsFront k input seen) where
   -- if each line that may be reported was seen, the plan is theirs
-  pub plan-same : LineSearch.turn_count k meaning input ≤ line_count k seen
+  pub plan-same : reports_end k meaning input ≤ line_count k seen
       → search_plan k meaning input ≡ search_plan k meaning seen
   plan-same = of-front front
-      (λ bytes. LineSearch.turn_count k meaning bytes ≤ line_count k seen
+      (λ bytes. reports_end k meaning bytes ≤ line_count k seen
       → search_plan k meaning bytes ≡ search_plan k meaning seen)
       (λ inside. refl)
       (λ back closed inside. plan-by_line k meaning (seen ++ back) by_line
-      ∙ (ap (λ calls. plan_of calls (LineSearch.byte_count k meaning (seen ++ back)))
-      (turns-same k meaning seen back closed inside)
-      ∙ (ap (plan_of (LineSearch.turns k meaning seen)) (bytes-same k meaning seen back closed inside)
+      ∙ (ap (λ calls. plan_of calls (line_plan k meaning (seen ++ back)).finish.count)
+      (calls-same k meaning seen back closed inside)
+      ∙ (ap (plan_of (line_plan k meaning seen).calls) (bytes-same k meaning seen back closed inside)
       ∙ sym (plan-by_line k meaning seen by_line))))
 
   module _ (built : k.passthru ≡ true → k.before_context ≡ 0) where
@@ -321,14 +282,14 @@ module _ {k : Settings} (meaning : Meaning) {input seen : List ℕ} (by_line : i
         × ((search_plan k meaning bytes).calls ≡ (search_plan k meaning seen).calls ++ later))
         ([], sym (append-nil _))
         (λ back closed.
-        let begun = first.turns-begin k meaning seen back closed built in (
+        let begun = first.front_calls-begin k meaning seen back closed built in (
           begun.0,
           calls-are k meaning by_line (seen ++ back)
               ∙ (begun.1 ∙ ap (λ calls. calls ++ begun.0) (sym (calls-are k meaning by_line seen))),
         ))
 
     -- a question in them is one in it
-    pub asked-begin : {haystack : List ℕ} {made : List Planned} → IsAskedByLine k meaning seen haystack made
-        → IsAskedByLine k meaning input haystack made
-    asked-begin {haystack} {made} asks = of-front front (λ bytes. IsAskedByLine k meaning bytes haystack made) asks
+    pub asked-begin : {haystack : List ℕ} {made : List Planned} → IsAskedIn k meaning seen false haystack made
+        → IsAskedIn k meaning input false haystack made
+    asked-begin {haystack} {made} asks = of-front front (λ bytes. IsAskedIn k meaning bytes false haystack made) asks
         (λ back closed. asked-whole k meaning seen back closed built asks)

@@ -1,61 +1,27 @@
 -- How lines near selected lines are reported, by line and across lines alike.
-use Rattle.std.proofs.Common.{
-  ◌≡◌,
-  ℕ,
-  zero,
-  suc,
-  ◌+◌,
-  ◌-◌,
-  ◌<◌,
-  ◌≤◌,
-  Bool,
-  true,
-  false,
-  not,
-  ◌&&◌,
-  ◌||◌,
-  List,
-  [],
-  ◌++◌,
-  refl,
-  sym,
-  ◌∙◌,
-  ap,
-  subst,
-  arith,
-  ⊎_elim,
-  Some,
-  None,
-  is_some,
-  if◌then◌else◌,
-}
+use Rattle.std.proofs.Common.{◌≡◌, ℕ, zero, suc, ◌+◌, ◌-◌, ◌<◌, ◌≤◌, Bool, true, false, not, ◌&&◌}
+use Rattle.std.proofs.Common.{◌||◌, List, [], ◌++◌, refl, sym, ◌∙◌, ap, subst, arith, ⊎_elim, Some}
+use Rattle.std.proofs.Common.{None, is_some, if◌then◌else◌}
 use Rattle.std.proofs.Math.Bool.{or-false, and-false, and-true}
-use Rattle.std.proofs.lemmas.Bool.{
-  lt-ltb,
-  lt-leb,
-  le-leb,
-  le-ltb,
-  eq-eqb,
-  cases_lt,
-  cases_Bool,
-  ne_eqb,
-  ltb-true,
-  ltb-false,
-}
+use Rattle.std.proofs.lemmas.Bool.{lt-ltb, lt-leb, le-leb, le-ltb, eq-eqb, cases_lt, cases_Bool}
+use Rattle.std.proofs.lemmas.Bool.{ne_eqb, ltb-true, ltb-false}
 use Rattle.std.proofs.lemmas.List.{append-nil}
 use Rattle.std.specs.Prelude.{nat_eq, nat_lt, nat_le}
-use Rattle.grep_report.specs.declared.sink_context.SinkContextKind.TheVariants.{Before, After, Other}
+use Rattle.grep_report.specs.declared.sink_context.SinkContextKind.TheVariants.{Before, After}
+use Rattle.grep_report.specs.declared.sink_context.SinkContextKind.TheVariants.{Other}
 use Rattle.grep_definitions.specs.Plans.{Settings, some_below, first_below, matched, in_context}
-use Rattle.grep_definitions.specs.LineTurns.{is_gap}
-use Rattle.grep_definitions.specs.Selections
-use Rattle.grep_definitions.specs.Selections.{IsNear}
-use Rattle.grep_definitions.proofs.BelowLemmas.{some_below-none, some_below-some, first_below-here, headed, headed-one}
+use Rattle.grep_definitions.specs.Plans.{Selection, line_count, follows_selected, precedes_selected}
+use Rattle.grep_definitions.specs.Plans.{kind}
+use Rattle.grep_definitions.specs.LineCalls.{is_gap}
+use Rattle.grep_definitions.specs.LineWalks.{IsNear}
+use Rattle.grep_definitions.specs.Plans
+use Rattle.grep_definitions.proofs.BelowLemmas.{some_below-none, some_below-some, first_below-here}
+use Rattle.grep_definitions.proofs.BelowLemmas.{headed, headed-one}
 use Rattle.grep_definitions.proofs.BoolLemmas.{clash}
 
--- of n lines, some are selected, some are trailing, and so many have a turn
-module _ (k : Settings) (selected trailing : ℕ → Bool) (n turned : ℕ) where
+module _ (k : Settings) (bytes : List ℕ) (selection : Selection) where
   -- before the first line
-  pub IsNear-none : IsNear k selected trailing n turned 0 0 0
+  pub IsNear-none : IsNear k bytes selection 0 0 0
   IsNear-none = record {
     low = omega arith;
     few = omega arith;
@@ -67,28 +33,38 @@ module _ (k : Settings) (selected trailing : ℕ → Bool) (n turned : ℕ) wher
   }
 
   -- after a selected line
-  pub IsNear-hit : (i : ℕ) → i < turned → selected i ≡ true → IsNear k selected trailing n turned (i + 1) (i + 1) k.after_context
+  pub IsNear-hit : (i : ℕ) → i < selection.end → selection.selected i ≡ true → IsNear k bytes selection (i + 1) (i + 1) k.after_context
   IsNear-hit i has hit = record {
     low = omega arith;
     few = omega arith;
     close = λ above. refl;
     window = λ x low. ⊎_elim
-        (λ less. some_below-some (λ j. nat_le (x - j) k.after_context && selected j) (i + 1) i (omega arith)
+        (λ less. some_below-some (λ j. nat_le (x - j) k.after_context && selection.selected j) (i + 1) i (omega arith)
         (let near = le-leb (x - i) k.after_context (omega arith) in rw (near, hit) refl)
         ∙ sym (lt-ltb (x - (i + 1)) k.after_context less))
-        (λ over. some_below-none (λ j. nat_le (x - j) k.after_context && selected j) (i + 1)
+        (λ over. some_below-none (λ j. nat_le (x - j) k.after_context && selection.selected j) (i + 1)
         (λ j below. let far = lt-leb (x - j) k.after_context (omega arith) in rw far refl)
         ∙ sym (le-ltb (x - (i + 1)) k.after_context over))
         (cases_lt (x - (i + 1)) k.after_context);
     passed = λ j low high. absurd (omega arith);
-    shown = λ above. let back : (i + 1) - 1 ≡ i = omega arith in let test = lt-ltb i turned has in rw (back, hit, test)
+    shown = λ above. let back : (i + 1) - 1 ≡ i = omega arith in let test = lt-ltb i selection.end has in rw (back, hit, test)
         refl;
     bare = λ _. refl;
   }
 
 -- what a walk at line i knows of the lines before it
-module _ {k : Settings} {selected trailing : ℕ → Bool} {n turned v i left : ℕ}
-    (near : IsNear k selected trailing n turned v i left) where
+module _ {k : Settings} {bytes : List ℕ} {selection : Selection} {v i left : ℕ}
+    (near : IsNear k bytes selection v i left) where
+  abbrev selected : ℕ → Bool
+  selected = selection.selected
+
+  -- how many lines there are, and how many of them may be reported
+  abbrev n : ℕ
+  n = line_count k bytes
+
+  abbrev reportable : ℕ
+  reportable = selection.end
+
   abbrev A : ℕ
   A = k.after_context
 
@@ -96,16 +72,16 @@ module _ {k : Settings} {selected trailing : ℕ → Bool} {n turned v i left : 
   B = k.before_context
 
   abbrev Near : ℕ → ℕ → ℕ → Type 0
-  Near = IsNear k selected trailing n turned
+  Near = IsNear k bytes selection
 
   abbrev follows : ℕ → Bool
-  follows = Selections.follows k selected trailing n turned
+  follows = follows_selected k bytes selection
 
   abbrev precedes : ℕ → Bool
-  precedes = Selections.precedes k selected trailing n turned
+  precedes = precedes_selected k bytes selection
 
   abbrev is_reported : ℕ → Bool
-  is_reported = Selections.is_reported k selected trailing n turned
+  is_reported = Plans.is_reported k bytes selection
 
   -- a line that was passed unreported is never reported under passthru
   never_bare : (j : ℕ) → v ≤ j → j < i → k.passthru ≡ false
@@ -113,7 +89,7 @@ module _ {k : Settings} {selected trailing : ℕ → Bool} {n turned v i left : 
 
   -- if no line from the i-th on is selected, the lines that were passed aren't reported
   pub kind-done : ((q : ℕ) → i ≤ q → q < n → selected q ≡ false) → (j : ℕ) → v ≤ j → j < i
-      → Selections.kind k selected trailing n turned j ≡ None
+      → kind k bytes selection j ≡ None
   kind-done silent j low high =
       let out = near.passed j low high in
       let alone : precedes j ≡ false = some_below-none _ n none in
@@ -166,7 +142,7 @@ module _ {k : Settings} {selected trailing : ℕ → Bool} {n turned v i left : 
 
   -- a line after a selected one
   pub kind-after : selected i ≡ false → 0 < left
-      → Selections.kind k selected trailing n turned i ≡ Some (if trailing i then matched else in_context After)
+      → kind k bytes selection i ≡ Some (if selection.trailing i then matched else in_context After)
   kind-after misses some = let follows_it = follows-here ∙ lt-ltb 0 left some in rw (misses, follows_it) refl
 
   -- no break comes before it, since the line before it is reported
@@ -193,7 +169,7 @@ module _ {k : Settings} {selected trailing : ℕ → Bool} {n turned v i left : 
       joined true false c = refl
       joined false b c = refl
 
-  pub IsNear-after : i < turned → (rest : ℕ) → selected i ≡ false → left ≡ rest + 1 → Near (i + 1) (i + 1) rest
+  pub IsNear-after : i < reportable → (rest : ℕ) → selected i ≡ false → left ≡ rest + 1 → Near (i + 1) (i + 1) rest
   IsNear-after has rest misses is = record {
     low = omega arith;
     few = omega arith;
@@ -202,7 +178,7 @@ module _ {k : Settings} {selected trailing : ℕ → Bool} {n turned v i left : 
         (or-false (nat_lt (x - i) left) ∙ shifted x low));
     passed = λ j low high. absurd (omega arith);
     shown = λ above. let back : (i + 1) - 1 ≡ i = omega arith in let kind = kind-after misses (omega arith) in
-        let test = lt-ltb i turned has in rw (back, kind, test) refl;
+        let test = lt-ltb i reportable has in rw (back, kind, test) refl;
     bare = λ _. refl;
   }
     where
@@ -221,12 +197,12 @@ module _ {k : Settings} {selected trailing : ℕ → Bool} {n turned v i left : 
 
   -- a line that is reported under passthru alone
   pub kind-other : selected i ≡ false → left ≡ 0 → k.passthru ≡ true → k.before_context ≡ 0
-      → Selections.kind k selected trailing n turned i ≡ Some (in_context Other)
+      → kind k bytes selection i ≡ Some (in_context Other)
   kind-other misses empty bare none = let follows_it = follows-here
       ∙ le-ltb 0 left (omega arith) in let ahead = precedes-bare none in
       rw (misses, follows_it, ahead, bare) refl
 
-  pub IsNear-other : i < turned → selected i ≡ false → left ≡ 0 → k.passthru ≡ true → k.before_context ≡ 0
+  pub IsNear-other : i < reportable → selected i ≡ false → left ≡ 0 → k.passthru ≡ true → k.before_context ≡ 0
       → Near (i + 1) (i + 1) 0
   IsNear-other has misses empty bare none = record {
     low = omega arith;
@@ -238,12 +214,12 @@ module _ {k : Settings} {selected trailing : ℕ → Bool} {n turned v i left : 
         rw (ended, misses, and-false (nat_le (x - i) A), ended_next) refl);
     passed = λ j low high. absurd (omega arith);
     shown = λ above. let back : (i + 1) - 1 ≡ i = omega arith in let kind = kind-other misses empty bare none in
-        let test = lt-ltb i turned has in rw (back, kind, test) refl;
+        let test = lt-ltb i reportable has in rw (back, kind, test) refl;
     bare = λ _. refl;
   }
 
   -- after any line that isn't selected
-  pub IsNear-missed : (k.passthru ≡ true → k.before_context ≡ 0) → i < turned → selected i ≡ false
+  pub IsNear-missed : (k.passthru ≡ true → k.before_context ≡ 0) → i < reportable → selected i ≡ false
       → Near (if nat_lt 0 left || k.passthru then i + 1 else v) (i + 1) (left - 1)
   IsNear-missed bare has misses = go (nat_lt 0 left) k.passthru refl refl
     where
@@ -277,9 +253,9 @@ module _ {k : Settings} {selected trailing : ℕ → Bool} {n turned v i left : 
       go false false is_b is_p = sym (append-nil (headed first f v))
 
   -- if line i is selected
-  module _ (inside : i < n) (has : i < turned) (hit : selected i ≡ true) where
+  module _ (inside : i < n) (has : i < reportable) (hit : selected i ≡ true) where
     reported-here : is_reported i ≡ true
-    reported-here = let test = lt-ltb i turned has in rw (hit, test) refl
+    reported-here = let test = lt-ltb i reportable has in rw (hit, test) refl
 
     -- a passed line is before the match if it is near
     precedes-passed : (j : ℕ) → v ≤ j → j < i → precedes j ≡ nat_le (i - j) B
@@ -301,13 +277,13 @@ module _ {k : Settings} {selected trailing : ℕ → Bool} {n turned v i left : 
                 (cases_lt q i)
 
     pub kind-passed : (j : ℕ) → v ≤ j → j < i
-        → Selections.kind k selected trailing n turned j
+        → kind k bytes selection j
         ≡ (if nat_le (i - j) B then Some (in_context Before) else None)
     kind-passed j low less = let out = near.passed j low less in let p = precedes-passed j low less in
         let plain = never_bare j low less in rw (out.0, out.1, p, plain) refl
 
     reported-passed : (j : ℕ) → v ≤ j → j < i → is_reported j ≡ nat_le (i - j) B
-    reported-passed j low less = let test = lt-ltb j turned (omega arith) in let kind = kind-passed j low less in
+    reported-passed j low less = let test = lt-ltb j reportable (omega arith) in let kind = kind-passed j low less in
         rw (kind, test) (settled (nat_le (i - j) B))
       where
         settled : (b : Bool) → is_some (if b then Some (in_context Before) else None) ≡ b
@@ -392,13 +368,13 @@ module _ {k : Settings} {selected trailing : ℕ → Bool} {n turned v i left : 
         (λ ahead. let c = le-ltb j q ahead in rw c refl) (cases_lt j q)))
 
 -- lines that aren't selected are passed unreported, if none is left to be reported after a match
-pub IsNear-skipped : {k : Settings} {selected trailing : ℕ → Bool} {n turned v : ℕ} → k.passthru ≡ false → (i m : ℕ)
-    → IsNear k selected trailing n turned v i 0 → ((j : ℕ) → i ≤ j → j < i + m → selected j ≡ false)
-    → IsNear k selected trailing n turned v (i + m) 0
-IsNear-skipped {k} {selected} {trailing} {n} {turned} {v} plain i zero near missed =
-    let same : i ≡ i + zero = omega arith in subst (λ x. IsNear k selected trailing n turned v x 0) same near
-IsNear-skipped {k} {selected} {trailing} {n} {turned} {v} plain i (suc m) near missed =
+pub IsNear-skipped : {k : Settings} {bytes : List ℕ} {selection : Selection} {v : ℕ} → k.passthru ≡ false → (i m : ℕ)
+    → IsNear k bytes selection v i 0 → ((j : ℕ) → i ≤ j → j < i + m → selection.selected j ≡ false)
+    → IsNear k bytes selection v (i + m) 0
+IsNear-skipped {k} {bytes} {selection} {v} plain i zero near missed =
+    let same : i ≡ i + zero = omega arith in subst (λ x. IsNear k bytes selection v x 0) same near
+IsNear-skipped {k} {bytes} {selection} {v} plain i (suc m) near missed =
     let sum : (i + 1) + m ≡ i + suc m = omega arith in
     let one = IsNear-pass near (missed i (omega arith) (omega arith)) refl plain in
-    subst (λ x. IsNear k selected trailing n turned v x 0) sum
+    subst (λ x. IsNear k bytes selection v x 0) sum
     (IsNear-skipped plain (i + 1) m one (λ j low high. missed j (omega arith) (omega arith)))

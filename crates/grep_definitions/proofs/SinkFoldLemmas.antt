@@ -1,94 +1,29 @@
 -- Runs of sinks whose steps are functions, and what a search without binary detection comes to.
 use Rattle.grep_definitions.proofs.SeenSearchLemmas.{input-search}
-use Rattle.grep_definitions.specs.Plans.{
-  planned,
-  Call,
-  begins,
-  matches,
-  context,
-  breaks,
-  binary_data,
-  finishes,
-  Steps,
-  Finish,
-  Planned,
-  Plan,
-  Outcome,
-  AreMade,
-  IsFinished,
-  IsRun,
-  search_plan,
-  IsLawful,
-  refusal_of,
-  Settings,
-  SearcherState,
-}
-use Rattle.std.proofs.Common.{
-  ◌≡◌,
-  ℕ,
-  Bool,
-  true,
-  false,
-  List,
-  [],
-  ◌∷◌,
-  Option,
-  Some,
-  None,
-  refl,
-  sym,
-  ◌∙◌,
-  ap,
-  subst,
-  inl,
-  inr,
-  length,
-  Result,
-  Ok,
-  Err,
-}
+use Rattle.grep_definitions.specs.Plans.{planned, Call, begins, matches, context, breaks}
+use Rattle.grep_definitions.specs.Plans.{binary_data, finishes, Steps, Finish, Planned, Plan}
+use Rattle.grep_definitions.specs.Plans.{Outcome, AreMade, IsFinished, IsRun, search_plan, IsLawful}
+use Rattle.grep_definitions.specs.Plans.{refusal_of, Settings, SearcherState}
+use Rattle.std.proofs.Common.{◌≡◌, ℕ, Bool, true, false, List, [], ◌∷◌, Option, Some, None, refl}
+use Rattle.std.proofs.Common.{sym, ◌∙◌, ap, subst, inl, inr, length, Result, Ok, Err}
 use Rattle.std.specs.Prelude.{◌⊎◌}
 use Rattle.std.specs.List.{fold}
 use Rattle.grep_decode.specs.Source.{ReadResult}
 use Rattle.grep_matcher.specs.Meanings.{IsInfallible, MatcherFacts}
 use Rattle.grep_report.specs.declared.binary_detection.BinaryDetection.TheVariants.{None as no_detection}
 use Rattle.grep_report.specs.declared.config_error.ConfigError.{ConfigError}
-use Rattle.grep_definitions.specs.Searches.{
-  nowhere,
-  look_of,
-  BinaryPoint,
-  plan_with,
-  IsPoint,
-  IsSearchOf,
-  IsRead,
-  IsCutSearch,
-  IsUnlessRefusedBy,
-  ran,
-  asked,
-  searched_bytes,
-  Points,
-}
+use Rattle.grep_definitions.specs.Searches.{nowhere, look_of, BinaryPoint, plan_with, IsPoint}
+use Rattle.grep_definitions.specs.Searches.{IsSearchOf, IsRead, IsCutSearch, IsUnlessRefusedBy, ran}
+use Rattle.grep_definitions.specs.Searches.{asked, searched_bytes, Points}
 use Rattle.grep_report.specs.ErrorMakers.{ErrorMakers}
-use Rattle.grep_definitions.specs.SliceSearches.{IsSliceSearch, IsSliceRead, IsSliceSearchedIf, is_searched_unchanged}
+use Rattle.grep_definitions.specs.SliceSearches.{IsSliceSearch, IsSliceRead, IsSliceSearchedIf}
+use Rattle.grep_definitions.specs.SliceSearches.{is_searched_unchanged}
 use Rattle.grep_definitions.specs.SearchLaws.{calls_of, is_match, match_calls}
 use Rattle.grep_definitions.proofs.DecodedLemmas.{unchanged-input}
-use Rattle.grep_definitions.specs.SinkFolds.{
-  fold_while,
-  run_fold,
-  AreTaken,
-  IsTakenOk,
-  IsTakenBy,
-  StepsBy,
-  RunsFold,
-  RunsFoldAll,
-  RunsFoldMatches,
-  FailsAtStep,
-  SearchesRun,
-  ReaderSearchesRun,
-  SearchesFail,
-  ReaderSearchesFail,
-  KnownReadersRun,
-}
+use Rattle.grep_definitions.specs.SinkFolds.{fold_while, run_fold, AreTaken, IsTakenOk, IsTakenBy}
+use Rattle.grep_definitions.specs.SinkFolds.{StepsBy, RunsFold, RunsFoldAll, RunsFoldMatches}
+use Rattle.grep_definitions.specs.SinkFolds.{FailsAtStep, SearchesRun, ReaderSearchesRun}
+use Rattle.grep_definitions.specs.SinkFolds.{SearchesFail, ReaderSearchesFail, KnownReadersRun}
 use Rattle.grep_definitions.proofs.KnownReaderLemmas.{taken-input}
 
 module _ {V : Type 0} (taken : V → Call → Bool → V → Type 0) where

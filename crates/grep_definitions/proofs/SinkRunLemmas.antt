@@ -1,24 +1,10 @@
 -- Runs, put together.
-use Rattle.std.proofs.Common.{◌≡◌, ℕ, inl, inr, List, [], ◌∷◌, ◌++◌, Bool, true, false, refl, sym, ap, subst, map}
+use Rattle.std.proofs.Common.{◌≡◌, ℕ, inl, inr, List, [], ◌∷◌, ◌++◌, Bool, true, false, refl, sym}
+use Rattle.std.proofs.Common.{ap, subst, map}
 use Rattle.std.specs.Prelude.{Option, None, Some, Result, Ok, Err}
-use Rattle.grep_definitions.specs.Plans.{
-  Settings,
-  Call,
-  Planned,
-  breaks,
-  Steps,
-  Outcome,
-  all_true,
-  begins,
-  counted,
-  stopped,
-  failed,
-  AreMade,
-  IsFinished,
-  planned,
-  Finish,
-}
-use Rattle.grep_definitions.specs.LineTurns.{one_turn, break_turns, broken_turns}
+use Rattle.grep_definitions.specs.Plans.{Settings, Call, Planned, breaks, Steps, Outcome, all_true}
+use Rattle.grep_definitions.specs.Plans.{stopped, failed, AreMade, planned, Finish}
+use Rattle.grep_definitions.specs.LineCalls.{one_call, break_calls, broken_calls}
 use Rattle.grep_definitions.specs.SinkRuns.{outcome_of, with_binary}
 
 module _ {S E : Type 0} (step : Steps S E) (k : Settings) where
@@ -28,19 +14,19 @@ module _ {S E : Type 0} (step : Steps S E) (k : Settings) where
       → AreMade step k old (front ++ back) outcome new
   AreMade-append [] back old mid outcome new (is, same) later = subst
       (λ s. AreMade step k s back outcome new) same later
-  AreMade-append (turn ∷ front) back old mid outcome new (inl (next, goes, reported)) later =
+  AreMade-append (call ∷ front) back old mid outcome new (inl (next, goes, reported)) later =
       inl (next, goes, AreMade-append front back next mid outcome new reported later)
-  AreMade-append (turn ∷ front) back old mid outcome new (inr (inl (is, stops))) later = cc
-  AreMade-append (turn ∷ front) back old mid outcome new (inr (inr (e, is, fails))) later = cc
+  AreMade-append (call ∷ front) back old mid outcome new (inr (inl (is, stops))) later = cc
+  AreMade-append (call ∷ front) back old mid outcome new (inr (inr (e, is, fails))) later = cc
 
   -- what ended early says nothing of the calls after it
   pub AreMade-ended : (front back : List Planned) (old : S) (outcome : Outcome E) (new : S)
       → (outcome ≡ all_true → ⊥) → AreMade step k old front outcome new
       → AreMade step k old (front ++ back) outcome new
   AreMade-ended [] back old outcome new ended (is, same) = absurd (ended is)
-  AreMade-ended (turn ∷ front) back old outcome new ended (inl (next, goes, reported)) =
+  AreMade-ended (call ∷ front) back old outcome new ended (inl (next, goes, reported)) =
       inl (next, goes, AreMade-ended front back next outcome new ended reported)
-  AreMade-ended (turn ∷ front) back old outcome new ended (inr h) = inr h
+  AreMade-ended (call ∷ front) back old outcome new ended (inr h) = inr h
 
   -- one call, by what it returned
   pub AreMade-one : (call : Call) (end : ℕ) (old : S) (result : Result Bool E) (new : S)
@@ -52,8 +38,8 @@ module _ {S E : Type 0} (step : Steps S E) (k : Settings) where
 
   -- one call, after the break before it if there is a gap
   pub AreMade-broken : (gap : Bool) (call : Call) (end : ℕ) (old mid : S) (result : Result Bool E) (new : S)
-      → AreMade step k old (break_turns gap end) all_true mid → step mid k call result new
-      → AreMade step k old (broken_turns gap call end) (outcome_of end result) new
+      → AreMade step k old (break_calls gap end) all_true mid → step mid k call result new
+      → AreMade step k old (broken_calls gap call end) (outcome_of end result) new
   AreMade-broken true call end old mid result new (inl (next, goes, (is, same))) made =
       inl (
         mid,
@@ -64,15 +50,15 @@ module _ {S E : Type 0} (step : Steps S E) (k : Settings) where
   AreMade-broken true call end old mid result new (inr (inl (is, stops))) made = cc
   AreMade-broken true call end old mid result new (inr (inr (e, is, fails))) made = cc
   AreMade-broken false call end old mid result new (is, same) made =
-      subst (λ s. AreMade step k s (one_turn call end) (outcome_of end result) new) same
+      subst (λ s. AreMade step k s (one_call call end) (outcome_of end result) new) same
       (AreMade-one call end mid result new made)
 
   -- a break that ends it
   pub AreMade-unbroken : (gap : Bool) (call : Call) (end : ℕ) (old : S) (outcome : Outcome E) (new : S)
-      → (outcome ≡ all_true → ⊥) → AreMade step k old (break_turns gap end) outcome new
-      → AreMade step k old (broken_turns gap call end) outcome new
+      → (outcome ≡ all_true → ⊥) → AreMade step k old (break_calls gap end) outcome new
+      → AreMade step k old (broken_calls gap call end) outcome new
   AreMade-unbroken true call end old outcome new ended reported =
-      AreMade-ended (one_turn breaks end) (one_turn call end) old outcome new ended reported
+      AreMade-ended (one_call breaks end) (one_call call end) old outcome new ended reported
   AreMade-unbroken false call end old outcome new ended (is, same) = absurd (ended is)
 
 -- what came of calls, if `finish` has this offset whatever they return

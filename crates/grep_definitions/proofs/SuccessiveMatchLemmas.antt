@@ -1,35 +1,7 @@
 -- The successive matches: how many there are, in which order, and which are left after some of them.
-use Rattle.std.proofs.Common.{
-  ◌≡◌,
-  ℕ,
-  zero,
-  suc,
-  ◌+◌,
-  ◌-◌,
-  ◌<◌,
-  ◌≤◌,
-  Bool,
-  true,
-  false,
-  List,
-  [],
-  ◌∷◌,
-  ◌++◌,
-  length,
-  take,
-  drop,
-  refl,
-  ap,
-  sym,
-  ◌∙◌,
-  arith,
-  ⊎_elim,
-  Option,
-  Some,
-  None,
-  if◌then◌else◌,
-  length-drop,
-}
+use Rattle.std.proofs.Common.{◌≡◌, ℕ, zero, suc, ◌+◌, ◌-◌, ◌<◌, ◌≤◌, Bool, true, false, List, []}
+use Rattle.std.proofs.Common.{◌∷◌, ◌++◌, length, take, drop, refl, ap, sym, ◌∙◌, arith, ⊎_elim}
+use Rattle.std.proofs.Common.{Option, Some, None, if◌then◌else◌, length-drop}
 use Rattle.std.proofs.Math.Seq.{take-nil}
 use Rattle.std.proofs.lemmas.List.Elements.{All-nil, All-cons, All-take}
 use Rattle.std.proofs.lemmas.Bool.{lt-ltb, le-ltb, le-leb, leb-true, ltb-true, cases_lt}
@@ -37,15 +9,8 @@ use Rattle.std.specs.Prelude.{nat_lt, nat_le, ◌&&◌, IfSome, All}
 use Rattle.std.specs.Option.{option_map}
 use Rattle.grep_matcher.specs.Meanings.{Meaning}
 use Rattle.grep_matcher.specs.FindResults.{IsWithin}
-use Rattle.grep_definitions.specs.Plans.{
-  position_after,
-  position_past,
-  if_within,
-  match_from,
-  matches_from,
-  matches_up_to,
-  is_below,
-}
+use Rattle.grep_definitions.specs.Plans.{position_after, position_past, if_within, match_from}
+use Rattle.grep_definitions.specs.Plans.{matches_from, matches_up_to, is_below}
 use Rattle.grep_definitions.specs.SuccessiveMatches.{matches_left}
 use Rattle.grep_definitions.proofs.BoolLemmas.{and-both, both_true, clash}
 

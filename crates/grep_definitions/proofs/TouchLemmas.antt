@@ -1,32 +1,9 @@
 -- Which lines a match touches: those that it has a byte of, and an empty match the line that holds its position.
-use Rattle.std.proofs.Common.{
-  ◌≡◌,
-  ◌≢◌,
-  ℕ,
-  zero,
-  suc,
-  ◌+◌,
-  ◌-◌,
-  ◌<◌,
-  ◌≤◌,
-  ◌==◌,
-  Bool,
-  true,
-  ◌&&◌,
-  List,
-  length,
-  slice_index,
-  refl,
-  sym,
-  ap,
-  ◌∙◌,
-  arith,
-  ⊎_elim,
-  inl,
-  inr,
-  take_all,
-}
-use Rattle.std.proofs.lemmas.Bool.{le-leb, lt-leb, leb-true, lt-ltb, le-ltb, cases_lt, cases_eq, ne_eqb}
+use Rattle.std.proofs.Common.{◌≡◌, ◌≢◌, ℕ, zero, suc, ◌+◌, ◌-◌, ◌<◌, ◌≤◌, ◌==◌, Bool, true, ◌&&◌}
+use Rattle.std.proofs.Common.{List, length, slice_index, refl, sym, ap, ◌∙◌, arith, ⊎_elim, inl}
+use Rattle.std.proofs.Common.{inr, take_all}
+use Rattle.std.proofs.lemmas.Bool.{le-leb, lt-leb, leb-true, lt-ltb, le-ltb, cases_lt, cases_eq}
+use Rattle.std.proofs.lemmas.Bool.{ne_eqb}
 use Rattle.std.proofs.lemmas.List.Sums.{count_by_more_no}
 use Rattle.std.specs.Prelude.{nat_lt, nat_le}
 use Rattle.grep_matcher.specs.declared.line_terminator.LineTerminator.{LineTerminator}
@@ -38,12 +15,8 @@ use Rattle.grep_matcher.proofs.LineLemmas.{count, lines-closed, lines-unclosed}
 use Rattle.grep_lines.proofs.LinePositionLemmas.{block_start-is, block_end-closed, block_end-open}
 use Rattle.grep_lines.proofs.LineStepLemmas.{IsLastStart-line}
 use Rattle.grep_definitions.proofs.BoolLemmas.{both_true, and-both}
-use Rattle.grep_matcher.proofs.LineStartLemmas.{
-  line_start-ascends,
-  line_start-within,
-  line_start-last,
-  line_start-le,
-}
+use Rattle.grep_matcher.proofs.LineStartLemmas.{line_start-ascends, line_start-within}
+use Rattle.grep_matcher.proofs.LineStartLemmas.{line_start-last, line_start-le}
 
 -- a test for at most that passes if a test for less does, and no other time
 pub same-tests : (x y z w : ℕ) → (x ≤ y → w ≤ z → ⊥) → (z < w → y < x → ⊥) → nat_le x y ≡ nat_lt z w

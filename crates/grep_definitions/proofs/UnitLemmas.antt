@@ -1,51 +1,12 @@
 -- The bytes that the match reports across lines have.
-use Rattle.grep_definitions.specs.Plans.{
-  planned,
-  Call,
-  Planned,
-  matches,
-  context,
-  breaks,
-  Settings,
-  joined_from,
-  Kind,
-  matched,
-  in_context,
-  selects_free,
-}
-use Rattle.std.proofs.Common.{
-  ◌≡◌,
-  ℕ,
-  zero,
-  suc,
-  ◌+◌,
-  ◌-◌,
-  ◌<◌,
-  ◌≤◌,
-  Bool,
-  true,
-  false,
-  not,
-  ◌&&◌,
-  List,
-  [],
-  ◌∷◌,
-  ◌++◌,
-  length,
-  take,
-  drop,
-  refl,
-  sym,
-  ap,
-  subst,
-  ◌∙◌,
-  arith,
-  ⊎_elim,
-  Option,
-  Some,
-  None,
-  if◌then◌else◌,
-}
+use Rattle.grep_definitions.specs.Plans.{across_plan, calls_at, is_touched_selected, line}
+use Rattle.grep_definitions.specs.Plans.{line_count, number, start, touched_lines, planned, Call}
+use Rattle.grep_definitions.specs.Plans.{Planned, matches, context, breaks, Settings, joined_from}
+use Rattle.grep_definitions.specs.Plans.{Kind, matched, in_context, selects_free}
+use Rattle.grep_definitions.specs.Plans
+use Rattle.std.proofs.Common.{◌≡◌, ℕ, zero, suc, ◌+◌, ◌-◌, ◌<◌, ◌≤◌, Bool, true, false, not, ◌&&◌}
+use Rattle.std.proofs.Common.{List, [], ◌∷◌, ◌++◌, length, take, drop, refl, sym, ap, subst, ◌∙◌}
+use Rattle.std.proofs.Common.{arith, ⊎_elim, Option, Some, None, if◌then◌else◌}
 use Rattle.std.proofs.Math.Seq.{take-add}
 use Rattle.std.proofs.lemmas.Bool.{cases_Bool, cases_lt, lt-ltb}
 use Rattle.std.proofs.lemmas.Grind.{flat_map-append}
@@ -56,21 +17,16 @@ use Rattle.std.specs.List.Sorted.{IsStrictlyIncreasing}
 use Rattle.grep_matcher.specs.Meanings.{Meaning}
 use Rattle.grep_matcher.specs.Lines.{byte_of}
 use Rattle.grep_report.specs.declared.sink_context.SinkContextKind.{SinkContextKind}
-use Rattle.grep_report.specs.declared.sink_context.SinkContextKind.TheVariants.{Before, After, Other}
+use Rattle.grep_report.specs.declared.sink_context.SinkContextKind.TheVariants.{Before, After}
+use Rattle.grep_report.specs.declared.sink_context.SinkContextKind.TheVariants.{Other}
 use Rattle.grep_definitions.proofs.LineSliceLemmas.{slice-line}
-use Rattle.grep_definitions.specs.LineSearch.{line_count, line, start, number}
-use Rattle.grep_definitions.specs.AcrossLines
-use Rattle.grep_definitions.specs.AcrossLines.{is_selected, continues_unit, turns_at}
 use Rattle.grep_definitions.specs.AcrossLaws.{report_bytes, report_edges}
 use Rattle.grep_definitions.proofs.BelowLemmas.{joined_from-equal}
 use Rattle.grep_definitions.proofs.BoolLemmas.{clash}
-use Rattle.grep_definitions.proofs.RunLemmas.{run_end, IsRunEnd-run_end, continues, joined-runs, edges, edges-rise}
-use Rattle.grep_matcher.proofs.LineStartLemmas.{
-  line_start-ascends,
-  line_start-more,
-  line_start-within,
-  line_start-le,
-}
+use Rattle.grep_definitions.proofs.RunLemmas.{run_end, IsRunEnd-run_end, continues, joined-runs}
+use Rattle.grep_definitions.proofs.RunLemmas.{edges, edges-rise}
+use Rattle.grep_matcher.proofs.LineStartLemmas.{line_start-ascends, line_start-more}
+use Rattle.grep_matcher.proofs.LineStartLemmas.{line_start-within, line_start-le}
 use Rattle.grep_definitions.proofs.SearchLawLemmas.{kind-selected}
 
 -- a line that isn't reported as a match isn't selected
@@ -100,23 +56,23 @@ slice-join bytes a b c first second =
 
 module _ (k : Settings) (meaning : Meaning) (bytes : List ℕ) where
   abbrev n : ℕ
-  n = line_count k meaning bytes
+  n = line_count k bytes
 
   abbrev at : ℕ → ℕ
-  at = start k meaning bytes
+  at = start k bytes
 
   abbrev selected : ℕ → Bool
-  selected = is_selected k meaning bytes
+  selected = is_touched_selected k meaning bytes
 
   abbrev goes_on : ℕ → Bool
-  goes_on = continues_unit k meaning bytes
+  goes_on = Plans.continues k bytes (touched_lines k meaning bytes)
 
   -- the bytes of a line, if it is selected, and those of the report that begins there
   abbrev each : ℕ → List ℕ
-  each i = if selected i then line k meaning bytes i else []
+  each i = if selected i then line k bytes i else []
 
   abbrev whole : ℕ → List ℕ
-  whole i = if selected i && not (goes_on i) then AcrossLines.unit k meaning bytes i else []
+  whole i = if selected i && not (goes_on i) then Plans.report_lines k bytes (touched_lines k meaning bytes) i else []
 
   -- and so are those of selected lines, one after the other
   lines-slice : (i m : ℕ) → i + m ≤ n → ((j : ℕ) → i ≤ j → j < i + m → selected j ≡ true)
@@ -142,7 +98,7 @@ module _ (k : Settings) (meaning : Meaning) (bytes : List ℕ) where
 
   -- the match report of the unit that begins at a line
   abbrev report_at : ℕ → Call
-  report_at i = matches (number k meaning bytes i) (at i) (AcrossLines.unit k meaning bytes i)
+  report_at i = matches (number k bytes i) (at i) (Plans.report_lines k bytes (touched_lines k meaning bytes) i)
 
   -- what is gathered of the match reports alone
   module _ (g : Call → List ℕ) (in_context_none : (c : SinkContextKind) (o : Option ℕ) (offset : ℕ) (bytes : List ℕ)
@@ -150,41 +106,41 @@ module _ (k : Settings) (meaning : Meaning) (bytes : List ℕ) where
     abbrev gathered : ℕ → List ℕ
     gathered i = if selected i && not (goes_on i) then g (report_at i) else []
 
-    gathered-report : (i : ℕ) (kind : Option Kind) → AcrossLines.kind k meaning bytes i ≡ kind
-        → flat_map (λ turn. g turn.call) (AcrossLines.report k meaning bytes i kind) ≡ gathered i
+    gathered-report : (i : ℕ) (kind : Option Kind) → Plans.kind k bytes (touched_lines k meaning bytes) i ≡ kind
+        → flat_map (λ call. g call.call) (Plans.report k bytes (touched_lines k meaning bytes) i kind) ≡ gathered i
     gathered-report i None is =
-        let none = kind-other (selected i) (AcrossLines.follows_selected k meaning bytes i)
-        (AcrossLines.precedes_selected k meaning bytes i) k.passthru None is (λ same. cc) in
+        let none = kind-other (selected i) (Plans.follows_selected k bytes (touched_lines k meaning bytes) i)
+        (Plans.precedes_selected k bytes (touched_lines k meaning bytes) i) k.passthru None is (λ same. cc) in
         rw none refl
     gathered-report i (Some matched) is =
-        let here = kind-selected (selected i) (AcrossLines.follows_selected k meaning bytes i)
-        (AcrossLines.precedes_selected k meaning bytes i) k.passthru is in
+        let here = kind-selected (selected i) (Plans.follows_selected k bytes (touched_lines k meaning bytes) i)
+        (Plans.precedes_selected k bytes (touched_lines k meaning bytes) i) k.passthru is in
         ⊎_elim
         (λ (later : goes_on i ≡ true). rw (here, later) refl)
         (λ (first : goes_on i ≡ false). rw (here, first) (append-nil (g (report_at i))))
         (cases_Bool (goes_on i))
     gathered-report i (Some (in_context c)) is =
-        let none = kind-other (selected i) (AcrossLines.follows_selected k meaning bytes i)
-        (AcrossLines.precedes_selected k meaning bytes i) k.passthru (Some (in_context c)) is (λ same. cc) in
-        rw (none, in_context_none c (number k meaning bytes i) (at i) (line k meaning bytes i)) refl
+        let none = kind-other (selected i) (Plans.follows_selected k bytes (touched_lines k meaning bytes) i)
+        (Plans.precedes_selected k bytes (touched_lines k meaning bytes) i) k.passthru (Some (in_context c)) is (λ same. cc) in
+        rw (none, in_context_none c (number k bytes i) (at i) (line k bytes i)) refl
 
-    gathered-line : (i : ℕ) → flat_map (λ turn. g turn.call) (turns_at k meaning bytes i) ≡ gathered i
+    gathered-line : (i : ℕ) → flat_map (λ call. g call.call) (calls_at k bytes (touched_lines k meaning bytes) i) ≡ gathered i
     gathered-line i =
-        go (AcrossLines.breaks_before k meaning bytes i)
-        (AcrossLines.turn_end k meaning bytes i (AcrossLines.kind k meaning bytes i))
+        go (Plans.breaks_before k bytes (touched_lines k meaning bytes) i)
+        (Plans.count_at k bytes (touched_lines k meaning bytes) i (Plans.kind k bytes (touched_lines k meaning bytes) i))
       where
-        go : (b : Bool) (end : ℕ) → flat_map (λ turn. g turn.call)
+        go : (b : Bool) (end : ℕ) → flat_map (λ call. g call.call)
             (if b then (planned breaks end)
-            ∷ AcrossLines.report k meaning bytes i (AcrossLines.kind k meaning bytes i)
-            else AcrossLines.report k meaning bytes i (AcrossLines.kind k meaning bytes i)) ≡ gathered i
-        go true end = rw in_breaks_none (gathered-report i (AcrossLines.kind k meaning bytes i) refl)
-        go false end = gathered-report i (AcrossLines.kind k meaning bytes i) refl
+            ∷ Plans.report k bytes (touched_lines k meaning bytes) i (Plans.kind k bytes (touched_lines k meaning bytes) i)
+            else Plans.report k bytes (touched_lines k meaning bytes) i (Plans.kind k bytes (touched_lines k meaning bytes) i)) ≡ gathered i
+        go true end = rw in_breaks_none (gathered-report i (Plans.kind k bytes (touched_lines k meaning bytes) i) refl)
+        go false end = gathered-report i (Plans.kind k bytes (touched_lines k meaning bytes) i) refl
 
-    gathered-lines : flat_map (λ turn. g turn.call) (joined_from (turns_at k meaning bytes) 0 n)
+    gathered-lines : flat_map (λ call. g call.call) (joined_from (calls_at k bytes (touched_lines k meaning bytes)) 0 n)
         ≡ joined_from gathered 0 n
     gathered-lines =
-        flat_map-joined (λ turn. g turn.call) (turns_at k meaning bytes) 0 n
-        ∙ joined_from-equal (λ j. flat_map (λ turn. g turn.call) (turns_at k meaning bytes j)) gathered 0 n
+        flat_map-joined (λ call. g call.call) (calls_at k bytes (touched_lines k meaning bytes)) 0 n
+        ∙ joined_from-equal (λ j. flat_map (λ call. g call.call) (calls_at k bytes (touched_lines k meaning bytes) j)) gathered 0 n
         (λ j low high. gathered-line j)
 
   -- under inversion a report has one line
@@ -202,11 +158,11 @@ module _ (k : Settings) (meaning : Meaning) (bytes : List ℕ) where
       (λ i here later. let on = same i plain ∙ later in rw (here, on) refl)
       (λ i inside here first.
       let fresh = same i plain ∙ first in
-      let end : AcrossLines.unit_end k meaning bytes i ≡ run_end selected n i =
+      let end : Plans.report_end k bytes (touched_lines k meaning bytes) i ≡ run_end selected n i =
       ap (λ b. if not b then run_end selected n i else i + 1) plain in
       let run = IsRunEnd-run_end selected n i inside here in
       let sum : i + (run_end selected n i - i) ≡ run_end selected n i = omega arith in
-      let unit : AcrossLines.unit k meaning bytes i ≡ joined_from each i (run_end selected n i - i) =
+      let unit : Plans.report_lines k bytes (touched_lines k meaning bytes) i ≡ joined_from each i (run_end selected n i - i) =
       ap (λ e. slice_range bytes (at i) (at e)) (end ∙ sym sum)
       ∙ lines-slice i (run_end selected n i - i) (omega arith)
       (λ j low below. run.inner j low (omega arith)) in
@@ -216,8 +172,8 @@ module _ (k : Settings) (meaning : Meaning) (bytes : List ℕ) where
       same i plain = ap (λ b. not b && nat_lt 0 i && selected (i - 1)) plain
 
   -- the match reports are the selected lines
-  pub bytes-turns : flat_map (λ turn. report_bytes turn.call) (AcrossLines.turns k meaning bytes) ≡ joined_from each 0 n
-  bytes-turns =
+  pub bytes-calls : flat_map (λ call. report_bytes call.call) (across_plan k meaning bytes).calls ≡ joined_from each 0 n
+  bytes-calls =
       gathered-lines report_bytes (λ c o offset bytes. refl) refl
       ∙ ⊎_elim
       (λ inverted. joined_from-equal whole each 0 n (λ j low high. alone inverted j (omega arith)))
@@ -226,9 +182,9 @@ module _ (k : Settings) (meaning : Meaning) (bytes : List ℕ) where
 
   -- a unit's bytes end where its last line ends
   unit-end : (i : ℕ) → i < n → selected i ≡ true → selects_free k ≡ false
-      → at i + length (AcrossLines.unit k meaning bytes i) ≡ at (run_end selected n i)
+      → at i + length (Plans.report_lines k bytes (touched_lines k meaning bytes) i) ≡ at (run_end selected n i)
   unit-end i inside here plain =
-      let end : AcrossLines.unit_end k meaning bytes i ≡ run_end selected n i =
+      let end : Plans.report_end k bytes (touched_lines k meaning bytes) i ≡ run_end selected n i =
       ap (λ b. if not b then run_end selected n i else i + 1) plain in
       let run = IsRunEnd-run_end selected n i inside here in
       omega (
@@ -242,14 +198,14 @@ module _ (k : Settings) (meaning : Meaning) (bytes : List ℕ) where
 
   -- the lines of the unit that begins at a selected line, and where its bytes end
   pub record IsUnitOf (i : ℕ) : Type 0 where
-    pub later : i < AcrossLines.unit_end k meaning bytes i
-    pub size : at i + length (AcrossLines.unit k meaning bytes i) ≡ at (AcrossLines.unit_end k meaning bytes i)
-    pub hits : (j : ℕ) → i < j → j < AcrossLines.unit_end k meaning bytes i → (selected j ≡ true) × (goes_on j ≡ true)
+    pub later : i < Plans.report_end k bytes (touched_lines k meaning bytes) i
+    pub size : at i + length (Plans.report_lines k bytes (touched_lines k meaning bytes) i) ≡ at (Plans.report_end k bytes (touched_lines k meaning bytes) i)
+    pub hits : (j : ℕ) → i < j → j < Plans.report_end k bytes (touched_lines k meaning bytes) i → (selected j ≡ true) × (goes_on j ≡ true)
 
   pub unit-lines : (i : ℕ) → i < n → selected i ≡ true → IsUnitOf i
   unit-lines i inside here = ⊎_elim
       (λ (inverted : selects_free k ≡ true).
-      let end : AcrossLines.unit_end k meaning bytes i
+      let end : Plans.report_end k bytes (touched_lines k meaning bytes) i
       ≡ i + 1 = ap (λ b. if not b then run_end selected n i else i + 1) inverted in
       record {
         later = omega arith;
@@ -263,7 +219,7 @@ module _ (k : Settings) (meaning : Meaning) (bytes : List ℕ) where
         hits = λ j low high. absurd (omega arith);
       })
       (λ (plain : selects_free k ≡ false).
-      let end : AcrossLines.unit_end k meaning bytes i ≡ run_end selected n i =
+      let end : Plans.report_end k bytes (touched_lines k meaning bytes) i ≡ run_end selected n i =
       ap (λ b. if not b then run_end selected n i else i + 1) plain in
       let run = IsRunEnd-run_end selected n i inside here in
       record {
@@ -284,9 +240,9 @@ module _ (k : Settings) (meaning : Meaning) (bytes : List ℕ) where
       (cases_Bool (selects_free k))
 
   -- each report ends before the next one begins
-  pub edges-turns : selects_free k ≡ false
-      → IsStrictlyIncreasing (flat_map (λ turn. report_edges turn.call) (AcrossLines.turns k meaning bytes))
-  edges-turns plain =
+  pub edges-calls : selects_free k ≡ false
+      → IsStrictlyIncreasing (flat_map (λ call. report_edges call.call) (across_plan k meaning bytes).calls)
+  edges-calls plain =
       subst IsStrictlyIncreasing
       (sym (gathered-lines report_edges (λ c o offset bytes. refl) refl
       ∙ joined_from-equal (gathered report_edges (λ c o offset bytes. refl) refl) (edges selected n at rises higher) 0 n

@@ -1,50 +1,18 @@
 -- The plans of searches by line at some inputs, as the checker computes them: the calls, each with the byte count if it
 -- returns false, and the whole count.
-use Rattle.std.proofs.Common.{
-  ◌≡◌,
-  ℕ,
-  ◌+◌,
-  true,
-  false,
-  not,
-  List,
-  [],
-  ◌∷◌,
-  Some,
-  None,
-  refl,
-  inl,
-  inr,
-  if◌then◌else◌,
-  codes,
-}
+use Rattle.std.proofs.Common.{◌≡◌, ℕ, ◌+◌, true, false, not, List, [], ◌∷◌, Some, None, refl, inl}
+use Rattle.std.proofs.Common.{inr, if◌then◌else◌, codes}
 use Rattle.std.specs.Prelude.{nat_eq, Result, Ok}
 use Rattle.std.specs.List.{list_any}
 use Rattle.grep_matcher.specs.declared.line_terminator.LineTerminator.TheVariants.{Crlf}
 use Rattle.grep_matcher.specs.Lines.{lines}
 use Rattle.grep_matcher.specs.Meanings.{Meaning}
 use Rattle.grep_report.specs.declared.sink_context.SinkContextKind.{SinkContextKind}
-use Rattle.grep_report.specs.declared.sink_context.SinkContextKind.TheVariants.{Before, After, Other}
-use Rattle.grep_definitions.specs.Plans.{
-  search_plan,
-  begins,
-  matches,
-  context,
-  breaks,
-  finishes,
-  Finish,
-  Planned,
-  Plan,
-  Steps,
-  stopped,
-  finish_result,
-  AreMade,
-  IsFinished,
-  IsRun,
-  counted,
-  planned,
-  Settings,
-}
+use Rattle.grep_report.specs.declared.sink_context.SinkContextKind.TheVariants.{Before, After}
+use Rattle.grep_report.specs.declared.sink_context.SinkContextKind.TheVariants.{Other}
+use Rattle.grep_definitions.specs.Plans.{search_plan, begins, matches, context, breaks, finishes}
+use Rattle.grep_definitions.specs.Plans.{Finish, Planned, Plan, Steps, stopped, finish_result}
+use Rattle.grep_definitions.specs.Plans.{AreMade, IsFinished, IsRun, counted, planned, Settings}
 use Rattle.grep_definitions.specs.BuiltSettings.{default_settings}
 
 -- a matcher of one byte

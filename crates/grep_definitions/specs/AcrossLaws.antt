@@ -6,18 +6,12 @@ use Rattle.std.specs.List.Sorted.{IsStrictlyIncreasing}
 use Rattle.grep_matcher.specs.Lawful.{HoldsPosition}
 use Rattle.grep_matcher.specs.Meanings.{ExcludesTerminator, Meaning}
 use Rattle.grep_report.specs.declared.sink_context.SinkContextKind.TheVariants.{After}
-use Rattle.grep_definitions.specs.Plans.{is_across, search_plan, Call, matches, context, Plan}
-use Rattle.grep_definitions.specs.Plans.{planned, joined_from, line_count, line, number, start}
-use Rattle.grep_definitions.specs.Plans.{calls_at, reports_plan, is_selected, is_trailing}
-use Rattle.grep_definitions.specs.Plans.{reports_end, is_touched_selected, touched_lines, touches}
-use Rattle.grep_definitions.specs.Plans.{matches_from, all_matches, Settings}
-use Rattle.grep_definitions.specs.SearchLaws.{AreReportsInOrder, calls_of, is_match, line_plan}
-use Rattle.grep_definitions.specs.SearchLaws.{report_calls}
-
--- the plan of a search across lines
-abbrev pub across_plan : Settings → Meaning → List ℕ → Plan
-across_plan settings meaning bytes =
-    reports_plan settings bytes (touched_lines settings meaning bytes)
+use Rattle.grep_definitions.specs.Plans.{is_across, search_plan, Call, matches, context, planned}
+use Rattle.grep_definitions.specs.Plans.{joined_from, line_count, line, number, start, calls_at}
+use Rattle.grep_definitions.specs.Plans.{is_selected, is_trailing, reports_end, is_touched_selected}
+use Rattle.grep_definitions.specs.Plans.{touched_lines, touches, matches_from, all_matches}
+use Rattle.grep_definitions.specs.Plans.{Settings, across_plan, line_plan}
+use Rattle.grep_definitions.specs.SearchLaws.{AreReportsInOrder, calls_of, is_match, report_calls}
 
 -- without `multi_line`, or with a matcher that excludes the terminator, a search is by line
 abbrev pub SearchesByLine : Type 0

@@ -3,10 +3,9 @@ use Rattle.std.specs.Prelude.{◌≡◌, ℕ, ◌≤◌, true, false, List, ◌+
 use Rattle.std.specs.Prelude.{Bool, is_some}
 use Rattle.grep_matcher.specs.Meanings.{Meaning}
 use Rattle.grep_report.specs.declared.binary_detection.BinaryDetection.TheVariants.{Quit}
-use Rattle.grep_definitions.specs.Plans.{search_plan, Planned, Settings, reported_bytes}
+use Rattle.grep_definitions.specs.Plans.{search_plan, Planned, Settings, reported_bytes, line_plan}
 use Rattle.grep_definitions.specs.Searches.{binary_of, position_of, view_of, BinaryPoint}
 use Rattle.grep_definitions.specs.Searches.{contents_point, IsCutAt, IsFront}
-use Rattle.grep_definitions.specs.SearchLaws.{line_plan}
 
 -- how many bytes are looked at before the first line
 abbrev pub first_look : ℕ

@@ -12,18 +12,18 @@ use Rattle.grep_definitions.specs.Plans.{stopped, failed, AreMade, counted, is_b
 
 -- each call may come between `begin` and `finish`
 abbrev pub AreInner : Settings → List Planned → Type 0
-AreInner settings turns =
-    All (λ turn. comes_between (is_detecting settings.binary_detection) turn.call ≡ true) turns
+AreInner settings calls =
+    All (λ call. comes_between (is_detecting settings.binary_detection) call.call ≡ true) calls
 
 -- how many of some calls are `binary_data`
 abbrev pub binary_count : List Planned → ℕ
-binary_count turns = count_by (λ turn. is_binary_data turn.call) turns
+binary_count calls = count_by (λ call. is_binary_data call.call) calls
 
 -- `begin`, and then some calls
 abbrev pub after_begin : List Planned → List Planned
-after_begin turns = planned begins 0 ∷ turns
+after_begin calls = planned begins 0 ∷ calls
 
--- the byte count after calls with this outcome: any, or the end of the turn that returned false
+-- the byte count after calls with this outcome: any, or that of the call that returned false
 abbrev pub EndsAt : {E : Type 0} → Outcome E → ℕ → Type 0
 EndsAt all_true count = Unit {0}
 EndsAt (stopped finish) count = finish ≡ counted count
@@ -33,17 +33,17 @@ module _ {S E : Type 0} (step : Steps S E) (settings : Settings) where
   -- some calls between `begin` and `finish`, up to the first that didn't return true, with this
   -- outcome; at most so many are `binary_data`
   pub record HasCalled (bound : ℕ) (old : S) (outcome : Outcome E) (new : S) : Type 0 where
-    pub turns : List Planned
-    pub inner : AreInner settings turns
-    pub few : binary_count turns ≤ bound
-    pub reported : AreMade step settings old turns outcome new
+    pub calls : List Planned
+    pub inner : AreInner settings calls
+    pub few : binary_count calls ≤ bound
+    pub reported : AreMade step settings old calls outcome new
 
   -- `begin` and then such calls
   pub record HasBegunWith (bound : ℕ) (old : S) (outcome : Outcome E) (new : S) : Type 0 where
-    pub turns : List Planned
-    pub inner : AreInner settings turns
-    pub few : binary_count turns ≤ bound
-    pub reported : AreMade step settings old (after_begin turns) outcome new
+    pub calls : List Planned
+    pub inner : AreInner settings calls
+    pub few : binary_count calls ≤ bound
+    pub reported : AreMade step settings old (after_begin calls) outcome new
 
   -- such calls after which `finish` has this byte count
   pub record HasCalledTo (bound : ℕ) (old : S) (count : ℕ) (new : S) : Type 0 where

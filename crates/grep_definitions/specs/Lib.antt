@@ -1,6 +1,4 @@
 pub mod AcrossLaws
-pub mod AcrossLines
-pub mod AcrossQuestions
 pub mod BinaryLaws
 pub mod BuiltSettings
 pub mod CallOrder
@@ -8,16 +6,12 @@ pub mod ContentsSearches
 pub mod CountLaws
 pub mod DecodedInputs
 pub mod FileSearches
-pub mod LineSearch
-pub mod LineTurns
+pub mod LineCalls
 pub mod LineWalks
 pub mod Plans
-pub mod Questions
 pub mod ReaderRuns
 pub mod SearchLaws
-pub mod SearchTurns
 pub mod Searches
-pub mod Selections
 pub mod SinkArguments
 pub mod SinkFolds
 pub mod SinkRuns

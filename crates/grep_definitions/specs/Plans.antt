@@ -96,6 +96,10 @@ pub record Plan : Type 0 where
   pub calls : List Planned
   pub finish : Finish
 
+-- the calls of which that count is at most an offset
+abbrev pub through : ℕ → List Planned → List Planned
+through offset calls = filter (λ call. nat_le call.if_false.count offset) calls
+
 -- a sink's meaning: state before, settings, call, what the call returned, state after
 abbrev pub Steps : Type 0 → Type 0 → Type 1
 Steps S E = S → Settings → Call → Result Bool E → S → Type 0
@@ -195,6 +199,12 @@ pub data Kind : Type 0 where
   matched : Kind
   in_context : SinkContextKind → Kind
 
+-- whether a break may come before it: before a match, or a line before one
+abbrev pub can_break : Option Kind → Bool
+can_break (Some matched) = true
+can_break (Some (in_context Before)) = true
+can_break _ = false
+
 module _ (settings : Settings) (bytes : List ℕ) where
   abbrev pub line_count : ℕ
   line_count = length (lines (byte_of settings.line_terminator) bytes)
@@ -222,6 +232,20 @@ module _ (settings : Settings) (bytes : List ℕ) where
         line_count
         else i + 1
 
+    -- the bytes of that report
+    abbrev pub report_lines : ℕ → List ℕ
+    report_lines i = slice_range bytes (start i) (start (report_end i))
+
+    -- whether a selected line is in one report with the line before it
+    abbrev pub continues : ℕ → Bool
+    continues i = selection.joined && nat_lt 0 i && selection.selected (i - 1)
+
+    -- one more than the last line of the next report of selected lines after line i
+    abbrev pub next_report_end : ℕ → ℕ
+    next_report_end i = unwrap_or
+        (option_map report_end (first_below (λ j. nat_lt i j && selection.selected j) line_count))
+        (i + 1)
+
     -- whether a selected line is at most so many lines before line i, or after it
     abbrev pub follows_selected : ℕ → Bool
     follows_selected i =
@@ -247,17 +271,10 @@ module _ (settings : Settings) (bytes : List ℕ) where
     -- the byte count if the report of line i returns false: a line before a match goes with it
     abbrev pub count_at : ℕ → Option Kind → ℕ
     count_at i (Some matched) = start (report_end i)
-    count_at i (Some (in_context Before)) = start (unwrap_or
-        (option_map report_end (first_below (λ j. nat_lt i j && selection.selected j) line_count))
-        (i + 1))
+    count_at i (Some (in_context Before)) = start (next_report_end i)
     count_at i _ = start (i + 1)
 
-    -- a break is before a match or a line before one, if lines were left out since the last report
-    abbrev pub can_break : Option Kind → Bool
-    can_break (Some matched) = true
-    can_break (Some (in_context Before)) = true
-    can_break _ = false
-
+    -- a break comes there if lines were left out since the last report
     abbrev pub breaks_before : ℕ → Bool
     breaks_before i = nat_lt 0 (settings.after_context + settings.before_context)
         && can_break (kind i) && not (is_reported (i - 1)) && some_below is_reported i
@@ -266,10 +283,9 @@ module _ (settings : Settings) (bytes : List ℕ) where
     abbrev pub report : ℕ → Option Kind → List Planned
     report i None = []
     report i (Some matched) =
-        if selection.joined && nat_lt 0 i && selection.selected (i - 1) then []
-        else planned
-        (matches (number i) (start i) (slice_range bytes (start i) (start (report_end i))))
-        (count_at i (Some matched)) ∷ []
+        if continues i then []
+        else planned (matches (number i) (start i) (report_lines i)) (count_at i (Some matched))
+        ∷ []
     report i (Some (in_context c)) =
         planned (context c (number i) (start i) (line i)) (count_at i (Some (in_context c))) ∷ []
 
@@ -279,10 +295,14 @@ module _ (settings : Settings) (bytes : List ℕ) where
         if breaks_before i then planned breaks (count_at i (kind i)) ∷ report i (kind i)
         else report i (kind i)
 
-    -- `begin`, the calls of the lines in order, and `finish`
+    -- `begin`, and the calls of the first i lines in order
+    abbrev pub calls_before : ℕ → List Planned
+    calls_before i = planned begins 0 ∷ joined_from calls_at 0 i
+
+    -- those of the lines that may be reported, and `finish`
     abbrev pub reports_plan : Plan
     reports_plan = record {
-      calls = planned begins 0 ∷ joined_from calls_at 0 selection.end;
+      calls = calls_before selection.end;
       finish = counted (start selection.end);
     }
 
@@ -331,11 +351,13 @@ module _ (settings : Settings) (meaning : Meaning) (bytes : List ℕ) where
       then option_map (λ m. suc (m + settings.after_context))
       (first_below fills_limit (line_count settings bytes)) else Some 0)
 
-  -- and by all of its bounds: the line that ends the search may be reported still
+  -- by the stop: the line that ends the search may be reported still
+  abbrev pub end_by_stop : Option ℕ
+  end_by_stop = option_map suc (first_below ends_search (line_count settings bytes))
+
+  -- and by all of its bounds
   abbrev pub reports_end : ℕ
-  reports_end = at_most end_by_limit (at_most
-      (option_map suc (first_below ends_search (line_count settings bytes)))
-      (line_count settings bytes))
+  reports_end = at_most end_by_limit (at_most end_by_stop (line_count settings bytes))
 
   abbrev pub selected_lines : Selection
   selected_lines = record {
@@ -344,6 +366,10 @@ module _ (settings : Settings) (meaning : Meaning) (bytes : List ℕ) where
     joined = false;
     end = reports_end;
   }
+
+  -- the plan of a search by line
+  abbrev pub line_plan : Plan
+  line_plan = reports_plan settings bytes selected_lines
 
 -- across lines the next match is looked for from a match's end, or one byte after an empty one
 abbrev pub position_after : ℕ × ℕ → ℕ
@@ -420,6 +446,10 @@ module _ (settings : Settings) (meaning : Meaning) (bytes : List ℕ) where
     end = line_count settings bytes;
   }
 
+  -- the plan of a search across lines
+  abbrev pub across_plan : Plan
+  across_plan = reports_plan settings bytes touched_lines
+
 -- ---- why a search is refused, what it asks its matcher, and after which calls
 
 -- whether two terminators are the same; the byte LF and CRLF are two
@@ -479,14 +509,18 @@ module _ (settings : Settings) (meaning : Meaning) (bytes : List ℕ) where
     pub within : end ≤ line_count settings bytes
     pub lines : haystack ≡ slice_range bytes (start settings bytes i) (start settings bytes end)
 
-  -- by line, at line i: while fewer lines hit than the limit has, or in the context after a
-  -- selected line. About that line without its terminator, or about whole lines from it on
+  -- about line i without its terminator, or about whole lines from it on
+  abbrev pub IsAskedFrom : ℕ → List ℕ → Type 0
+  IsAskedFrom i haystack = (haystack ≡ strip settings.line_terminator (line settings bytes i))
+      ⊎ IsAskedAhead i haystack
+
+  -- so it is asked by line, at a line that may be reported: while fewer lines hit than the limit
+  -- has, or in the context after a selected line
   pub record IsLineQuestion (i : ℕ) (haystack : List ℕ) : Type 0 where
-    pub has_turn : i < reports_end settings meaning bytes
+    pub may_report : i < reports_end settings meaning bytes
     pub room : (is_open_at settings meaning bytes i
         || follows_selected settings bytes (selected_lines settings meaning bytes) i) ≡ true
-    pub question : (haystack ≡ strip settings.line_terminator (line settings bytes i))
-        ⊎ IsAskedAhead i haystack
+    pub question : IsAskedFrom i haystack
 
   -- across lines, for the match after some of those that count, in the bytes after them
   pub record IsAskedAfter (found : List (ℕ × ℕ)) (haystack : List ℕ) : Type 0 where
@@ -525,13 +559,18 @@ module _ (settings : Settings) (meaning : Meaning) (bytes : List ℕ) where
   selection_in false = selected_lines settings meaning bytes
   selection_in true = touched_lines settings meaning bytes
 
+  abbrev pub plan_in : Bool → Plan
+  plan_in across = reports_plan settings bytes (selection_in across)
+
   abbrev pub search_plan : Plan
-  search_plan = reports_plan settings bytes (selection_in (is_across settings meaning))
+  search_plan = plan_in (is_across settings meaning)
 
   -- what a matcher is asked, and the calls before: just those whose count, if they return false, is
   -- at most the start of the line at which it is asked
-  pub record IsAskedWith (haystack : List ℕ) (calls : List Planned) : Type 0 where
+  pub record IsAskedIn (across : Bool) (haystack : List ℕ) (calls : List Planned) : Type 0 where
     pub index : ℕ
-    pub question : IsQuestionIn (is_across settings meaning) index haystack
-    pub before : calls ≡ filter
-        (λ call. nat_le call.if_false.count (start settings bytes index)) search_plan.calls
+    pub question : IsQuestionIn across index haystack
+    pub before : calls ≡ through (start settings bytes index) (plan_in across).calls
+
+  abbrev pub IsAskedWith : List ℕ → List Planned → Type 0
+  IsAskedWith = IsAskedIn (is_across settings meaning)

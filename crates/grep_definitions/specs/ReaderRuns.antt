@@ -7,7 +7,7 @@ use Rattle.grep_decode.specs.Source.{ReadResult}
 use Rattle.grep_matcher.specs.Meanings.{Meaning}
 use Rattle.grep_definitions.specs.DecodedInputs.{IsDecodedFront}
 use Rattle.grep_definitions.specs.Plans.{SearcherState}
-use Rattle.grep_definitions.specs.Searches.{before_quit, view_of, IsInput, GoesOnAfter, HasOpenLine}
+use Rattle.grep_definitions.specs.Searches.{before_quit, IsInput, GoesOnAfter, HasOpenLine}
 use Rattle.grep_definitions.specs.Searches.{CutsShort, CutsContents, IsBelowLimit, Taken}
 
 module _ {R : Type 0} (remaining : R → Option (List ℕ))

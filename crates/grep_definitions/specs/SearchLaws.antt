@@ -11,10 +11,10 @@ use Rattle.grep_matcher.specs.FindResults.{plain}
 use Rattle.grep_matcher.specs.Meanings.{Meaning}
 use Rattle.grep_report.specs.declared.sink_context.SinkContextKind.TheVariants.{After}
 use Rattle.grep_definitions.specs.Plans.{is_across, search_plan, Call, matches, context, Planned}
-use Rattle.grep_definitions.specs.Plans.{Plan, reported_bytes, reported_from, planned, count_below}
+use Rattle.grep_definitions.specs.Plans.{reported_bytes, reported_from, planned, count_below}
 use Rattle.grep_definitions.specs.Plans.{first_below, joined_from, line_count, line, start, number}
-use Rattle.grep_definitions.specs.Plans.{follows_selected, calls_at, reports_plan, is_selected}
-use Rattle.grep_definitions.specs.Plans.{is_trailing, reports_end, selected_lines, Settings}
+use Rattle.grep_definitions.specs.Plans.{follows_selected, calls_at, is_selected, is_trailing}
+use Rattle.grep_definitions.specs.Plans.{reports_end, selected_lines, Settings, line_plan}
 use Rattle.grep_definitions.specs.Searches.{searched_bytes, encoding_of, looks_for_mark}
 use Rattle.grep_definitions.specs.SliceSearches.{is_searched_unchanged}
 
@@ -79,11 +79,6 @@ abbrev pub AreReportsInOrder : List Call → Type 0
 AreReportsInOrder reports =
     All (λ report. 0 < length (reported_bytes report)) reports
     × AllPairs (λ report later. reported_to report ≤ reported_from later) reports
-
--- the plan of a search by line
-abbrev pub line_plan : Settings → Meaning → List ℕ → Plan
-line_plan settings meaning bytes =
-    reports_plan settings bytes (selected_lines settings meaning bytes)
 
 -- the reports ascend, and no byte is reported twice
 abbrev pub ReportsAscend : Type 0

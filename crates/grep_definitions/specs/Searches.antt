@@ -25,9 +25,8 @@ use Rattle.grep_definitions.specs.Plans.{finishes, reported_bytes, reported_from
 use Rattle.grep_definitions.specs.Plans.{is_binary_data, Finish, counted, Planned, planned, Plan}
 use Rattle.grep_definitions.specs.Plans.{Steps, Outcome, all_true, finish_after, AreMade, IsRun}
 use Rattle.grep_definitions.specs.Plans.{line_count, line, start, reports_end, is_across}
-use Rattle.grep_definitions.specs.Plans.{is_reported, selected_lines}
-use Rattle.grep_definitions.specs.Plans.{refusal_of, IsLawful, selection_in, search_plan}
-use Rattle.grep_definitions.specs.Plans.{IsAskedWith, has_room}
+use Rattle.grep_definitions.specs.Plans.{is_reported, selected_lines, refusal_of, IsLawful}
+use Rattle.grep_definitions.specs.Plans.{selection_in, search_plan, IsAskedWith, has_room}
 
 -- where a byte first is
 abbrev pub position_of : ℕ → List ℕ → Option ℕ
@@ -252,7 +251,7 @@ module _ (settings : Settings) (meaning : Meaning) (input seen : List ℕ) where
   pub record GoesOnAfter : Type 0 where
     pub front : IsFront settings input seen
     pub closed : IsClosed (byte_of settings.line_terminator) seen
-    pub has_turn : (is_detecting settings.binary_detection && seen_count == 0) ≡ false
+    pub may_report : (is_detecting settings.binary_detection && seen_count == 0) ≡ false
         → seen_count < line_count settings input
         → seen_count < reports_end settings meaning input
 

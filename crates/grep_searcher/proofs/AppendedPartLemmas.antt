@@ -1,5 +1,6 @@
 -- Sinks and handlers that append something of each call to what they keep.
-use Rattle.std.proofs.Common.{◌≡◌, Bool, true, false, List, [], ◌∷◌, ◌++◌, sym, ap, subst, ◌∙◌, inl, inr, append_assoc}
+use Rattle.std.proofs.Common.{◌≡◌, Bool, true, false, List, [], ◌∷◌, ◌++◌, sym, ap, subst, ◌∙◌, inl}
+use Rattle.std.proofs.Common.{inr, append_assoc}
 use Rattle.std.proofs.lemmas.Bool.{false≢true}
 use Rattle.std.proofs.lemmas.List.{append-nil}
 use Rattle.std.proofs.lemmas.List.Folds.{flat_map-map}
@@ -10,7 +11,8 @@ use Rattle.grep_definitions.specs.Plans.{Planned, Steps, Settings}
 use Rattle.grep_definitions.specs.SearchLaws.{calls_of, match_calls, match_of, matched_lines}
 use Rattle.grep_definitions.proofs.MatchCallLemmas.{matches-are_matched_lines}
 use Rattle.grep_definitions.specs.SinkFolds.{fold_while}
-use Rattle.grep_searcher.specs.AppendedParts.{AppendsMatches, AppendsParts, RunsAppend, RunsAppendLines, RunsAppendMatches}
+use Rattle.grep_searcher.specs.AppendedParts.{AppendsMatches, AppendsParts, RunsAppend}
+use Rattle.grep_searcher.specs.AppendedParts.{RunsAppendLines, RunsAppendMatches}
 use Rattle.grep_searcher.proofs.MatchHandlerLemmas.{runs-handle}
 
 module _ {S E : Type 0} (step : Steps S E) (X : Type 0) where

@@ -1,7 +1,7 @@
 -- How far a search that ends at the first match has read.
-use Rattle.std.proofs.Common.{◌≡◌, ℕ, ◌+◌, ◌<◌, Bool, true, false, not, ◌&&◌, List, [], ◌∷◌, ◌++◌, length, Result}
-use Rattle.std.proofs.Common.{Option, Some, None, Ok, refl, sym, ap, subst, ◌∙◌, inl, inr, arith, if◌then◌else◌}
-use Rattle.std.proofs.Common.{length-append}
+use Rattle.std.proofs.Common.{◌≡◌, ℕ, ◌+◌, ◌<◌, Bool, true, false, not, ◌&&◌, List, [], ◌∷◌, ◌++◌}
+use Rattle.std.proofs.Common.{length, Result, Option, Some, None, Ok, refl, sym, ap, subst, ◌∙◌}
+use Rattle.std.proofs.Common.{inl, inr, arith, if◌then◌else◌, length-append}
 use Rattle.std.proofs.lemmas.Bool.{false≢true}
 use Rattle.std.proofs.lemmas.List.{append-nil}
 use Rattle.std.proofs.lemmas.List.Elements.{All-cons, All-head, All-nil, All-tail}
@@ -21,9 +21,9 @@ use Rattle.grep_definitions.specs.Plans.{search_plan, selection_in, AreMade, beg
 use Rattle.grep_definitions.specs.Plans.{breaks, Call, context, Finish, finish_after, finishes}
 use Rattle.grep_definitions.specs.Plans.{IsFinished, IsRun, matches, Outcome, Plan, Planned}
 use Rattle.grep_definitions.specs.Plans.{planned, breaks_before, calls_at, count_at, first_below}
-use Rattle.grep_definitions.specs.Plans.{in_context, Kind, kind, line_count}
-use Rattle.grep_definitions.specs.Plans.{matched, report, reports_plan, Selection}
-use Rattle.grep_definitions.specs.Plans.{start, is_selected, reports_end, selected_lines, Settings}
+use Rattle.grep_definitions.specs.Plans.{in_context, Kind, kind, line_count, matched, report}
+use Rattle.grep_definitions.specs.Plans.{reports_plan, Selection, start, is_selected, reports_end}
+use Rattle.grep_definitions.specs.Plans.{selected_lines, Settings}
 use Rattle.grep_definitions.specs.Searches.{BinaryPoint, plan_with, encoding_after, Points}
 use Rattle.grep_definitions.specs.Searches.{encoding_of, IsClosed, IsFront, searched_bytes}
 use Rattle.grep_definitions.specs.Searches.{IsSearchOf, ran}
@@ -32,13 +32,14 @@ use Rattle.grep_definitions.proofs.DecodedLemmas.{unchanged-input}
 use Rattle.grep_definitions.proofs.MatchCallLemmas.{first_match-is_first}
 use Rattle.grep_definitions.specs.SinkFolds.{IsMatchOk}
 use Rattle.grep_definitions.specs.SliceSearches.{is_searched_unchanged}
-use Rattle.grep_definitions.proofs.BelowLemmas.{first_below-before, first_below-here, first_below-of, some_below-none}
+use Rattle.grep_definitions.proofs.BelowLemmas.{first_below-before, first_below-here}
+use Rattle.grep_definitions.proofs.BelowLemmas.{first_below-of, some_below-none}
 use Rattle.grep_definitions.proofs.FirstLineLemmas.{all_lines, is_selected-same, start-same}
 use Rattle.grep_definitions.proofs.KnownReaderLemmas.{taken-input}
 use Rattle.grep_definitions.proofs.LineSliceLemmas.{line-report}
 use Rattle.grep_matcher.proofs.LineStartLemmas.{line_start-more}
 use Rattle.grep_definitions.proofs.ListLemmas.{All-joined_from}
-use Rattle.grep_definitions.proofs.SearchLawLemmas.{turn_count-le}
+use Rattle.grep_definitions.proofs.SearchLawLemmas.{reports_end-le}
 use Rattle.grep_definitions.proofs.SinkFoldLemmas.{reader_searches-run}
 use Rattle.grep_searcher.specs.BoundedReads.{ReadersFindLines}
 use Rattle.grep_searcher.specs.MatchHandlers.{has_selected, IsFoundStep}
@@ -48,7 +49,7 @@ use Rattle.grep_searcher.proofs.MatchHandlerLemmas.{first_below-some, runs-find_
 
 -- a match after which a false leaves the byte count at its end
 abbrev EndsAtMatch : Planned → Type 0
-EndsAtMatch turn = is_match turn.call ≡ true → turn.if_false.count ≡ reported_to turn.call
+EndsAtMatch call = is_match call.call ≡ true → call.if_false.count ≡ reported_to call.call
 
 module _ (k : Settings) (meaning : Meaning) (bytes : List ℕ) where
   abbrev chosen : Selection
@@ -79,7 +80,7 @@ module _ (k : Settings) (meaning : Meaning) (bytes : List ℕ) where
   ends-plan =
       All-cons EndsAtMatch (planned begins 0) _ (λ is. absurd (false≢true is))
       (All-joined_from EndsAtMatch (calls_at k bytes chosen) 0 (reports_end k meaning bytes)
-      (λ j low high. ends-line j (omega (arith, high, turn_count-le k meaning bytes))))
+      (λ j low high. ends-line j (omega (arith, high, reports_end-le k meaning bytes))))
 
 -- ---- a run that found a match
 

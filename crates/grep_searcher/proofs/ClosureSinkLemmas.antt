@@ -1,6 +1,6 @@
 -- Sinks that call a closure.
-use Rattle.std.proofs.Common.{◌≡◌, ℕ, ◌+◌, Bool, true, false, List, [], ◌∷◌, ◌++◌, Some, None, sym, ap, subst, ◌∙◌, inl}
-use Rattle.std.proofs.Common.{inr, append_assoc}
+use Rattle.std.proofs.Common.{◌≡◌, ℕ, ◌+◌, Bool, true, false, List, [], ◌∷◌, ◌++◌, Some, None, sym}
+use Rattle.std.proofs.Common.{ap, subst, ◌∙◌, inl, inr, append_assoc}
 use Rattle.std.proofs.lemmas.List.{append-nil}
 use Rattle.std.specs.Prelude.{Result, Ok, map, if◌then◌else◌}
 use Rattle.std.specs.Borrow.{Bor}
@@ -12,8 +12,8 @@ use Rattle.grep_definitions.proofs.MatchCallLemmas.{matches-are_matched_lines}
 use Rattle.grep_definitions.specs.SinkFolds.{AreTaken, IsTakenOk}
 use Rattle.grep_definitions.proofs.SinkFoldLemmas.{runs-take_matches}
 use Rattle.grep_matcher.specs.Meanings.{Meaning}
-use Rattle.grep_searcher.specs.ClosureSinks.{IsClosureStep, IsCalledAt, ClosureSteps, ClosuresAreCalled, KeepsCalls}
-use Rattle.grep_searcher.specs.ClosureSinks.{ClosuresKeep}
+use Rattle.grep_searcher.specs.ClosureSinks.{IsClosureStep, IsCalledAt, ClosureSteps}
+use Rattle.grep_searcher.specs.ClosureSinks.{ClosuresAreCalled, KeepsCalls, ClosuresKeep}
 
 module _ {F : Type 0} (call : F → ℕ → Bor (List ℕ) → Result Bool Error → F → Type 0)
     (is_text : List ℕ → Result (List ℕ) Error → Type 0) where

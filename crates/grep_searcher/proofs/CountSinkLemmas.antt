@@ -1,5 +1,6 @@
 -- What a sink that counts the matches makes of a run.
-use Rattle.std.proofs.Common.{◌≡◌, ℕ, ◌+◌, ◌<◌, ◌-◌, ◌^◌, min, true, List, [], ◌∷◌, length, refl, ◌∙◌, arith}
+use Rattle.std.proofs.Common.{◌≡◌, ℕ, ◌+◌, ◌<◌, ◌-◌, ◌^◌, min, true, List, [], ◌∷◌, length, refl}
+use Rattle.std.proofs.Common.{◌∙◌, arith}
 use Rattle.grep_definitions.specs.Plans.{search_plan, Call}
 use Rattle.grep_definitions.specs.SearchLaws.{match_calls}
 use Rattle.grep_definitions.specs.SinkFolds.{fold_while}

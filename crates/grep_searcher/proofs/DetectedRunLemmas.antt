@@ -1,25 +1,29 @@
 -- What a search under any binary detection comes to.
-use Rattle.std.proofs.Common.{◌≡◌, ℕ, true, false, not, List, Option, Some, inl, inr, length, refl, subst, sym}
+use Rattle.std.proofs.Common.{◌≡◌, ℕ, true, false, not, List, Option, Some, inl, inr, length, refl}
+use Rattle.std.proofs.Common.{subst, sym}
 use Rattle.std.specs.List.{concat}
 use Rattle.std.specs.Prelude.{◌&&◌, ◌++◌, [], Result, Ok, Err}
 use Rattle.grep_decode.specs.Source.{ReadResult}
 use Rattle.grep_matcher.specs.Meanings.{IsInfallible, MatcherFacts}
 use Rattle.grep_report.specs.ErrorMakers.{ErrorMakers}
 use Rattle.grep_report.specs.declared.binary_detection.BinaryDetection.{BinaryDetection}
-use Rattle.grep_report.specs.declared.binary_detection.BinaryDetection.TheVariants.{None as no_detection, Quit}
-use Rattle.grep_report.specs.declared.binary_detection.BinaryDetection.TheVariants.{Convert}
-use Rattle.grep_definitions.specs.Plans.{IsAskedWith, Outcome, Plan, Planned, Settings, SearcherState, Steps}
-use Rattle.grep_definitions.specs.Plans.{is_across, refusal_of, search_plan}
-use Rattle.grep_definitions.specs.Searches.{IsPoint, IsRead, IsSearchOf, IsUnlessRefusedBy, Look, asked, look_at}
-use Rattle.grep_definitions.specs.Searches.{look_of, plan_with, ran, searched_bytes, view_in, viewed_plan}
+use Rattle.grep_report.specs.declared.binary_detection.BinaryDetection.TheVariants.{None as no_detection}
+use Rattle.grep_report.specs.declared.binary_detection.BinaryDetection.TheVariants.{Quit, Convert}
+use Rattle.grep_definitions.specs.Plans.{IsAskedWith, Outcome, Plan, Planned, Settings}
+use Rattle.grep_definitions.specs.Plans.{SearcherState, Steps, is_across, refusal_of, search_plan}
+use Rattle.grep_definitions.specs.Searches.{IsPoint, IsRead, IsSearchOf, IsUnlessRefusedBy, Look}
+use Rattle.grep_definitions.specs.Searches.{asked, look_at, look_of, plan_with, ran, searched_bytes}
+use Rattle.grep_definitions.specs.Searches.{view_in, viewed_plan}
 use Rattle.grep_definitions.specs.SinkFolds.{FailsAtStep}
 use Rattle.grep_definitions.specs.SliceSearches.{IsSliceRead, IsSliceSearch, IsSliceSearchedIf}
 use Rattle.grep_definitions.proofs.KnownReaderLemmas.{taken-input}
 use Rattle.grep_definitions.proofs.SeenSearchLemmas.{input-search}
 use Rattle.grep_definitions.proofs.SinkFoldLemmas.{made-fails, not-refused}
-use Rattle.grep_searcher.specs.DetectedRuns.{DecodedSlicesFailWith, DecodedSlicesRunWith, IsKnownRunWith}
-use Rattle.grep_searcher.specs.DetectedRuns.{IsReaderRunWith, IsRunWith, KnownReadersFailWith, KnownReadersRunWith}
-use Rattle.grep_searcher.specs.DetectedRuns.{ReadersFailWith, ReadersRunWith, SlicesFailWith, SlicesRunWith}
+use Rattle.grep_searcher.specs.DetectedRuns.{DecodedSlicesFailWith, DecodedSlicesRunWith}
+use Rattle.grep_searcher.specs.DetectedRuns.{IsKnownRunWith, IsReaderRunWith, IsRunWith}
+use Rattle.grep_searcher.specs.DetectedRuns.{KnownReadersFailWith, KnownReadersRunWith}
+use Rattle.grep_searcher.specs.DetectedRuns.{ReadersFailWith, ReadersRunWith, SlicesFailWith}
+use Rattle.grep_searcher.specs.DetectedRuns.{SlicesRunWith}
 
 module _ {S E F : Type 0} (step : Steps S E) (errors : ErrorMakers F E) (matcher : MatcherFacts F) where
   -- a search of what is seen of some bytes is a run, if it ended in `Ok` or the matcher never fails

@@ -1,6 +1,6 @@
 -- Which lines a search by line selects if no limit and no stop is set.
-use Rattle.std.proofs.Common.{◌≡◌, ℕ, zero, suc, ◌<◌, ◌≤◌, Bool, true, false, List, [], ◌∷◌, length, take, refl, ap}
-use Rattle.std.proofs.Common.{sym, ◌∙◌, arith, add-one}
+use Rattle.std.proofs.Common.{◌≡◌, ℕ, zero, suc, ◌<◌, ◌≤◌, Bool, true, false, List, [], ◌∷◌, length}
+use Rattle.std.proofs.Common.{take, refl, ap, sym, ◌∙◌, arith, add-one}
 use Rattle.std.proofs.Math.Seq.{take-length}
 use Rattle.std.proofs.lemmas.Bool.{lt-ltb}
 use Rattle.std.proofs.lemmas.List.Sums.{count_by_more_yes, count_by_more_no, sum_by-cons}
@@ -11,8 +11,8 @@ use Rattle.grep_definitions.specs.Plans.{count_below, line, line_count, hits_if,
 use Rattle.grep_definitions.specs.Plans.{reports_end, Settings, stops_next}
 use Rattle.grep_definitions.proofs.LimitLemmas.{ends-none, by_limit-none, by_stop-none}
 use Rattle.grep_definitions.specs.SearchLaws.{is_matched}
-use Rattle.grep_searcher.specs.HitLines.{is_hit, HitsAreSelected, HitsAreMatched, HitsAreCounted, IsUnlimited}
-use Rattle.grep_searcher.specs.HitLines.{PredicatesAreCounted}
+use Rattle.grep_searcher.specs.HitLines.{is_hit, HitsAreSelected, HitsAreMatched, HitsAreCounted}
+use Rattle.grep_searcher.specs.HitLines.{IsUnlimited, PredicatesAreCounted}
 
 -- as many numbers pass as items of a list do, if a number passes exactly if its item does
 count_below-items : {X : Type 0} (f : X → Bool) (p : ℕ → Bool) (d : X) (xs : List X) (n : ℕ) → n ≤ length xs

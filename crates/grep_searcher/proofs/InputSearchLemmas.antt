@@ -1,5 +1,6 @@
 -- A search of a slice: as it is, or that of a reader that has it as its bytes and never fails.
-use Rattle.std.proofs.Common.{◌≡◌, ℕ, Bool, true, false, List, Some, None, Result, Ok, Err, refl, sym, subst, ◌++◌, Bor}
+use Rattle.std.proofs.Common.{◌≡◌, ℕ, Bool, true, false, List, Some, None, Result, Ok, Err, refl}
+use Rattle.std.proofs.Common.{sym, subst, ◌++◌, Bor}
 use Rattle.std.specs.Prelude.{MatchResult}
 use Rattle.grep_decode.specs.Source.{ReadResult}
 use Rattle.grep_report.specs.declared.config_error.ConfigError.{ConfigError}
@@ -7,8 +8,8 @@ use Rattle.grep_report.specs.ErrorMakers.{ErrorMakers}
 use Rattle.grep_matcher.specs.Meanings.{MatcherFacts}
 use Rattle.grep_definitions.specs.Plans.{IsLawful, refusal_of, Steps, SearcherState}
 use Rattle.grep_definitions.specs.Searches.{IsReaderSearched}
-use Rattle.grep_definitions.specs.SliceSearches.{IsSliceSearch, IsSliceRead, IsSliceSearched, IsSliceSearchedIf}
-use Rattle.grep_definitions.specs.SliceSearches.{is_searched_unchanged}
+use Rattle.grep_definitions.specs.SliceSearches.{IsSliceSearch, IsSliceRead, IsSliceSearched}
+use Rattle.grep_definitions.specs.SliceSearches.{IsSliceSearchedIf, is_searched_unchanged}
 use Rattle.grep_searcher.proofs.SourceSearchLemmas.{not-refused, refused}
 
 -- a read of a slice, of which a name is no part

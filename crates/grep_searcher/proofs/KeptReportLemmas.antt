@@ -1,6 +1,6 @@
 -- What a sink that keeps each report makes of a run.
-use Rattle.std.proofs.Common.{◌≡◌, true, List, [], ◌∷◌, ◌++◌, refl, sym, ap, subst, ◌∙◌, append_assoc}
-use Rattle.std.proofs.Common.{inl, inr, Err}
+use Rattle.std.proofs.Common.{◌≡◌, true, List, [], ◌∷◌, ◌++◌, refl, sym, ap, subst, ◌∙◌}
+use Rattle.std.proofs.Common.{append_assoc, inl, inr, Err}
 use Rattle.std.proofs.lemmas.Bool.{false≢true}
 use Rattle.std.proofs.lemmas.Grind.{flat_map-append}
 use Rattle.std.proofs.lemmas.List.{append-nil}
@@ -9,7 +9,8 @@ use Rattle.grep_report.specs.declared.sink_error.SearchError.{SearchError}
 use Rattle.grep_definitions.specs.Plans.{AreMade, Call, Finish, finishes, IsFinished, Outcome}
 use Rattle.grep_definitions.specs.Plans.{Planned, Settings}
 use Rattle.grep_definitions.specs.SearchLaws.{calls_of, is_report}
-use Rattle.grep_searcher.specs.KeptReports.{IsReportsStep, kept_lines, kept_reports, RunsKeep, RunsKeepUntil}
+use Rattle.grep_searcher.specs.KeptReports.{IsReportsStep, kept_lines, kept_reports, RunsKeep}
+use Rattle.grep_searcher.specs.KeptReports.{RunsKeepUntil}
 use Rattle.grep_searcher.specs.MatchHandlers.{KeptReport}
 use Rattle.grep_searcher.specs.declared.sinks.kept_lines.ReportKind.{ReportKind}
 use Rattle.grep_searcher.proofs.AppendedPartLemmas.{runs-append}

@@ -1,17 +1,20 @@
 -- Sinks that lend matches to a closure.
-use Rattle.std.proofs.Common.{◌≡◌, ℕ, Bool, true, false, List, [], ◌∷◌, ◌++◌, refl, sym, ap, ◌∙◌, inl, inr, append_assoc}
+use Rattle.std.proofs.Common.{◌≡◌, ℕ, Bool, true, false, List, [], ◌∷◌, ◌++◌, refl, sym, ap, ◌∙◌}
+use Rattle.std.proofs.Common.{inl, inr, append_assoc}
 use Rattle.std.proofs.lemmas.List.{append-nil}
 use Rattle.std.specs.Prelude.{Result, Ok, Err, map}
 use Rattle.std.specs.List.{flat_map}
 use Rattle.std.specs.Borrow.{Bor}
 use Rattle.std.specs.declared.io.Error.{Error}
 use Rattle.grep_report.specs.SinkReports.{MatchReport}
-use Rattle.grep_definitions.specs.Plans.{Call, begins, matches, context, breaks, binary_data, finishes}
+use Rattle.grep_definitions.specs.Plans.{Call, begins, matches, context, breaks, binary_data}
+use Rattle.grep_definitions.specs.Plans.{finishes}
 use Rattle.grep_definitions.specs.SearchLaws.{match_calls}
 use Rattle.grep_definitions.specs.SinkFolds.{AreTaken, IsTakenOk}
 use Rattle.grep_definitions.proofs.SinkFoldLemmas.{runs-take_matches}
-use Rattle.grep_searcher.specs.LentMatches.{AppendsLent, ClosuresAppendMatches, ClosuresAreLent, ClosuresKeepMatches}
-use Rattle.grep_searcher.specs.LentMatches.{ClosuresFailLent, IsLent, IsLentAt, IsLentStep, LentSteps}
+use Rattle.grep_searcher.specs.LentMatches.{AppendsLent, ClosuresAppendMatches, ClosuresAreLent}
+use Rattle.grep_searcher.specs.LentMatches.{ClosuresKeepMatches, ClosuresFailLent, IsLent, IsLentAt}
+use Rattle.grep_searcher.specs.LentMatches.{IsLentStep, LentSteps}
 use Rattle.grep_searcher.specs.MatchHandlers.{KeptReport, kept_of}
 
 module _ {F : Type 0} (call : F → Bor MatchReport → Result Bool Error → F → Type 0) where

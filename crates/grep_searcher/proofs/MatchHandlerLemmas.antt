@@ -1,7 +1,7 @@
 -- What handlers of matches make of a run.
-use Rattle.std.proofs.Common.{◌≡◌, ℕ, zero, suc, ◌+◌, Bool, true, false, List, [], ◌∷◌, ◌++◌, length, map, Some, None}
-use Rattle.std.proofs.Common.{◌<◌, ◌^◌, refl, sym, ap, subst, ◌∙◌, append_assoc, arith, inl, inr, Ok, Err}
-use Rattle.std.proofs.Common.{if◌then◌else◌}
+use Rattle.std.proofs.Common.{◌≡◌, ℕ, zero, suc, ◌+◌, Bool, true, false, List, [], ◌∷◌, ◌++◌}
+use Rattle.std.proofs.Common.{length, map, Some, None, ◌<◌, ◌^◌, refl, sym, ap, subst, ◌∙◌}
+use Rattle.std.proofs.Common.{append_assoc, arith, inl, inr, Ok, Err, if◌then◌else◌}
 use Rattle.std.proofs.Math.Seq.{take-nil}
 use Rattle.std.proofs.lemmas.Bool.{false≢true, le-ltb, lt-ltb}
 use Rattle.std.proofs.lemmas.List.{append-nil, length-append, take-map}
@@ -12,17 +12,18 @@ use Rattle.grep_definitions.specs.Plans.{Call, begins, matches, context, breaks,
 use Rattle.grep_definitions.specs.Plans.{finishes, Steps, Finish, Planned, Plan, Outcome, AreMade}
 use Rattle.grep_definitions.specs.Plans.{IsFinished, IsRun, first_below, line_count, some_below}
 use Rattle.grep_definitions.specs.Plans.{is_selected, is_touched_selected, Settings}
-use Rattle.grep_definitions.specs.SearchLaws.{match_calls, match_of}
+use Rattle.grep_definitions.specs.SearchLaws.{match_calls, match_of, is_match, matched_lines}
 use Rattle.grep_definitions.proofs.MatchCallLemmas.{first_match-is_first, matches-are_matched_lines}
-use Rattle.grep_definitions.specs.SearchLaws.{is_match, matched_lines}
 use Rattle.grep_definitions.specs.SinkFolds.{fold_while, IsMatchOk}
 use Rattle.grep_definitions.proofs.SinkFoldLemmas.{runs-fold_matches}
-use Rattle.grep_searcher.specs.MatchHandlers.{KeptReport, kept_of, with_match, FirstReports, has_room}
-use Rattle.grep_searcher.specs.MatchHandlers.{with_first, IsHandlerStep, LacksMemory, RunsHandle, RunsFit, RunsFailAt}
+use Rattle.grep_searcher.specs.MatchHandlers.{KeptReport, kept_of, with_match, FirstReports}
+use Rattle.grep_searcher.specs.MatchHandlers.{has_room, with_first, IsHandlerStep, LacksMemory}
+use Rattle.grep_searcher.specs.MatchHandlers.{RunsHandle, RunsFit, RunsFailAt, IsFoundStep}
+use Rattle.grep_searcher.specs.MatchHandlers.{RunsFindAcross, RunsFindSelected, RunsCollect}
+use Rattle.grep_searcher.specs.MatchHandlers.{RunsCollectLines, RunsKeepFirst, RunsCollectUntil}
+use Rattle.grep_searcher.specs.MatchHandlers.{RunsKeepFirstLines}
 use Rattle.grep_searcher.specs.Units.{unit_of}
 use Rattle.grep_searcher.proofs.UnitCallLemmas.{first_match-is_first_unit}
-use Rattle.grep_searcher.specs.MatchHandlers.{IsFoundStep, RunsFindAcross, RunsFindSelected, RunsCollect, RunsCollectLines, RunsKeepFirst}
-use Rattle.grep_searcher.specs.MatchHandlers.{RunsCollectUntil, RunsKeepFirstLines}
 
 module _ {H E : Type 0} (goes : H → Call → Bool) (next : H → Call → H) (fails : H → Call → E → H → Type 0) where
   abbrev step : Steps H E

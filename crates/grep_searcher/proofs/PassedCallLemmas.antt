@@ -1,6 +1,6 @@
 -- Sinks that pass each call to a closure.
-use Rattle.std.proofs.Common.{◌≡◌, ℕ, Bool, true, false, List, [], ◌∷◌, ◌++◌, refl, sym, ap, subst, ◌∙◌, inl, inr}
-use Rattle.std.proofs.Common.{append_assoc}
+use Rattle.std.proofs.Common.{◌≡◌, ℕ, Bool, true, false, List, [], ◌∷◌, ◌++◌, refl, sym, ap, subst}
+use Rattle.std.proofs.Common.{◌∙◌, inl, inr, append_assoc}
 use Rattle.std.proofs.lemmas.Bool.{false≢true}
 use Rattle.std.proofs.lemmas.List.{append-nil}
 use Rattle.std.specs.Prelude.{Result, Ok, Err}
@@ -12,8 +12,10 @@ use Rattle.grep_definitions.specs.Plans.{Settings}
 use Rattle.grep_definitions.specs.SearchLaws.{calls_of}
 use Rattle.grep_searcher.specs.AppendedParts.{run_calls}
 use Rattle.grep_searcher.specs.declared.sinks.calls.SinkCall.{SinkCall}
-use Rattle.grep_searcher.specs.PassedCalls.{AppendsPassed, ArePassed, ClosuresAppend, ClosuresArePassed, ClosuresFailPassed}
-use Rattle.grep_searcher.specs.PassedCalls.{ClosuresKeepCalls, is_finish, IsPassed, IsPassedStep, PassedSteps}
+use Rattle.grep_searcher.specs.PassedCalls.{AppendsPassed, ArePassed, ClosuresAppend}
+use Rattle.grep_searcher.specs.PassedCalls.{ClosuresArePassed, ClosuresFailPassed}
+use Rattle.grep_searcher.specs.PassedCalls.{ClosuresKeepCalls, is_finish, IsPassed, IsPassedStep}
+use Rattle.grep_searcher.specs.PassedCalls.{PassedSteps}
 
 module _ {F : Type 0} (call : F → SinkCall → Result Bool Error → F → Type 0) {S : Type 0} (closure : S → F) where
   module _ (settings : Settings) (finish : Finish) (new : S) where

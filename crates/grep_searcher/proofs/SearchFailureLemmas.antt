@@ -8,8 +8,9 @@ use Rattle.grep_definitions.specs.Plans.{Steps}
 use Rattle.grep_definitions.specs.Searches.{look_of, searched_bytes}
 use Rattle.grep_definitions.specs.SinkFolds.{FailsAtStep}
 use Rattle.grep_definitions.specs.SliceSearches.{IsUndecoded, is_searched_unchanged}
-use Rattle.grep_searcher.proofs.DetectedRunLemmas.{decoded_slices-fail_with, reader_run-fails, readers-fail_with}
-use Rattle.grep_searcher.proofs.DetectedRunLemmas.{run_with-fails, slices-fail_with}
+use Rattle.grep_searcher.proofs.DetectedRunLemmas.{decoded_slices-fail_with, reader_run-fails}
+use Rattle.grep_searcher.proofs.DetectedRunLemmas.{readers-fail_with, run_with-fails}
+use Rattle.grep_searcher.proofs.DetectedRunLemmas.{slices-fail_with}
 use Rattle.grep_searcher.specs.SearchFailures.{ReadersFail, SlicesFail}
 
 module _ {S E F : Type 0} (step : Steps S E) (errors : ErrorMakers F E) (matcher : MatcherFacts F) where

@@ -1,6 +1,7 @@
 -- The matches of a search across lines are its units.
-use Rattle.std.proofs.Common.{◌≡◌, ℕ, zero, suc, ◌+◌, ◌-◌, ◌<◌, ◌≤◌, Bool, true, false, not, ◌&&◌, List, [], ◌∷◌, ◌++◌}
-use Rattle.std.proofs.Common.{length, refl, sym, ◌∙◌, ap, arith, Option, Some, None, if◌then◌else◌}
+use Rattle.std.proofs.Common.{◌≡◌, ℕ, zero, suc, ◌+◌, ◌-◌, ◌<◌, ◌≤◌, Bool, true, false, not, ◌&&◌}
+use Rattle.std.proofs.Common.{List, [], ◌∷◌, ◌++◌, length, refl, sym, ◌∙◌, ap, arith, Option, Some}
+use Rattle.std.proofs.Common.{None, if◌then◌else◌}
 use Rattle.std.proofs.lemmas.Bool.{false≢true, ltb-true}
 use Rattle.std.proofs.lemmas.List.{map-append, length-map}
 use Rattle.std.proofs.lemmas.List.Elements.{filter-append}
@@ -9,25 +10,28 @@ use Rattle.std.specs.Prelude.{filter, map, nat_lt, slice_get}
 use Rattle.std.specs.Option.{option_map}
 use Rattle.grep_matcher.specs.Lines.{byte_of, lines, line_start}
 use Rattle.grep_matcher.specs.Meanings.{Meaning}
-use Rattle.grep_report.specs.declared.sink_context.SinkContextKind.TheVariants.{Before, After, Other}
+use Rattle.grep_report.specs.declared.sink_context.SinkContextKind.TheVariants.{Before, After}
+use Rattle.grep_report.specs.declared.sink_context.SinkContextKind.TheVariants.{Other}
 use Rattle.grep_definitions.specs.Plans.{is_across, search_plan, selection_in, planned, Call}
 use Rattle.grep_definitions.specs.Plans.{Planned, breaks, matches, breaks_before, calls_at}
-use Rattle.grep_definitions.specs.Plans.{count_at, first_below, follows_selected}
-use Rattle.grep_definitions.specs.Plans.{in_context, joined_from, kind, line_count, matched, number}
-use Rattle.grep_definitions.specs.Plans.{precedes_selected, report, reports_plan}
-use Rattle.grep_definitions.specs.Plans.{Selection, start, is_touched_selected}
-use Rattle.grep_definitions.specs.Plans.{reports_end, touched_lines, Settings}
-use Rattle.grep_definitions.specs.Selections.{continues}
+use Rattle.grep_definitions.specs.Plans.{count_at, first_below, follows_selected, in_context}
+use Rattle.grep_definitions.specs.Plans.{joined_from, kind, line_count, matched, number}
+use Rattle.grep_definitions.specs.Plans.{precedes_selected, report, reports_plan, Selection, start}
+use Rattle.grep_definitions.specs.Plans.{is_touched_selected, reports_end, touched_lines, Settings}
+use Rattle.grep_definitions.specs.Plans.{continues}
 use Rattle.grep_definitions.specs.SearchLaws.{is_match, is_matched, match_calls}
-use Rattle.grep_definitions.proofs.BelowLemmas.{first_below-before, first_below-here, first_below-none, first_below-nowhere}
-use Rattle.grep_definitions.proofs.BelowLemmas.{first_below-of, joined_from-equal, some_below-false, some_below-none}
+use Rattle.grep_definitions.proofs.BelowLemmas.{first_below-before, first_below-here}
+use Rattle.grep_definitions.proofs.BelowLemmas.{first_below-none, first_below-nowhere}
+use Rattle.grep_definitions.proofs.BelowLemmas.{first_below-of, joined_from-equal, some_below-false}
+use Rattle.grep_definitions.proofs.BelowLemmas.{some_below-none}
 use Rattle.grep_matcher.proofs.LineStartLemmas.{line_start-ascends, line_start-within}
-use Rattle.grep_definitions.proofs.MatchCallLemmas.{count_below-few, first-passing, length-passing, matches-are_counted}
-use Rattle.grep_definitions.proofs.MatchCallLemmas.{passing}
+use Rattle.grep_definitions.proofs.MatchCallLemmas.{count_below-few, first-passing, length-passing}
+use Rattle.grep_definitions.proofs.MatchCallLemmas.{matches-are_counted, passing}
 use Rattle.grep_definitions.proofs.LineSliceLemmas.{number-line}
-use Rattle.grep_definitions.proofs.SearchLawLemmas.{turn_count-le}
-use Rattle.grep_searcher.specs.Units.{begins_unit, unit_bytes, unit_lines, unit_of, FirstMatchIsFirstUnit, MatchesAreUnits}
-use Rattle.grep_searcher.specs.Units.{MatchesAreWithinCount, UnitsAreCounted}
+use Rattle.grep_definitions.proofs.SearchLawLemmas.{reports_end-le}
+use Rattle.grep_searcher.specs.Units.{begins_unit, unit_bytes, unit_lines, unit_of}
+use Rattle.grep_searcher.specs.Units.{FirstMatchIsFirstUnit, MatchesAreUnits, MatchesAreWithinCount}
+use Rattle.grep_searcher.specs.Units.{UnitsAreCounted}
 
 -- what is kept of joined lists, and what is made of them
 filter-joined : {X : Type 0} (p : X → Bool) (f : ℕ → List X) (i n : ℕ)
@@ -46,8 +50,8 @@ map-joined g f i (suc n) =
 matches-joined : (f : ℕ → List Planned) (i n : ℕ) → match_calls (joined_from f i n)
     ≡ joined_from (λ j. match_calls (f j)) i n
 matches-joined f i n =
-    ap (filter is_match) (map-joined (λ turn. turn.call) f i n)
-    ∙ filter-joined is_match (λ j. map (λ turn. turn.call) (f j)) i n
+    ap (filter is_match) (map-joined (λ call. call.call) f i n)
+    ∙ filter-joined is_match (λ j. map (λ call. call.call) (f j)) i n
 
 module _ (k : Settings) (meaning : Meaning) (bytes : List ℕ) where
   abbrev n : ℕ
@@ -188,7 +192,7 @@ matches-are_within_count k meaning bytes = go (is_across k meaning) refl
             count false is,
             matches-are_counted k meaning bytes is,
             count_below-few (is_matched k meaning bytes) end,
-            start-high t bytes end (turn_count-le k meaning bytes),
+            start-high t bytes end (reports_end-le k meaning bytes),
           ),
           omega (arith, count false is, line_start-within t bytes end),
         )

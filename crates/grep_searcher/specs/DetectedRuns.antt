@@ -1,7 +1,6 @@
 -- What a search comes to under any binary detection: a run along the plan of what is searched, with
 -- `binary_data` where it comes, or an error.
-use Rattle.std.specs.Prelude.{◌≡◌, ◌⊎◌, ℕ, true, false, List, length, Option, Some, Result}
-use Rattle.std.specs.Prelude.{Ok, Err}
+use Rattle.std.specs.Prelude.{◌≡◌, ◌⊎◌, ℕ, true, false, List, length, Option, Some, Result, Ok, Err}
 use Rattle.grep_decode.specs.Source.{ReadResult}
 use Rattle.grep_matcher.specs.Meanings.{MatcherFacts}
 use Rattle.grep_report.specs.ErrorMakers.{ErrorMakers}

@@ -5,8 +5,7 @@ use Rattle.std.specs.Option.{option_map}
 use Rattle.grep_matcher.specs.Meanings.{Meaning}
 use Rattle.grep_definitions.specs.Plans.{is_across, search_plan, Call, matches, count_below}
 use Rattle.grep_definitions.specs.Plans.{first_below, joined_from, line_count, report_end, start}
-use Rattle.grep_definitions.specs.Plans.{is_touched_selected, touched_lines, Settings}
-use Rattle.grep_definitions.specs.Selections.{continues}
+use Rattle.grep_definitions.specs.Plans.{is_touched_selected, touched_lines, Settings, continues}
 use Rattle.grep_definitions.specs.SearchLaws.{match_calls, number_of}
 
 module _ (settings : Settings) (meaning : Meaning) (bytes : List ℕ) where

@@ -1,22 +1,20 @@
 -- How the calls of a walk across lines end, against those that are defined.
-use Rattle.std.proofs.Common.{◌≡◌, ℕ, ◌+◌, ◌-◌, ◌≤◌, true, List, ◌++◌, length, drop, inl, inr, refl, sym, ◌∙◌, ap}
-use Rattle.std.proofs.Common.{subst, arith, length-take, length-drop}
+use Rattle.std.proofs.Common.{◌≡◌, ℕ, ◌+◌, ◌-◌, ◌≤◌, true, List, ◌++◌, length, drop, inl, inr, refl}
+use Rattle.std.proofs.Common.{sym, ◌∙◌, ap, subst, arith, length-take, length-drop}
 use Rattle.std.specs.Prelude.{Ok, Err, false, All, slice_range}
 use Rattle.grep_lines.proofs.LineRangeLemmas.{comes-from, end-start}
 use Rattle.grep_matcher.specs.Lines.{lines, byte_of}
 use Rattle.grep_matcher.specs.Meanings.{Meaning, MatcherFacts}
-use Rattle.grep_definitions.specs.AcrossLines.{byte_count, turns, turns_at}
-use Rattle.grep_definitions.specs.Plans.{IsAskedAt, joined_from, Settings, Planned, begins, Steps}
-use Rattle.grep_definitions.specs.Plans.{Outcome, all_true, stopped, failed, AreMade, counted}
-use Rattle.grep_definitions.specs.LineSearch.{start}
+use Rattle.grep_definitions.specs.Plans.{across_plan, calls_at, start, touched_lines, IsAskedAt}
+use Rattle.grep_definitions.specs.Plans.{joined_from, Settings, Planned, begins, Steps, Outcome}
+use Rattle.grep_definitions.specs.Plans.{all_true, stopped, failed, AreMade, counted, calls_before}
 use Rattle.grep_report.specs.ErrorMakers.{ErrorMakers}
 use Rattle.grep_definitions.specs.ContentsSearches.{IsFaultIn, of_sink, of_matcher}
-use Rattle.grep_definitions.specs.SearchTurns.{calls_across}
-use Rattle.grep_definitions.proofs.AcrossTurnEndLemmas.{through-is}
+use Rattle.grep_definitions.proofs.AcrossCountLemmas.{through-is}
 use Rattle.grep_definitions.proofs.BelowLemmas.{room-first}
 use Rattle.grep_definitions.proofs.SinkRunLemmas.{AreMade-append, AreMade-ended}
 use Rattle.grep_walk.specs.declared.walk.Walk.{Walk}
-use Rattle.grep_walk.specs.AcrossWalks.{IsAcross, is_done, turns_before}
+use Rattle.grep_walk.specs.AcrossWalks.{IsAcross, is_done}
 use Rattle.grep_walk.specs.Walks.{Counted, skip_lines}
 use Rattle.grep_definitions.proofs.AcrossWalkLemmas as calls
 use Rattle.grep_walk.proofs.AcrossStepLemmas as steps
@@ -28,17 +26,17 @@ module _ (k : Settings) (meaning : Meaning) (bytes : List ℕ) where
   n = length (lines (byte_of k.line_terminator) bytes)
 
   abbrev T : ℕ → List Planned
-  T = turns_at k meaning bytes
+  T = calls_at k bytes (touched_lines k meaning bytes)
 
   abbrev front : ℕ → List Planned
-  front = turns_before k meaning bytes
+  front = calls_before k bytes (touched_lines k meaning bytes)
 
   passed-few : (w : Walk) → IsAcross k meaning bytes w → w.next_unreported ≤ n
   passed-few w across = omega arith
 
   module _ {State E : Type 0} (step : Steps State E) (first : State) where
     abbrev IsCounted : ℕ → Outcome E → State → Type 0
-    IsCounted count outcome new = Counted step k first (turns k meaning bytes) (byte_count k meaning bytes) count
+    IsCounted count outcome new = Counted step k first (across_plan k meaning bytes).calls (across_plan k meaning bytes).finish.count count
         outcome new
 
     pub counted-unbegun : (new : State) → step first k begins (Ok false) new → IsCounted 0 (stopped (counted 0)) new
@@ -58,7 +56,7 @@ module _ (k : Settings) (meaning : Meaning) (bytes : List ℕ) where
 
     -- what ended early ended the whole
     ended-whole : (v : ℕ) (outcome : Outcome E) (new : State) → v ≤ n → (outcome ≡ all_true → ⊥)
-        → AreMade step k first (front v) outcome new → AreMade step k first (turns k meaning bytes) outcome new
+        → AreMade step k first (front v) outcome new → AreMade step k first (across_plan k meaning bytes).calls outcome new
     ended-whole v outcome new low ended reported =
         subst (λ ts. AreMade step k first ts outcome new) (sym (calls.front-through k meaning bytes v n low))
         (AreMade-ended step k (front v) (joined_from T v (n - v)) first outcome new ended reported)
@@ -73,7 +71,7 @@ module _ (k : Settings) (meaning : Meaning) (bytes : List ℕ) where
 
     pub failed-whole : (w : Walk) (e : E) (new : State) → IsAcross k meaning bytes w
         → AreMade step k first (front w.next_unreported) (failed e) new
-        → AreMade step k first (turns k meaning bytes) (failed e) new
+        → AreMade step k first (across_plan k meaning bytes).calls (failed e) new
     failed-whole w e new across reported = ended-whole w.next_unreported (failed e) new (passed-few w across)
         (λ same. cc) reported
 
@@ -91,7 +89,7 @@ module _ (k : Settings) (meaning : Meaning) (bytes : List ℕ) where
               (sym (calls.front-done k meaning bytes
               (subst (λ i. calls.Near k meaning bytes w.next_unreported i w.after_context_left) all across.near)))
               reported;
-          is_count = sym across.placed.at.begins ∙ ap (start k meaning bytes) all;
+          is_count = sym across.placed.at.begins ∙ ap (start k bytes) all;
         }
 
     -- the lines up to the end are passed unreported
@@ -109,9 +107,9 @@ module _ (k : Settings) (meaning : Meaning) (bytes : List ℕ) where
 module _ {State E F : Type 0} (step : Steps State E) (errors : ErrorMakers F E) (matcher : MatcherFacts F) (k : Settings)
     (bytes : List ℕ) (first : State) where
   abbrev IsFaulty : E → State → Type 0
-  IsFaulty e new = IsFaultIn step errors matcher (calls_across k matcher.meaning) k bytes first e new
+  IsFaulty e new = IsFaultIn step errors matcher true k bytes first e new
 
-  failed-run : (e : E) (new : State) → AreMade step k first (turns k matcher.meaning bytes) (failed e) new
+  failed-run : (e : E) (new : State) → AreMade step k first (across_plan k matcher.meaning bytes).calls (failed e) new
       → IsFaulty e new
   failed-run e new reported = of_sink (record {
     outcome = failed e;
@@ -124,27 +122,28 @@ module _ {State E F : Type 0} (step : Steps State E) (errors : ErrorMakers F E) 
   fault-begin e new fails = failed-run e new (inr (inr (e, refl, fails)))
 
   pub fault-sink : (w : Walk) (e : E) (new : State) → IsAcross k matcher.meaning bytes w
-      → AreMade step k first (turns_before k matcher.meaning bytes w.next_unreported) (failed e) new
+      → AreMade step k first (calls_before k bytes (touched_lines k matcher.meaning bytes) w.next_unreported) (failed e) new
       → IsFaulty e new
   fault-sink w e new across reported = failed-run e new
       (failed-whole k matcher.meaning bytes step first w e new across reported)
 
   -- a question at the line that a walk is at
   pub fault-matcher : (w : Walk) (now : State) → IsAcross k matcher.meaning bytes w
-      → AreMade step k first (turns_before k matcher.meaning bytes w.next_unreported) all_true now
+      → AreMade step k first (calls_before k bytes (touched_lines k matcher.meaning bytes) w.next_unreported) all_true now
       → (haystack : List ℕ) (error : F) (e : E) → IsAskedAt k matcher.meaning bytes w.line haystack
       → is_done k w ≡ false → matcher.fails haystack error → errors.is_message error e
       → IsFaulty e now
   fault-matcher w now across reported haystack error e asked goes fails message =
-      of_matcher haystack error (turns_before k matcher.meaning bytes w.next_unreported)
+      of_matcher haystack error (calls_before k bytes (touched_lines k matcher.meaning bytes) w.next_unreported)
       (record {
         index = w.line;
-        question = asked;
-        room = λ inverted.
-            grind (arith, (across.limited inverted).below, inverted, goes);
+        question = record {
+          question = asked;
+          room = λ inverted. grind (arith, (across.limited inverted).below, inverted, goes);
+        };
         before = sym (through-is k matcher.meaning bytes across.near
             (asked-inside k matcher.meaning bytes w.line haystack asked)
-            (subst (λ o. All (λ turn. turn.if_false.count ≤ o) (turns_before k matcher.meaning bytes w.next_unreported))
+            (subst (λ o. All (λ call. call.if_false.count ≤ o) (calls_before k bytes (touched_lines k matcher.meaning bytes) w.next_unreported))
             (sym across.placed.at.begins) across.ended));
       })
       fails message reported

@@ -1,7 +1,7 @@
 -- A walk across lines, from line to line and from unit to unit.
-use Rattle.std.proofs.Common.{◌≡◌, ℕ, zero, suc, ◌+◌, ◌-◌, ◌<◌, ◌≤◌, Bool, true, false, not, ◌&&◌, List, [], ◌++◌}
-use Rattle.std.proofs.Common.{length, drop, refl, sym, ◌∙◌, ap, subst, arith, if◌then◌else◌, length-take}
-use Rattle.std.proofs.Common.{length-drop}
+use Rattle.std.proofs.Common.{◌≡◌, ℕ, zero, suc, ◌+◌, ◌-◌, ◌<◌, ◌≤◌, Bool, true, false, not, ◌&&◌}
+use Rattle.std.proofs.Common.{List, [], ◌++◌, length, drop, refl, sym, ◌∙◌, ap, subst, arith}
+use Rattle.std.proofs.Common.{if◌then◌else◌, length-take, length-drop}
 use Rattle.std.proofs.Math.Path.{ap₂}
 use Rattle.std.proofs.lemmas.List.Elements.{All-weaker}
 use Rattle.std.specs.Prelude.{nat_lt, All, slice_range}
@@ -9,18 +9,20 @@ use Rattle.grep_matcher.specs.Lines.{lines, line_start, byte_of}
 use Rattle.grep_matcher.specs.Meanings.{Meaning}
 use Rattle.grep_lines.specs.Positions.{IsLine, IsLineStart}
 use Rattle.grep_report.specs.declared.sink_context.SinkContextKind.TheVariants.{After, Other}
-use Rattle.grep_definitions.specs.Plans.{is_free, count_below, Settings, Planned, selects_free, has_room}
-use Rattle.grep_definitions.specs.AcrossLines.{is_selected}
-use Rattle.grep_definitions.specs.LineTurns.{context_turns, match_turns, pending_turns}
+use Rattle.grep_definitions.specs.Plans.{is_touched_selected, is_free, count_below, Settings}
+use Rattle.grep_definitions.specs.Plans.{Planned, selects_free, has_room, touched_lines}
+use Rattle.grep_definitions.specs.Plans.{calls_before}
+use Rattle.grep_definitions.specs.LineCalls.{context_calls, selected_calls, pending_calls}
 use Rattle.grep_definitions.specs.SearchLaws.{number_of}
 use Rattle.grep_definitions.proofs.BelowLemmas.{count_below-le, room-le}
 use Rattle.grep_walk.specs.declared.walk.Walk.{Walk}
-use Rattle.grep_walk.specs.AcrossWalks.{IsAcross, IsLimited, turns_before, after_lines}
-use Rattle.grep_walk.specs.Walks.{line_end, line_turns, after_line, skip_lines}
+use Rattle.grep_walk.specs.AcrossWalks.{IsAcross, IsLimited, after_lines}
+use Rattle.grep_walk.specs.Walks.{line_end, line_calls, after_line, skip_lines}
 use Rattle.grep_definitions.proofs.AcrossWalkLemmas as calls
 use Rattle.grep_walk.proofs.AcrossUnitLemmas.{IsChosen, IsNext, selected-inverted}
 use Rattle.grep_lines.proofs.LineRangeLemmas.{lines-between}
-use Rattle.grep_walk.proofs.WalkLemmas.{Bare, ended-next, ended-start, placed-next, placed-start, start-after, start_walk}
+use Rattle.grep_walk.proofs.WalkLemmas.{Bare, ended-next, ended-start, placed-next, placed-start}
+use Rattle.grep_walk.proofs.WalkLemmas.{start-after, start_walk}
 
 -- one more number
 count-next : (p : ℕ → Bool) (i : ℕ) → count_below p (i + 1) ≡ (if p i then count_below p i + 1 else count_below p i)
@@ -28,7 +30,7 @@ count-next p i = let one : i + 1 ≡ suc i = omega arith in rw one refl
 
 module _ (k : Settings) (meaning : Meaning) (bytes : List ℕ) where
   abbrev S : ℕ → Bool
-  S = is_selected k meaning bytes
+  S = is_touched_selected k meaning bytes
 
   abbrev free : ℕ → Bool
   free = is_free k meaning bytes
@@ -92,18 +94,18 @@ module _ {k : Settings} {meaning : Meaning} {bytes : List ℕ} {w : Walk} {p : �
   count part = length (lines (byte_of k.line_terminator) part)
 
   abbrev front : ℕ → List Planned
-  front = turns_before k meaning bytes
+  front = calls_before k bytes (touched_lines k meaning bytes)
 
   -- the calls of the line, if it isn't chosen, and those of the unit
-  abbrev line-turns : ℕ → ℕ → List ℕ → List Planned
-  line-turns offset end line =
-      if nat_lt 0 w.after_context_left then context_turns After (number_of k w.line) offset end line
-      else (if k.passthru then context_turns Other (number_of k w.line) offset end line else [])
+  abbrev line-calls : ℕ → ℕ → List ℕ → List Planned
+  line-calls offset end line =
+      if nat_lt 0 w.after_context_left then context_calls After (number_of k w.line) offset end line
+      else (if k.passthru then context_calls Other (number_of k w.line) offset end line else [])
 
-  abbrev unit-turns : ℕ → ℕ → List ℕ → List Planned
-  unit-turns offset end unit =
-      pending_turns k bytes w.next_unreported w.line end w.next_unreported (w.line - w.next_unreported)
-      ++ match_turns k w.next_unreported w.line offset end unit
+  abbrev unit-calls : ℕ → ℕ → List ℕ → List Planned
+  unit-calls offset end unit =
+      pending_calls k bytes w.next_unreported w.line end w.next_unreported (w.line - w.next_unreported)
+      ++ selected_calls k w.next_unreported w.line offset end unit
 
   at-start : IsLineStart (byte_of k.line_terminator) bytes p w.line
   at-start = subst (λ o. IsLineStart (byte_of k.line_terminator) bytes o w.line) same across.placed.at
@@ -135,24 +137,24 @@ module _ {k : Settings} {meaning : Meaning} {bytes : List ℕ} {w : Walk} {p : �
             (subst (λ l. calls.Near k meaning bytes w.next_unreported next.last l) (sym none) near);
         limited = λ inverted. limited-lines k meaning bytes inverted (count (here q)) w.line w.match_count
             (across.limited inverted) (λ j low high. next.missed j low (omega arith));
-        ended = All-weaker (λ turn. turn.if_false.count ≤ w.offset) (λ turn. turn.if_false.count ≤ w.offset + length
+        ended = All-weaker (λ call. call.if_false.count ≤ w.offset) (λ call. call.if_false.count ≤ w.offset + length
             (here q))
-            (λ turn low. omega arith) (front w.next_unreported) across.ended;
+            (λ call low. omega arith) (front w.next_unreported) across.ended;
       }
 
   -- a line that isn't chosen
   module _ {q : ℕ} (bare : Bare k meaning bytes) (line : IsLine (byte_of k.line_terminator) bytes w.line p q)
-      (missed : is_selected k meaning bytes w.line ≡ false) where
+      (missed : is_touched_selected k meaning bytes w.line ≡ false) where
     pub front-missed : front (after_line k w (here q) false).next_unreported ≡ front w.next_unreported
-        ++ line_turns k bytes w (here q) false false
+        ++ line_calls k bytes w (here q) false false
     front-missed =
         let own = slice_range bytes (starts w.line) (starts (w.line + 1)) in
         calls.front-missed k meaning bytes bare across.near line.listed
         missed
-        ∙ ap (λ turns. front w.next_unreported ++ turns)
-        (ap (λ o. line-turns o (starts (w.line + 1)) own) (line.begins ∙ sym same)
-        ∙ (ap (λ e. line-turns w.offset e own) (start-after k meaning bytes w same line)
-        ∙ ap₂ (λ a b. line-turns w.offset (line_end w (here q)) (slice_range bytes a b)) line.begins line.ends))
+        ∙ ap (λ calls. front w.next_unreported ++ calls)
+        (ap (λ o. line-calls o (starts (w.line + 1)) own) (line.begins ∙ sym same)
+        ∙ (ap (λ e. line-calls w.offset e own) (start-after k meaning bytes w same line)
+        ∙ ap₂ (λ a b. line-calls w.offset (line_end w (here q)) (slice_range bytes a b)) line.begins line.ends))
 
     pub across-missed : IsAcross k meaning bytes (after_line k w (here q) false)
     across-missed = record {
@@ -161,7 +163,7 @@ module _ {k : Settings} {meaning : Meaning} {bytes : List ℕ} {w : Walk} {p : �
           line.listed missed;
       limited = λ inverted. limited-missed k meaning bytes inverted w.line w.match_count (across.limited inverted)
           missed;
-      ended = subst (All (λ turn. turn.if_false.count ≤ line_end w (here q))) (sym front-missed)
+      ended = subst (All (λ call. call.if_false.count ≤ line_end w (here q))) (sym front-missed)
           (ended-next k bytes w (here q) false false (front w.next_unreported) across.ended);
     }
 
@@ -196,16 +198,16 @@ module _ {k : Settings} {meaning : Meaning} {bytes : List ℕ} {w : Walk} {p : �
         go false is = ap walk-to count-chosen
 
     pub front-chosen : front (after_lines k w (here q) true).next_unreported ≡ front w.next_unreported
-        ++ line_turns k bytes w (here q) true false
+        ++ line_calls k bytes w (here q) true false
     front-chosen =
         let own = slice_range bytes (starts w.line) (starts chosen.last) in
         ap (λ (next : Walk). front next.next_unreported) walk-is
         ∙ (calls.front-unit k meaning bytes chosen.last across.near
         chosen.some chosen.at.listed chosen.hits chosen.closed chosen.single chosen.first
-        ∙ ap (λ turns. front w.next_unreported ++ turns)
-        (ap (λ e. unit-turns (starts w.line) e own) (chosen.at.begins ∙ sym unit-end)
-        ∙ (ap (λ o. unit-turns o (line_end w (here q)) own) across.placed.at.begins
-        ∙ ap₂ (λ a b. unit-turns w.offset (line_end w (here q)) (slice_range bytes a b))
+        ∙ ap (λ calls. front w.next_unreported ++ calls)
+        (ap (λ e. unit-calls (starts w.line) e own) (chosen.at.begins ∙ sym unit-end)
+        ∙ (ap (λ o. unit-calls o (line_end w (here q)) own) across.placed.at.begins
+        ∙ ap₂ (λ a b. unit-calls w.offset (line_end w (here q)) (slice_range bytes a b))
         (across.placed.at.begins ∙ same) chosen.at.begins)))
 
     across-to : IsAcross k meaning bytes (walk-to chosen.last)
@@ -220,7 +222,7 @@ module _ {k : Settings} {meaning : Meaning} {bytes : List ℕ} {w : Walk} {p : �
       limited = λ inverted. subst (λ e. IsLimited k meaning bytes e (w.match_count + 1)) (sym (chosen.single inverted))
           (limited-hit k meaning bytes inverted w.line w.match_count (across.limited inverted) (chosen.room inverted)
           (chosen.hits w.line (omega arith) chosen.some));
-      ended = subst (All (λ turn. turn.if_false.count ≤ line_end w (here q)))
+      ended = subst (All (λ call. call.if_false.count ≤ line_end w (here q)))
           (sym (sym (ap (λ (next : Walk). front next.next_unreported) walk-is) ∙ front-chosen))
           (ended-next k bytes w (here q) true false (front w.next_unreported) across.ended);
     }

@@ -1,25 +1,24 @@
 -- The unit of lines that a walk across lines comes to, the lines that aren't chosen before it, and the lines that are.
-use Rattle.std.proofs.Common.{◌≡◌, ℕ, ◌+◌, ◌-◌, ◌<◌, ◌≤◌, ◌==◌, Bool, true, false, not, ◌&&◌, List, length}
-use Rattle.std.proofs.Common.{if◌then◌else◌, refl, sym, ◌∙◌, ap, subst, arith, ⊎_elim}
+use Rattle.std.proofs.Common.{◌≡◌, ℕ, ◌+◌, ◌-◌, ◌<◌, ◌≤◌, ◌==◌, Bool, true, false, not, ◌&&◌, List}
+use Rattle.std.proofs.Common.{length, if◌then◌else◌, refl, sym, ◌∙◌, ap, subst, arith, ⊎_elim}
 use Rattle.std.proofs.Math.Bool.{and-false}
 use Rattle.std.proofs.lemmas.Bool.Decides.{nat_tests}
 use Rattle.std.proofs.lemmas.Bool.{lt-ltb, ltb-true, ltb-false, cases_Bool, cases_lt}
 use Rattle.std.specs.Prelude.{nat_lt, IfOk, Result, Ok, Err}
 use Rattle.grep_matcher.specs.Lines.{lines, byte_of}
-use Rattle.grep_definitions.specs.LineSearch.{line_count}
 use Rattle.grep_matcher.specs.Meanings.{Meaning}
 use Rattle.grep_lines.specs.Positions.{IsLine, IsLineStart}
-use Rattle.grep_definitions.specs.Plans.{is_free}
-use Rattle.grep_definitions.specs.Plans.{count_below, Settings, has_room, selects_free}
-use Rattle.grep_definitions.specs.AcrossLines.{is_selected, continues_unit}
+use Rattle.grep_definitions.specs.Plans.{continues, is_touched_selected, line_count, touched_lines}
+use Rattle.grep_definitions.specs.Plans.{is_free, count_below, Settings, has_room, selects_free}
 use Rattle.grep_definitions.proofs.BelowLemmas.{count_below-le, room-le, room-first}
 use Rattle.grep_definitions.proofs.BoolLemmas.{and-both, clash}
 use Rattle.grep_walk.specs.declared.blocks.Blocks.{Blocks}
 use Rattle.grep_walk.specs.declared.walk.Walk.{Walk}
-use Rattle.grep_walk.specs.AcrossWalks.{IsAcross, IsComing, IsReady, is_done, is_joined, next_chosen}
+use Rattle.grep_walk.specs.AcrossWalks.{IsAcross, IsComing, IsReady, is_done, is_joined}
+use Rattle.grep_walk.specs.AcrossWalks.{next_chosen}
 use Rattle.grep_walk.specs.TouchedUnits.{AreLeft, IsUnit, is_counted}
-use Rattle.grep_lines.proofs.LineRangeLemmas.{starts-before, starts-from, starts-until, comes-before, comes-from}
-use Rattle.grep_lines.proofs.LineRangeLemmas.{end-start}
+use Rattle.grep_lines.proofs.LineRangeLemmas.{starts-before, starts-from, starts-until}
+use Rattle.grep_lines.proofs.LineRangeLemmas.{comes-before, comes-from, end-start}
 
 module _ (k : Settings) (meaning : Meaning) (bytes : List ℕ) where
   abbrev t : ℕ
@@ -29,7 +28,7 @@ module _ (k : Settings) (meaning : Meaning) (bytes : List ℕ) where
   n = length (lines t bytes)
 
   abbrev S : ℕ → Bool
-  S = is_selected k meaning bytes
+  S = is_touched_selected k meaning bytes
 
   abbrev free : ℕ → Bool
   free = is_free k meaning bytes
@@ -108,7 +107,7 @@ module _ (k : Settings) (meaning : Meaning) (bytes : List ℕ) where
     pub hits : (j : ℕ) → w.line ≤ j → j < last → S j ≡ true
     pub closed : selects_free k ≡ false → last < n → S last ≡ false
     pub single : selects_free k ≡ true → last ≡ w.line + 1
-    pub first : continues_unit k meaning bytes w.line ≡ false
+    pub first : continues k bytes (touched_lines k meaning bytes) w.line ≡ false
     pub room : selects_free k ≡ true → has_room k w.match_count ≡ true
 
 -- a walk that has come to a unit or is in it
@@ -155,7 +154,7 @@ module _ {k : Settings} {meaning : Meaning} {bytes : List ℕ} {start : ℕ} {w 
           let free = is_free k meaning bytes in
           let over = (across.limited is_b).below ∙ is_c in
           record {
-            last = line_count k meaning bytes;
+            last = line_count k bytes;
             at = end-start (byte_of k.line_terminator) bytes;
             low = at.listed;
             from = omega arith;
@@ -184,7 +183,7 @@ module _ {k : Settings} {meaning : Meaning} {bytes : List ℕ} {start : ℕ} {w 
             from = here.before;
             within = ready.within;
             missed = λ j low high.
-                let inside : j < line_count k meaning bytes = omega arith in
+                let inside : j < line_count k bytes = omega arith in
                 let hit = here.is_unit.hit j inside (omega (arith, starts-from at j low))
                 (starts-before here.is_unit.ends j high) in
                 selected-inverted k meaning bytes is_b j
@@ -284,7 +283,7 @@ module _ {k : Settings} {meaning : Meaning} {bytes : List ℕ} {start : ℕ} {w 
   chosen-is {end} = go (selects_free k) room (nat_lt start unit.0) refl refl refl
     where
       S : ℕ → Bool
-      S = is_selected k meaning bytes
+      S = is_touched_selected k meaning bytes
 
       go : (b c d : Bool) → selects_free k ≡ b → room ≡ c → nat_lt start unit.0 ≡ d → start ≡ Chosen b c d
           → (is_joined k true ≡ true → end ≡ unit.1)

@@ -2,15 +2,14 @@
 use Rattle.std.proofs.Common.{ℕ, List, subst, None, Result, Ok, Err}
 use Rattle.grep_definitions.specs.Plans.{Settings, Planned, finishes, Steps, Outcome, all_true}
 use Rattle.grep_definitions.specs.Plans.{stopped, failed, IsFinished, IsRun, Finish, finish_result}
-use Rattle.grep_definitions.specs.Plans.{counted}
+use Rattle.grep_definitions.specs.Plans.{counted, search_plan}
 use Rattle.grep_definitions.specs.SinkRuns.{plan_of}
-use Rattle.grep_definitions.specs.SearchTurns.{search_turns, search_byte_count}
 use Rattle.grep_report.specs.ErrorMakers.{ErrorMakers}
 use Rattle.grep_matcher.specs.Meanings.{MatcherFacts}
 use Rattle.grep_definitions.specs.ContentsSearches.{IsSearchedAlong, of_sink}
 use Rattle.grep_walk.specs.Walks.{Counted, IsCount}
 
-module _ {S E : Type 0} (step : Steps S E) (k : Settings) (old : S) (turns : List Planned) (whole : ℕ) where
+module _ {S E : Type 0} (step : Steps S E) (k : Settings) (old : S) (calls : List Planned) (whole : ℕ) where
   -- the call of `finish` with what was counted is the one that is defined
   pub finish-counted : (count : ℕ) (outcome : Outcome E) (mid : S) (result : Result (Unit {0}) E) (new : S)
       → IsCount outcome whole count → step mid k (finishes count None) (finish_result result) new
@@ -23,8 +22,8 @@ module _ {S E : Type 0} (step : Steps S E) (k : Settings) (old : S) (turns : Lis
 
   -- `finish` ends what was counted
   pub run-finish : (count : ℕ) (outcome : Outcome E) (mid : S) (result : Result (Unit {0}) E) (new : S)
-      → Counted step k old turns whole count outcome mid
-      → step mid k (finishes count None) (finish_result result) new → IsRun step k old (plan_of turns whole) result new
+      → Counted step k old calls whole count outcome mid
+      → step mid k (finishes count None) (finish_result result) new → IsRun step k old (plan_of calls whole) result new
   run-finish count outcome mid result new counted finish = record {
     outcome = outcome;
     mid = mid;
@@ -36,15 +35,15 @@ module _ {S E : Type 0} (step : Steps S E) (k : Settings) (old : S) (turns : Lis
 pub searched-finish : {S E F : Type 0} (step : Steps S E) (errors : ErrorMakers F E) (matcher : MatcherFacts F)
     (k : Settings) (bytes : List ℕ) (old : S) (count : ℕ) (outcome : Outcome E) (mid : S)
     (result : Result (Unit {0}) E) (new : S)
-    → Counted step k old (search_turns k matcher.meaning bytes) (search_byte_count k matcher.meaning bytes) count
+    → Counted step k old (search_plan k matcher.meaning bytes).calls (search_plan k matcher.meaning bytes).finish.count count
     outcome mid
     → step mid k (finishes count None) (finish_result result) new
     → IsSearchedAlong step errors matcher k bytes old result new
 searched-finish step errors matcher k bytes old count outcome mid (Ok u) new counted finish =
-    run-finish step k old (search_turns k matcher.meaning bytes) (search_byte_count k matcher.meaning bytes) count
+    run-finish step k old (search_plan k matcher.meaning bytes).calls (search_plan k matcher.meaning bytes).finish.count count
     outcome mid (Ok u) new
     counted finish
 searched-finish step errors matcher k bytes old count outcome mid (Err e) new counted finish = of_sink
-    (run-finish step k old (search_turns k matcher.meaning bytes) (search_byte_count k matcher.meaning bytes) count
+    (run-finish step k old (search_plan k matcher.meaning bytes).calls (search_plan k matcher.meaning bytes).finish.count count
     outcome mid (Err e) new
     counted finish)

@@ -1,6 +1,7 @@
 -- Which matches were found across lines, and which are still to be found, from one match to the next.
-use Rattle.std.proofs.Common.{◌≡◌, ℕ, ◌+◌, ◌-◌, ◌<◌, true, List, [], ◌∷◌, ◌++◌, length, drop, refl, sym, ◌∙◌, ap, arith}
-use Rattle.std.proofs.Common.{append_assoc, length-append, length-drop, ap₂, Option, Some, None}
+use Rattle.std.proofs.Common.{◌≡◌, ℕ, ◌+◌, ◌-◌, ◌<◌, true, List, [], ◌∷◌, ◌++◌, length, drop, refl}
+use Rattle.std.proofs.Common.{sym, ◌∙◌, ap, arith, append_assoc, length-append, length-drop, ap₂}
+use Rattle.std.proofs.Common.{Option, Some, None}
 use Rattle.std.proofs.lemmas.Bool.Decides.{nat_tests}
 use Rattle.std.specs.Option.{option_map}
 use Rattle.grep_matcher.specs.Meanings.{Meaning}
@@ -8,8 +9,9 @@ use Rattle.grep_matcher.specs.FindResults.{IsWithin}
 use Rattle.grep_definitions.specs.Plans.{is_below, IsAskedAfter, match_limit, Settings}
 use Rattle.grep_definitions.specs.Plans.{position_after, match_from}
 use Rattle.grep_definitions.specs.SuccessiveMatches.{matches_left}
-use Rattle.grep_definitions.proofs.SuccessiveMatchLemmas.{matches_left-start, matches_left-found, matches_left-none}
-use Rattle.grep_definitions.proofs.SuccessiveMatchLemmas.{matches_left-end, position_past-last, match_from-found}
+use Rattle.grep_definitions.proofs.SuccessiveMatchLemmas.{matches_left-start, matches_left-found}
+use Rattle.grep_definitions.proofs.SuccessiveMatchLemmas.{matches_left-none, matches_left-end}
+use Rattle.grep_definitions.proofs.SuccessiveMatchLemmas.{position_past-last, match_from-found}
 use Rattle.grep_definitions.proofs.SuccessiveMatchLemmas.{match_from-missed}
 use Rattle.grep_walk.specs.declared.blocks.Blocks.{Blocks}
 use Rattle.grep_walk.specs.TouchedUnits.{AreFound, IsFound, HasNoMore}

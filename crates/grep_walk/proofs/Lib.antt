@@ -1,6 +1,6 @@
 pub mod AcrossEndLemmas
 pub mod AcrossStepLemmas
-pub mod AcrossTurnLemmas
+pub mod AcrossLoopLemmas
 pub mod AcrossUnitLemmas
 pub mod BeforeContextLemmas
 pub mod FinishLemmas

@@ -1,7 +1,8 @@
 -- What a matcher's result for the lines from a position on says of a window's lines.
-use Rattle.std.proofs.Common.{◌≡◌, inl, inr, ℕ, ◌+◌, ◌-◌, ◌<◌, ◌≤◌, ◌==◌, true, false, cond, List, [], ◌++◌, length}
-use Rattle.std.proofs.Common.{take, drop, slice_index, get_or, is_some, Some, None, sym, subst, ◌∙◌, ap, arith}
-use Rattle.std.proofs.Common.{⊎_elim, length-append, length-drop, take_all}
+use Rattle.std.proofs.Common.{◌≡◌, inl, inr, ℕ, ◌+◌, ◌-◌, ◌<◌, ◌≤◌, ◌==◌, true, false, cond, List}
+use Rattle.std.proofs.Common.{[], ◌++◌, length, take, drop, slice_index, get_or, is_some, Some}
+use Rattle.std.proofs.Common.{None, sym, subst, ◌∙◌, ap, arith, ⊎_elim, length-append, length-drop}
+use Rattle.std.proofs.Common.{take_all}
 use Rattle.std.proofs.lemmas.Bool.Decides.{nat_tests}
 use Rattle.std.proofs.lemmas.Bool.{cases_lt, cases_eq}
 use Rattle.std.proofs.lemmas.List.{get_or-drop}
@@ -11,7 +12,8 @@ use Rattle.std.proofs.Math.Seq.{take-add}
 use Rattle.std.specs.List.{concat}
 use Rattle.grep_matcher.specs.declared.line_match_kind.LineMatchKind.{LineMatchKind}
 use Rattle.grep_matcher.specs.declared.line_terminator.LineTerminator.{LineTerminator}
-use Rattle.grep_matcher.specs.Lawful.{matches_at, HoldsPosition, IsLawfulResult, position_of, is_confirmed}
+use Rattle.grep_matcher.specs.Lawful.{matches_at, HoldsPosition, IsLawfulResult, position_of}
+use Rattle.grep_matcher.specs.Lawful.{is_confirmed}
 use Rattle.grep_matcher.specs.Lines.{lines, line_start, strip, byte_of}
 use Rattle.grep_matcher.specs.Meanings.{Meaning}
 use Rattle.grep_lines.specs.Blocks.{lines_before, block_start, block_end}
@@ -19,7 +21,7 @@ use Rattle.std.specs.Prelude.{slice_range}
 use Rattle.grep_lines.specs.Positions.{IsLine, IsLineStart}
 use Rattle.grep_matcher.proofs.LineLemmas.{count, lines-closed, lines-unclosed}
 use Rattle.grep_lines.proofs.LineStepLemmas.{IsAt-start, IsStep-line, lines-at-most, lines-numbered}
-use Rattle.grep_definitions.specs.LineTurns.{matches_line}
+use Rattle.grep_definitions.specs.LineCalls.{matches_line}
 use Rattle.grep_definitions.specs.Plans.{Settings}
 use Rattle.grep_matcher.proofs.LineStartLemmas.{line_start-last, line_start-le}
 use Rattle.grep_walk.specs.LookAheads.{IsKnown}

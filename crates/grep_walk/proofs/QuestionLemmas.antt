@@ -1,6 +1,6 @@
 -- At which line a search across lines asks for the next match, by the lines that the matches so far touch.
-use Rattle.std.proofs.Common.{◌≡◌, ℕ, ◌-◌, ◌+◌, ◌<◌, ◌≤◌, false, ◌&&◌, List, [], ◌∷◌, length, Some, sym, ◌∙◌, ap}
-use Rattle.std.proofs.Common.{arith, ⊎_elim}
+use Rattle.std.proofs.Common.{◌≡◌, ℕ, ◌-◌, ◌+◌, ◌<◌, ◌≤◌, false, ◌&&◌, List, [], ◌∷◌, length, Some}
+use Rattle.std.proofs.Common.{sym, ◌∙◌, ap, arith, ⊎_elim}
 use Rattle.std.proofs.Math.Bool.{and-false}
 use Rattle.std.proofs.lemmas.Bool.Decides.{nat_tests}
 use Rattle.std.proofs.lemmas.Bool.{cases_lt, lt-ltb, le-ltb, le-leb, lt-leb, ltb-true}
@@ -8,22 +8,23 @@ use Rattle.std.specs.Prelude.{nat_lt, nat_le}
 use Rattle.grep_lines.specs.Positions.{IsLineStart}
 use Rattle.grep_matcher.specs.Meanings.{Meaning}
 use Rattle.grep_matcher.specs.Lines.{byte_of}
-use Rattle.grep_definitions.specs.Plans.{is_touched, IsAskedAfter, IsAskedAt, Settings}
-use Rattle.grep_definitions.specs.LineSearch.{line_count, start}
+use Rattle.grep_definitions.specs.Plans.{line_count, start, is_touched, IsAskedAfter, IsAskedAt}
+use Rattle.grep_definitions.specs.Plans.{Settings}
 use Rattle.grep_definitions.proofs.BlockLemmas.{block_start-low}
 use Rattle.grep_definitions.proofs.BoolLemmas.{and-both, both_true, clash}
 use Rattle.grep_walk.specs.TouchedUnits.{is_in, AreTouched}
-use Rattle.grep_lines.proofs.LineRangeLemmas.{starts-before, starts-from, comes-before, comes-from, end-start}
+use Rattle.grep_lines.proofs.LineRangeLemmas.{starts-before, starts-from, comes-before, comes-from}
+use Rattle.grep_lines.proofs.LineRangeLemmas.{end-start}
 
 module _ (k : Settings) (meaning : Meaning) (bytes : List ℕ) where
   abbrev t : ℕ
   t = byte_of k.line_terminator
 
   abbrev n : ℕ
-  n = line_count k meaning bytes
+  n = line_count k bytes
 
   abbrev from : ℕ → ℕ
-  from = start k meaning bytes
+  from = start k bytes
 
   -- some bytes have a line
   first-line : 0 < length bytes → 0 < n

@@ -1,24 +1,25 @@
 -- A walk that skips lines which don't match.
 use Rattle.std.proofs.Common.{◌≡◌, ℕ, zero, suc, ◌+◌, ◌-◌, ◌<◌, ◌≤◌, Bool, true, false, ◌||◌}
-use Rattle.std.proofs.Common.{if◌then◌else◌, List, length, drop, Some, None, refl, sym, ◌∙◌, ap, subst, arith}
-use Rattle.std.proofs.Common.{length-take, length-drop}
+use Rattle.std.proofs.Common.{if◌then◌else◌, List, length, drop, Some, None, refl, sym, ◌∙◌, ap}
+use Rattle.std.proofs.Common.{subst, arith, length-take, length-drop}
 use Rattle.std.proofs.lemmas.Bool.Decides.{nat_tests}
 use Rattle.std.proofs.lemmas.Bool.{ltb-true, ltb-false}
 use Rattle.std.specs.Prelude.{nat_lt, IfSome, slice_range}
 use Rattle.grep_lines.specs.Positions.{IsLine, IsLineStart}
 use Rattle.grep_matcher.specs.Lines.{lines, line_start, byte_of}
 use Rattle.grep_matcher.specs.Meanings.{Meaning, MatcherFacts}
-use Rattle.grep_definitions.specs.Plans.{stops_next, Settings, Steps, all_true, AreMade, has_room, hits_if}
-use Rattle.grep_definitions.specs.LineTurns.{matches_line}
+use Rattle.grep_definitions.specs.Plans.{stops_next, Settings, Steps, all_true, AreMade, has_room}
+use Rattle.grep_definitions.specs.Plans.{hits_if}
+use Rattle.grep_definitions.specs.LineCalls.{matches_line}
 use Rattle.grep_report.specs.ErrorMakers.{ErrorMakers}
 use Rattle.grep_walk.specs.WalkFaults.{IsWalkFault}
 use Rattle.grep_walk.specs.declared.look_ahead.Ahead.{Ahead}
 use Rattle.grep_walk.specs.declared.walk.Walk.{Walk}
 use Rattle.grep_walk.specs.LookAheads.{IsKnown, MayAskAhead, can_skip, known_at, skips}
-use Rattle.grep_walk.specs.Walks.{IsDecided, is_over, line_turns, after_line, skip_lines}
+use Rattle.grep_walk.specs.Walks.{IsDecided, is_over, line_calls, after_line, skip_lines}
 use Rattle.grep_walk.specs.Windows.{HasWalked}
-use Rattle.grep_lines.proofs.LineRangeLemmas.{lines-between, comes-before, comes-from, end-start, line-from, start-same}
-use Rattle.grep_lines.proofs.LineRangeLemmas.{starts-until}
+use Rattle.grep_lines.proofs.LineRangeLemmas.{lines-between, comes-before, comes-from, end-start}
+use Rattle.grep_lines.proofs.LineRangeLemmas.{line-from, start-same, starts-until}
 use Rattle.grep_walk.proofs.WalkLemmas.{Bare}
 use Rattle.grep_walk.proofs.WindowSearchLemmas.{asked-ahead, failed-matcher, line-comes}
 use Rattle.grep_walk.specs.Origins.{Origin}
@@ -124,7 +125,7 @@ module _ {S E : Type 0} (step : Steps S E) (k : Settings) (meaning : Meaning)
       none_left : nat_lt 0 w.after_context_left ≡ false
       none_left = grind (arith, nat_tests, skipping.none_left)
 
-      silent : AreMade step k now (line_turns k input w here false false) all_true now
+      silent : AreMade step k now (line_calls k input w here false false) all_true now
       silent = rw (none_left, skipping.selects) (refl, refl)
 
       room : has_room k w.match_count ≡ true

@@ -1,9 +1,9 @@
 -- Which lines the matches that were found across lines touch, from one match to the next.
-use Rattle.std.proofs.Common.{◌≡◌, ℕ, ◌+◌, ◌-◌, ◌<◌, ◌≤◌, Bool, true, false, ◌||◌, List, [], ◌∷◌, ◌++◌, length, drop}
-use Rattle.std.proofs.Common.{refl, sym, ◌∙◌, ap, ap₂, subst, arith, ⊎_elim, Some, None}
+use Rattle.std.proofs.Common.{◌≡◌, ℕ, ◌+◌, ◌-◌, ◌<◌, ◌≤◌, Bool, true, false, ◌||◌, List, [], ◌∷◌}
+use Rattle.std.proofs.Common.{◌++◌, length, drop, refl, sym, ◌∙◌, ap, ap₂, subst, arith, ⊎_elim}
+use Rattle.std.proofs.Common.{Some, None}
 use Rattle.std.proofs.lemmas.Bool.Decides.{nat_tests}
-use Rattle.std.proofs.lemmas.Bool.{cases_lt, lt-ltb, lt-leb}
-use Rattle.std.proofs.lemmas.Bool.{and_left, or_from, or_left}
+use Rattle.std.proofs.lemmas.Bool.{cases_lt, lt-ltb, lt-leb, and_left, or_from, or_left}
 use Rattle.std.proofs.lemmas.List.{append-nil}
 use Rattle.std.proofs.Math.Bool.{or-false}
 use Rattle.std.proofs.lemmas.List.Elements.{All-weaker}
@@ -14,12 +14,11 @@ use Rattle.grep_matcher.specs.Meanings.{Meaning}
 use Rattle.grep_matcher.specs.Lines.{byte_of}
 use Rattle.grep_lines.specs.Blocks.{block_start, block_end}
 use Rattle.grep_lines.specs.Positions.{IsLineStart}
-use Rattle.grep_definitions.specs.Plans.{touches, position_after, Settings}
+use Rattle.grep_definitions.specs.Plans.{line_count, start, touches, position_after, Settings}
 use Rattle.grep_definitions.specs.SuccessiveMatches.{counted_matches}
-use Rattle.grep_definitions.specs.LineSearch.{line_count, start}
-use Rattle.grep_definitions.proofs.BlockLemmas.{within-block, block_start-edge, block_end-edge, block_start-le}
-use Rattle.grep_definitions.proofs.BlockLemmas.{block_start-low, block_end-within, block-some, block_start-part}
-use Rattle.grep_definitions.proofs.BlockLemmas.{block_end-part}
+use Rattle.grep_definitions.proofs.BlockLemmas.{within-block, block_start-edge, block_end-edge}
+use Rattle.grep_definitions.proofs.BlockLemmas.{block_start-le, block_start-low, block_end-within}
+use Rattle.grep_definitions.proofs.BlockLemmas.{block-some, block_start-part, block_end-part}
 use Rattle.grep_lines.proofs.LineRangeLemmas.{comes-before, end-start, starts-before, starts-until}
 use Rattle.grep_definitions.proofs.TouchLemmas.{rises}
 use Rattle.grep_definitions.proofs.SuccessiveMatchLemmas.{position_after-start}
@@ -49,10 +48,10 @@ module _ (k : Settings) (meaning : Meaning) (bytes : List ℕ) where
   t = byte_of k.line_terminator
 
   abbrev from : ℕ → ℕ
-  from = start k meaning bytes
+  from = start k bytes
 
   abbrev n : ℕ
-  n = line_count k meaning bytes
+  n = line_count k bytes
 
   abbrev block : ℕ × ℕ → ℕ × ℕ
   block m = (block_start t bytes m, block_end t bytes m)

@@ -1,22 +1,24 @@
 -- A walk that may have skipped lines uncounted, against the calls that are defined for the input: where lines aren't
 -- counted, no call depends on their count.
-use Rattle.std.proofs.Common.{◌≡◌, ℕ, ◌+◌, ◌-◌, ◌<◌, ◌≤◌, min, Bool, true, false, if◌then◌else◌, List, [], ◌++◌}
-use Rattle.std.proofs.Common.{length, drop, Option, refl, sym, ◌∙◌, ap, ap₂, subst, arith, ⊎_elim}
+use Rattle.std.proofs.Common.{◌≡◌, ℕ, ◌+◌, ◌-◌, ◌<◌, ◌≤◌, min, Bool, true, false, if◌then◌else◌}
+use Rattle.std.proofs.Common.{List, [], ◌++◌, length, drop, Option, refl, sym, ◌∙◌, ap, ap₂, subst}
+use Rattle.std.proofs.Common.{arith, ⊎_elim}
 use Rattle.std.proofs.lemmas.Bool.Decides.{nat_tests}
 use Rattle.std.proofs.lemmas.Bool.{cases_lt}
 use Rattle.std.specs.Prelude.{IfSome, slice_range}
 use Rattle.grep_lines.specs.Positions.{IsLine, IsLineStart}
 use Rattle.grep_matcher.specs.Lines.{lines, strip, byte_of}
 use Rattle.grep_definitions.specs.Plans.{joined_from, Settings, Steps, Outcome, AreMade}
-use Rattle.grep_definitions.specs.LineTurns.{listed_turns, match_turns, matches_line, pending_turns}
+use Rattle.grep_definitions.specs.LineCalls.{listed_calls, selected_calls, matches_line}
+use Rattle.grep_definitions.specs.LineCalls.{pending_calls}
 use Rattle.grep_report.specs.ErrorMakers.{ErrorMakers}
 use Rattle.grep_matcher.specs.Meanings.{Meaning, MatcherFacts}
 use Rattle.grep_walk.specs.WalkFaults.{IsWalkFault}
 use Rattle.grep_walk.specs.declared.look_ahead.Ahead.{Ahead}
 use Rattle.grep_walk.specs.declared.walk.Walk.{Walk}
 use Rattle.grep_walk.specs.LookAheads.{IsBounded, IsExact, IsKnown, MayAskAhead, known_at, skips}
-use Rattle.grep_walk.specs.Walks.{AreCounts, IsDecided, can_hit, counts_lines, is_over, line_end, line_turns}
-use Rattle.grep_walk.specs.Walks.{after_line, with_counts, reports_line, skip_unmatched}
+use Rattle.grep_walk.specs.Walks.{AreCounts, IsDecided, can_hit, counts_lines, is_over, line_end}
+use Rattle.grep_walk.specs.Walks.{line_calls, after_line, with_counts, reports_line, skip_unmatched}
 use Rattle.grep_walk.specs.Windows.{HasSearched, HasWalked, IsInWindow}
 use Rattle.grep_walk.proofs.BeforeContextLemmas.{pending-none}
 use Rattle.grep_walk.proofs.SkipLemmas as skips
@@ -53,26 +55,26 @@ module _ (k : Settings) (w : Walk) (line next_unreported : ℕ) (counts : AreCou
       go false is = omega (arith, (is_uncounted k is).none_before)
 
   -- no line before a chosen one has a call
-  pending-silent : IsUncounted k → (input : List ℕ) (v i end : ℕ) → pending_turns k input v i end v (i - v) ≡ []
+  pending-silent : IsUncounted k → (input : List ℕ) (v i end : ℕ) → pending_calls k input v i end v (i - v) ≡ []
   pending-silent un input v i end = ⊎_elim
       (λ less.
       let none : i - v ≡ 0 = omega arith in
-      ap (λ n. joined_from (listed_turns k input v i end) v n) none)
+      ap (λ n. joined_from (listed_calls k input v i end) v n) none)
       (λ low. pending-none k input v i end low (omega arith))
       (cases_lt i v)
 
   match-same : IsUncounted k → (end : ℕ) (here : List ℕ)
-      → match_turns k next_unreported line w.offset end here ≡ match_turns k w.next_unreported w.line w.offset end here
+      → selected_calls k next_unreported line w.offset end here ≡ selected_calls k w.next_unreported w.line w.offset end here
   match-same un end here = rw (un.none_after, un.unnumbered) refl
 
   -- the calls of a line are the ones of the recounted walk
-  pub turns-same : (input here : List ℕ) (chosen trailing : Bool)
-      → line_turns k input w here chosen trailing ≡ line_turns k input (with_counts w line next_unreported) here chosen trailing
-  turns-same input here chosen trailing = go (counts_lines k) refl
+  pub calls-same : (input here : List ℕ) (chosen trailing : Bool)
+      → line_calls k input w here chosen trailing ≡ line_calls k input (with_counts w line next_unreported) here chosen trailing
+  calls-same input here chosen trailing = go (counts_lines k) refl
     where
       uncounted : IsUncounted k → (c t : Bool) (left : ℕ)
-          → line_turns k input (record w { after_context_left = left }) here c t
-          ≡ line_turns k input (record w { line = line; next_unreported = next_unreported; after_context_left = left }) here c t
+          → line_calls k input (record w { after_context_left = left }) here c t
+          ≡ line_calls k input (record w { line = line; next_unreported = next_unreported; after_context_left = left }) here c t
       uncounted un true t left = ap₂ (λ xs ys. xs ++ ys)
           (pending-silent un input w.next_unreported w.line (line_end w here)
           ∙ sym (pending-silent un input next_unreported line (line_end w here)))
@@ -80,9 +82,9 @@ module _ (k : Settings) (w : Walk) (line next_unreported : ℕ) (counts : AreCou
       uncounted un false t left = rw (un.none_after, un.unnumbered) refl
 
       go : (b : Bool) → counts_lines k ≡ b
-          → line_turns k input w here chosen trailing ≡ line_turns k input (with_counts w line next_unreported) here chosen
+          → line_calls k input w here chosen trailing ≡ line_calls k input (with_counts w line next_unreported) here chosen
           trailing
-      go true is = ap₂ (λ l v. line_turns k input (with_counts w l v) here chosen trailing) (sym (counts is).0)
+      go true is = ap₂ (λ l v. line_calls k input (with_counts w l v) here chosen trailing) (sym (counts is).0)
           (sym (counts is).1)
       go false is = uncounted (is_uncounted k is) chosen trailing w.after_context_left
 
@@ -112,7 +114,7 @@ inside-counted {k = k} {gone = gone} {window = window} {input = input} {p = p} {
     subst (λ v. IsInWindow k gone window input p (with_counts w w.line v)) counts.1
     (subst (λ l. IsInWindow k gone window input p (with_counts w l so_far.next_unreported)) counts.0 so_far.walked.inside)
 
--- what a turn of a walk has of the line from p up to q that it decides
+-- what a step of a walk has of the line from p up to q that it decides
 pub record HasLine {S E : Type 0} (step : Steps S E) (k : Settings) (meaning : Meaning) (gone window input : List ℕ)
     (first : Origin S) (p q : ℕ) (w : Walk) (now : S) (known : Option Bool) : Type 0 where
   pub here : HasSearched step k meaning gone window input first p w now
@@ -127,40 +129,40 @@ pub failed-asked : {S E F : Type 0} {step : Steps S E} {k : Settings} {gone wind
     → q ≤ length window → can_hit k w ≡ true → (error : F) (e : E) → errors.is_message error e
     → matcher.fails (strip k.line_terminator (slice_range window p q)) error
     → IsWalkFault step errors matcher k input first e now
-failed-asked errors matcher bare turn within can error e message fails = search.failed-matcher errors matcher bare
-    turn.here.walked within turn.line can _ error e (search.asked-line turn.here.walked within turn.line) message fails
+failed-asked errors matcher bare call within can error e message fails = search.failed-matcher errors matcher bare
+    call.here.walked within call.line can _ error e (search.asked-line call.here.walked within call.line) message fails
 
 -- what comes of its calls
 pub line-comes : {S E : Type 0} {step : Steps S E} {k : Settings} {meaning : Meaning} {gone window input : List ℕ}
     {first : Origin S} {p q : ℕ} {w : Walk} {now : S} {known : Option Bool} → Bare k meaning input
     → HasLine step k meaning gone window input first p q w now known → q ≤ length window → {chosen trailing : Bool}
     → IsDecided k meaning w (slice_range window p q) chosen trailing → (outcome : Outcome E) (new : S)
-    → AreMade step k now (line_turns k input w (slice_range window p q) chosen trailing) outcome new
+    → AreMade step k now (line_calls k input w (slice_range window p q) chosen trailing) outcome new
     → Comes k meaning input step first (line_end w (slice_range window p q))
     (is_over k (after_line k w (slice_range window p q) chosen) chosen)
     (HasSearched step k meaning gone window input first q (after_line k w (slice_range window p q) chosen)) outcome new
 line-comes {step = step} {k = k} {meaning = meaning} {gone = gone} {window = window} {input = input} {first = first}
-    {p = p} {q = q} {w = w} {now = now} bare turn within {chosen} {trailing} decided outcome new made =
+    {p = p} {q = q} {w = w} {now = now} bare call within {chosen} {trailing} decided outcome new made =
     comes-on k meaning input step first (line_end w here) (is_over k (after_line k w here chosen) chosen)
     (HasWalked step k meaning gone window input first q (after_line k (with_counts w line next_unreported) here chosen))
     (HasSearched step k meaning gone window input first q (after_line k w here chosen)) (λ new walked. record {
       line = line + 1;
       next_unreported = if reports_line k w chosen then line + 1 else next_unreported;
-      counts = counts-next k w line next_unreported turn.here.counts here chosen;
+      counts = counts-next k w line next_unreported call.here.counts here chosen;
       walked = walked;
-    }) outcome new (search.line-comes turn.here.walked within turn.line bare
+    }) outcome new (search.line-comes call.here.walked within call.line bare
     (record { chosen_is = decided.chosen_is; trailing_is = decided.trailing_is }) outcome new
-    (subst (λ turns. AreMade step k now turns outcome new)
-    (turns-same k w line next_unreported turn.here.counts input here chosen trailing) made))
+    (subst (λ calls. AreMade step k now calls outcome new)
+    (calls-same k w line next_unreported call.here.counts input here chosen trailing) made))
   where
     here : List ℕ
     here = slice_range window p q
 
     line : ℕ
-    line = turn.here.line
+    line = call.here.line
 
     next_unreported : ℕ
-    next_unreported = turn.here.next_unreported
+    next_unreported = call.here.next_unreported
 
 -- the matcher's error for the lines from a position on
 pub failed-ahead : {S E F : Type 0} {step : Steps S E} {k : Settings} {gone window input : List ℕ} {first : Origin S}

@@ -1,6 +1,6 @@
 -- How a search across lines puts one unit together, from one match to the next.
-use Rattle.std.proofs.Common.{◌≡◌, ℕ, ◌-◌, ◌<◌, ◌≤◌, List, [], ◌∷◌, ◌++◌, length, sym, ◌∙◌, ap, ap₂, subst, arith}
-use Rattle.std.proofs.Common.{Option, Some, None}
+use Rattle.std.proofs.Common.{◌≡◌, ℕ, ◌-◌, ◌<◌, ◌≤◌, List, [], ◌∷◌, ◌++◌, length, sym, ◌∙◌, ap, ap₂}
+use Rattle.std.proofs.Common.{subst, arith, Option, Some, None}
 use Rattle.std.proofs.lemmas.List.{append-nil}
 use Rattle.std.proofs.lemmas.List.Elements.{All-nil, All-cons, All-weaker}
 use Rattle.std.specs.Prelude.{IfNone}
@@ -13,10 +13,12 @@ use Rattle.grep_definitions.proofs.BlockLemmas.{block_start-le}
 use Rattle.grep_matcher.proofs.LineStartLemmas.{line_start-within}
 use Rattle.grep_definitions.proofs.SuccessiveMatchLemmas.{matches_left-after, position_after-start}
 use Rattle.grep_walk.specs.declared.blocks.Blocks.{Blocks}
-use Rattle.grep_walk.specs.TouchedUnits.{IsPart, IsUnit, AreFound, IsFound, HasNoMore, AreTouched, AreLeft, IsReached}
+use Rattle.grep_walk.specs.TouchedUnits.{IsPart, IsUnit, AreFound, IsFound, HasNoMore, AreTouched}
+use Rattle.grep_walk.specs.TouchedUnits.{AreLeft, IsReached}
 use Rattle.grep_walk.proofs.FoundMatchLemmas.{found-start}
-use Rattle.grep_walk.proofs.TouchedLemmas.{touched-none, touched-passed, touched-first, touched-inside, touched-part}
-use Rattle.grep_walk.proofs.TouchedLemmas.{touched-end, unit-of, unit-none, starts-there, part-apart}
+use Rattle.grep_walk.proofs.TouchedLemmas.{touched-none, touched-passed, touched-first}
+use Rattle.grep_walk.proofs.TouchedLemmas.{touched-inside, touched-part, touched-end, unit-of}
+use Rattle.grep_walk.proofs.TouchedLemmas.{unit-none, starts-there, part-apart}
 use Rattle.grep_lines.proofs.LineRangeLemmas.{end-start}
 
 -- before the first match

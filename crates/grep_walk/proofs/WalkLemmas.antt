@@ -1,11 +1,12 @@
 -- A walk over lines, against the calls that are defined.
-use Rattle.grep_definitions.specs.Plans
+use Rattle.grep_definitions.specs.Plans.{calls_at, line_plan, reports_end, selected_lines, through}
 use Rattle.grep_definitions.specs.Plans.{planned, Planned, begins, context, Steps, Outcome}
 use Rattle.grep_definitions.specs.Plans.{all_true, stopped, failed, AreMade, counted, Settings}
-use Rattle.grep_definitions.specs.Plans.{joined_from, stops_next, has_room, hits_if}
-use Rattle.std.proofs.Common.{◌≡◌, ℕ, ◌+◌, ◌-◌, ◌<◌, ◌≤◌, Bool, true, false, ◌||◌, List, [], ◌∷◌, ◌++◌}
-use Rattle.std.proofs.Common.{length, drop, refl, sym, ◌∙◌, ap, subst, arith, ⊎_elim, inl, inr, Ok}
-use Rattle.std.proofs.Common.{Err, if◌then◌else◌, length-take, length-drop}
+use Rattle.grep_definitions.specs.Plans.{joined_from, stops_next, has_room, hits_if, IsAskedFrom}
+use Rattle.grep_definitions.specs.Plans
+use Rattle.std.proofs.Common.{◌≡◌, ℕ, ◌+◌, ◌-◌, ◌<◌, ◌≤◌, Bool, true, false, ◌||◌, List, [], ◌∷◌}
+use Rattle.std.proofs.Common.{◌++◌, length, drop, refl, sym, ◌∙◌, ap, subst, arith, ⊎_elim, inl}
+use Rattle.std.proofs.Common.{inr, Ok, Err, if◌then◌else◌, length-take, length-drop}
 use Rattle.std.proofs.lemmas.Bool.Decides.{nat_tests}
 use Rattle.std.proofs.lemmas.Bool.{cases_Bool, lt-ltb, cases_lt}
 use Rattle.std.proofs.lemmas.List.Elements.{All-nil, All-cons, All-append, All-weaker}
@@ -15,54 +16,55 @@ use Rattle.grep_matcher.specs.Meanings.{Meaning, MatcherFacts}
 use Rattle.grep_lines.specs.Positions.{IsLine, IsLineStart}
 use Rattle.grep_report.specs.declared.sink_context.SinkContextKind.TheVariants.{After, Other}
 use Rattle.grep_definitions.specs.Searches.{reports_nothing}
-use Rattle.grep_definitions.specs.LineSearch.{through, turns_at, turns, turns_through, byte_count}
-use Rattle.grep_definitions.specs.LineSearch
-use Rattle.grep_definitions.specs.LineTurns.{after_turns, context_turns, match_turns, pending_turns, matches_line}
+use Rattle.grep_definitions.specs.LineCalls.{after_calls, context_calls, selected_calls}
+use Rattle.grep_definitions.specs.LineCalls.{pending_calls, matches_line}
 use Rattle.grep_definitions.specs.SearchLaws.{number_of}
 use Rattle.grep_report.specs.ErrorMakers.{ErrorMakers}
 use Rattle.grep_definitions.specs.ContentsSearches.{IsLineFault, of_sink, of_matcher}
 use Rattle.grep_definitions.specs.LineWalks.{IsNear, IsOpen}
-use Rattle.grep_definitions.specs.Questions.{IsAsked}
-use Rattle.grep_definitions.proofs.BelowLemmas.{joined_from-equal, joined_from-none, headed-through, headed-many}
-use Rattle.grep_definitions.proofs.LimitLemmas.{IsOpen-none, IsOpen-chosen, IsOpen-missed, turn_above, turn_all, IsDone}
-use Rattle.grep_definitions.proofs.LimitLemmas.{IsDone-chosen, IsDone-limit, IsDone-stop, IsDone-none, selected-is}
-use Rattle.grep_definitions.proofs.LimitLemmas.{chosen-is}
+use Rattle.grep_definitions.proofs.BelowLemmas.{joined_from-equal, joined_from-none, headed-through}
+use Rattle.grep_definitions.proofs.BelowLemmas.{headed-many}
+use Rattle.grep_definitions.proofs.LimitLemmas.{IsOpen-none, IsOpen-chosen, IsOpen-missed}
+use Rattle.grep_definitions.proofs.LimitLemmas.{reportable-above, reportable-all, IsDone}
+use Rattle.grep_definitions.proofs.LimitLemmas.{IsDone-chosen, IsDone-limit, IsDone-stop}
+use Rattle.grep_definitions.proofs.LimitLemmas.{IsDone-none, selected-is, chosen-is}
 use Rattle.grep_definitions.proofs.SelectionLemmas.{headed-missed}
-use Rattle.grep_definitions.proofs.ContextLemmas.{IsNear-none, IsNear-hit, IsNear-missed, follows-selected}
-use Rattle.grep_definitions.proofs.ContextLemmas.{turns_at-done, turns_at-passed, turns_at-hit, turns_at-after}
-use Rattle.grep_definitions.proofs.ContextLemmas.{turns_at-other}
+use Rattle.grep_definitions.proofs.ContextLemmas.{IsNear-none, IsNear-hit, IsNear-missed}
+use Rattle.grep_definitions.proofs.ContextLemmas.{follows-selected, calls_at-done, calls_at-passed}
+use Rattle.grep_definitions.proofs.ContextLemmas.{calls_at-hit, calls_at-after, calls_at-other}
 use Rattle.grep_definitions.proofs.LineSliceLemmas.{number-line}
-use Rattle.grep_definitions.proofs.TurnEndLemmas.{ends-one, ends-pending, ends-match, ends-late, ends-passed, ended-by}
+use Rattle.grep_definitions.proofs.CountLemmas.{ends-one, ends-pending, ends-match, ends-late}
+use Rattle.grep_definitions.proofs.CountLemmas.{ends-passed, ended-by}
 use Rattle.grep_walk.specs.declared.walk.Walk.{Walk}
 use Rattle.grep_walk.specs.WalkFaults.{IsWalkFault, at_call, at_question}
-use Rattle.grep_walk.specs.Walks.{IsDecided, IsPlaced, IsWalk, HasReported, Counted, can_hit, line_end, line_turns}
-use Rattle.grep_walk.specs.Walks.{after_line, is_over, CountedFrom}
+use Rattle.grep_walk.specs.Walks.{IsDecided, IsPlaced, IsWalk, HasReported, Counted, can_hit}
+use Rattle.grep_walk.specs.Walks.{line_end, line_calls, after_line, is_over, CountedFrom}
 use Rattle.grep_walk.proofs.OriginLemmas.{from-append, from-ended, from-fresh, fresh-made}
 use Rattle.grep_walk.specs.Origins.{AreMadeFrom, Origin, fresh}
 
--- if the turns so far have ended where a walk is, those with the calls of its line have ended where the line ends
+-- if the counts of the calls so far are at most a walk's offset, those with the calls of its line are at most the line's end
 pub ended-next : (k : Settings) (window : List ℕ) (w : Walk) (line : List ℕ) (chosen trailing : Bool) (made : List
     Planned)
-    → All (λ turn. turn.if_false.count ≤ w.offset) made
-    → All (λ turn. turn.if_false.count ≤ line_end w line) (made ++ line_turns k window w line chosen trailing)
+    → All (λ call. call.if_false.count ≤ w.offset) made
+    → All (λ call. call.if_false.count ≤ line_end w line) (made ++ line_calls k window w line chosen trailing)
 ended-next k window w line chosen trailing made ended =
-    All-append (λ turn. turn.if_false.count ≤ line_end w line) made (line_turns k window w line chosen trailing)
-    (All-weaker (λ turn. turn.if_false.count ≤ w.offset) (λ turn. turn.if_false.count ≤ line_end w line) (λ turn low.
+    All-append (λ call. call.if_false.count ≤ line_end w line) made (line_calls k window w line chosen trailing)
+    (All-weaker (λ call. call.if_false.count ≤ w.offset) (λ call. call.if_false.count ≤ line_end w line) (λ call low.
     omega (arith, low)) made
     ended)
-    (All-weaker E (λ turn. turn.if_false.count ≤ line_end w line) (λ turn is. omega (arith, is))
-    (line_turns k window w line chosen trailing)
+    (All-weaker E (λ call. call.if_false.count ≤ line_end w line) (λ call is. omega (arith, is))
+    (line_calls k window w line chosen trailing)
     (go chosen trailing (nat_lt 0 w.after_context_left) k.passthru))
   where
     E : Planned → Type 0
-    E turn = turn.if_false.count ≡ line_end w line
+    E call = call.if_false.count ≡ line_end w line
 
     go : (b r a p : Bool) → All E (if b
-        then pending_turns k window w.next_unreported w.line (line_end w line) w.next_unreported
+        then pending_calls k window w.next_unreported w.line (line_end w line) w.next_unreported
         (w.line - w.next_unreported)
-        ++ match_turns k w.next_unreported w.line w.offset (line_end w line) line
-        else (if a then after_turns k r w.next_unreported w.line w.offset (line_end w line) line
-        else (if p then context_turns Other (number_of k w.line) w.offset (line_end w line) line else [])))
+        ++ selected_calls k w.next_unreported w.line w.offset (line_end w line) line
+        else (if a then after_calls k r w.next_unreported w.line w.offset (line_end w line) line
+        else (if p then context_calls Other (number_of k w.line) w.offset (line_end w line) line else [])))
     go true r a p = All-append E _ _
         (ends-pending k window w.next_unreported w.line (line_end w line) w.next_unreported
         (w.line - w.next_unreported))
@@ -80,13 +82,13 @@ module _ (k : Settings) (meaning : Meaning) (bytes : List ℕ) where
   n = length (lines t bytes)
 
   abbrev pub T : ℕ → List Planned
-  T = turns_at k meaning bytes
+  T = calls_at k bytes (selected_lines k meaning bytes)
 
-  abbrev pub turned : ℕ
-  turned = LineSearch.turn_count k meaning bytes
+  abbrev pub reportable : ℕ
+  reportable = reports_end k meaning bytes
 
   abbrev pub starts : ℕ → ℕ
-  starts = LineSearch.start k meaning bytes
+  starts = Plans.start k bytes
 
   abbrev pub Bare : Type 0
   Bare = k.passthru ≡ true → (k.after_context ≡ 0) × (k.before_context ≡ 0)
@@ -106,10 +108,10 @@ module _ (k : Settings) (meaning : Meaning) (bytes : List ℕ) where
     few = omega arith;
   }
 
-  -- the turn of `begin` has ended
-  pub ended-start : All (λ turn. turn.if_false.count ≤ 0) (front 0)
-  ended-start = All-cons (λ turn. turn.if_false.count ≤ 0) (planned begins 0) [] (omega arith)
-      (All-nil (λ turn. turn.if_false.count ≤ 0))
+  -- the count of `begin` is 0
+  pub ended-start : All (λ call. call.if_false.count ≤ 0) (front 0)
+  ended-start = All-cons (λ call. call.if_false.count ≤ 0) (planned begins 0) [] (omega arith)
+      (All-nil (λ call. call.if_false.count ≤ 0))
 
   walk-start : (k.passthru ≡ false → has_room k 0 ≡ false → ⊥) → IsWalk k meaning bytes start_walk
   walk-start busy = record {
@@ -155,10 +157,10 @@ module _ (k : Settings) (meaning : Meaning) (bytes : List ℕ) where
 
     -- what is known of the line, by whether it is chosen
     module _ (bare : Bare) (walk : IsWalk k meaning bytes w) where
-      has : w.line < turned
-      has = turn_above k meaning bytes walk.opened line.listed
+      has : w.line < reportable
+      has = reportable-above k meaning bytes walk.opened line.listed
 
-      number-is : LineSearch.number k meaning bytes w.line ≡ number_of k w.line
+      number-is : Plans.number k bytes w.line ≡ number_of k w.line
       number-is = number-line k bytes w.line line.listed
 
       hits-here : Plans.hits k meaning bytes w.line ≡ hits_if k (matches_line k meaning here)
@@ -173,7 +175,7 @@ module _ (k : Settings) (meaning : Meaning) (bytes : List ℕ) where
 
       -- the matcher is asked about it only if the limit has room, or in the context after a selected line
       pub room-here : can_hit k w ≡ true
-          → (Plans.is_open_at k meaning bytes w.line || LineSearch.follows_selected k meaning bytes w.line) ≡ true
+          → (Plans.is_open_at k meaning bytes w.line || Plans.follows_selected k bytes (selected_lines k meaning bytes) w.line) ≡ true
       room-here can = grind (arith, walk.opened.below, follows-selected k meaning bytes walk.near, can)
 
       selected : (b : Bool) → Plans.is_chosen k meaning bytes w.line ≡ b
@@ -182,15 +184,15 @@ module _ (k : Settings) (meaning : Meaning) (bytes : List ℕ) where
 
       pending-is : Plans.is_selected k meaning bytes w.line ≡ true
           → joined_from T w.next_unreported (w.line - w.next_unreported)
-          ≡ pending_turns k bytes w.next_unreported w.line (line_end w here) w.next_unreported
+          ≡ pending_calls k bytes w.next_unreported w.line (line_end w here) w.next_unreported
           (w.line - w.next_unreported)
       pending-is hit = joined_from-equal T _ w.next_unreported (w.line - w.next_unreported) (λ j low high.
-          turns_at-passed k meaning bytes walk.near line.listed has hit
+          calls_at-passed k meaning bytes walk.near line.listed has hit
           j _ (line_end w here) _ low (omega arith) refl start-after refl)
 
       hit-is : Plans.is_selected k meaning bytes w.line ≡ true → T w.line
-          ≡ match_turns k w.next_unreported w.line w.offset (line_end w here) here
-      hit-is hit = turns_at-hit k meaning bytes walk.near line.listed has
+          ≡ selected_calls k w.next_unreported w.line w.offset (line_end w here) here
+      hit-is hit = calls_at-hit k meaning bytes walk.near line.listed has
           hit
           w.offset (line_end w here) _ number-is start-is start-after line.line
 
@@ -198,10 +200,10 @@ module _ (k : Settings) (meaning : Meaning) (bytes : List ℕ) where
       pub front-step : (chosen trailing : Bool) → Plans.is_chosen k meaning bytes w.line ≡ chosen
           → (0 < w.after_context_left → Plans.is_trailing k meaning bytes w.line ≡ trailing)
           → front (after_line k w here chosen).next_unreported
-          ≡ front w.next_unreported ++ line_turns k bytes w here chosen trailing
+          ≡ front w.next_unreported ++ line_calls k bytes w here chosen trailing
       front-step true trailing is late =
           let hit = selected true is in
-          let pending = pending_turns k bytes w.next_unreported w.line (line_end w here) w.next_unreported
+          let pending = pending_calls k bytes w.next_unreported w.line (line_end w here) w.next_unreported
           (w.line - w.next_unreported) in
           headed-many (planned begins 0) T w.next_unreported w.line walk.near.low
           ∙ (ap (λ xs. front w.next_unreported ++ (xs ++ T w.line)) (pending-is hit)
@@ -214,20 +216,20 @@ module _ (k : Settings) (meaning : Meaning) (bytes : List ℕ) where
           miss = selected false is
 
           after_is : 0 < w.after_context_left
-              → T w.line ≡ after_turns k trailing w.next_unreported w.line w.offset (line_end w here) here
+              → T w.line ≡ after_calls k trailing w.next_unreported w.line w.offset (line_end w here) here
           after_is some =
-              turns_at-after k meaning bytes walk.near line.listed has
+              calls_at-after k meaning bytes walk.near line.listed has
               w.offset (line_end w here) _ miss some number-is start-is start-after line.line
-              ∙ ap (λ r. after_turns k r w.next_unreported w.line w.offset (line_end w here) here) (late some)
+              ∙ ap (λ r. after_calls k r w.next_unreported w.line w.offset (line_end w here) here) (late some)
 
           other_is : w.after_context_left ≡ 0 → k.passthru ≡ true
-              → T w.line ≡ context_turns Other (number_of k w.line) w.offset (line_end w here) here
+              → T w.line ≡ context_calls Other (number_of k w.line) w.offset (line_end w here) here
           other_is none is_p =
-              turns_at-other k meaning bytes walk.near line.listed has
+              calls_at-other k meaning bytes walk.near line.listed has
               w.offset (line_end w here) _ miss none is_p (bare is_p).1 number-is start-is start-after line.line
 
       pub near-next : (chosen : Bool) → Plans.is_chosen k meaning bytes w.line ≡ chosen
-          → IsNear k meaning bytes (after_line k w here chosen).next_unreported (w.line + 1)
+          → IsNear k bytes (selected_lines k meaning bytes) (after_line k w here chosen).next_unreported (w.line + 1)
           (after_line k w here chosen).after_context_left
       near-next true is = IsNear-hit k meaning bytes walk.near line.listed
           has
@@ -254,7 +256,7 @@ module _ (k : Settings) (meaning : Meaning) (bytes : List ℕ) where
         placed = placed-next walk.placed chosen;
         near = near-next chosen is;
         opened = open-next chosen is goes;
-        ended = subst (All (λ turn. turn.if_false.count ≤ line_end w here)) (sym (front-step chosen trailing is late))
+        ended = subst (All (λ call. call.if_false.count ≤ line_end w here)) (sym (front-step chosen trailing is late))
             (ended-next k bytes w here chosen trailing (front w.next_unreported) walk.ended);
       }
 
@@ -272,53 +274,53 @@ module _ (k : Settings) (meaning : Meaning) (bytes : List ℕ) where
           (cases_Bool (stops_next k (nat_lt 0 w.match_count)))
 
       -- just the calls so far end at or before the start of the line
-      through-is : turns_through k meaning bytes (starts w.line) ≡ front w.next_unreported
-      through-is = ap (through (starts w.line)) (front-through w.next_unreported turned (omega (arith, has, walk.near.low)))
-          ∙ ended-by (starts w.line) (front w.next_unreported) T w.next_unreported (turned - w.next_unreported)
-          (subst (λ o. All (λ turn. turn.if_false.count ≤ o) (front w.next_unreported)) (sym start-is) walk.ended)
-          (λ j low high. All-weaker (λ turn. starts (w.line + 1) ≤ turn.if_false.count)
-          (λ turn. starts w.line < turn.if_false.count) (λ turn low. omega arith) (T j)
+      through-is : through (starts w.line) (line_plan k meaning bytes).calls ≡ front w.next_unreported
+      through-is = ap (through (starts w.line)) (front-through w.next_unreported reportable (omega (arith, has, walk.near.low)))
+          ∙ ended-by (starts w.line) (front w.next_unreported) T w.next_unreported (reportable - w.next_unreported)
+          (subst (λ o. All (λ call. call.if_false.count ≤ o) (front w.next_unreported)) (sym start-is) walk.ended)
+          (λ j low high. All-weaker (λ call. starts (w.line + 1) ≤ call.if_false.count)
+          (λ call. starts w.line < call.if_false.count) (λ call low. omega arith) (T j)
           (⊎_elim (ends-passed k meaning bytes walk.near j low) (ends-late k meaning bytes w.line j)
           (cases_lt j w.line)))
 
   -- after the last line
   done-end : (w : Walk) → IsWalk k meaning bytes w → w.line ≡ n → IsDone k meaning bytes w.line
   done-end w walk all = record {
-    last = turn_all k meaning bytes
+    last = reportable-all k meaning bytes
         (subst (λ i. IsOpen k meaning bytes i w.after_context_left w.match_count) all walk.opened) ∙ sym all;
     silent = λ q low below. absurd (omega arith);
   }
 
-  -- after the last turn nothing is reported of the lines that were passed
-  rest-is : (w : Walk) → IsNear k meaning bytes w.next_unreported w.line w.after_context_left
+  -- after the last report nothing is reported of the lines that were passed
+  rest-is : (w : Walk) → IsNear k bytes (selected_lines k meaning bytes) w.next_unreported w.line w.after_context_left
       → IsDone k meaning bytes w.line
-      → joined_from T w.next_unreported (turned - w.next_unreported) ≡ []
-  rest-is w near done = joined_from-none T w.next_unreported (turned - w.next_unreported) (λ j low high.
-      turns_at-done k meaning bytes near done.silent j low
+      → joined_from T w.next_unreported (reportable - w.next_unreported) ≡ []
+  rest-is w near done = joined_from-none T w.next_unreported (reportable - w.next_unreported) (λ j low high.
+      calls_at-done k meaning bytes near done.silent j low
       (omega arith))
 
   module _ {S E : Type 0} (step : Steps S E) (old : Origin S) where
     -- what ended early ended the whole
-    AreMade-whole : (i : ℕ) (outcome : Outcome E) (new : S) → i ≤ turned → (outcome ≡ all_true → ⊥)
-        → AreMadeFrom step k old (front i) outcome new → AreMadeFrom step k old (turns k meaning bytes) outcome new
+    AreMade-whole : (i : ℕ) (outcome : Outcome E) (new : S) → i ≤ reportable → (outcome ≡ all_true → ⊥)
+        → AreMadeFrom step k old (front i) outcome new → AreMadeFrom step k old (line_plan k meaning bytes).calls outcome new
     AreMade-whole i outcome new inside ended reported =
-        subst (λ ts. AreMadeFrom step k old ts outcome new) (sym (front-through i turned inside))
-        (from-ended step k old (front i) (joined_from T i (turned - i)) outcome new ended reported)
+        subst (λ ts. AreMadeFrom step k old ts outcome new) (sym (front-through i reportable inside))
+        (from-ended step k old (front i) (joined_from T i (reportable - i)) outcome new ended reported)
 
     abbrev IsCounted : ℕ → Outcome E → S → Type 0
-    IsCounted count outcome new = CountedFrom step k old (turns k meaning bytes) (byte_count k meaning bytes) count
+    IsCounted count outcome new = CountedFrom step k old (line_plan k meaning bytes).calls (line_plan k meaning bytes).finish.count count
         outcome
         new
 
     -- no more calls are to come
     counted-done : (w : Walk) (new : S) → IsLineStart t bytes w.offset w.line
-        → IsNear k meaning bytes w.next_unreported w.line w.after_context_left → IsDone k meaning bytes w.line
+        → IsNear k bytes (selected_lines k meaning bytes) w.next_unreported w.line w.after_context_left → IsDone k meaning bytes w.line
         → AreMadeFrom step k old (front w.next_unreported) all_true new → IsCounted w.offset all_true new
     counted-done w new at near done reported = record {
       reported = subst (λ ts. AreMadeFrom step k old ts all_true new)
-          (sym (front-through w.next_unreported turned (omega arith)))
+          (sym (front-through w.next_unreported reportable (omega arith)))
           (from-append step k old (front w.next_unreported)
-          (joined_from T w.next_unreported (turned - w.next_unreported)) new
+          (joined_from T w.next_unreported (reportable - w.next_unreported)) new
           all_true
           new reported
           (subst (λ ts. AreMade step k new ts all_true new) (sym (rest-is w near done)) (refl, refl)));
@@ -333,7 +335,7 @@ module _ (k : Settings) (meaning : Meaning) (bytes : List ℕ) where
     -- what comes of the calls of a line, by their outcome: a fault, or the count where the line ends, at which no more
     -- are to come, or something goes on from there
     abbrev pub Comes : ℕ → Bool → (S → Type 0) → Outcome E → S → Type 0
-    Comes end over On (failed e) new = AreMadeFrom step k old (turns k meaning bytes) (failed e) new
+    Comes end over On (failed e) new = AreMadeFrom step k old (line_plan k meaning bytes).calls (failed e) new
     Comes end over On (stopped finish) new = counted end ≡ finish → IsCounted end (stopped finish) new
     Comes end over On all_true new = (over ≡ true → IsCounted end all_true new) × (over ≡ false → On new)
 
@@ -359,15 +361,15 @@ module _ (k : Settings) (meaning : Meaning) (bytes : List ℕ) where
       late : 0 < w.after_context_left → Plans.is_trailing k meaning bytes w.line ≡ trailing
       late = trailing-here w same line bare so_far.walk chosen trailing decided
 
-      few : next.next_unreported ≤ turned
+      few : next.next_unreported ≤ reportable
       few = grind (arith, has w same line bare so_far.walk, so_far.walk.near.low)
 
       pub line-comes : (outcome : Outcome E) (new : S)
-          → AreMade step k mid (line_turns k bytes w text chosen trailing) outcome new
+          → AreMade step k mid (line_calls k bytes w text chosen trailing) outcome new
           → Comes (line_end w text) (is_over k next chosen) (HasReported k meaning bytes step old next) outcome new
       line-comes outcome new made = go outcome (subst (λ ts. AreMadeFrom step k old ts outcome new)
           (sym (front-step w same line bare so_far.walk chosen trailing is late))
-          (from-append step k old (front w.next_unreported) (line_turns k bytes w text chosen trailing) mid outcome new
+          (from-append step k old (front w.next_unreported) (line_calls k bytes w text chosen trailing) mid outcome new
           so_far.reported made))
         where
           go : (outcome : Outcome E) → AreMadeFrom step k old (front next.next_unreported) outcome new
@@ -397,7 +399,7 @@ module _ (k : Settings) (meaning : Meaning) (bytes : List ℕ) where
     pub counted-unbegun : (new : S) → step old k begins (Ok false) new
         → IsCounted step (fresh old) 0 (stopped (counted 0)) new
     counted-unbegun new stops = record {
-      reported = from-ended step k (fresh old) (front 0) (joined_from T 0 turned) (stopped (counted 0)) new (λ is. cc)
+      reported = from-ended step k (fresh old) (front 0) (joined_from T 0 reportable) (stopped (counted 0)) new (λ is. cc)
           (from-fresh step k old (front 0) (stopped (counted 0)) new (inr (inl (refl, stops))));
       is_count = refl;
     }
@@ -424,22 +426,24 @@ module _ {S E F : Type 0} (step : Steps S E) (errors : ErrorMakers F E) (matcher
   pub fault-matcher : (old : Origin S) (w : Walk) (new : S) → HasReported k matcher.meaning bytes step old w new
       → {start end : ℕ} (same : w.offset ≡ start) (line : IsLine (byte_of k.line_terminator) bytes w.line start end)
       → Bare k matcher.meaning bytes → can_hit k w ≡ true → (haystack : List ℕ) (error : F) (e : E)
-      → IsAsked k matcher.meaning bytes w.line haystack → errors.is_message error e
+      → IsAskedFrom k matcher.meaning bytes w.line haystack → errors.is_message error e
       → matcher.fails haystack error → IsWalkFault step errors matcher k bytes old e new
   fault-matcher old w new so_far same line bare room haystack error e asked message fails = at_question
       haystack
       error
       (front k matcher.meaning bytes w.next_unreported)
       (joined_from (T k matcher.meaning bytes) w.next_unreported
-      (turned k matcher.meaning bytes - w.next_unreported))
+      (reportable k matcher.meaning bytes - w.next_unreported))
       (record {
         index = w.line;
-        has_turn = has k matcher.meaning bytes w same line bare so_far.walk;
-        room = room-here k matcher.meaning bytes w same line bare so_far.walk room;
-        question = asked;
+        question = record {
+          may_report = has k matcher.meaning bytes w same line bare so_far.walk;
+          room = room-here k matcher.meaning bytes w same line bare so_far.walk room;
+          question = asked;
+        };
         before = sym (through-is k matcher.meaning bytes w same line bare so_far.walk);
       })
-      (front-through k matcher.meaning bytes w.next_unreported (turned k matcher.meaning bytes)
+      (front-through k matcher.meaning bytes w.next_unreported (reportable k matcher.meaning bytes)
       (omega (arith, has k matcher.meaning bytes w same line bare so_far.walk)))
       fails message so_far.reported
 
@@ -449,7 +453,7 @@ module _ {S E F : Type 0} (step : Steps S E) (errors : ErrorMakers F E) (matcher
   fault-by_line old e new (at_call reported) = of_sink (record {
     outcome = failed e;
     mid = new;
-    made = fresh-made step k old (turns k matcher.meaning bytes) (failed e) new reported;
+    made = fresh-made step k old (line_plan k matcher.meaning bytes).calls (failed e) new reported;
     finished = (refl, refl);
   })
   fault-by_line old e new (at_question haystack error made later asked first fails message reported) =

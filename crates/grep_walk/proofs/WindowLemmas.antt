@@ -1,18 +1,19 @@
 -- A window of an input: where its lines are in the input, and which of them are kept when the next window is shown.
-use Rattle.std.proofs.Common.{◌≡◌, ℕ, ◌+◌, ◌-◌, ◌<◌, ◌≤◌, min, List, [], ◌∷◌, ◌++◌, length, take, drop}
-use Rattle.std.proofs.Common.{arith, refl, sym, ◌∙◌, ap, subst, ⊎_elim, append-nil, append_assoc, length-append}
-use Rattle.std.proofs.Common.{length-drop, slice_index}
+use Rattle.std.proofs.Common.{◌≡◌, ℕ, ◌+◌, ◌-◌, ◌<◌, ◌≤◌, min, List, [], ◌∷◌, ◌++◌, length, take}
+use Rattle.std.proofs.Common.{drop, arith, refl, sym, ◌∙◌, ap, subst, ⊎_elim, append-nil}
+use Rattle.std.proofs.Common.{append_assoc, length-append, length-drop, slice_index}
 use Rattle.std.proofs.Math.Seq.{drop-append-add}
 use Rattle.std.proofs.lemmas.Bool.{cases_lt}
-use Rattle.std.proofs.lemmas.List.{take-append-drop, take-append-le, drop-append-le}
-use Rattle.std.proofs.lemmas.List.{length-take-le, drop_all}
+use Rattle.std.proofs.lemmas.List.{take-append-drop, take-append-le, drop-append-le, length-take-le}
+use Rattle.std.proofs.lemmas.List.{drop_all}
 use Rattle.std.specs.Prelude.{slice_range}
 use Rattle.std.specs.List.{concat}
 use Rattle.grep_matcher.specs.Lines.{byte_of, lines, line_start}
 use Rattle.grep_lines.specs.Positions.{IsLine, IsLineStart}
 use Rattle.grep_matcher.proofs.LineLemmas.{lines-append}
 use Rattle.grep_definitions.specs.Plans.{Settings}
-use Rattle.grep_definitions.proofs.FrontLemmas.{closed-append, closed-drop, closed-take, count-after, start-after, start-there}
+use Rattle.grep_definitions.proofs.FrontLemmas.{closed-append, closed-drop, closed-take}
+use Rattle.grep_definitions.proofs.FrontLemmas.{count-after, start-after, start-there}
 use Rattle.grep_lines.proofs.LineRangeLemmas.{end-start, line-from, start-same}
 use Rattle.grep_walk.specs.declared.walk.Walk.{Walk}
 use Rattle.grep_definitions.specs.Searches.{IsClosed}

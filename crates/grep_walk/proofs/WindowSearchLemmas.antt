@@ -1,28 +1,27 @@
 -- A walk over the lines of a window, against the calls that are defined for the input.
-use Rattle.std.proofs.Common.{◌∙◌, ◌≡◌, ℕ, ◌+◌, ◌-◌, ◌<◌, ◌≤◌, min, Bool, true, false, List, [], ◌++◌, length}
-use Rattle.std.proofs.Common.{drop, arith, Ok, refl, sym, ap, ap₂, subst, inl, inr, length-take}
-use Rattle.std.proofs.Common.{append_assoc, length-drop, ⊎_elim}
+use Rattle.std.proofs.Common.{◌∙◌, ◌≡◌, ℕ, ◌+◌, ◌-◌, ◌<◌, ◌≤◌, min, Bool, true, false, List, []}
+use Rattle.std.proofs.Common.{◌++◌, length, drop, arith, Ok, refl, sym, ap, ap₂, subst, inl, inr}
+use Rattle.std.proofs.Common.{length-take, append_assoc, length-drop, ⊎_elim}
 use Rattle.std.proofs.lemmas.Bool.{cases_lt}
 use Rattle.std.proofs.lemmas.List.{take_rest}
 use Rattle.grep_matcher.specs.Lines.{lines, line_start, strip, byte_of}
 use Rattle.grep_matcher.specs.Meanings.{Meaning, MatcherFacts}
 use Rattle.std.specs.Prelude.{slice_range, All}
 use Rattle.grep_lines.specs.Positions.{IsLine, IsLineStart}
-use Rattle.grep_definitions.specs.Plans.{Settings, begins, Steps, Outcome, all_true, AreMade, stops_next}
-use Rattle.grep_definitions.specs.Plans.{Planned}
-use Rattle.grep_definitions.specs.LineSearch
-use Rattle.grep_definitions.specs.LineSearch.{turns, turns_before, byte_count}
+use Rattle.grep_definitions.specs.Plans.{calls_before, line_plan, reports_end, selected_lines}
+use Rattle.grep_definitions.specs.Plans.{Settings, begins, Steps, Outcome, all_true, AreMade}
+use Rattle.grep_definitions.specs.Plans.{stops_next, Planned, IsAskedFrom}
+use Rattle.grep_definitions.specs.Plans
 use Rattle.grep_definitions.specs.LineWalks.{IsNear, IsOpen}
 use Rattle.grep_definitions.specs.Searches.{IsClosed, reports_nothing}
-use Rattle.grep_definitions.proofs.FirstTurnLemmas.{turns-seen}
+use Rattle.grep_definitions.proofs.FirstCallLemmas.{front_calls-seen}
 use Rattle.grep_definitions.proofs.FrontLemmas.{closed-append, count-after, start-there}
-use Rattle.grep_definitions.proofs.LimitLemmas.{turn_above, turn_all}
+use Rattle.grep_definitions.proofs.LimitLemmas.{reportable-above, reportable-all}
 use Rattle.grep_report.specs.ErrorMakers.{ErrorMakers}
 use Rattle.grep_walk.specs.WalkFaults.{IsWalkFault}
 use Rattle.grep_walk.specs.declared.walk.Walk.{Walk}
-use Rattle.grep_walk.specs.Walks.{IsDecided, IsOrdered, HasReported, can_hit, line_end, line_turns, after_line, is_over}
-use Rattle.grep_walk.specs.Walks.{with_counts, CountedFrom}
-use Rattle.grep_definitions.specs.Questions.{IsAsked}
+use Rattle.grep_walk.specs.Walks.{IsDecided, IsOrdered, HasReported, can_hit, line_end, line_calls}
+use Rattle.grep_walk.specs.Walks.{after_line, is_over, with_counts, CountedFrom}
 use Rattle.grep_walk.specs.LookAheads.{MayAskAhead}
 use Rattle.grep_walk.specs.Windows.{IsWindow, IsInWindow, HasPassed, HasSearched, HasWalked}
 use Rattle.grep_lines.proofs.LineRangeLemmas.{line-at, end-start, start-same}
@@ -107,7 +106,7 @@ passed-end {k} {window} so_far end = passed-all _ _ _ _ _ _ _ _ _ _ so_far end (
 
 abbrev IsCounted : {S E : Type 0} → Steps S E → Settings → Meaning → List ℕ → Origin S → ℕ → Outcome E → S → Type 0
 IsCounted step k meaning input first count outcome new =
-    CountedFrom step k first (turns k meaning input) (byte_count k meaning input) count outcome new
+    CountedFrom step k first (line_plan k meaning input).calls (line_plan k meaning input).finish.count count outcome new
 
 -- once all lines of the input are passed, all calls were made and returned true
 pub counted-passed : {S E : Type 0} (step : Steps S E) (k : Settings) (meaning : Meaning) (gone window input : List ℕ)
@@ -159,11 +158,11 @@ module _ {S E : Type 0} {step : Steps S E} {k : Settings} {meaning : Meaning} {g
   slice-at = windows.slice-in gone window so_far.inside.shown.after input so_far.inside.shown.whole p
 
   -- a question about that line alone
-  pub asked-line : IsAsked k meaning input w.line (strip k.line_terminator here)
+  pub asked-line : IsAskedFrom k meaning input w.line (strip k.line_terminator here)
   asked-line = inl (ap (strip k.line_terminator) (sym (at.line ∙ slice-at q (omega (arith, own.above)) within)))
 
   -- a question about the lines from there to the end of the window
-  pub asked-ahead : MayAskAhead k meaning w → IsAsked k meaning input w.line (drop p window)
+  pub asked-ahead : MayAskAhead k meaning w → IsAskedFrom k meaning input w.line (drop p window)
   asked-ahead may =
       let count = length (lines t window) in
       let last = line-at t window (count - 1) (omega (arith, own.listed)) in
@@ -190,13 +189,13 @@ module _ {S E : Type 0} {step : Steps S E} {k : Settings} {meaning : Meaning} {g
 
   -- what comes of its calls
   pub line-comes : Bare k meaning input → {chosen trailing : Bool} → IsDecided k meaning w here chosen trailing
-      → (outcome : Outcome E) (new : S) → AreMade step k now (line_turns k input w here chosen trailing) outcome new
+      → (outcome : Outcome E) (new : S) → AreMade step k now (line_calls k input w here chosen trailing) outcome new
       → Comes k meaning input step first (line_end w here) (is_over k (after_line k w here chosen) chosen)
       (HasWalked step k meaning gone window input first q (after_line k w here chosen)) outcome new
   line-comes bare {chosen} {trailing} decided outcome new made =
       walks.comes-on k meaning input step first (line_end w here) (is_over k (after_line k w here chosen) chosen) _ _ on
       outcome new (subst (λ xs. IsDecided k meaning w xs chosen trailing
-      → AreMade step k now (line_turns k input w xs chosen trailing) outcome new
+      → AreMade step k now (line_calls k input w xs chosen trailing) outcome new
       → Comes k meaning input step first (line_end w xs) (is_over k (after_line k w xs chosen) chosen)
       (HasReported k meaning input step first (after_line k w xs chosen)) outcome new)
       (slice-at q (omega (arith, own.above)) within)
@@ -222,7 +221,7 @@ pub failed-matcher : {S E F : Type 0} {step : Steps S E} {k : Settings} {gone wi
     → (so_far : HasWalked step k matcher.meaning gone window input first p w now) → q ≤ length window
     → ((i : ℕ) → IsLineStart (byte_of k.line_terminator) window p i → IsLine (byte_of k.line_terminator) window i p q)
     → can_hit k w ≡ true → (haystack : List ℕ) (error : F) (e : E)
-    → IsAsked k matcher.meaning input w.line haystack → errors.is_message error e → matcher.fails haystack error
+    → IsAskedFrom k matcher.meaning input w.line haystack → errors.is_message error e → matcher.fails haystack error
     → IsWalkFault step errors matcher k input first e now
 failed-matcher errors matcher bare so_far within line room haystack error e asked message fails =
     walks.fault-matcher _ errors matcher _ _ _ _ _ so_far.reported so_far.inside.at (at so_far within line) bare room
@@ -247,36 +246,36 @@ module _ {S E : Type 0} {step : Steps S E} {k : Settings} {meaning : Meaning} {g
   pub calls-seen : (k.passthru ≡ true → k.before_context ≡ 0) → (after : List ℕ)
       → (there : HasSearched step k meaning gone (shown ++ more) (gone ++ ((shown ++ more) ++ after)) first
       (length shown) w now)
-      → turns_before k meaning (gone ++ ((shown ++ more) ++ after)) there.next_unreported ≡ turns k meaning (gone ++ shown)
+      → calls_before k (gone ++ ((shown ++ more) ++ after)) (selected_lines k meaning (gone ++ ((shown ++ more) ++ after))) there.next_unreported ≡ (line_plan k meaning (gone ++ shown)).calls
   calls-seen built after there =
       let input : List ℕ = gone ++ ((shown ++ more) ++ after) in
       let walk = there.walked.reported.walk in
       let back : List ℕ = more ++ after in
       let same_input : input ≡ (gone ++ shown) ++ back =
       ap (λ xs. gone ++ xs) (append_assoc shown more after) ∙ sym (append_assoc gone shown back) in
-      let turned : there.line ≤ LineSearch.turn_count k meaning input = ⊎_elim
-      (λ less. omega (arith, turn_above k _ input walk.opened less))
+      let reportable : there.line ≤ reports_end k meaning input = ⊎_elim
+      (λ less. omega (arith, reportable-above k _ input walk.opened less))
       (λ all. let end : there.line ≡ length (lines (byte_of k.line_terminator) input) = omega (arith, all, walk.placed.at.listed) in
       omega (
         arith,
-        turn_all k _ input
+        reportable-all k _ input
             (subst (λ i. IsOpen k meaning input i w.after_context_left w.match_count) end walk.opened),
         end,
       ))
       (cases_lt there.line (length (lines (byte_of k.line_terminator) input))) in
-      let known = subst (λ i. (IsNear k meaning input there.next_unreported i w.after_context_left)
-      × (i ≤ LineSearch.turn_count k meaning input)
-      × All (λ (turn : Planned). turn.if_false.count ≤ LineSearch.start k meaning input i)
-      (turns_before k meaning input there.next_unreported)) (line-seen there) (
+      let known = subst (λ i. (IsNear k input (selected_lines k meaning input) there.next_unreported i w.after_context_left)
+      × (i ≤ reports_end k meaning input)
+      × All (λ (call : Planned). call.if_false.count ≤ Plans.start k input i)
+      (calls_before k input (selected_lines k meaning input) there.next_unreported)) (line-seen there) (
         walk.near,
-        turned,
-        subst (λ n. All (λ (turn : Planned). turn.if_false.count ≤ n) (turns_before k meaning input there.next_unreported))
+        reportable,
+        subst (λ n. All (λ (call : Planned). call.if_false.count ≤ n) (calls_before k input (selected_lines k meaning input) there.next_unreported))
             (sym walk.placed.at.begins) walk.ended,
       ) in
       let count : ℕ = length (lines (byte_of k.line_terminator) (gone ++ shown)) in
-      let moved = subst (λ xs. (IsNear k meaning xs there.next_unreported count w.after_context_left)
-      × (count ≤ LineSearch.turn_count k meaning xs)
-      × All (λ (turn : Planned). turn.if_false.count ≤ LineSearch.start k meaning xs count)
-      (turns_before k meaning xs there.next_unreported)) same_input known in
-      ap (λ xs. turns_before k meaning xs there.next_unreported) same_input
-      ∙ turns-seen k meaning _ back (closed-append (byte_of k.line_terminator) gone shown opens shut) built _ _ moved.0 moved.1 moved.2
+      let moved = subst (λ xs. (IsNear k xs (selected_lines k meaning xs) there.next_unreported count w.after_context_left)
+      × (count ≤ reports_end k meaning xs)
+      × All (λ (call : Planned). call.if_false.count ≤ Plans.start k xs count)
+      (calls_before k xs (selected_lines k meaning xs) there.next_unreported)) same_input known in
+      ap (λ xs. calls_before k xs (selected_lines k meaning xs) there.next_unreported) same_input
+      ∙ front_calls-seen k meaning _ back (closed-append (byte_of k.line_terminator) gone shown opens shut) built _ _ moved.0 moved.1 moved.2

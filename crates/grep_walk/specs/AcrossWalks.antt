@@ -1,14 +1,12 @@
 -- The walk of a search across lines: what it knows of the lines before it and of the unit that it
 -- comes to, and how lines move it on. No contract of grep_searcher cites these definitions.
-use Rattle.grep_definitions.specs.Plans.{planned, Planned, begins, is_free, count_below, has_room}
-use Rattle.grep_definitions.specs.Plans.{selects_free, joined_from, Settings}
+use Rattle.grep_definitions.specs.LineWalks.{IsNear}
+use Rattle.grep_definitions.specs.Plans.{touched_lines, is_free, count_below, has_room}
+use Rattle.grep_definitions.specs.Plans.{selects_free, Settings, calls_before}
 use Rattle.std.specs.Prelude.{◌≡◌, ℕ, ◌+◌, ◌-◌, ◌<◌, ◌≤◌, Bool, true, false, not, ◌&&◌, nat_lt}
-use Rattle.std.specs.Prelude.{if◌then◌else◌, List, ◌∷◌, length, All}
+use Rattle.std.specs.Prelude.{if◌then◌else◌, List, length, All}
 use Rattle.grep_matcher.specs.Lines.{lines, byte_of}
 use Rattle.grep_matcher.specs.Meanings.{Meaning}
-use Rattle.grep_definitions.specs.AcrossLines.{is_selected, turns_at}
-use Rattle.grep_definitions.specs.LineSearch.{line_count}
-use Rattle.grep_definitions.specs.Selections.{IsNear, no_line}
 use Rattle.grep_walk.specs.declared.blocks.Blocks.{Blocks}
 use Rattle.grep_walk.specs.declared.walk.Walk.{Walk}
 use Rattle.grep_walk.specs.TouchedUnits.{AreLeft, IsUnit, is_counted}
@@ -44,11 +42,6 @@ after_lines settings w unit chosen =
     else after_line settings w unit chosen
 
 module _ (settings : Settings) (meaning : Meaning) (bytes : List ℕ) where
-  -- `begin`, and the calls of the first i lines
-  abbrev pub turns_before : ℕ → List Planned
-  turns_before i =
-      planned begins 0 ∷ joined_from (turns_at settings meaning bytes) 0 i
-
   -- what a walk at line i knows of the limit under inversion, if c lines were chosen
   pub record IsLimited (i c : ℕ) : Type 0 where
     pub below : has_room settings (count_below (is_free settings meaning bytes) i)
@@ -58,11 +51,11 @@ module _ (settings : Settings) (meaning : Meaning) (bytes : List ℕ) where
   -- where a walk is, and what it knows of the lines before it
   pub record IsAcross (w : Walk) : Type 0 where
     pub placed : IsPlaced settings meaning bytes w
-    pub near : IsNear settings (is_selected settings meaning bytes) no_line
-        (line_count settings meaning bytes) (line_count settings meaning bytes)
-        w.next_unreported w.line w.after_context_left
+    pub near : IsNear settings bytes (touched_lines settings meaning bytes) w.next_unreported
+        w.line w.after_context_left
     pub limited : selects_free settings ≡ true → IsLimited w.line w.match_count
-    pub ended : All (λ turn. turn.if_false.count ≤ w.offset) (turns_before w.next_unreported)
+    pub ended : All (λ call. call.if_false.count ≤ w.offset)
+        (calls_before settings bytes (touched_lines settings meaning bytes) w.next_unreported)
 
   -- a walk at `start` comes to a unit or is in it: without inversion it comes to it. No match
   -- touches the line before the unit

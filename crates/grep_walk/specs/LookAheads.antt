@@ -7,7 +7,7 @@ use Rattle.grep_matcher.specs.Meanings.{Meaning}
 use Rattle.grep_matcher.specs.Lines.{byte_of}
 use Rattle.grep_definitions.specs.Plans.{has_room, hits_if, AsksAhead, is_declared, Settings}
 use Rattle.grep_definitions.specs.Plans.{stops_next}
-use Rattle.grep_definitions.specs.LineTurns.{matches_line}
+use Rattle.grep_definitions.specs.LineCalls.{matches_line}
 use Rattle.grep_walk.specs.declared.look_ahead.Ahead.{Ahead}
 use Rattle.grep_walk.specs.declared.look_ahead.Questions.{Questions}
 use Rattle.grep_walk.specs.declared.look_ahead.Questions.TheVariants.{ManyLines, OneLine}

@@ -8,9 +8,8 @@ use Rattle.grep_matcher.specs.Meanings.{Meaning}
 use Rattle.grep_matcher.specs.Lines.{byte_of}
 use Rattle.grep_lines.specs.Blocks.{block_start, block_end}
 use Rattle.grep_lines.specs.Positions.{IsLineStart}
-use Rattle.grep_definitions.specs.Plans.{Settings, touches, is_touched, position_after}
-use Rattle.grep_definitions.specs.Plans.{position_past, match_limit}
-use Rattle.grep_definitions.specs.LineSearch.{line_count, start}
+use Rattle.grep_definitions.specs.Plans.{line_count, start, Settings, touches, is_touched}
+use Rattle.grep_definitions.specs.Plans.{position_after, position_past, match_limit}
 use Rattle.grep_definitions.specs.SuccessiveMatches.{counted_matches, matches_left}
 use Rattle.grep_walk.specs.declared.blocks.Blocks.{Blocks}
 
@@ -60,14 +59,14 @@ module _ (settings : Settings) (meaning : Meaning) (bytes : List ℕ) where
     pub apart : 0 < low → low < length bytes → low < unit.0
     pub some : unit.0 < length bytes → unit.0 < unit.1
     -- no line between is touched, each of its own is, and the one after it isn't
-    pub miss : (j : ℕ) → j < line_count settings meaning bytes
-        → low ≤ start settings meaning bytes j → start settings meaning bytes j < unit.0
+    pub miss : (j : ℕ) → j < line_count settings bytes
+        → low ≤ start settings bytes j → start settings bytes j < unit.0
         → is_counted j ≡ false
-    pub hit : (j : ℕ) → j < line_count settings meaning bytes
-        → unit.0 ≤ start settings meaning bytes j → start settings meaning bytes j < unit.1
+    pub hit : (j : ℕ) → j < line_count settings bytes
+        → unit.0 ≤ start settings bytes j → start settings bytes j < unit.1
         → is_counted j ≡ true
-    pub past : (j : ℕ) → j < line_count settings meaning bytes
-        → start settings meaning bytes j ≡ unit.1 → is_counted j ≡ false
+    pub past : (j : ℕ) → j < line_count settings bytes
+        → start settings bytes j ≡ unit.1 → is_counted j ≡ false
 
   -- which matches were found, and which are still to be found
   pub record AreFound (position : ℕ) (left : Option ℕ) (asked : List (ℕ × ℕ)) : Type 0 where
@@ -99,14 +98,14 @@ module _ (settings : Settings) (meaning : Meaning) (bytes : List ℕ) where
   -- match that is still to be found touches a line before it
   pub record AreTouched (end position : ℕ) (asked : List (ℕ × ℕ)) (unit : Option (ℕ × ℕ))
       : Type 0 where
-    pub same : (j : ℕ) → j < line_count settings meaning bytes
-        → end ≤ start settings meaning bytes j
+    pub same : (j : ℕ) → j < line_count settings bytes
+        → end ≤ start settings bytes j
         → list_any (touches settings meaning bytes j) asked
-        ≡ is_in unit (start settings meaning bytes j)
+        ≡ is_in unit (start settings bytes j)
     pub range : IfSome unit (IsRange end)
     -- they touch the line before that position too, if it isn't the first line's start
-    pub before : end < length bytes → (j : ℕ) → j < line_count settings meaning bytes
-        → start settings meaning bytes (j + 1) ≡ end
+    pub before : end < length bytes → (j : ℕ) → j < line_count settings bytes
+        → start settings bytes (j + 1) ≡ end
         → list_any (touches settings meaning bytes j) asked ≡ true
     pub later : IfSome unit
         (λ u. u.0 ≤ block_start (byte_of settings.line_terminator) bytes (position, position))

@@ -6,13 +6,13 @@ use Rattle.grep_matcher.specs.Lines.{byte_of, lines}
 use Rattle.grep_matcher.specs.Meanings.{Meaning}
 use Rattle.grep_lines.specs.Positions.{IsLineStart}
 use Rattle.grep_report.specs.declared.sink_context.SinkContextKind.TheVariants.{Other}
-use Rattle.grep_definitions.specs.Plans.{Settings, Planned, Outcome, all_true, stopped, failed}
-use Rattle.grep_definitions.specs.Plans.{Steps, AreMade, counted, has_room, hits_if, stops_next}
-use Rattle.grep_definitions.specs.LineSearch.{turns_before}
+use Rattle.grep_definitions.specs.Plans.{calls_before, selected_lines, Settings, Planned, Outcome}
+use Rattle.grep_definitions.specs.Plans.{all_true, stopped, failed, Steps, AreMade, counted}
+use Rattle.grep_definitions.specs.Plans.{has_room, hits_if, stops_next}
 use Rattle.grep_definitions.specs.LineWalks.{IsNear, IsOpen}
-use Rattle.grep_definitions.specs.LineTurns.{matches_line, pending_turns, match_turns}
+use Rattle.grep_definitions.specs.LineCalls.{matches_line, pending_calls, selected_calls}
+use Rattle.grep_definitions.specs.LineCalls.{after_calls, context_calls}
 use Rattle.grep_definitions.specs.SearchLaws.{number_of}
-use Rattle.grep_definitions.specs.LineTurns.{after_turns, context_turns}
 use Rattle.grep_walk.specs.declared.walk.Verdict.{Verdict}
 use Rattle.grep_walk.specs.declared.walk.Verdict.TheVariants.{Chosen, Trailing, Missed}
 use Rattle.grep_walk.specs.declared.walk.Walk.{Walk}
@@ -49,16 +49,16 @@ abbrev pub line_end : Walk → List ℕ → ℕ
 line_end w line = w.offset + length line
 
 -- the calls of the line that a walk is at
-abbrev pub line_turns : Settings → List ℕ → Walk → List ℕ → Bool → Bool → List Planned
-line_turns settings window w line chosen trailing =
+abbrev pub line_calls : Settings → List ℕ → Walk → List ℕ → Bool → Bool → List Planned
+line_calls settings window w line chosen trailing =
     if chosen
-    then pending_turns settings window w.next_unreported w.line (line_end w line)
+    then pending_calls settings window w.next_unreported w.line (line_end w line)
     w.next_unreported (w.line - w.next_unreported)
-    ++ match_turns settings w.next_unreported w.line w.offset (line_end w line) line
+    ++ selected_calls settings w.next_unreported w.line w.offset (line_end w line) line
     else (if nat_lt 0 w.after_context_left
-    then after_turns settings trailing w.next_unreported w.line w.offset (line_end w line) line
+    then after_calls settings trailing w.next_unreported w.line w.offset (line_end w line) line
     else (if settings.passthru
-    then context_turns Other (number_of settings w.line) w.offset (line_end w line) line
+    then context_calls Other (number_of settings w.line) w.offset (line_end w line) line
     else []))
 
 -- whether that line is reported
@@ -121,9 +121,9 @@ IsCount (failed e) whole count = ⊥
 -- the calls were made up to the first false or the last, with this outcome, and that is the byte
 -- count
 pub record Counted {S E : Type 0} (step : Steps S E) (settings : Settings) (old : S)
-    (turns : List Planned)
+    (calls : List Planned)
     (whole count : ℕ) (outcome : Outcome E) (new : S) : Type 0 where
-  pub reported : AreMade step settings old turns outcome new
+  pub reported : AreMade step settings old calls outcome new
   pub is_count : IsCount outcome whole count
 
 -- what was counted of calls from an origin on
@@ -150,14 +150,14 @@ module _ (settings : Settings) (meaning : Meaning) (bytes : List ℕ) where
   -- counts of the calls so far are at most its offset
   pub record IsWalk (w : Walk) : Type 0 where
     pub placed : IsPlaced w
-    pub near : IsNear settings meaning bytes w.next_unreported w.line w.after_context_left
+    pub near : IsNear settings bytes (selected_lines settings meaning bytes) w.next_unreported w.line w.after_context_left
     pub opened : IsOpen settings meaning bytes w.line w.after_context_left w.match_count
-    pub ended : All (λ turn. turn.if_false.count ≤ w.offset)
-        (turns_before settings meaning bytes w.next_unreported)
+    pub ended : All (λ call. call.if_false.count ≤ w.offset)
+        (calls_before settings bytes (selected_lines settings meaning bytes) w.next_unreported)
 
   -- the calls that are defined up to a walk were made from an origin on, and all returned true
   pub record HasReported {S E : Type 0} (step : Steps S E) (first : Origin S) (w : Walk)
       (now : S) : Type 0 where
     pub walk : IsWalk w
     pub reported : AreMadeFrom step settings first
-        (turns_before settings meaning bytes w.next_unreported) all_true now
+        (calls_before settings bytes (selected_lines settings meaning bytes) w.next_unreported) all_true now

@@ -5,7 +5,7 @@ ghost use Rattle.std.specs.Prelude.{drop, slice_index, min};
 ghost use Rattle.grep_matcher.specs.Lines.{byte_of, lines};
 ghost use Rattle.grep_lines.specs.Positions.{IsLineStart};
 ghost use Rattle.grep_definitions.specs.Searches.{IsClosed};
-ghost use Rattle.grep_definitions.specs.LineTurns.{is_gap};
+ghost use Rattle.grep_definitions.specs.LineCalls.{is_gap};
 ghost use Rattle.grep_walk.specs.Walks.{AreCounts, with_counts};
 ghost use Rattle.grep_walk.specs.Windows.{IsInWindow};
 

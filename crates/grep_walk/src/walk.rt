@@ -7,7 +7,7 @@ ghost use Rattle.grep_matcher.specs.Lines.{byte_of, lines, strip};
 ghost use Rattle.grep_lines.specs.Positions.{IsLine, IsLineStart};
 ghost use Rattle.grep_definitions.specs.Plans.{has_room, hits_if, stops_next};
 ghost use Rattle.grep_definitions.specs.Searches.{IsClosed, reports_nothing};
-ghost use Rattle.grep_definitions.specs.LineTurns.{matches_line};
+ghost use Rattle.grep_definitions.specs.LineCalls.{matches_line};
 ghost use Rattle.grep_definitions.specs.SearchLaws.{number_of};
 ghost use Rattle.grep_walk.specs.Walks.{counts_lines, after_line, skip_lines, is_over, IsOrdered};
 ghost use Rattle.grep_walk.specs.Walks.{can_hit, chooses, trails, IsDecided};

@@ -1,10 +1,5 @@
-use Rattle.grep_definitions.proofs.DecodedLemmas.{
-  marked-passes,
-  unchanged-input,
-  unchanged-passes,
-  unsniffed-unchanged,
-  unmarked-unchanged,
-}
+use Rattle.grep_definitions.proofs.DecodedLemmas.{marked-passes, unchanged-input, unchanged-passes}
+use Rattle.grep_definitions.proofs.DecodedLemmas.{unsniffed-unchanged, unmarked-unchanged}
 use Rattle.grep_definitions.proofs.laws.unchanged_is_searched.Goals as goal
 
 pub returns-clause-input : goal.returns-clause-input

@@ -1,4 +1,5 @@
-use Rattle.grep_searcher.proofs.PassedCallLemmas.{closures-append, closures-are_passed, closures-fail_passed, closures-keep_passed}
+use Rattle.grep_searcher.proofs.PassedCallLemmas.{closures-append, closures-are_passed}
+use Rattle.grep_searcher.proofs.PassedCallLemmas.{closures-fail_passed, closures-keep_passed}
 use Rattle.grep_searcher.proofs.laws.calls_are_passed.Goals as goal
 
 pub returns-clause-passed : goal.returns-clause-passed

@@ -1,4 +1,5 @@
-use Rattle.grep_searcher.proofs.HitLineLemmas.{hits-are_selected, hits-are_matched, hits-are_counted, predicates-are_counted}
+use Rattle.grep_searcher.proofs.HitLineLemmas.{hits-are_selected, hits-are_matched}
+use Rattle.grep_searcher.proofs.HitLineLemmas.{hits-are_counted, predicates-are_counted}
 use Rattle.grep_searcher.proofs.laws.hits_are_selected.Goals as goal
 
 pub returns-clause-selected : goal.returns-clause-selected

@@ -1,5 +1,5 @@
-use Rattle.grep_searcher.proofs.LentMatchLemmas.{closures-append_matches, closures-are_lent, closures-fail_lent}
-use Rattle.grep_searcher.proofs.LentMatchLemmas.{closures-keep_matches}
+use Rattle.grep_searcher.proofs.LentMatchLemmas.{closures-append_matches, closures-are_lent}
+use Rattle.grep_searcher.proofs.LentMatchLemmas.{closures-fail_lent, closures-keep_matches}
 use Rattle.grep_searcher.proofs.laws.matches_are_lent.Goals as goal
 
 pub returns-clause-lent : goal.returns-clause-lent

@@ -1,4 +1,5 @@
-use Rattle.grep_searcher.proofs.UnitCallLemmas.{first_match-is_first_unit, matches-are_units, units-are_counted}
+use Rattle.grep_searcher.proofs.UnitCallLemmas.{first_match-is_first_unit, matches-are_units}
+use Rattle.grep_searcher.proofs.UnitCallLemmas.{units-are_counted}
 use Rattle.grep_searcher.proofs.laws.matches_are_units.Goals as goal
 
 pub returns-clause-all : goal.returns-clause-all

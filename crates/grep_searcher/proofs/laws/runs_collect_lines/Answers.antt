@@ -1,4 +1,5 @@
-use Rattle.grep_searcher.proofs.MatchHandlerLemmas.{runs-collect, runs-collect_lines, runs-collect_until}
+use Rattle.grep_searcher.proofs.MatchHandlerLemmas.{runs-collect, runs-collect_lines}
+use Rattle.grep_searcher.proofs.MatchHandlerLemmas.{runs-collect_until}
 use Rattle.grep_searcher.proofs.laws.runs_collect_lines.Goals as goal
 
 pub returns-clause-all : goal.returns-clause-all

@@ -1,26 +1,5 @@
-use Rattle.std.proofs.Common.{
-  rules,
-  false,
-  inl,
-  inr,
-  None,
-  Err,
-  Bool,
-  [],
-  ap,
-  arith,
-  length,
-  refl,
-  sym,
-  ◌∙◌,
-  subst,
-  ◌≡◌,
-  ◌++◌,
-  Ok,
-  true,
-  ℕ,
-  Option,
-}
+use Rattle.std.proofs.Common.{rules, false, inl, inr, None, Err, Bool, [], ap, arith, length, refl}
+use Rattle.std.proofs.Common.{sym, ◌∙◌, subst, ◌≡◌, ◌++◌, Ok, true, ℕ, Option}
 use Rattle.std.proofs.lemmas.Bool.{false≢true}
 use Rattle.std.proofs.lemmas.Result.{err_from_is_err_and}
 use Rattle.grep_decode.proofs.DecoderLemmas.{Decodes-append, Decodes-none}
@@ -43,7 +22,9 @@ use Rattle.grep_definitions.proofs.CallOrderLemmas as order
 use Rattle.grep_core.proofs.OrderLemmas as passed
 use Rattle.grep_core.proofs.search.Search.read_by_line.Given.{Over}
 use Rattle.grep_core.proofs.search.Search.read_by_line.Goals as goal
-use Rattle.grep_core.proofs.search.Search.read_by_line.Goals.{After-error_io, After-questions-questions, After-passes_binary, Else-not-branch}
+use Rattle.grep_core.proofs.search.Search.read_by_line.Goals.{After-error_io}
+use Rattle.grep_core.proofs.search.Search.read_by_line.Goals.{After-questions-questions}
+use Rattle.grep_core.proofs.search.Search.read_by_line.Goals.{After-passes_binary, Else-not-branch}
 
 -- a sink's state, with the offset of the byte that was reported to it
 abbrev noted : {S : Type 0} → S → Option ℕ → Noted S

@@ -1,18 +1,5 @@
-use Rattle.std.proofs.Common.{
-  rules,
-  ◌≡◌,
-  arith,
-  sym,
-  subst,
-  refl,
-  true,
-  false,
-  [],
-  ◌-◌,
-  drop,
-  length-take,
-  length-drop,
-}
+use Rattle.std.proofs.Common.{rules, ◌≡◌, arith, sym, subst, refl, true, false, [], ◌-◌, drop}
+use Rattle.std.proofs.Common.{length-take, length-drop}
 use Rattle.std.proofs.lemmas.Result.{err_from_is_err_and}
 use Rattle.grep_matcher.specs.Lines.{byte_of}
 use Rattle.std.specs.Prelude.{slice_range}
@@ -21,7 +8,7 @@ use Rattle.grep_definitions.specs.Plans.{all_true, failed, stopped, counted}
 use Rattle.grep_walk.specs.Walks.{line_end}
 use Rattle.grep_walk.proofs.AcrossEndLemmas as ends
 use Rattle.grep_walk.proofs.AcrossStepLemmas as steps
-use Rattle.grep_walk.proofs.AcrossTurnLemmas as turns
+use Rattle.grep_walk.proofs.AcrossLoopLemmas as calls
 use Rattle.grep_walk.proofs.AcrossUnitLemmas as units
 use Rattle.grep_definitions.specs.CallOrder.{of_call, of_question}
 use Rattle.grep_definitions.proofs.CallOrderLemmas.{called-none, called-then}
@@ -98,14 +85,14 @@ returns-in_err-sink_line-clause-fault g c =
     let reported = rw (c.of-verdict.ensures.chosen, c.of-verdict.ensures.trailing) at
     c.in_err-sink_line.ensures.reported in
     let p = err_from_is_err_and c.from_residual.result c.from_residual.ensures.1 in
-    let turned = turns.turned c.requires.configured.bare c.lines.invariant.walk c.lines.invariant.same
+    let reportable = calls.reportable c.requires.configured.bare c.lines.invariant.walk c.lines.invariant.same
     c.in-Ok-unit_at.ensures.ready c.in-Ok-unit_at.ensures.ahead c.next_chosen-next.ensures c.end_across-end.ensures.low
     c.end_across-end.ensures.within _ refl c.end_across-end.ensures.unit c.end_across-end.ensures.line in
-    rw (p.1, p.2) (λ first begun. ends.fault-sink _ _ _ k _ first _ _ _ turned.across
-    (ends.reported-next k (g.M.Matcher.facts c.args.matcher.now).meaning _ g.C.Calls.step first c.lines.walk _ _ c.lines.sink turned.front
+    rw (p.1, p.2) (λ first begun. ends.fault-sink _ _ _ k _ first _ _ _ reportable.across
+    (ends.reported-next k (g.M.Matcher.facts c.args.matcher.now).meaning _ g.C.Calls.step first c.lines.walk _ _ c.lines.sink reportable.front
     (c.lines.invariant.reported first begun) (failed _) _
     (reported [] c.args.bytes.now
-    (λ _. turns.in-window k _ _ _ _ c.lines.invariant.same
+    (λ _. calls.in-window k _ _ _ _ c.lines.invariant.same
     c.lines.invariant.walk))))
 
 pub returns-then-not-branch-clause-reported : goal.returns-then-not-branch-clause-reported
@@ -114,18 +101,18 @@ returns-then-not-branch-clause-reported g c = λ first begun.
     let stops : c.in_ok-sink_line.field-0 ≡ false = search rules in
     let reported = rw (c.of-verdict.ensures.chosen, c.of-verdict.ensures.trailing, stops) at
     c.in_ok-sink_line.ensures.reported in
-    let turned = turns.turned c.requires.configured.bare c.lines.invariant.walk c.lines.invariant.same
+    let reportable = calls.reportable c.requires.configured.bare c.lines.invariant.walk c.lines.invariant.same
     c.in-Ok-unit_at.ensures.ready c.in-Ok-unit_at.ensures.ahead c.next_chosen-next.ensures c.end_across-end.ensures.low
     c.end_across-end.ensures.within _ refl c.end_across-end.ensures.unit c.end_across-end.ensures.line in
     let stop = line_end c.lines.walk (slice_range c.args.bytes.now c.lines.start c.end_across-end.result) in (
       stopped (counted stop),
       ends.counted-stopped k _ _ _ first _ _ _ _
-          turned.across
-          (sym turned.end_is)
-          (ends.reported-next k (g.M.Matcher.facts c.args.matcher.now).meaning _ g.C.Calls.step first c.lines.walk _ _ c.lines.sink turned.front
+          reportable.across
+          (sym reportable.end_is)
+          (ends.reported-next k (g.M.Matcher.facts c.args.matcher.now).meaning _ g.C.Calls.step first c.lines.walk _ _ c.lines.sink reportable.front
           (c.lines.invariant.reported first begun) (stopped (counted stop)) _
           (reported [] c.args.bytes.now
-          (λ _. turns.in-window k _ _ _ _ c.lines.invariant.same
+          (λ _. calls.in-window k _ _ _ _ c.lines.invariant.same
           c.lines.invariant.walk))),
     )
 
@@ -137,20 +124,20 @@ lines-preserved g c =
     let reported = rw (c.of-verdict.ensures.chosen, c.of-verdict.ensures.trailing, goes) at
     c.in_ok-sink_line.ensures.reported in
     let here = rw goes at c.in_ok-sink_line.ensures.called in
-    let turned = turns.turned c.requires.configured.bare c.lines.invariant.walk c.lines.invariant.same
+    let reportable = calls.reportable c.requires.configured.bare c.lines.invariant.walk c.lines.invariant.same
     c.in-Ok-unit_at.ensures.ready c.in-Ok-unit_at.ensures.ahead c.next_chosen-next.ensures c.end_across-end.ensures.low
     c.end_across-end.ensures.within _ refl c.end_across-end.ensures.unit c.end_across-end.ensures.line in
     rw after (record {
       within = c.end_across-end.ensures.within;
-      same = turned.offset;
-      ordered = turns.ordered-across k _ _ _ turned.across;
-      ready = turned.ready;
-      walk = turned.across;
+      same = reportable.offset;
+      ordered = calls.ordered-across k _ _ _ reportable.across;
+      ready = reportable.ready;
+      walk = reportable.across;
       reported = λ first begun. ends.reported-next k (g.M.Matcher.facts c.args.matcher.now).meaning _ g.C.Calls.step first c.lines.walk _ _
           c.lines.sink
-          turned.front (c.lines.invariant.reported first begun) all_true _
+          reportable.front (c.lines.invariant.reported first begun) all_true _
           (reported [] c.args.bytes.now
-          (λ _. turns.in-window k _ _ _ _ c.lines.invariant.same
+          (λ _. calls.in-window k _ _ _ _ c.lines.invariant.same
           c.lines.invariant.walk));
       called = called-then _ k _ _ _ _
           c.lines.invariant.called (here 0);

@@ -1,8 +1,8 @@
 use Rattle.std.proofs.Common.{◌≡◌, ◌≤◌, ◌-◌, true, length}
 use Rattle.std.specs.Prelude.{Ok}
 use Rattle.grep_definitions.specs.CallOrder.{HasCalled}
-use Rattle.grep_definitions.specs.Plans.{begins, AreMade, all_true}
-use Rattle.grep_walk.specs.AcrossWalks.{IsAcross, IsReady, turns_before}
+use Rattle.grep_definitions.specs.Plans.{begins, calls_before, touched_lines, AreMade, all_true}
+use Rattle.grep_walk.specs.AcrossWalks.{IsAcross, IsReady}
 use Rattle.grep_walk.specs.Walks.{IsOrdered}
 use Rattle.grep_core.proofs.search.Search.search_across.Given as goal
 
@@ -15,7 +15,8 @@ invariant-lines g l = record {
   walk : IsAcross l.self.config (g.M.Matcher.facts l.matcher).meaning l.bytes l.walk;
   reported : (first : g.row.C-Sink.Denot) → g.C.Calls.step first l.self.config begins (Ok true) l.fn.sink
       → AreMade g.C.Calls.step l.self.config first
-      (turns_before l.self.config (g.M.Matcher.facts l.matcher).meaning l.bytes l.walk.next_unreported) all_true l.sink;
+      (calls_before l.self.config l.bytes (touched_lines l.self.config (g.M.Matcher.facts l.matcher).meaning l.bytes)
+      l.walk.next_unreported) all_true l.sink;
   called : HasCalled g.C.Calls.step l.self.config 0 l.fn.sink all_true l.sink;
   may_call : g.C.Calls.may_call l.sink;
 }

@@ -1,4 +1,5 @@
-use Rattle.std.proofs.Common.{arith, ℕ, Bool, List, true, None, length, ◌∙◌, subst, sym, refl, inl, inr, ap, Err}
+use Rattle.std.proofs.Common.{arith, ℕ, Bool, List, true, None, length, ◌∙◌, subst, sym, refl, inl}
+use Rattle.std.proofs.Common.{inr, ap, Err}
 use Rattle.std.proofs.lemmas.Bool.{true≢false}
 use Rattle.std.proofs.lemmas.Result.{err_from_is_err_and}
 use Rattle.std.specs.Prelude.{vec_capacity}

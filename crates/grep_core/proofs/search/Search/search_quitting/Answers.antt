@@ -2,7 +2,6 @@ use Rattle.std.proofs.Common.{arith, ◌∙◌, refl, sym, subst}
 use Rattle.std.proofs.lemmas.Bool.{false≢true}
 use Rattle.std.proofs.lemmas.Result.{err_from_is_err_and}
 use Rattle.grep_definitions.specs.ContentsSearches.{IsFaultIn}
-use Rattle.grep_definitions.specs.SearchTurns.{calls_if}
 use Rattle.grep_core.proofs.QuittingLemmas.{fault-until, until-finished}
 use Rattle.grep_core.proofs.search.Search.search_quitting.Given.{Over}
 use Rattle.grep_core.specs.QuittingSinks.{Quits, count_to}
@@ -22,7 +21,7 @@ returns-in_err-count-clause-searched g c = λ lawful.
     _ _ c.requires.none _ refl c.requires.has_break c.requires.found
     _
     (subst (λ e. IsFaultIn (Quits g.C.Calls.step g.C.Calls.may_call) (errors-of g) (g.M.Matcher.facts c.args.matcher.now)
-    (calls_if c.args.self.now.config (g.M.Matcher.facts c.args.matcher.now).meaning c.args.is_across) c.args.self.now.config
+    c.args.is_across c.args.self.now.config
     c.args.bytes.now
     c.args.sink.now e c.match_bytes.new.sink) (sym error.2) (c.in_err-count.ensures.fault lawful)))
 

@@ -1,5 +1,4 @@
 use Rattle.std.proofs.Common.{◌∙◌, sym, subst}
-use Rattle.grep_definitions.specs.SearchTurns.{calls_if}
 use Rattle.grep_core.specs.InputSearches.{IsSearchedUntil}
 use Rattle.grep_core.proofs.QuittingLemmas.{first-found, quit-searched}
 use Rattle.grep_core.proofs.search.Search.search_until.Given.{Over}
@@ -26,7 +25,7 @@ returns-in-Some-clause-searched g c = λ lawful.
 pub returns-in-None-clause-searched : goal.returns-in-None-clause-searched
 returns-in-None-clause-searched g c = λ lawful.
     subst (λ s. IsSearchedUntil g.C.Calls.step (errors-of g) (g.M.Matcher.facts c.args.matcher.now)
-    (calls_if c.args.self.now.config (g.M.Matcher.facts c.args.matcher.now).meaning c.args.is_across) c.args.byte
+    c.args.is_across c.args.byte
     c.args.self.now.config
     c.args.bytes.now c.args.sink.now c.search_quitting.result s)
     (sym (c.sink-1.given.1 (sym (c.search_quitting.ensures.same_sink ∙ c.new-quitting.ensures.same_sink))))

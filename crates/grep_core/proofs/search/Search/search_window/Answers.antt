@@ -1,23 +1,5 @@
-use Rattle.std.proofs.Common.{
-  rules,
-  ◌≡◌,
-  ◌∙◌,
-  ℕ,
-  length,
-  refl,
-  ap,
-  sym,
-  subst,
-  arith,
-  true,
-  false,
-  length-take,
-  length-drop,
-  ◌-◌,
-  drop,
-  ◌+◌,
-  List,
-}
+use Rattle.std.proofs.Common.{rules, ◌≡◌, ◌∙◌, ℕ, length, refl, ap, sym, subst, arith, true, false}
+use Rattle.std.proofs.Common.{length-take, length-drop, ◌-◌, drop, ◌+◌, List}
 use Rattle.std.proofs.lemmas.Bool.{false≢true}
 use Rattle.std.proofs.lemmas.Result.{err_from_is_err_and}
 use Rattle.std.specs.Prelude.{slice_range}
@@ -98,8 +80,8 @@ pub returns-in-Err-judge-clause-fault : goal.returns-in-Err-judge-clause-fault
 returns-in-Err-judge-clause-fault g c =
     let below = c.in-Err-judge.ensures.open in
     λ lawful gone input first so_far.
-    let turn = reached g (goal.at.returns-in-Err-judge-clause-fault g c).After-known_at-known lawful _ _ _ so_far in
-    uncounted.failed-asked _ _ c.requires.configured.bare turn c.in-Some.ensures.within.1 below c.in-Err-judge.error _ c.error_message-in-Err-judge.ensures
+    let call = reached g (goal.at.returns-in-Err-judge-clause-fault g c).After-known_at-known lawful _ _ _ so_far in
+    uncounted.failed-asked _ _ c.requires.configured.bare call c.in-Some.ensures.within.1 below c.in-Err-judge.error _ c.error_message-in-Err-judge.ensures
     c.in-Err-judge.ensures.fault
 
 pub returns-in_err-sink_line-clause-fault : goal.returns-in_err-sink_line-clause-fault
@@ -107,9 +89,9 @@ returns-in_err-sink_line-clause-fault g c =
     let decided = c.in-Ok-judge.ensures.decided in
     let p = err_from_is_err_and c.from_residual.result c.from_residual.ensures.1 in
     rw (p.1, p.2) (λ lawful gone input first so_far.
-    let turn = reached g (goal.at.returns-in_err-sink_line-clause-fault g c).After-known_at-known lawful _ _ _ so_far in
-    at_call (uncounted.line-comes c.requires.configured.bare turn c.in-Some.ensures.within.1 (decided turn.agrees)
-    (failed _) _ (c.in_err-sink_line.ensures.reported gone input (uncounted.inside-counted turn.here))))
+    let call = reached g (goal.at.returns-in_err-sink_line-clause-fault g c).After-known_at-known lawful _ _ _ so_far in
+    at_call (uncounted.line-comes c.requires.configured.bare call c.in-Some.ensures.within.1 (decided call.agrees)
+    (failed _) _ (c.in_err-sink_line.ensures.reported gone input (uncounted.inside-counted call.here))))
 
 pub returns-then-not-branch-clause-ends : goal.returns-then-not-branch-clause-ends
 returns-then-not-branch-clause-ends g c = λ lawful ends.
@@ -119,9 +101,9 @@ returns-then-not-branch-clause-ends g c = λ lawful ends.
       stopped (counted (line_end c.skip_unmatched-start.new.walk
           (slice_range c.args.window.now c.skip_unmatched-start.result c.in-Some.end))),
       λ gone input first so_far.
-          let turn = reached g (goal.at.returns-then-not-branch-clause-ends g c).After-known_at-known lawful _ _ _ so_far in
-          uncounted.line-comes c.requires.configured.bare turn c.in-Some.ensures.within.1 (decided turn.agrees)
-          (stopped _) _ (reported gone input (uncounted.inside-counted turn.here)) refl,
+          let call = reached g (goal.at.returns-then-not-branch-clause-ends g c).After-known_at-known lawful _ _ _ so_far in
+          uncounted.line-comes c.requires.configured.bare call c.in-Some.ensures.within.1 (decided call.agrees)
+          (stopped _) _ (reported gone input (uncounted.inside-counted call.here)) refl,
     )
 
 pub returns-then-is_over-clause-ends : goal.returns-then-is_over-clause-ends
@@ -139,9 +121,9 @@ returns-then-is_over-clause-ends g c = λ lawful ends.
     rw next (
       all_true,
       λ gone input first so_far.
-          let turn = reached g (goal.at.returns-then-is_over-clause-ends g c).After-known_at-known lawful _ _ _ so_far in
-          (uncounted.line-comes c.requires.configured.bare turn c.in-Some.ensures.within.1 (decided turn.agrees)
-          all_true _ (reported gone input (uncounted.inside-counted turn.here))).0 over,
+          let call = reached g (goal.at.returns-then-is_over-clause-ends g c).After-known_at-known lawful _ _ _ so_far in
+          (uncounted.line-comes c.requires.configured.bare call c.in-Some.ensures.within.1 (decided call.agrees)
+          all_true _ (reported gone input (uncounted.inside-counted call.here))).0 over,
     )
 
 pub lines-preserved : goal.lines-preserved
@@ -184,9 +166,9 @@ lines-preserved g c =
           _ _ (omega (arith, c.skip_unmatched-start.ensures.low, c.in-Some.ensures.within.0))
           (learns lawful _ now.walked.inside.line.begins (c.lines.invariant.known lawful gone input first so_far));
       searched = λ lawful gone input first so_far.
-          let turn = reached g (goal.at.lines-preserved g c).After-known_at-known lawful _ _ _ so_far in
-          (uncounted.line-comes c.requires.configured.bare turn c.in-Some.ensures.within.1 (decided turn.agrees)
-          all_true _ (reported gone input (uncounted.inside-counted turn.here))).1 on;
+          let call = reached g (goal.at.lines-preserved g c).After-known_at-known lawful _ _ _ so_far in
+          (uncounted.line-comes c.requires.configured.bare call c.in-Some.ensures.within.1 (decided call.agrees)
+          all_true _ (reported gone input (uncounted.inside-counted call.here))).1 on;
       called = called-then _ _ _ _ _
           _
           c.lines.invariant.called (here 0);

@@ -1,7 +1,7 @@
 use Rattle.std.proofs.Common.{rules, ◌≡◌, ◌-◌, true, false}
 use Rattle.std.proofs.lemmas.Bool.{le-leb}
 use Rattle.grep_definitions.specs.Plans.{stopped, counted}
-use Rattle.grep_definitions.specs.LineTurns.{is_gap}
+use Rattle.grep_definitions.specs.LineCalls.{is_gap}
 use Rattle.grep_definitions.proofs.SinkRunLemmas.{AreMade-broken, AreMade-unbroken}
 use Rattle.grep_core.proofs.search.Search.sink_before_line.Goals as goal
 

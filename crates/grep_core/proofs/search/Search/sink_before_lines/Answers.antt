@@ -1,6 +1,7 @@
-use Rattle.std.proofs.Common.{rules, arith, ◌≡◌, ◌-◌, subst, drop, length-take, length-drop, true, false}
+use Rattle.std.proofs.Common.{rules, arith, ◌≡◌, ◌-◌, subst, drop, length-take, length-drop, true}
+use Rattle.std.proofs.Common.{false}
 use Rattle.std.proofs.lemmas.Result.{err_from_is_err_and}
-use Rattle.grep_definitions.specs.LineTurns.{pending_turns}
+use Rattle.grep_definitions.specs.LineCalls.{pending_calls}
 use Rattle.grep_definitions.specs.Plans.{AreMade, all_true, stopped, failed, counted}
 use Rattle.grep_walk.proofs.BeforeContextLemmas as before
 use Rattle.grep_walk.proofs.WindowLemmas as windows
@@ -50,7 +51,7 @@ returns-clause-reported g c = λ gone input inside from end.
     let w = c.args.walk.now in
     let all : c.loop-at.at ≡ w.line = omega (arith, c.loop-at.invariant.below, c.loop-at-test.false) in
     subst (λ m. AreMade g.C.Calls.step c.args.self.now.config c.args.sink.now
-    (pending_turns c.args.self.now.config input w.next_unreported w.line end c.args.index (m - c.args.index)) all_true
+    (pending_calls c.args.self.now.config input w.next_unreported w.line end c.args.index (m - c.args.index)) all_true
     c.loop-at.sink) all
     (c.loop-at.invariant.reported gone input inside from end)
 

@@ -1,7 +1,7 @@
 use Rattle.std.proofs.Common.{◌≡◌, ℕ, List, length, ◌+◌, ◌-◌, ◌≤◌}
 use Rattle.grep_definitions.specs.CallOrder.{HasCalled}
 use Rattle.grep_definitions.specs.Plans.{AreMade, all_true}
-use Rattle.grep_definitions.specs.LineTurns.{pending_turns}
+use Rattle.grep_definitions.specs.LineCalls.{pending_calls}
 use Rattle.grep_walk.specs.Windows.{IsInWindow, IsLineIn}
 use Rattle.grep_core.proofs.search.Search.sink_before_lines.Given as goal
 
@@ -16,7 +16,7 @@ invariant-loop-at g l = record {
   reported : (gone input : List ℕ) → IsInWindow l.self.config gone l.window input l.start l.walk
       → IsLineIn l.self.config gone l.window l.first l.index
       → (end : ℕ) → AreMade g.C.Calls.step l.self.config l.fn.sink
-      (pending_turns l.self.config input l.walk.next_unreported l.walk.line end l.index (l.at - l.index)) all_true
+      (pending_calls l.self.config input l.walk.next_unreported l.walk.line end l.index (l.at - l.index)) all_true
       l.sink;
   called : HasCalled g.C.Calls.step l.self.config 0 l.fn.sink all_true l.sink;
   may_call : g.C.Calls.may_call l.sink;

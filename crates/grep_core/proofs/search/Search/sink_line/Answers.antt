@@ -1,7 +1,7 @@
 use Rattle.std.proofs.Common.{rules, ◌≡◌, ◌-◌, true, false, refl, Ok, Err}
 use Rattle.std.proofs.lemmas.Result.{err_from_is_err_and}
 use Rattle.std.specs.Prelude.{slice_range}
-use Rattle.grep_definitions.specs.LineTurns.{pending_turns, match_turns}
+use Rattle.grep_definitions.specs.LineCalls.{pending_calls, selected_calls}
 use Rattle.grep_definitions.specs.Plans.{failed, stopped, counted}
 use Rattle.grep_definitions.specs.SinkRuns.{outcome_of}
 use Rattle.grep_definitions.proofs.SinkRunLemmas.{AreMade-append, AreMade-ended}
@@ -17,9 +17,9 @@ returns-in_err-sink_before_context-clause-reported g c =
     let stop = line_end w here in
     let p = err_from_is_err_and c.from_residual.result c.from_residual.ensures.1 in
     rw (p.1, p.2, chosen) (λ gone input inside. AreMade-ended g.C.Calls.step c.args.self.now.config
-    (pending_turns c.args.self.now.config input w.next_unreported w.line stop w.next_unreported
+    (pending_calls c.args.self.now.config input w.next_unreported w.line stop w.next_unreported
     (w.line - w.next_unreported))
-    (match_turns c.args.self.now.config w.next_unreported w.line w.offset stop here) c.args.sink.now
+    (selected_calls c.args.self.now.config w.next_unreported w.line w.offset stop here) c.args.sink.now
     (failed c.in_err-sink_before_context.field-0.0)
     c.sink_before_context.new.sink (λ e. cc) (c.in_err-sink_before_context.ensures.reported gone input inside stop))
 
@@ -32,9 +32,9 @@ returns-then-not-branch-clause-reported g c =
     let stops : c.in_ok-sink_before_context.field-0 ≡ false = search rules in
     let reported = rw stops at c.in_ok-sink_before_context.ensures.reported in
     rw chosen (λ gone input inside. AreMade-ended g.C.Calls.step c.args.self.now.config
-    (pending_turns c.args.self.now.config input w.next_unreported w.line stop w.next_unreported
+    (pending_calls c.args.self.now.config input w.next_unreported w.line stop w.next_unreported
     (w.line - w.next_unreported))
-    (match_turns c.args.self.now.config w.next_unreported w.line w.offset stop here) c.args.sink.now (stopped (counted
+    (selected_calls c.args.self.now.config w.next_unreported w.line w.offset stop here) c.args.sink.now (stopped (counted
     stop))
     c.sink_before_context.new.sink (λ e. cc) (reported gone input inside stop))
 

@@ -1,7 +1,7 @@
 use Rattle.std.proofs.Common.{rules, ◌≡◌, ◌&&◌, true, false}
 use Rattle.std.specs.Prelude.{nat_lt}
 use Rattle.grep_definitions.specs.Plans.{stopped, counted}
-use Rattle.grep_definitions.specs.LineTurns.{is_gap}
+use Rattle.grep_definitions.specs.LineCalls.{is_gap}
 use Rattle.grep_definitions.proofs.SinkRunLemmas.{AreMade-broken, AreMade-unbroken}
 use Rattle.grep_core.proofs.search.Search.sink_matched.Goals as goal
 

@@ -1,5 +1,6 @@
 use Rattle.grep_definitions.specs.FileSearches.{IsFileRead}
-use Rattle.grep_definitions.proofs.ReaderViewLemmas.{IsReaderSearched-seen, IsReadingError-seen, IsUnread-seen}
+use Rattle.grep_definitions.proofs.ReaderViewLemmas.{IsReaderSearched-seen, IsReadingError-seen}
+use Rattle.grep_definitions.proofs.ReaderViewLemmas.{IsUnread-seen}
 use Rattle.grep_searcher.specs.declared.searcher.files.Opened.{Opened}
 use Rattle.grep_definitions.proofs.CallOrderLemmas.{in_order-each}
 use Rattle.grep_searcher.proofs.SourceSearchLemmas.{if_err-each}

@@ -1,5 +1,4 @@
-use Rattle.std.proofs.Common.{rules}
-use Rattle.std.proofs.Common.{refl, inl, inr}
+use Rattle.std.proofs.Common.{rules, refl, inl, inr}
 use Rattle.grep_searcher.proofs.searcher.Searcher.search_path.Goals as goal
 
 pub returns-in-Ok-clause-in_order : goal.returns-in-Ok-clause-in_order

@@ -1,7 +1,8 @@
 use Rattle.std.proofs.Common.{◌∙◌, [], false, inl, inr, refl, subst, sym}
 use Rattle.grep_definitions.specs.Plans.{IsLawful}
 use Rattle.grep_definitions.specs.Searches.{look_of, IsInOrder, read_in_order, IsReadingError}
-use Rattle.grep_searcher.proofs.SourceSearchLemmas.{fault-buffers, searched-same, unread-buffers, unread-same}
+use Rattle.grep_searcher.proofs.SourceSearchLemmas.{fault-buffers, searched-same, unread-buffers}
+use Rattle.grep_searcher.proofs.SourceSearchLemmas.{unread-same}
 use Rattle.grep_report.specs.ErrorMakers.{makers_of}
 use Rattle.grep_searcher.proofs.searcher.Searcher.search_source.Goals as goal
 

@@ -1,8 +1,10 @@
 -- The line that was located is the line of the position, and what lies before it is known not to match.
-use Rattle.std.proofs.Common.{◌+◌, ◌-◌, drop, refl, sym, ◌∙◌, ap, subst, arith, take_all, length-drop, length}
+use Rattle.std.proofs.Common.{◌+◌, ◌-◌, drop, refl, sym, ◌∙◌, ap, subst, arith, take_all}
+use Rattle.std.proofs.Common.{length-drop, length}
 use Rattle.grep_matcher.specs.Lawful.{IsLawfulResult, position_of}
 use Rattle.grep_matcher.specs.Lines.{byte_of}
-use Rattle.grep_walk.proofs.LookAheadLemmas.{known-none, known-candidate, known-confirmed, IsLocated, IsLocated-empty}
+use Rattle.grep_walk.proofs.LookAheadLemmas.{known-none, known-candidate, known-confirmed}
+use Rattle.grep_walk.proofs.LookAheadLemmas.{IsLocated, IsLocated-empty}
 use Rattle.grep_definitions.specs.Plans.{Settings}
 use Rattle.grep_walk.proofs.config.Config.ahead_of.Goals as goal
 

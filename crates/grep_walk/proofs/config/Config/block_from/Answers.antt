@@ -1,4 +1,5 @@
-use Rattle.std.proofs.Common.{◌≡◌, ◌∙◌, ◌-◌, ◌+◌, length, drop, refl, ap, ap₂, arith, take, take_all, length-drop}
+use Rattle.std.proofs.Common.{◌≡◌, ◌∙◌, ◌-◌, ◌+◌, length, drop, refl, ap, ap₂, arith, take}
+use Rattle.std.proofs.Common.{take_all, length-drop}
 use Rattle.grep_lines.specs.Blocks.{block_start, block_end}
 use Rattle.grep_matcher.specs.Lines.{byte_of}
 use Rattle.grep_definitions.specs.Plans.{Settings}

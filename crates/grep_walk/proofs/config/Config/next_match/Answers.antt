@@ -1,5 +1,5 @@
-use Rattle.std.proofs.Common.{◌≡◌, ◌∙◌, ◌-◌, ℕ, List, Some, None, length, drop, sym, subst, arith, take, take_all}
-use Rattle.std.proofs.Common.{length-drop, rules}
+use Rattle.std.proofs.Common.{◌≡◌, ◌∙◌, ◌-◌, ℕ, List, Some, None, length, drop, sym, subst, arith}
+use Rattle.std.proofs.Common.{take, take_all, length-drop, rules}
 use Rattle.std.proofs.lemmas.Result.{err_from_is_err_and}
 use Rattle.grep_matcher.specs.FindResults.{IsWithin}
 use Rattle.grep_definitions.proofs.SuccessiveMatchLemmas.{matches_left-end, matches_left-full}

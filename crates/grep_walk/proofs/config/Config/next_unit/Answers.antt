@@ -1,8 +1,8 @@
 use Rattle.std.proofs.Common.{◌∙◌, sym, arith}
 use Rattle.std.proofs.lemmas.Result.{err_from_is_err_and}
 use Rattle.grep_walk.proofs.QuestionLemmas.{asked-unit}
-use Rattle.grep_walk.proofs.UnitStepLemmas.{unit-last, left-last, unit-done, left-done, unit-apart, left-apart}
-use Rattle.grep_walk.proofs.UnitStepLemmas.{reached-inside, reached-joined}
+use Rattle.grep_walk.proofs.UnitStepLemmas.{unit-last, left-last, unit-done, left-done, unit-apart}
+use Rattle.grep_walk.proofs.UnitStepLemmas.{left-apart, reached-inside, reached-joined}
 use Rattle.grep_walk.proofs.config.Config.next_unit.Goals as goal
 
 pub returns-in_default-clause-unit : goal.returns-in_default-clause-unit

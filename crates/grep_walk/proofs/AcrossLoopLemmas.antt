@@ -1,6 +1,7 @@
 -- What a walk across lines comes to after a line that isn't chosen, or after a unit.
-use Rattle.std.proofs.Common.{◌≡◌, ℕ, ◌-◌, ◌<◌, ◌≤◌, ◌==◌, Bool, true, false, List, [], ◌++◌, length, drop, refl}
-use Rattle.std.proofs.Common.{sym, ◌∙◌, ap, subst, arith, length-take, length-drop}
+use Rattle.std.proofs.Common.{◌≡◌, ℕ, ◌-◌, ◌<◌, ◌≤◌, ◌==◌, Bool, true, false, List, [], ◌++◌}
+use Rattle.std.proofs.Common.{length, drop, refl, sym, ◌∙◌, ap, subst, arith, length-take}
+use Rattle.std.proofs.Common.{length-drop}
 use Rattle.std.proofs.lemmas.Bool.Decides.{nat_tests}
 use Rattle.std.proofs.lemmas.Bool.{eqb-true}
 use Rattle.grep_matcher.specs.Meanings.{Meaning}
@@ -8,11 +9,12 @@ use Rattle.grep_matcher.specs.Lines.{byte_of}
 use Rattle.std.specs.Prelude.{slice_range}
 use Rattle.grep_lines.specs.Positions.{IsLine, IsLineStart}
 use Rattle.grep_lines.proofs.LineStepLemmas.{IsAt-start}
-use Rattle.grep_definitions.specs.Plans.{Settings}
+use Rattle.grep_definitions.specs.Plans.{Settings, touched_lines, calls_before}
 use Rattle.grep_walk.specs.declared.blocks.Blocks.{Blocks}
 use Rattle.grep_walk.specs.declared.walk.Walk.{Walk}
-use Rattle.grep_walk.specs.AcrossWalks.{IsAcross, IsReady, is_done, is_joined, next_chosen, turns_before, after_lines}
-use Rattle.grep_walk.specs.Walks.{IsOrdered, line_end, line_turns}
+use Rattle.grep_walk.specs.AcrossWalks.{IsAcross, IsReady, is_done, is_joined, next_chosen}
+use Rattle.grep_walk.specs.AcrossWalks.{after_lines}
+use Rattle.grep_walk.specs.Walks.{IsOrdered, line_end, line_calls}
 use Rattle.grep_walk.specs.Windows.{IsInWindow}
 use Rattle.grep_walk.proofs.AcrossStepLemmas as steps
 use Rattle.grep_walk.proofs.AcrossUnitLemmas as units
@@ -48,10 +50,10 @@ module _ (k : Settings) (meaning : Meaning) (bytes : List ℕ) where
   }
 
   -- the walk after it, its calls, and the unit that is next
-  pub record IsTurned (start end : ℕ) (w : Walk) (unit : ℕ × ℕ) (blocks : Blocks) (chosen : Bool) : Type 0 where
+  pub record IsMoved (start end : ℕ) (w : Walk) (unit : ℕ × ℕ) (blocks : Blocks) (chosen : Bool) : Type 0 where
     pub across : IsAcross k meaning bytes (after_lines k w (slice_range bytes start end) chosen)
-    pub front : turns_before k meaning bytes (after_lines k w (slice_range bytes start end) chosen).next_unreported
-        ≡ turns_before k meaning bytes w.next_unreported ++ line_turns k bytes w (slice_range bytes start end) chosen false
+    pub front : calls_before k bytes (touched_lines k meaning bytes) (after_lines k w (slice_range bytes start end) chosen).next_unreported
+        ≡ calls_before k bytes (touched_lines k meaning bytes) w.next_unreported ++ line_calls k bytes w (slice_range bytes start end) chosen false
     pub ready : IsReady k meaning bytes end (after_lines k w (slice_range bytes start end) chosen) unit blocks
     pub offset : (after_lines k w (slice_range bytes start end) chosen).offset ≡ end
     pub end_is : line_end w (slice_range bytes start end) ≡ end
@@ -72,11 +74,11 @@ module _ {k : Settings} {meaning : Meaning} {bytes : List ℕ} {start end next :
   open-chosen : IsChosen k meaning bytes w end → is_done k w ≡ false
   open-chosen chosen = grind (arith, chosen.room)
 
-  pub turned : (chosen : Bool) → chosen ≡ (start == next) → (is_joined k chosen ≡ true → end ≡ unit.1)
+  pub reportable : (chosen : Bool) → chosen ≡ (start == next) → (is_joined k chosen ≡ true → end ≡ unit.1)
       → (is_joined k chosen ≡ false → (i : ℕ) → IsLineStart (byte_of k.line_terminator) bytes start i
       → IsLine (byte_of k.line_terminator) bytes i start end)
-      → IsTurned k meaning bytes start end w unit blocks chosen
-  turned true is joined single =
+      → IsMoved k meaning bytes start end w unit blocks chosen
+  reportable true is joined single =
       let there = eqb-true start next (sym is) ∙ is_next in
       let chosen = units.chosen-is across at ready some ahead there joined single in
       record {
@@ -87,7 +89,7 @@ module _ {k : Settings} {meaning : Meaning} {bytes : List ℕ} {start end next :
         offset = ap (λ (v : Walk). v.offset) (steps.walk-is same across below within chosen) ∙ size;
         end_is = size;
       }
-  turned false is joined single =
+  reportable false is joined single =
       let line = single refl w.line at in
       let later = units.next-is across at ready some ahead in
       let above : start < next_chosen k bytes start unit w = grind (arith, nat_tests, later.from, is, is_next) in

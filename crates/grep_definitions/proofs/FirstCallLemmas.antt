@@ -1,83 +1,27 @@
 -- The calls of the first lines begin the calls of all.
+use Rattle.grep_definitions.specs.Plans.{can_break, end_by_limit, end_by_stop, line_plan}
+use Rattle.grep_definitions.specs.Plans.{reports_end, selected_lines, planned, Call, Planned}
+use Rattle.grep_definitions.specs.Plans.{begins, breaks, matches, context, Settings, some_below}
+use Rattle.grep_definitions.specs.Plans.{first_below, at_most, joined_from, Kind, matched}
+use Rattle.grep_definitions.specs.Plans.{in_context, has_room, through}
 use Rattle.grep_definitions.specs.Plans
-use Rattle.grep_definitions.specs.Plans.{
-  planned,
-  Call,
-  Planned,
-  begins,
-  breaks,
-  matches,
-  context,
-  Settings,
-  some_below,
-  first_below,
-  at_most,
-  joined_from,
-  Kind,
-  matched,
-  in_context,
-  has_room,
-}
-use Rattle.std.proofs.Common.{
-  ◌≡◌,
-  ℕ,
-  zero,
-  suc,
-  ◌+◌,
-  ◌-◌,
-  ◌<◌,
-  ◌≤◌,
-  min,
-  Bool,
-  true,
-  false,
-  ◌&&◌,
-  not,
-  List,
-  [],
-  ◌∷◌,
-  ◌++◌,
-  length,
-  refl,
-  sym,
-  ap,
-  subst,
-  ◌∙◌,
-  arith,
-  inl,
-  inr,
-  ◌⊎◌,
-  ⊎_elim,
-  Option,
-  Some,
-  None,
-  is_some,
-  length-append,
-  append-nil,
-  if◌then◌else◌,
-}
+use Rattle.std.proofs.Common.{◌≡◌, ℕ, zero, suc, ◌+◌, ◌-◌, ◌<◌, ◌≤◌, min, Bool, true, false, ◌&&◌}
+use Rattle.std.proofs.Common.{not, List, [], ◌∷◌, ◌++◌, length, refl, sym, ap, subst, ◌∙◌, arith}
+use Rattle.std.proofs.Common.{inl, inr, ◌⊎◌, ⊎_elim, Option, Some, None, is_some, length-append}
+use Rattle.std.proofs.Common.{append-nil, if◌then◌else◌}
 use Rattle.std.proofs.Math.Bool.{and-false}
 use Rattle.std.proofs.lemmas.Bool.{lt-ltb, ltb-true, leb-true, le-leb, cases_lt, cases_Bool}
 use Rattle.std.specs.Prelude.{nat_lt, nat_le, All}
 use Rattle.std.specs.Option.{option_map}
 use Rattle.grep_matcher.specs.Lines.{byte_of, lines}
 use Rattle.grep_matcher.specs.Meanings.{Meaning}
-use Rattle.grep_report.specs.declared.sink_context.SinkContextKind.TheVariants.{Before, After, Other}
+use Rattle.grep_report.specs.declared.sink_context.SinkContextKind.TheVariants.{Before, After}
+use Rattle.grep_report.specs.declared.sink_context.SinkContextKind.TheVariants.{Other}
 use Rattle.grep_definitions.proofs.LineSliceLemmas.{line-report}
-use Rattle.grep_definitions.specs.LineSearch
-use Rattle.grep_definitions.specs.LineSearch.{can_break}
-use Rattle.grep_definitions.proofs.BelowLemmas.{
-  some_below-find,
-  first_below-nowhere,
-  some_below-some,
-  first_below-of,
-  first_below-late,
-  first_below-none,
-  joined_from-add,
-  joined_from-equal,
-  headed-through,
-  joined_from-none,
-}
+use Rattle.grep_definitions.proofs.BelowLemmas.{some_below-find, first_below-nowhere}
+use Rattle.grep_definitions.proofs.BelowLemmas.{some_below-some, first_below-of, first_below-late}
+use Rattle.grep_definitions.proofs.BelowLemmas.{first_below-none, joined_from-add}
+use Rattle.grep_definitions.proofs.BelowLemmas.{joined_from-equal, headed-through, joined_from-none}
 use Rattle.grep_definitions.proofs.FirstLineLemmas as prefix
 use Rattle.grep_definitions.proofs.FirstLineLemmas.{IsClosed, some_below-same, first_below-same}
 use Rattle.grep_definitions.proofs.BoolLemmas.{and-both, both_true, clash}
@@ -102,10 +46,10 @@ module _ (k : Settings) (meaning : Meaning) (front back : List ℕ)
   whole = front ++ back
 
   abbrev pub n : ℕ
-  n = LineSearch.line_count k meaning front
+  n = Plans.line_count k front
 
   abbrev pub all : ℕ
-  all = LineSearch.line_count k meaning whole
+  all = Plans.line_count k whole
 
   -- the whole has the lines of the front and those of the back
   pub more_lines : all ≡ n + length (lines (byte_of k.line_terminator) back)
@@ -150,8 +94,8 @@ module _ (k : Settings) (meaning : Meaning) (front back : List ℕ)
       (le-leb (j - i) k.before_context h.within)) h.chosen
 
   -- a line before a match in the front is so in the whole
-  precedes-more : (i : ℕ) → LineSearch.precedes_selected k meaning front i ≡ true
-      → LineSearch.precedes_selected k meaning whole i ≡ true
+  precedes-more : (i : ℕ) → Plans.precedes_selected k front (selected_lines k meaning front) i ≡ true
+      → Plans.precedes_selected k whole (selected_lines k meaning whole) i ≡ true
   precedes-more i is =
       let found = some_below-find (near_before front i) n is in
       let near = near-from front i found.0 found.2 in
@@ -163,28 +107,28 @@ module _ (k : Settings) (meaning : Meaning) (front back : List ℕ)
   pub record IsLate (i : ℕ) : Type 0 where
     pub inside : i < n
     pub unselected : selected i ≡ false
-    pub unfollowed : LineSearch.follows_selected k meaning front i ≡ false
-    pub precedes : LineSearch.precedes_selected k meaning whole i ≡ true
-    pub unpreceded : LineSearch.precedes_selected k meaning front i ≡ false
+    pub unfollowed : Plans.follows_selected k front (selected_lines k meaning front) i ≡ false
+    pub precedes : Plans.precedes_selected k whole (selected_lines k meaning whole) i ≡ true
+    pub unpreceded : Plans.precedes_selected k front (selected_lines k meaning front) i ≡ false
 
   -- a line of the front is reported the same way in the whole, or is late
-  pub kind-same : (i : ℕ) → i < n → (LineSearch.kind k meaning whole i ≡ LineSearch.kind k meaning front i) ⊎ IsLate i
-  kind-same i below = go (selected i) (LineSearch.follows_selected k meaning front i)
-      (LineSearch.precedes_selected k meaning front i)
-      (LineSearch.precedes_selected k meaning whole i) refl refl refl refl
+  pub kind-same : (i : ℕ) → i < n → (Plans.kind k whole (selected_lines k meaning whole) i ≡ Plans.kind k front (selected_lines k meaning front) i) ⊎ IsLate i
+  kind-same i below = go (selected i) (Plans.follows_selected k front (selected_lines k meaning front) i)
+      (Plans.precedes_selected k front (selected_lines k meaning front) i)
+      (Plans.precedes_selected k whole (selected_lines k meaning whole) i) refl refl refl refl
     where
       s : Plans.is_selected k meaning whole i ≡ selected i
       s = same_selected i below
 
-      f : LineSearch.follows_selected k meaning whole i ≡ LineSearch.follows_selected k meaning front i
+      f : Plans.follows_selected k whole (selected_lines k meaning whole) i ≡ Plans.follows_selected k front (selected_lines k meaning front) i
       f = prefix.follows-same k meaning front back closed i below
 
       t : Plans.is_trailing k meaning whole i ≡ Plans.is_trailing k meaning front i
       t = prefix.is_trailing-same k meaning front back closed i below
 
-      go : (a b c d : Bool) → selected i ≡ a → LineSearch.follows_selected k meaning front i ≡ b
-          → LineSearch.precedes_selected k meaning front i ≡ c → LineSearch.precedes_selected k meaning whole i ≡ d
-          → (LineSearch.kind k meaning whole i ≡ LineSearch.kind k meaning front i) ⊎ IsLate i
+      go : (a b c d : Bool) → selected i ≡ a → Plans.follows_selected k front (selected_lines k meaning front) i ≡ b
+          → Plans.precedes_selected k front (selected_lines k meaning front) i ≡ c → Plans.precedes_selected k whole (selected_lines k meaning whole) i ≡ d
+          → (Plans.kind k whole (selected_lines k meaning whole) i ≡ Plans.kind k front (selected_lines k meaning front) i) ⊎ IsLate i
       go true b c d is_a is_b is_c is_d = inl (rw (s, is_a) refl)
       go false true c d is_a is_b is_c is_d =
           inl (rw (s, is_a, f, is_b) (ap (λ (x : Bool). Some (if x then matched else in_context After)) t))
@@ -225,11 +169,11 @@ module _ (k : Settings) (meaning : Meaning) (front back : List ℕ)
   near_after i j = nat_le (i - j) k.after_context && selected j
 
   -- after a late line no line of the front follows a selected one
-  late-unfollowed : (i j : ℕ) → IsLate i → i ≤ j → j < n → LineSearch.follows_selected k meaning front j ≡ false
+  late-unfollowed : (i j : ℕ) → IsLate i → i ≤ j → j < n → Plans.follows_selected k front (selected_lines k meaning front) j ≡ false
   late-unfollowed i j late low below = ⊎_elim (λ holds. absurd (found holds)) (λ no. no)
-      (cases_Bool (LineSearch.follows_selected k meaning front j))
+      (cases_Bool (Plans.follows_selected k front (selected_lines k meaning front) j))
     where
-      found : LineSearch.follows_selected k meaning front j ≡ true → ⊥
+      found : Plans.follows_selected k front (selected_lines k meaning front) j ≡ true → ⊥
       found holds =
           let match = some_below-find (near_after j) j holds in
           let both = both_true (nat_le (j - match.0) k.after_context) (selected match.0) match.2 in
@@ -245,11 +189,11 @@ module _ (k : Settings) (meaning : Meaning) (front back : List ℕ)
           cc
 
   -- after a late line no line of the front is before a selected one
-  late-unpreceded : (i j : ℕ) → IsLate i → i ≤ j → j < n → LineSearch.precedes_selected k meaning front j ≡ false
+  late-unpreceded : (i j : ℕ) → IsLate i → i ≤ j → j < n → Plans.precedes_selected k front (selected_lines k meaning front) j ≡ false
   late-unpreceded i j late low below = ⊎_elim (λ holds. absurd (found holds)) (λ no. no)
-      (cases_Bool (LineSearch.precedes_selected k meaning front j))
+      (cases_Bool (Plans.precedes_selected k front (selected_lines k meaning front) j))
     where
-      found : LineSearch.precedes_selected k meaning front j ≡ true → ⊥
+      found : Plans.precedes_selected k front (selected_lines k meaning front) j ≡ true → ⊥
       found holds =
           let match = some_below-find (near_before front j) n holds in
           let near = near-from front j match.0 match.2 in
@@ -259,7 +203,7 @@ module _ (k : Settings) (meaning : Meaning) (front back : List ℕ)
 
   module _ (built : k.passthru ≡ true → k.before_context ≡ 0) where
     -- after a late line no line of the front is reported
-    pub late-kind : (i j : ℕ) → IsLate i → i ≤ j → j < n → LineSearch.kind k meaning front j ≡ None
+    pub late-kind : (i j : ℕ) → IsLate i → i ≤ j → j < n → Plans.kind k front (selected_lines k meaning front) j ≡ None
     late-kind i j late low below =
         let near = near-from whole i _ (some_below-find (near_before whole i) all late.precedes).2 in
         let plain : k.passthru
@@ -274,8 +218,8 @@ module _ (k : Settings) (meaning : Meaning) (front back : List ℕ)
         ) refl
 
     -- after a late line no line of the front has a call
-    pub late-turns : (i j : ℕ) → IsLate i → i ≤ j → j < n → LineSearch.turns_at k meaning front j ≡ []
-    late-turns i j late low below =
+    pub late-calls : (i j : ℕ) → IsLate i → i ≤ j → j < n → Plans.calls_at k front (selected_lines k meaning front) j ≡ []
+    late-calls i j late low below =
         let none = late-kind i j late low below in
         rw (none, and-false (nat_lt 0 (k.after_context + k.before_context))) refl
 
@@ -284,7 +228,7 @@ module _ (k : Settings) (meaning : Meaning) (front back : List ℕ)
   later_in bytes i j = nat_lt i j && Plans.is_selected k meaning bytes j
 
   -- a line before a match in the front has the same next match in the whole
-  next-same : (i : ℕ) → LineSearch.precedes_selected k meaning front i ≡ true → first_below (later_in whole i) all
+  next-same : (i : ℕ) → Plans.precedes_selected k front (selected_lines k meaning front) i ≡ true → first_below (later_in whole i) all
       ≡ first_below (later_in front i) n
   next-same i precedes =
       let found = some_below-find (near_before front i) n precedes in
@@ -297,58 +241,58 @@ module _ (k : Settings) (meaning : Meaning) (front back : List ℕ)
       ap (first_below (later_in whole i)) more_lines ∙ first_below-far (later_in whole i) n _ there
       ∙ first_below-same (later_in whole i) (later_in front i) n same
 
-  -- a line before a match ends its turn with that match
-  through-same : (i : ℕ) → i < n → LineSearch.precedes_selected k meaning front i ≡ true
-      → (LineSearch.lines_through_next k meaning whole i ≡ LineSearch.lines_through_next k meaning front i)
-      × (LineSearch.lines_through_next k meaning front i ≤ n)
+  -- the count of a line before a match is that of the match
+  through-same : (i : ℕ) → i < n → Plans.precedes_selected k front (selected_lines k meaning front) i ≡ true
+      → (Plans.next_report_end k whole (selected_lines k meaning whole) i ≡ Plans.next_report_end k front (selected_lines k meaning front) i)
+      × (Plans.next_report_end k front (selected_lines k meaning front) i ≤ n)
   through-same i below precedes = go (first_below (later_in front i) n) refl
     where
       go : (o : Option ℕ) → first_below (later_in front i) n ≡ o
-          → (LineSearch.lines_through_next k meaning whole i ≡ LineSearch.lines_through_next k meaning front i)
-          × (LineSearch.lines_through_next k meaning front i ≤ n)
+          → (Plans.next_report_end k whole (selected_lines k meaning whole) i ≡ Plans.next_report_end k front (selected_lines k meaning front) i)
+          × (Plans.next_report_end k front (selected_lines k meaning front) i ≤ n)
       go None is = let next = next-same i precedes in (rw (next, is) refl, rw is (omega arith))
       go (Some u) is = let next = next-same i precedes in let inside = (first_below-of (later_in front i) n u is).0 in
           (rw (next, is) refl, rw is (omega arith))
 
   -- a line that is reported as one before a match is before one
-  kind-before : (i : ℕ) → LineSearch.kind k meaning front i ≡ Some (in_context Before)
-      → LineSearch.precedes_selected k meaning front i
+  kind-before : (i : ℕ) → Plans.kind k front (selected_lines k meaning front) i ≡ Some (in_context Before)
+      → Plans.precedes_selected k front (selected_lines k meaning front) i
       ≡ true
-  kind-before i is = go (selected i) (LineSearch.follows_selected k meaning front i)
-      (LineSearch.precedes_selected k meaning front i) k.passthru refl refl refl refl
+  kind-before i is = go (selected i) (Plans.follows_selected k front (selected_lines k meaning front) i)
+      (Plans.precedes_selected k front (selected_lines k meaning front) i) k.passthru refl refl refl refl
     where
       unlike : (x : Bool) → Some (if x then matched else in_context After) ≡ Some (in_context Before) → ⊥
       unlike true at = cc
       unlike false at = cc
 
-      go : (a b c d : Bool) → selected i ≡ a → LineSearch.follows_selected k meaning front i ≡ b
-          → LineSearch.precedes_selected k meaning front i ≡ c → k.passthru ≡ d
-          → LineSearch.precedes_selected k meaning front i ≡ true
+      go : (a b c d : Bool) → selected i ≡ a → Plans.follows_selected k front (selected_lines k meaning front) i ≡ b
+          → Plans.precedes_selected k front (selected_lines k meaning front) i ≡ c → k.passthru ≡ d
+          → Plans.precedes_selected k front (selected_lines k meaning front) i ≡ true
       go true b c d p q r t = absurd (let at = rw p at is in cc)
       go false true c d p q r t = absurd (unlike (Plans.is_trailing k meaning front i) (rw (p, q) at is))
       go false false true d p q r t = r
       go false false false true p q r t = absurd (let at = rw (p, q, r, t) at is in cc)
       go false false false false p q r t = absurd (let at = rw (p, q, r, t) at is in cc)
 
-  -- the turn of a line of the front ends at the same offset in the whole
-  end-same : (i : ℕ) → i < n → (kd : Option Kind) → LineSearch.kind k meaning front i ≡ kd
-      → LineSearch.turn_end k meaning whole i kd
-      ≡ LineSearch.turn_end k meaning front i kd
+  -- the count of a line of the front is the same in the whole
+  end-same : (i : ℕ) → i < n → (kd : Option Kind) → Plans.kind k front (selected_lines k meaning front) i ≡ kd
+      → Plans.count_at k whole (selected_lines k meaning whole) i kd
+      ≡ Plans.count_at k front (selected_lines k meaning front) i kd
   end-same i below None is = prefix.start-same k meaning front back closed (i + 1) (omega arith)
   end-same i below (Some matched) is = prefix.start-same k meaning front back closed (i + 1) (omega arith)
   end-same i below (Some (in_context Before)) is =
       let through = through-same i below (kind-before i is) in
-      ap (LineSearch.start k meaning whole) through.0 ∙ prefix.start-same k meaning front back closed
-      (LineSearch.lines_through_next k meaning front i) through.1
+      ap (Plans.start k whole) through.0 ∙ prefix.start-same k meaning front back closed
+      (Plans.next_report_end k front (selected_lines k meaning front) i) through.1
   end-same i below (Some (in_context After)) is = prefix.start-same k meaning front back closed (i + 1)
       (omega arith)
   end-same i below (Some (in_context Other)) is = prefix.start-same k meaning front back closed (i + 1)
       (omega arith)
 
   -- a line of the front has the same report in the whole
-  report-same : (i : ℕ) → i < n → (kd : Option Kind) → LineSearch.kind k meaning front i ≡ kd
-      → LineSearch.report k meaning whole i kd
-      ≡ LineSearch.report k meaning front i kd
+  report-same : (i : ℕ) → i < n → (kd : Option Kind) → Plans.kind k front (selected_lines k meaning front) i ≡ kd
+      → Plans.report k whole (selected_lines k meaning whole) i kd
+      ≡ Plans.report k front (selected_lines k meaning front) i kd
   report-same i below None is = refl
   report-same i below (Some matched) is =
       let number = prefix.number-same k meaning front back closed i (omega arith) in
@@ -356,35 +300,35 @@ module _ (k : Settings) (meaning : Meaning) (front back : List ℕ)
       let line = prefix.line-same k meaning front back closed i below in
       let end = end-same i below (Some matched) is in
       line-report k whole meaning i
-      ∙ ap (λ x. planned (matches x (LineSearch.start k meaning whole i) (LineSearch.line k meaning whole i))
-      (LineSearch.turn_end k meaning whole i (Some matched)) ∷ []) number
-      ∙ ap (λ x. planned (matches (LineSearch.number k meaning front i) x (LineSearch.line k meaning whole i))
-      (LineSearch.turn_end k meaning whole i (Some matched)) ∷ []) start
-      ∙ ap (λ x. planned (matches (LineSearch.number k meaning front i) (LineSearch.start k meaning front i) x)
-      (LineSearch.turn_end k meaning whole i (Some matched)) ∷ []) line
-      ∙ ap (λ x. planned (matches (LineSearch.number k meaning front i) (LineSearch.start k meaning front i)
-      (LineSearch.line k meaning front i)) x ∷ []) end
+      ∙ ap (λ x. planned (matches x (Plans.start k whole i) (Plans.line k whole i))
+      (Plans.count_at k whole (selected_lines k meaning whole) i (Some matched)) ∷ []) number
+      ∙ ap (λ x. planned (matches (Plans.number k front i) x (Plans.line k whole i))
+      (Plans.count_at k whole (selected_lines k meaning whole) i (Some matched)) ∷ []) start
+      ∙ ap (λ x. planned (matches (Plans.number k front i) (Plans.start k front i) x)
+      (Plans.count_at k whole (selected_lines k meaning whole) i (Some matched)) ∷ []) line
+      ∙ ap (λ x. planned (matches (Plans.number k front i) (Plans.start k front i)
+      (Plans.line k front i)) x ∷ []) end
       ∙ sym (line-report k front meaning i)
   report-same i below (Some (in_context c)) is =
       let number = prefix.number-same k meaning front back closed i (omega arith) in
       let start = prefix.start-same k meaning front back closed i (omega arith) in
       let line = prefix.line-same k meaning front back closed i below in
       let end = end-same i below (Some (in_context c)) is in
-      ap (λ x. (planned (context c x (LineSearch.start k meaning whole i) (LineSearch.line k meaning whole i))
-      (LineSearch.turn_end k meaning whole i (Some (in_context c)))) ∷ []) number
-      ∙ ap (λ x. (planned (context c (LineSearch.number k meaning front i) x (LineSearch.line k meaning whole i))
-      (LineSearch.turn_end k meaning whole i (Some (in_context c)))) ∷ []) start
-      ∙ ap (λ x. (planned (context c (LineSearch.number k meaning front i) (LineSearch.start k meaning front i) x)
-      (LineSearch.turn_end k meaning whole i (Some (in_context c)))) ∷ []) line
-      ∙ ap (λ x. planned (context c (LineSearch.number k meaning front i) (LineSearch.start k meaning front i)
-      (LineSearch.line k meaning front i)) x ∷ []) end
+      ap (λ x. (planned (context c x (Plans.start k whole i) (Plans.line k whole i))
+      (Plans.count_at k whole (selected_lines k meaning whole) i (Some (in_context c)))) ∷ []) number
+      ∙ ap (λ x. (planned (context c (Plans.number k front i) x (Plans.line k whole i))
+      (Plans.count_at k whole (selected_lines k meaning whole) i (Some (in_context c)))) ∷ []) start
+      ∙ ap (λ x. (planned (context c (Plans.number k front i) (Plans.start k front i) x)
+      (Plans.count_at k whole (selected_lines k meaning whole) i (Some (in_context c)))) ∷ []) line
+      ∙ ap (λ x. planned (context c (Plans.number k front i) (Plans.start k front i)
+      (Plans.line k front i)) x ∷ []) end
 
-  -- how many lines have a turn, in the front and in the whole
+  -- how many lines may be reported, in the front and in the whole
   abbrev pub count_front : ℕ
-  count_front = LineSearch.turn_count k meaning front
+  count_front = reports_end k meaning front
 
   abbrev pub count_whole : ℕ
-  count_whole = LineSearch.turn_count k meaning whole
+  count_whole = reports_end k meaning whole
 
   -- a bound is the same, or there is none in the front and a far one in the whole
   abbrev Bounds : Option ℕ → Option ℕ → Type 0
@@ -422,17 +366,17 @@ module _ (k : Settings) (meaning : Meaning) (front back : List ℕ)
           inr (ap (option_map f) none, f u, ap (option_map f) (sum ∙ at), omega arith)
 
   -- so is the bound by the stop
-  stop-bounds : Bounds (LineSearch.turns_by_stop k meaning whole) (LineSearch.turns_by_stop k meaning front)
+  stop-bounds : Bounds (end_by_stop k meaning whole) (end_by_stop k meaning front)
   stop-bounds = first-bounds suc (λ u. omega arith) (Plans.ends_search k meaning whole)
       (Plans.ends_search k meaning front) (λ j below. prefix.ends_search-same k meaning front back closed j below)
 
   -- so is the bound by the limit
-  limit-bounds : Bounds (LineSearch.turns_by_limit k meaning whole) (LineSearch.turns_by_limit k meaning front)
+  limit-bounds : Bounds (end_by_limit k meaning whole) (end_by_limit k meaning front)
   limit-bounds = go k.passthru (has_room k 0)
     where
       by : (bytes : List ℕ) → Option ℕ
       by bytes = option_map (λ m. suc (m + k.after_context))
-          (first_below (Plans.fills_limit k meaning bytes) (LineSearch.line_count k meaning bytes))
+          (first_below (Plans.fills_limit k meaning bytes) (Plans.line_count k bytes))
 
       go : (b room : Bool) → Bounds (if b then None else (if room then by whole else Some 0))
           (if b then None else (if room then by front else Some 0))
@@ -442,30 +386,30 @@ module _ (k : Settings) (meaning : Meaning) (front back : List ℕ)
           (Plans.fills_limit k meaning whole) (Plans.fills_limit k meaning front)
           (λ j below. prefix.fills_limit-same k meaning front back closed j below)
 
-  -- the lines of the front that have a turn are the same
+  -- the lines of the front that may be reported are the same
   pub count-same : min count_whole n ≡ count_front
   count-same =
       let all_in : min all n ≡ n = omega (arith, more_lines) in
-      bounded _ _ limit-bounds (at_most (LineSearch.turns_by_stop k meaning whole) all)
-      ∙ ap (at_most (LineSearch.turns_by_limit k meaning front))
-      (bounded _ _ stop-bounds all ∙ ap (at_most (LineSearch.turns_by_stop k meaning front)) all_in)
+      bounded _ _ limit-bounds (at_most (end_by_stop k meaning whole) all)
+      ∙ ap (at_most (end_by_limit k meaning front))
+      (bounded _ _ stop-bounds all ∙ ap (at_most (end_by_stop k meaning front)) all_in)
 
   -- up to line i the kinds are the same
   abbrev pub Same : ℕ → Type 0
-  Same i = (j : ℕ) → j < i → LineSearch.kind k meaning whole j ≡ LineSearch.kind k meaning front j
+  Same i = (j : ℕ) → j < i → Plans.kind k whole (selected_lines k meaning whole) j ≡ Plans.kind k front (selected_lines k meaning front) j
 
   -- a line up to there is reported in both or in neither
-  reported-same : (i j : ℕ) → Same (i + 1) → i < count_front → j ≤ i → LineSearch.is_reported k meaning whole j
-      ≡ LineSearch.is_reported k meaning front j
+  reported-same : (i j : ℕ) → Same (i + 1) → i < count_front → j ≤ i → Plans.is_reported k whole (selected_lines k meaning whole) j
+      ≡ Plans.is_reported k front (selected_lines k meaning front) j
   reported-same i j same below inside =
       let near : nat_lt j count_front ≡ true = lt-ltb j count_front (omega arith) in
       let far : nat_lt j count_whole ≡ true = lt-ltb j count_whole (omega (arith, count-same)) in
       let kinds = same j (omega arith) in
-      ap (λ b. b && is_some (LineSearch.kind k meaning whole j)) (far ∙ sym near)
+      ap (λ b. b && is_some (Plans.kind k whole (selected_lines k meaning whole) j)) (far ∙ sym near)
       ∙ ap (λ o. nat_lt j count_front && is_some o) kinds
 
   -- a break may come before the same kinds
-  breaks-same : (o : Option Kind) → can_break k meaning whole o ≡ can_break k meaning front o
+  breaks-same : (o : Option Kind) → can_break o ≡ can_break o
   breaks-same None = refl
   breaks-same (Some matched) = refl
   breaks-same (Some (in_context Before)) = refl
@@ -473,38 +417,38 @@ module _ (k : Settings) (meaning : Meaning) (front back : List ℕ)
   breaks-same (Some (in_context Other)) = refl
 
   -- a line up to there has the same calls
-  turns_at-same : (i : ℕ) → Same (i + 1) → i < count_front → LineSearch.turns_at k meaning whole i
-      ≡ LineSearch.turns_at k meaning front i
-  turns_at-same i same below =
+  calls_at-same : (i : ℕ) → Same (i + 1) → i < count_front → Plans.calls_at k whole (selected_lines k meaning whole) i
+      ≡ Plans.calls_at k front (selected_lines k meaning front) i
+  calls_at-same i same below =
       let inside : i < n = omega (arith, count-same) in
       let kinds = same i (omega arith) in
       let last = reported-same i (i - 1) same below (omega arith) in
-      let some = some_below-same (LineSearch.is_reported k meaning whole) (LineSearch.is_reported k meaning front) i
+      let some = some_below-same (Plans.is_reported k whole (selected_lines k meaning whole)) (Plans.is_reported k front (selected_lines k meaning front)) i
       (λ j less. reported-same i j same below (omega arith)) in
-      let end = end-same i inside (LineSearch.kind k meaning front i) refl in
-      let report = report-same i inside (LineSearch.kind k meaning front i) refl in
-      let breaks_same : LineSearch.breaks_before k meaning whole i ≡ LineSearch.breaks_before k meaning front i =
-      ap (λ o. nat_lt 0 (k.after_context + k.before_context) && can_break k meaning whole o
-      && not (LineSearch.is_reported k meaning whole (i - 1)) && some_below (LineSearch.is_reported k meaning whole) i)
+      let end = end-same i inside (Plans.kind k front (selected_lines k meaning front) i) refl in
+      let report = report-same i inside (Plans.kind k front (selected_lines k meaning front) i) refl in
+      let breaks_same : Plans.breaks_before k whole (selected_lines k meaning whole) i ≡ Plans.breaks_before k front (selected_lines k meaning front) i =
+      ap (λ o. nat_lt 0 (k.after_context + k.before_context) && can_break o
+      && not (Plans.is_reported k whole (selected_lines k meaning whole) (i - 1)) && some_below (Plans.is_reported k whole (selected_lines k meaning whole)) i)
       kinds
       ∙ ap (λ b. nat_lt 0 (k.after_context + k.before_context)
-      && can_break k meaning whole (LineSearch.kind k meaning front i) && not b
-      && some_below (LineSearch.is_reported k meaning whole) i) last
+      && can_break (Plans.kind k front (selected_lines k meaning front) i) && not b
+      && some_below (Plans.is_reported k whole (selected_lines k meaning whole)) i) last
       ∙ ap (λ b. nat_lt 0 (k.after_context + k.before_context)
-      && can_break k meaning whole (LineSearch.kind k meaning front i)
-      && not (LineSearch.is_reported k meaning front (i - 1)) && b) some
+      && can_break (Plans.kind k front (selected_lines k meaning front) i)
+      && not (Plans.is_reported k front (selected_lines k meaning front) (i - 1)) && b) some
       ∙ ap (λ b. nat_lt 0 (k.after_context + k.before_context) && b
-      && not (LineSearch.is_reported k meaning front (i - 1))
-      && some_below (LineSearch.is_reported k meaning front) i) (breaks-same (LineSearch.kind k meaning front i)) in
+      && not (Plans.is_reported k front (selected_lines k meaning front) (i - 1))
+      && some_below (Plans.is_reported k front (selected_lines k meaning front)) i) (breaks-same (Plans.kind k front (selected_lines k meaning front) i)) in
       let F : Bool → ℕ → List Planned → List Planned = λ b e ts. if b then planned breaks e ∷ ts else ts in
-      ap (λ b. F b (LineSearch.turn_end k meaning whole i (LineSearch.kind k meaning whole i))
-      (LineSearch.report k meaning whole i (LineSearch.kind k meaning whole i))) breaks_same
-      ∙ ap (λ o. F (LineSearch.breaks_before k meaning front i) (LineSearch.turn_end k meaning whole i o)
-      (LineSearch.report k meaning whole i o)) kinds
-      ∙ ap (λ e. F (LineSearch.breaks_before k meaning front i) e
-      (LineSearch.report k meaning whole i (LineSearch.kind k meaning front i))) end
-      ∙ ap (λ ts. F (LineSearch.breaks_before k meaning front i)
-      (LineSearch.turn_end k meaning front i (LineSearch.kind k meaning front i)) ts) report
+      ap (λ b. F b (Plans.count_at k whole (selected_lines k meaning whole) i (Plans.kind k whole (selected_lines k meaning whole) i))
+      (Plans.report k whole (selected_lines k meaning whole) i (Plans.kind k whole (selected_lines k meaning whole) i))) breaks_same
+      ∙ ap (λ o. F (Plans.breaks_before k front (selected_lines k meaning front) i) (Plans.count_at k whole (selected_lines k meaning whole) i o)
+      (Plans.report k whole (selected_lines k meaning whole) i o)) kinds
+      ∙ ap (λ e. F (Plans.breaks_before k front (selected_lines k meaning front) i) e
+      (Plans.report k whole (selected_lines k meaning whole) i (Plans.kind k front (selected_lines k meaning front) i))) end
+      ∙ ap (λ ts. F (Plans.breaks_before k front (selected_lines k meaning front) i)
+      (Plans.count_at k front (selected_lines k meaning front) i (Plans.kind k front (selected_lines k meaning front) i)) ts) report
 
   -- the kinds are the same, or up to a first late line
   pub split : (t : ℕ) → t ≤ n → Same t ⊎ ((i : ℕ) × (i < t) × IsLate i × Same i)
@@ -517,28 +461,28 @@ module _ (k : Settings) (meaning : Meaning) (front back : List ℕ)
     ]
   ]
     where
-      at_last : (j t : ℕ) → LineSearch.kind k meaning whole t ≡ LineSearch.kind k meaning front t → j < suc t → t ≤ j
-          → LineSearch.kind k meaning whole j ≡ LineSearch.kind k meaning front j
+      at_last : (j t : ℕ) → Plans.kind k whole (selected_lines k meaning whole) t ≡ Plans.kind k front (selected_lines k meaning front) t → j < suc t → t ≤ j
+          → Plans.kind k whole (selected_lines k meaning whole) j ≡ Plans.kind k front (selected_lines k meaning front) j
       at_last j t here below out =
           let is : t ≡ j = omega arith in
-          subst (λ j. LineSearch.kind k meaning whole j ≡ LineSearch.kind k meaning front j) is here
+          subst (λ j. Plans.kind k whole (selected_lines k meaning whole) j ≡ Plans.kind k front (selected_lines k meaning front) j) is here
 
   -- up to a line before which the kinds are the same, the calls are the same
-  pub joined-same : (m : ℕ) → Same m → m ≤ count_front → joined_from (LineSearch.turns_at k meaning whole) 0 m
-      ≡ joined_from (LineSearch.turns_at k meaning front) 0 m
+  pub joined-same : (m : ℕ) → Same m → m ≤ count_front → joined_from (Plans.calls_at k whole (selected_lines k meaning whole)) 0 m
+      ≡ joined_from (Plans.calls_at k front (selected_lines k meaning front)) 0 m
   joined-same m same inside =
-      joined_from-equal (LineSearch.turns_at k meaning whole) (LineSearch.turns_at k meaning front) 0 m
-      (λ j low high. turns_at-same j (λ q less. same q (omega arith)) (omega arith))
+      joined_from-equal (Plans.calls_at k whole (selected_lines k meaning whole)) (Plans.calls_at k front (selected_lines k meaning front)) 0 m
+      (λ j low high. calls_at-same j (λ q less. same q (omega arith)) (omega arith))
 
   -- a late line's calls belong to a match after the front
   pub late-through : (i : ℕ) → IsLate i
-      → LineSearch.start k meaning whole n < LineSearch.start k meaning whole
-      (LineSearch.lines_through_next k meaning whole i)
+      → Plans.start k whole n < Plans.start k whole
+      (Plans.next_report_end k whole (selected_lines k meaning whole) i)
   late-through i late = go (first_below (later_in whole i) all) refl
     where
       go : (first : Option ℕ) → first_below (later_in whole i) all ≡ first
-          → LineSearch.start k meaning whole n < LineSearch.start k meaning whole
-          (LineSearch.lines_through_next k meaning whole i)
+          → Plans.start k whole n < Plans.start k whole
+          (Plans.next_report_end k whole (selected_lines k meaning whole) i)
       go None is =
           let found = some_below-find (near_before whole i) all late.precedes in
           let match = near-from whole i found.0 found.2 in
@@ -558,16 +502,16 @@ module _ (k : Settings) (meaning : Meaning) (front back : List ℕ)
 
   module _ (built : k.passthru ≡ true → k.before_context ≡ 0) where
     -- the calls over the front begin those over the whole
-    pub turns-begin : (later : List Planned) × (LineSearch.turns k meaning whole ≡ LineSearch.turns k meaning front
+    pub front_calls-begin : (later : List Planned) × ((line_plan k meaning whole).calls ≡ (line_plan k meaning front).calls
         ++ later)
-    turns-begin = elim (split count_front (omega (arith, count-same))) [
+    front_calls-begin = elim (split count_front (omega (arith, count-same))) [
       | inl same ↦
           let sum : count_whole ≡ count_front + (count_whole - count_front) = omega (arith, count-same) in (
-            joined_from (LineSearch.turns_at k meaning whole) (0 + count_front) (count_whole - count_front),
-            ap (λ m. planned begins 0 ∷ joined_from (LineSearch.turns_at k meaning whole) 0 m) sum
+            joined_from (Plans.calls_at k whole (selected_lines k meaning whole)) (0 + count_front) (count_whole - count_front),
+            ap (λ m. planned begins 0 ∷ joined_from (Plans.calls_at k whole (selected_lines k meaning whole)) 0 m) sum
                 ∙ ap (λ ts. planned begins 0 ∷ ts)
-                (joined_from-add (LineSearch.turns_at k meaning whole) 0 count_front (count_whole - count_front)
-                ∙ ap (λ ts. ts ++ joined_from (LineSearch.turns_at k meaning whole) (0 + count_front)
+                (joined_from-add (Plans.calls_at k whole (selected_lines k meaning whole)) 0 count_front (count_whole - count_front)
+                ∙ ap (λ ts. ts ++ joined_from (Plans.calls_at k whole (selected_lines k meaning whole)) (0 + count_front)
                 (count_whole - count_front))
                 (joined-same count_front same (omega arith))),
           )
@@ -577,63 +521,61 @@ module _ (k : Settings) (meaning : Meaning) (front back : List ℕ)
           let sum : count_whole ≡ i + (count_whole - i) = omega (arith, count-same) in
           let part : count_front ≡ i + (count_front - i) = omega arith in
           let here = joined-same i late.3 (omega arith) in
-          let empty = joined_from-none (LineSearch.turns_at k meaning front) (0 + i) (count_front - i)
-          (λ j low high. late-turns built i j late.2 (omega arith) (omega (arith, count-same))) in (
-            joined_from (LineSearch.turns_at k meaning whole) (0 + i) (count_whole - i),
-            ap (λ m. planned begins 0 ∷ joined_from (LineSearch.turns_at k meaning whole) 0 m) sum
+          let empty = joined_from-none (Plans.calls_at k front (selected_lines k meaning front)) (0 + i) (count_front - i)
+          (λ j low high. late-calls built i j late.2 (omega arith) (omega (arith, count-same))) in (
+            joined_from (Plans.calls_at k whole (selected_lines k meaning whole)) (0 + i) (count_whole - i),
+            ap (λ m. planned begins 0 ∷ joined_from (Plans.calls_at k whole (selected_lines k meaning whole)) 0 m) sum
                 ∙ ap (λ ts. planned begins 0 ∷ ts)
-                (joined_from-add (LineSearch.turns_at k meaning whole) 0 i (count_whole - i)
-                ∙ ap (λ ts. ts ++ joined_from (LineSearch.turns_at k meaning whole) (0 + i) (count_whole - i))
-                (here ∙ sym (append-nil _) ∙ ap (λ ts. joined_from (LineSearch.turns_at k meaning front) 0 i ++ ts)
+                (joined_from-add (Plans.calls_at k whole (selected_lines k meaning whole)) 0 i (count_whole - i)
+                ∙ ap (λ ts. ts ++ joined_from (Plans.calls_at k whole (selected_lines k meaning whole)) (0 + i) (count_whole - i))
+                (here ∙ sym (append-nil _) ∙ ap (λ ts. joined_from (Plans.calls_at k front (selected_lines k meaning front)) 0 i ++ ts)
                 (sym empty)
-                ∙ sym (joined_from-add (LineSearch.turns_at k meaning front) 0 i (count_front - i))
-                ∙ ap (joined_from (LineSearch.turns_at k meaning front) 0) (sym part))),
+                ∙ sym (joined_from-add (Plans.calls_at k front (selected_lines k meaning front)) 0 i (count_front - i))
+                ∙ ap (joined_from (Plans.calls_at k front (selected_lines k meaning front)) 0) (sym part))),
           )
     ]
 
-    -- the calls that a walk has made that has come to the end of the front, if their turns have ended there, are those
+    -- the calls that a walk has made that has come to the end of the front, if their counts are at most that, are those
     -- over the front
-    module _ (v left : ℕ) (near : IsNear k meaning whole v n left) (turned : n ≤ count_whole)
-        (ended : All (λ turn. turn.if_false.count ≤ LineSearch.start k meaning whole n) (LineSearch.turns_before k
-        meaning whole v))
+    module _ (v left : ℕ) (near : IsNear k whole (selected_lines k meaning whole) v n left) (reportable : n ≤ count_whole)
+        (ended : All (λ call. call.if_false.count ≤ Plans.start k whole n) (Plans.calls_before k whole (selected_lines k meaning whole) v))
       where
-        front_turned : n ≡ count_front
-        front_turned = omega (arith, count-same)
+        front_reportable : n ≡ count_front
+        front_reportable = omega (arith, count-same)
 
         -- a line that was passed has no call
-        passed-kind : (j : ℕ) → v ≤ j → j < n → LineSearch.kind k meaning front j ≡ None
+        passed-kind : (j : ℕ) → v ≤ j → j < n → Plans.kind k front (selected_lines k meaning front) j ≡ None
         passed-kind j low below =
             let out = near.passed j low below in
             let unselected : selected j ≡ false = sym (same_selected j below) ∙ out.0 in
-            let unfollowed : LineSearch.follows_selected k meaning front j ≡ false =
+            let unfollowed : Plans.follows_selected k front (selected_lines k meaning front) j ≡ false =
             sym (prefix.follows-same k meaning front back closed j below) ∙ out.1 in
             let plain : k.passthru ≡ false = ⊎_elim (λ yes. absurd (omega (arith, near.bare yes)))
             (λ no. no) (cases_Bool k.passthru) in
-            let unpreceded : LineSearch.precedes_selected k meaning front j ≡ false = ⊎_elim
+            let unpreceded : Plans.precedes_selected k front (selected_lines k meaning front) j ≡ false = ⊎_elim
             (λ holds. absurd (let found = some_below-find (near_before front j) n holds in
             let match = near-from front j found.0 found.2 in
             clash match.chosen (sym (same_selected found.0 found.1)
             ∙ (near.passed found.0 (omega arith) found.1).0)))
-            (λ no. no) (cases_Bool (LineSearch.precedes_selected k meaning front j)) in
+            (λ no. no) (cases_Bool (Plans.precedes_selected k front (selected_lines k meaning front) j)) in
             rw (unselected, unfollowed, unpreceded, plain) refl
 
-        passed-turns : (j : ℕ) → v ≤ j → j < n → LineSearch.turns_at k meaning front j ≡ []
-        passed-turns j low below =
+        passed-calls : (j : ℕ) → v ≤ j → j < n → Plans.calls_at k front (selected_lines k meaning front) j ≡ []
+        passed-calls j low below =
             let none = passed-kind j low below in
             rw (none, and-false (nat_lt 0 (k.after_context + k.before_context))) refl
 
         -- the calls of a line before
         ended-at : (i : ℕ) → i < v
-            → All (λ turn. turn.if_false.count ≤ LineSearch.start k meaning whole n) (LineSearch.turns_at k meaning
-            whole i)
+            → All (λ call. call.if_false.count ≤ Plans.start k whole n) (Plans.calls_at k whole (selected_lines k meaning whole) i)
         ended-at i below =
-            let f = LineSearch.turns_at k meaning whole in
+            let f = Plans.calls_at k whole (selected_lines k meaning whole) in
             let one : v ≡ i + suc (v - (i + 1)) = omega arith in
             let from_zero : 0 + i ≡ i = omega arith in
             let split : joined_from f 0 v ≡ joined_from f 0 i ++ (f i ++ joined_from f (i + 1) (v - (i + 1))) =
             ap (joined_from f 0) one ∙ (joined_from-add f 0 i (suc (v - (i + 1)))
             ∙ ap (λ m. joined_from f 0 i ++ joined_from f m (suc (v - (i + 1)))) from_zero) in
-            let P : Planned → Type 0 = λ turn. turn.if_false.count ≤ LineSearch.start k meaning whole n in
+            let P : Planned → Type 0 = λ call. call.if_false.count ≤ Plans.start k whole n in
             let later : All P (joined_from f 0 v) = λ m d inside. ended (suc m) d (omega (arith, inside)) in
             let rest : List Planned = f i ++ joined_from f (i + 1) (v - (i + 1)) in
             let there : All P rest = subst (All P) (drop_at (joined_from f 0 i) rest (length (joined_from f 0 i)) refl)
@@ -643,28 +585,28 @@ module _ (k : Settings) (meaning : Meaning) (front back : List ℕ)
 
         not-late : (i : ℕ) → i < v → IsLate i → ⊥
         not-late i below late =
-            let is : LineSearch.kind k meaning whole i ≡ Some (in_context Before) =
+            let is : Plans.kind k whole (selected_lines k meaning whole) i ≡ Some (in_context Before) =
             let s = same_selected i late.inside ∙ late.unselected in
             let f = prefix.follows-same k meaning front back closed i late.inside ∙ late.unfollowed in
             let p = late.precedes in
             rw (s, f, p) refl in
-            let end = LineSearch.turn_end k meaning whole i (Some (in_context Before)) in
-            let all_ended = subst (λ kd. All (λ (turn : Planned). turn.if_false.count ≤ LineSearch.start k meaning whole
+            let end = Plans.count_at k whole (selected_lines k meaning whole) i (Some (in_context Before)) in
+            let all_ended = subst (λ kd. All (λ (call : Planned). call.if_false.count ≤ Plans.start k whole
             n)
-            (if LineSearch.breaks_before k meaning whole i
-            then (planned breaks (LineSearch.turn_end k meaning whole i kd))
-            ∷ LineSearch.report k meaning whole i kd
-            else LineSearch.report k meaning whole i kd)) is (ended-at i below) in
-            let low : end ≤ LineSearch.start k meaning whole n = go (LineSearch.breaks_before k meaning whole i)
-            (context Before (LineSearch.number k meaning whole i) (LineSearch.start k meaning whole i)
-            (LineSearch.line k meaning whole i)) end all_ended in
+            (if Plans.breaks_before k whole (selected_lines k meaning whole) i
+            then (planned breaks (Plans.count_at k whole (selected_lines k meaning whole) i kd))
+            ∷ Plans.report k whole (selected_lines k meaning whole) i kd
+            else Plans.report k whole (selected_lines k meaning whole) i kd)) is (ended-at i below) in
+            let low : end ≤ Plans.start k whole n = go (Plans.breaks_before k whole (selected_lines k meaning whole) i)
+            (context Before (Plans.number k whole i) (Plans.start k whole i)
+            (Plans.line k whole i)) end all_ended in
             omega (arith, late-through i late)
           where
             go : (b : Bool) (call : Call) (end : ℕ)
-                → All (λ (turn : Planned). turn.if_false.count ≤ LineSearch.start k meaning whole n)
+                → All (λ (call : Planned). call.if_false.count ≤ Plans.start k whole n)
                 (if b then planned breaks end ∷ (planned call end) ∷ []
                 else planned call end ∷ [])
-                → end ≤ LineSearch.start k meaning whole n
+                → end ≤ Plans.start k whole n
             go true call end all_ended = all_ended 0 (planned call end) (omega arith)
             go false call end all_ended = all_ended 0 (planned call end) (omega arith)
 
@@ -672,12 +614,12 @@ module _ (k : Settings) (meaning : Meaning) (front back : List ℕ)
         same-kinds j below = ⊎_elim (λ same. same) (λ late. absurd (not-late j below late))
             (kind-same j (omega arith))
 
-        pub turns-seen : LineSearch.turns_before k meaning whole v ≡ LineSearch.turns k meaning front
-        turns-seen =
+        pub front_calls-seen : Plans.calls_before k whole (selected_lines k meaning whole) v ≡ (line_plan k meaning front).calls
+        front_calls-seen =
             let begin : Planned = (planned begins 0) in
-            let f = LineSearch.turns_at k meaning front in
-            let same = ap (λ ts. begin ∷ ts) (joined-same v same-kinds (omega (arith, front_turned))) in
+            let f = Plans.calls_at k front (selected_lines k meaning front) in
+            let same = ap (λ ts. begin ∷ ts) (joined-same v same-kinds (omega (arith, front_reportable))) in
             let none = joined_from-none f v (count_front - v)
-            (λ j low high. passed-turns j low (omega (arith, front_turned))) in
-            same ∙ sym (headed-through begin f v count_front (omega (arith, front_turned))
+            (λ j low high. passed-calls j low (omega (arith, front_reportable))) in
+            same ∙ sym (headed-through begin f v count_front (omega (arith, front_reportable))
             ∙ (ap (λ ts. (begin ∷ joined_from f 0 v) ++ ts) none ∙ append-nil (begin ∷ joined_from f 0 v)))
