@@ -1,80 +1,31 @@
 -- A search of whole contents, by how it looks for a binary byte, and the searches of a reader by line and across lines.
-use Rattle.grep_core.specs.InputSearches.{IsBytesSearched, IsSearchedUntil}
 use Rattle.grep_core.specs.SearchBuffers.{IsMadeOf}
 use Rattle.grep_decode.specs.DecoderStates.{DecoderState, Decodes, IsDone, IsWaiting, started}
 use Rattle.grep_decode.specs.Source.{ReadResult}
 use Rattle.grep_definitions.proofs.FrontLemmas.{front-whole}
-use Rattle.grep_definitions.proofs.SearchModeLemmas.{look-plain, look-quit}
 use Rattle.grep_definitions.proofs.PlannedReaderLemmas.{contents-read}
 use Rattle.grep_definitions.proofs.PlannedStreamLemmas.{undetected-read}
-use Rattle.grep_definitions.proofs.PlannedSliceLemmas.{plain-fault, quit-fault, until-planned}
-use Rattle.grep_definitions.proofs.PlannedSliceLemmas.{IsSearched}
-use Rattle.grep_definitions.specs.Plans.{is_across, Steps, Outcome, finishes, finish_result}
-use Rattle.grep_definitions.specs.Plans.{counted, Settings, SearcherState, plan_in}
+use Rattle.grep_definitions.specs.Plans.{is_across, Steps, Settings, SearcherState}
 use Rattle.grep_definitions.specs.Searches.{in_contents, look_at, nowhere, on_stream, look_of}
 use Rattle.grep_definitions.specs.Searches.{view_in, IsInput, CutsContents, IsBelowLimit, of_full}
-use Rattle.grep_definitions.specs.Searches.{of_no_memory, IsPoint, IsReaderSearch, IsSeenOf, Look}
-use Rattle.grep_definitions.specs.Searches.{ran, IsRead}
-use Rattle.grep_definitions.specs.ReaderRuns.{IsUnreadIn, of_contents, of_failed_read}
-use Rattle.grep_definitions.specs.ContentsSearches.{IsFaultIn, IsSearchedAlong}
-use Rattle.grep_definitions.specs.SliceSearches.{IsSliceSearch}
+use Rattle.grep_definitions.specs.Searches.{of_no_memory, IsReaderSearch, IsSeenOf, Look, IsRead}
+use Rattle.grep_definitions.specs.Searches.{IsUnread, of_contents, of_failed_read}
+use Rattle.grep_definitions.specs.SliceSearches.{IsContentsSearch}
 use Rattle.grep_line_buffer.specs.Contents.{IsBelow, ContentsFail, FailsAfter}
 use Rattle.grep_line_buffer.specs.Fills.{IfRead, UnlessRead}
 use Rattle.grep_line_buffer.specs.declared.fill_error.FillError.{FillError}
 use Rattle.grep_line_buffer.specs.declared.fill_error.FillError.TheVariants.{Read, HeapLimit}
 use Rattle.grep_line_buffer.specs.declared.fill_error.FillError.TheVariants.{Offset, Memory}
 use Rattle.grep_matcher.specs.Meanings.{MatcherFacts, Meaning}
-use Rattle.grep_report.specs.BinaryDetections.{quit_byte_of}
-use Rattle.grep_walk.proofs.FinishLemmas.{searched-finish}
-use Rattle.grep_walk.specs.Walks.{Counted}
 use Rattle.grep_report.specs.ErrorMakers.{ErrorMakers}
 use Rattle.grep_report.specs.declared.binary_detection.BinaryDetection.{BinaryDetection}
 use Rattle.grep_report.specs.declared.binary_detection.BinaryDetection.TheVariants.{None as no_detection}
 use Rattle.grep_report.specs.declared.binary_detection.BinaryDetection.TheVariants.{Quit, Convert}
-use Rattle.std.proofs.Common.{◌≡◌, ℕ, Bool, true, false, List, Some, None, Result, Ok, Err, refl}
-use Rattle.std.proofs.Common.{ap, sym, subst, length, inl, Option, ◌≤◌, ◌∙◌, not, [], ◌++◌, arith}
+use Rattle.std.proofs.Common.{◌≡◌, ℕ, Bool, true, false, List, Result, Ok, Err, refl, ap, sym}
+use Rattle.std.proofs.Common.{subst, length, inl, Option, ◌≤◌, ◌∙◌, not, [], ◌++◌, arith}
 use Rattle.std.proofs.Common.{append-nil, length-append}
 use Rattle.std.specs.declared.io.Error.{Error}
 use Rattle.grep_core.proofs.ReadingLemmas as reading
-
--- a search of whole contents up to a byte is what is defined of one that looks for it, in the mode that it runs in
-module _ {S E F : Type 0} (step : Steps S E) (errors : ErrorMakers F E) (matcher : MatcherFacts F) (k : Settings)
-    (bytes : List ℕ)
-    (old : S) where
-  pub searched-at : (b : ℕ) → quit_byte_of k.binary_detection ≡ Some b → {across : Bool} → across
-      ≡ is_across k matcher.meaning
-      → (result : Result (Unit {0}) E) (new : S)
-      → IsSearchedUntil step errors matcher across b k bytes old result new
-      → IsBytesSearched step errors matcher (look_at k.binary_detection false) k bytes old result new
-  searched-at b is mode result new searched =
-      subst (λ look. IsBytesSearched step errors matcher look k bytes old result new)
-      (sym (look-quit _ b is))
-      (go result (subst (λ m. IsSearchedUntil step errors matcher m b k bytes old result
-      new) mode searched))
-    where
-      go : (result : Result (Unit {0}) E)
-          → IsSearchedUntil step errors matcher (is_across k matcher.meaning) b k bytes old
-          result new
-          → IsBytesSearched step errors matcher (in_contents b) k bytes old result new
-      go (Ok u) run = run
-      go (Err e) fault = fault
-
-  -- and it is one of a slice as it is
-  pub slice-search : (result : Result (Unit {0}) E) (new : S)
-      → IsBytesSearched step errors matcher (look_at k.binary_detection false) k bytes old result new
-      → IsSliceSearch step errors matcher k bytes old result new
-  slice-search result new searched = go k.binary_detection refl result searched
-    where
-      go : (d : BinaryDetection) → k.binary_detection ≡ d → (result : Result (Unit {0}) E)
-          → IsBytesSearched step errors matcher (look_at d false) k bytes old result new
-          → IsSearched step errors matcher k bytes old
-          (IsPoint k matcher.meaning bytes (look_at d false) (length bytes)) result new
-      go no_detection is (Ok u) run = ran None refl run tt
-      go no_detection is (Err e) fault = plain-fault step errors matcher k bytes old _ (λ calls. refl) e new fault
-      go (Quit b) is (Ok u) run = until-planned step errors matcher k bytes old b is (length bytes) (Ok u) new run
-      go (Quit b) is (Err e) fault = quit-fault step errors matcher k bytes old b is (length bytes) e new fault
-      go (Convert b) is (Ok u) run = ran None refl run tt
-      go (Convert b) is (Err e) fault = plain-fault step errors matcher k bytes old _ (λ calls. refl) e new fault
 
 module _ {R : Type 0} (remaining : R → Option (List ℕ)) (read_step : R → ReadResult → R → Type 0)
     (state : SearcherState) {S E F : Type 0} (step : Steps S E) (errors : ErrorMakers F E) (matcher : MatcherFacts F)
@@ -108,21 +59,24 @@ module _ {R : Type 0} (remaining : R → Option (List ℕ)) (read_step : R → R
 
 -- why not all was read, by the error
 module _ {R : Type 0} (remaining : R → Option (List ℕ)) (read_step : R → ReadResult → R → Type 0) (k : Settings)
-    (reader reader' : R) (view : List ℕ → List ℕ) (has_buffers : Bool) (meaning : Meaning)
+    (reader reader' : R) (has_buffers : Bool) (meaning : Meaning) (across : is_across k meaning ≡ true)
     (given : List ℕ) (d d' : DecoderState) (start : d ≡ started d.capacity k.encoding k.bom_sniffing) where
   abbrev Unread : Error → Type 0
   Unread error =
-      IsUnreadIn remaining read_step true view (record { settings = k; has_buffers = has_buffers }) meaning reader None
-      error reader'
+      IsUnread remaining read_step (record { settings = k; has_buffers = has_buffers }) meaning reader false [] error
+      reader'
 
   -- there was no room for all of it
   unread-contents : {error : Error} → Decodes remaining read_step d reader given d' reader'
       → ((bytes : List ℕ) → length given ≤ length bytes → CutsContents k bytes error) → Unread error
   unread-contents decodes cut =
-      let reads = subst (λ from. Decodes remaining read_step from reader given d' reader') start decodes in
-      of_contents refl (reading.taken k reads) (λ bytes input.
-      let text = reading.input-is k reads bytes input in
-      cut bytes (omega (arith, ap length text.1, length-append given text.0)))
+      let reads = subst (λ from. Decodes remaining read_step from reader given d' reader') start decodes in (
+        reader',
+        reading.taken k reads,
+        of_contents across refl (λ bytes input.
+            let text = reading.input-is k reads bytes input in
+            cut bytes (omega (arith, ap length text.1, length-append given text.0))),
+      )
 
   pub unread-read : (e : FillError) {error : Error} → IsMadeOf e error → (size : ℕ)
       → ContentsFail k.heap_limit size given e
@@ -133,10 +87,13 @@ module _ {R : Type 0} (remaining : R → Option (List ℕ)) (read_step : R → R
       → Unread error
   unread-read (Read io) made size below reads fails ready waits =
       let fails' = subst (λ from. FailsAfter remaining read_step io from reader given d' reader') start fails in
-      subst Unread (sym made)
-      (of_failed_read refl fails'.mid (reading.taken k fails'.decodes) fails'.unended fails'.failed given
-      (reading.decoded-so_far k fails'.decodes fails'.unended ready waits)
-      (λ limit is. subst (λ l. IsBelow l (length given)) is below))
+      subst Unread (sym made) (
+        fails'.mid,
+        reading.taken k fails'.decodes,
+        of_failed_read across (fails'.unended, fails'.failed) given
+            (reading.decoded-so_far k fails'.decodes fails'.unended ready waits)
+            (λ limit is. subst (λ l. IsBelow l (length given)) is below),
+      )
   unread-read HeapLimit made size full reads fails ready waits =
       unread-contents reads (λ bytes enough. of_full (length given) full made enough)
   unread-read Offset made size never reads fails ready waits = absurd never
@@ -163,58 +120,29 @@ module _ {R : Type 0} {remaining : R → Option (List ℕ)} {read_step : R → R
     abbrev state : SearcherState
     state = record { settings = k; has_buffers = has_buffers }
 
-    contents-searched : (result : Result (Unit {0}) E) (new : S)
-        → IsBytesSearched step errors matcher (look_at k.binary_detection false) k given old result new
+    abbrev IsSearched : Look → Result (Unit {0}) E → S → Type 0
+    IsSearched look =
+        IsContentsSearch step errors matcher k look (is_across k matcher.meaning) given old
+
+    contents-searched : (result : Result (Unit {0}) E) (new : S) → IsSearched (look_at k.binary_detection false) result new
         → IsReaderSearch remaining read_step step errors matcher state (look_at k.binary_detection false) reader old
         result reader' new
-    contents-searched result new searched =
-        go k.binary_detection (slice-search step errors matcher k given old result new searched)
+    contents-searched result new = go k.binary_detection
       where
-        read : (look : Look) → view_in k look given ≡ given → IsSeenOf k look given given
-            → IsSearched step errors matcher k given old (IsPoint k matcher.meaning given look (length given)) result new
+        read : (look : Look) → view_in k look given ≡ given → IsSeenOf k look given given → IsSearched look result new
             → IsReaderSearch remaining read_step step errors matcher state look reader old result reader' new
         read look view front = contents-read remaining read_step step errors matcher state look across
             (reading.taken k from-start) done.ended given given-is below-limit view front result new
 
-        go : (b : BinaryDetection)
-            → IsSearched step errors matcher k given old
-            (IsPoint k matcher.meaning given (look_at b false) (length given)) result new
+        go : (b : BinaryDetection) → IsSearched (look_at b false) result new
             → IsReaderSearch remaining read_step step errors matcher state (look_at b false) reader old result reader' new
         go no_detection = read nowhere refl (front-whole k given below-limit)
         go (Quit b) = read (in_contents b) refl refl
         go (Convert b) = read nowhere refl (front-whole k given below-limit)
 
     pub contents-read-all : (result : Result (Unit {0}) E) (new : S)
-        → IsBytesSearched step errors matcher (look_at k.binary_detection false) k given old result new
+        → IsSearched (look_at k.binary_detection false) result new
         → IsRead remaining read_step step errors matcher state (look_at k.binary_detection false) reader old result
         reader' new
     contents-read-all (Ok u) new searched = contents-searched (Ok u) new searched
     contents-read-all (Err e) new searched = inl (contents-searched (Err e) new searched)
-
-    -- where no byte ends it
-    pub contents-read-plain : ((b : ℕ) → quit_byte_of k.binary_detection ≡ Some b → ⊥) → (result : Result (Unit {0}) E)
-        (new : S) → IsSearchedAlong step errors matcher k given old result new
-        → IsRead remaining read_step step errors matcher state (look_at k.binary_detection false) reader old result
-        reader' new
-    contents-read-plain none result new searched = contents-read-all result new
-        (subst (λ look. IsBytesSearched step errors matcher look k given old result new)
-        (sym (look-plain k.binary_detection none)) searched)
-
--- what the loop across lines says of itself
-module _ {S E F : Type 0} (step : Steps S E) (errors : ErrorMakers F E) (matcher : MatcherFacts F) (k : Settings)
-    (bytes : List ℕ) (old : S) (across : is_across k matcher.meaning ≡ true) where
-  pub finished-across : {count : ℕ} {outcome : Outcome E} {mid : S} (result : Result (Unit {0}) E) {new : S}
-      → Counted step k old (plan_in k matcher.meaning bytes true).calls (plan_in k matcher.meaning bytes true).finish.count
-      count outcome mid
-      → step mid k (finishes count None) (finish_result result) new
-      → IsSearchedAlong step errors matcher k bytes old result new
-  finished-across {count} {outcome} {mid} result {new} counted finish =
-      searched-finish step errors matcher k bytes old count outcome mid result new
-      (subst (λ m. Counted step k old (plan_in k matcher.meaning bytes m).calls
-      (plan_in k matcher.meaning bytes m).finish.count count outcome mid) (sym across) counted)
-      finish
-
-  pub failed-across : {e : E} {new : S} → IsFaultIn step errors matcher true k bytes old e new
-      → IsSearchedAlong step errors matcher k bytes old (Err e) new
-  failed-across {e} {new} fault =
-      subst (λ m. IsFaultIn step errors matcher m k bytes old e new) (sym across) fault

@@ -12,9 +12,8 @@ use Rattle.std.specs.declared.io.Error.{Error}
 use Rattle.grep_decode.specs.DecoderStates.{Calls, DecoderState, Decodes}
 use Rattle.grep_decode.specs.Source.{ReadResult}
 use Rattle.grep_definitions.specs.Searches.{is_detecting, planned_binary, IsReadingError, IsInOrder}
-use Rattle.grep_definitions.specs.Searches.{ran_in_order, comes_between}
+use Rattle.grep_definitions.specs.Searches.{ran_in_order, comes_between, HasFailedRead}
 use Rattle.grep_definitions.specs.CallOrder.{HasCalled, HasCalledTo}
-use Rattle.grep_definitions.specs.ReaderRuns.{HasFailedRead}
 use Rattle.grep_report.specs.ErrorMakers.{ErrorMakers}
 use Rattle.grep_matcher.specs.Meanings.{MatcherFacts}
 use Rattle.grep_definitions.specs.Plans.{Settings, Call, begins, matches, context, breaks}

@@ -1,23 +1,23 @@
 -- A search of whole contents that ends at a byte, by a sink that looks for it in each report: the calls that it makes of
 -- the sink that it has.
-use Rattle.grep_core.specs.InputSearches.{IsSearchedUntil}
 use Rattle.grep_core.specs.QuittingSinks.{Watch, IsQuittingStep, end_result, IsLookedAt}
 use Rattle.grep_core.specs.QuittingSinks.{IsMadeAfter, count_to, Quits, watch_of, first_quit}
 use Rattle.grep_core.specs.declared.quitting.Quitting.{Quitting}
 use Rattle.grep_definitions.proofs.BreakLemmas.{AreReports, no_reports, plain_report, broken_report}
 use Rattle.grep_definitions.proofs.SinkRunLemmas.{AreMade-append, AreMade-ended}
-use Rattle.grep_definitions.specs.Plans.{reports_end, selected_lines, touched_lines, Call, Planned}
-use Rattle.grep_definitions.specs.Plans.{begins, matches, context, breaks, binary_data, finishes}
-use Rattle.grep_definitions.specs.Plans.{is_break, reported_bytes, reported_from, Steps, Outcome}
-use Rattle.grep_definitions.specs.Plans.{all_true, stopped, failed, AreMade, IsFinished, IsRun}
-use Rattle.grep_definitions.specs.Plans.{finish_result, Finish, counted, planned, joined_from}
-use Rattle.grep_definitions.specs.Plans.{Settings, plan_in, IsAskedIn}
+use Rattle.grep_definitions.specs.SliceSearches.{IsContentsSearch}
+use Rattle.grep_definitions.proofs.ContentsSearchLemmas.{quit-ran}
+use Rattle.grep_definitions.specs.Searches.{asked, calls_with, contents_point, in_contents, nowhere}
+use Rattle.grep_definitions.specs.Searches.{ran, position_of, call_at, offset_at, plan_with}
+use Rattle.grep_definitions.specs.Searches.{point_at, point_unless, planned_binary, with_offset}
+use Rattle.grep_definitions.specs.Plans.{start, through, reports_end, selected_lines, touched_lines}
+use Rattle.grep_definitions.specs.Plans.{Call, Planned, begins, matches, context, breaks}
+use Rattle.grep_definitions.specs.Plans.{binary_data, finishes, is_break, reported_bytes}
+use Rattle.grep_definitions.specs.Plans.{reported_from, Steps, Outcome, all_true, stopped, failed}
+use Rattle.grep_definitions.specs.Plans.{AreMade, IsFinished, IsRun, finish_result, Finish, counted}
+use Rattle.grep_definitions.specs.Plans.{planned, joined_from, Settings, plan_in, IsAskedIn}
 use Rattle.grep_definitions.specs.Plans
-use Rattle.grep_definitions.specs.Searches.{position_of, call_at, offset_at, plan_with, point_at}
-use Rattle.grep_definitions.specs.Searches.{point_unless, planned_binary, with_offset}
 use Rattle.grep_definitions.specs.BinaryLaws.{holds_byte, first_look}
-use Rattle.grep_definitions.specs.ContentsSearches.{IsFaultIn, IsQuitFault, IsRunUntil, of_sink}
-use Rattle.grep_definitions.specs.ContentsSearches.{of_matcher, of_quit_sink, of_quit_matcher}
 use Rattle.grep_definitions.specs.SearchLaws.{is_report}
 use Rattle.grep_definitions.specs.SinkRuns.{plan_of}
 use Rattle.grep_lines.proofs.ReplaceLemmas.{position-found}
@@ -34,7 +34,7 @@ use Rattle.std.proofs.Math.Nat.{min_comm}
 use Rattle.std.proofs.lemmas.Bool.{le-leb}
 use Rattle.std.proofs.lemmas.List.{take_min}
 use Rattle.std.specs.List.{position, position_or_len}
-use Rattle.std.specs.Prelude.{is_some, filter, nat_le, min, length}
+use Rattle.std.specs.Prelude.{is_some, min, length}
 use Rattle.grep_line_buffer.proofs.FirstPositionLemmas as first
 use Rattle.grep_definitions.proofs.BreakLemmas as pairs
 
@@ -514,83 +514,84 @@ first-quit offset first mid false begun called finish = record {
 
 -- a search that ended before its first line
 pub quit-searched : {S E F : Type 0} {step : Steps S E} (errors : ErrorMakers F E) (matcher : MatcherFacts F)
-    {k : Settings} (b : ℕ)
-    (bytes : List ℕ) (across : Bool) (offset : ℕ) → position_of b (take first_look bytes) ≡ Some offset → {old : S}
-    {result : Result (Unit {0}) E} {new : S}
+    {k : Settings} (b : ℕ) → k.binary_detection ≡ Quit b → (bytes : List ℕ) (across : Bool) (offset : ℕ)
+    → position_of b (take first_look bytes) ≡ Some offset → {old : S} {result : Result (Unit {0}) E} {new : S}
     → IsRun step k old (first_quit offset) result new
-    → IsSearchedUntil step errors matcher across b k bytes old result new
-quit-searched {step} errors matcher {k} b bytes across offset is {old} {result} {new} run = go across result
-    (run-until across)
+    → IsContentsSearch step errors matcher k (in_contents b) across bytes old result new
+quit-searched {step} errors matcher {k} b detects bytes across offset is {old} {result} {new} run =
+    quit-ran step errors matcher k bytes old b detects (run-until across)
   where
-    run-until : (across : Bool)
-        → IsRunUntil step errors matcher across b k bytes old result new
+    run-until : (across : Bool) → IsRun step k old
+        (plan_with (Quit b) (contents_point b bytes (plan_in k matcher.meaning bytes across).calls)
+        (plan_in k matcher.meaning bytes across)) result new
     run-until true = rw is run
     run-until false = rw is run
 
-    go : (across : Bool) (result : Result (Unit {0}) _)
-        → IsRunUntil step errors matcher across b k bytes old result new
-        → IsSearchedUntil step errors matcher across b k bytes old result new
-    go across (Ok u) run = run
-    go across (Err e) run = of_quit_sink run
-
 module _ {S E F : Type 0} (step : Steps S E) (may_call : S → Type 0) (errors : ErrorMakers F E) (matcher : MatcherFacts F)
-    (k : Settings)
-    (b : ℕ) (bytes : List ℕ) (none : position_of b (take first_look bytes) ≡ None) (old : Quitting S)
-    (is : old.byte ≡ b)
-    (whole : old.has_break ≡ false) (clear : old.found ≡ None) where
+    (k : Settings) (b : ℕ) (detects : k.binary_detection ≡ Quit b) (bytes : List ℕ)
+    (none : position_of b (take first_look bytes) ≡ None) (old : Quitting S) (is : old.byte ≡ b)
+    (whole : old.has_break ≡ false) (clear : old.found ≡ None) (across : Bool) where
+  abbrev IsSearched : Result (Unit {0}) E → Quitting S → Type 0
+  IsSearched result new =
+      IsContentsSearch step errors matcher k (in_contents b) across bytes old.sink.now result new.sink.now
+
   -- a search that ended in `finish`
-  searched-until : (across : Bool) {result : Result (Unit {0}) E} {new : Quitting S}
-      → IsRun (Quits step may_call) k old (plan_in k matcher.meaning bytes across) result new
-      → IsRunUntil step errors matcher across b k bytes old.sink.now result new.sink.now
-  searched-until true run = rw none (until-run _ may_call k b (are-reports k matcher.meaning bytes true)
-      _ is whole clear run)
-  searched-until false run = rw none (until-run _ may_call k b (are-reports k matcher.meaning bytes false)
-      _ is whole clear run)
+  searched-until : {result : Result (Unit {0}) E} {new : Quitting S}
+      → IsRun (Quits step may_call) k old (plan_in k matcher.meaning bytes across) result new → IsSearched result new
+  searched-until {result} {new} run =
+      quit-ran step errors matcher k bytes old.sink.now b detects (run-until across run)
+    where
+      run-until : (across : Bool) → IsRun (Quits step may_call) k old (plan_in k matcher.meaning bytes across) result new
+          → IsRun step k old.sink.now
+          (plan_with (Quit b) (contents_point b bytes (plan_in k matcher.meaning bytes across).calls)
+          (plan_in k matcher.meaning bytes across)) result new.sink.now
+      run-until true run = rw none (until-run _ may_call k b (are-reports k matcher.meaning bytes true)
+          _ is whole clear run)
+      run-until false run = rw none (until-run _ may_call k b (are-reports k matcher.meaning bytes false)
+          _ is whole clear run)
 
   -- the matcher's error came after calls that were all made: those whose count is at most some offset
-  through : (across : Bool) {calls : List Planned} → AreReports calls → (offset : ℕ) (haystack : List ℕ) (error : F)
-      {made : List Planned} {e : E} (new : Quitting S)
-      → made ≡ filter (λ call. nat_le call.if_false.count offset) (planned begins 0 ∷ calls)
+  asked-until : {calls : List Planned} → AreReports calls → (offset : ℕ) (haystack : List ℕ) (error : F)
+      {made : List Planned} {e : E} (new : Quitting S) → made ≡ through offset (planned begins 0 ∷ calls)
       → IsAskedIn k matcher.meaning bytes across haystack made → matcher.fails haystack error
-      → errors.is_message error e → AreMade (Quits step may_call) k old made all_true new
-      → IsQuitFault step errors matcher across b k bytes old.sink.now e new.sink.now
-  through across {calls} all offset haystack error {made} new before asked fails message reported =
-      let later : List Planned = filter (λ call. nat_le call.if_false.count offset) calls in
+      → errors.is_message error e → AreMade (Quits step may_call) k old made all_true new → IsSearched (Err e) new
+  asked-until {calls} all offset haystack error {made} new before asks fails message reported =
+      let later : List Planned = through offset calls in
       let begun : made ≡ planned begins 0 ∷ later = before ∙ (rw (le-leb 0 offset (omega arith)) refl) in
       let seen = watched step may_call k b made old _ new is reported in
       let calls = quits-all step may_call k b (quits-begun step may_call k b 0
       (pairs.calls-through _ calls all) _
       whole clear
       (subst (λ l. AreMade (IsQuittingStep step may_call b) k (watch_of old) l all_true (watch_of new)) begun seen.1)) in
-      of_quit_matcher haystack error made asked fails message
-      (rw none (subst (λ l. point_unless b l None ≡ None) (sym begun) (rw calls.0 refl)))
-      (subst (λ l. AreMade step k old.sink.now l all_true new.sink.now) (sym begun) calls.1)
+      asked haystack error made asks fails message (
+        None,
+        sym (rw none (subst (λ l. point_unless b l None ≡ None) (sym begun) (rw calls.0 refl))),
+        (λ quits. refl),
+        subst (λ l. AreMade step k old.sink.now l all_true new.sink.now) (sym begun) calls.1,
+      )
 
   -- a search that ended in an error before
-  pub fault-until : (across : Bool) {e : E} {new : Quitting S}
-      → IsFaultIn (Quits step may_call) errors matcher across k bytes old e new
-      → IsQuitFault step errors matcher across b k bytes old.sink.now e new.sink.now
-  fault-until across (of_sink run) = of_quit_sink (searched-until _ run)
-  fault-until true (of_matcher haystack error made asked fails message reported) =
-      through true (are-reports k matcher.meaning bytes true) _ _ error _ asked.before asked fails message reported
-  fault-until false (of_matcher haystack error made asked fails message reported) =
-      through false (are-reports k matcher.meaning bytes false) _ _ error _ asked.before asked fails message reported
+  pub fault-until : {e : E} {new : Quitting S}
+      → IsContentsSearch (Quits step may_call) errors matcher k nowhere across bytes old (Err e) new
+      → IsSearched (Err e) new
+  fault-until {e} {new} (ran point never run read) = searched-until (subst
+      (λ o. IsRun (Quits step may_call) k old
+      (plan_with k.binary_detection o (plan_in k matcher.meaning bytes across)) (Err e) new) never run)
+  fault-until {e} {new} (asked haystack error made asks fails message goes) =
+      asked-until (are-reports k matcher.meaning bytes across) (start k bytes asks.index) haystack error new
+      (listed across asks) asks fails message
+      (subst (λ o. AreMade (Quits step may_call) k old (calls_with o made) all_true new) goes.1 goes.3)
+    where
+      listed : (across : Bool) (asks : IsAskedIn k matcher.meaning bytes across haystack made)
+          → made ≡ through (start k bytes asks.index) (planned begins 0 ∷ after k matcher.meaning bytes across)
+      listed true asks = asks.before
+      listed false asks = asks.before
 
   -- `finish` ends what was counted
-  pub until-finished : (across : Bool) {count : ℕ} {outcome : Outcome E} {mid : Quitting S}
-      (result : Result (Unit {0}) E)
+  pub until-finished : {count : ℕ} {outcome : Outcome E} {mid : Quitting S} (result : Result (Unit {0}) E)
       (new : Quitting S)
       → Counted (Quits step may_call) k old (plan_in k matcher.meaning bytes across).calls
       (plan_in k matcher.meaning bytes across).finish.count count outcome mid
-      → Quits step may_call mid k (finishes count None) (finish_result result) new
-      → IsSearchedUntil step errors matcher across b k bytes old.sink.now result
-      new.sink.now
-  until-finished across {count} {outcome} {mid} (Ok u) new counted finish =
-      searched-until _ (run-finish _ k old
-      _
-      _ _ _ mid _ new counted finish)
-  until-finished across {count} {outcome} {mid} (Err e) new counted finish =
-      of_quit_sink (searched-until _ (run-finish _ k old
-      _ _ _
-      _ mid _ new
-      counted finish))
+      → Quits step may_call mid k (finishes count None) (finish_result result) new → IsSearched result new
+  until-finished {count} {outcome} {mid} result new counted finish =
+      searched-until (run-finish _ k old _ _ _ _ mid _ new counted finish)

@@ -16,8 +16,7 @@ use Rattle.grep_decode.specs.declared.mode.Mode.TheVariants.{Passing}
 use Rattle.grep_definitions.specs.Plans.{is_across, Settings}
 use Rattle.grep_definitions.specs.Searches.{before_quit, view_of, AreWaiting, IsInput}
 use Rattle.grep_definitions.specs.Searches.{encoding_after, encoding_of, IsReadForLine}
-use Rattle.grep_definitions.specs.Searches.{searched_bytes, Taken}
-use Rattle.grep_definitions.specs.DecodedInputs.{IsDecodedFront, passes_after, passes_unchanged}
+use Rattle.grep_definitions.specs.Searches.{searched_bytes, Taken, IsDecodedSoFar}
 use Rattle.grep_line_buffer.proofs.DetectionLemmas.{length-detected_bytes, uncut-none}
 use Rattle.grep_line_buffer.specs.BufferStates.{BufferState, empty_buffer, is_cut, held_bytes}
 use Rattle.grep_line_buffer.specs.BufferStates.{IsFilled, IsSameBuffer, IsWithin}
@@ -29,7 +28,6 @@ use Rattle.std.proofs.Common.{◌≡◌, ◌≢◌, ◌⊎◌, ℕ, ◌+◌, ◌
 use Rattle.std.proofs.Common.{Option, Some, None, refl, sym, subst, ◌∙◌, ap, ap₂, arith, append-nil}
 use Rattle.std.proofs.Common.{append_assoc, length-append}
 use Rattle.std.proofs.Math.Bool.{and-false}
-use Rattle.std.proofs.lemmas.Bool.{false≢true}
 use Rattle.std.specs.List.{concat}
 use Rattle.std.specs.Prelude.{All}
 use Rattle.grep_line_buffer.proofs.InputViewLemmas as views
@@ -38,7 +36,7 @@ view-length : (k : Settings) (bytes : List ℕ) → length (view_of k bytes) ≡
 view-length k bytes = ap length (as-viewed k.binary_detection _ _) ∙ views.view-length _ (byte_of k.line_terminator) bytes
 
 -- without a label and a mark the bytes pass, and after the mark of UTF-8
-mode-passing : (label mark : Option Label) → passes_after mark label ≡ true → mode_of mark label ≡ Passing
+mode-passing : (label mark : Option Label) → encoding_after mark label ≡ None → mode_of mark label ≡ Passing
 mode-passing label (Some Utf8) unchanged = refl
 mode-passing label (Some Utf16Le) unchanged = cc
 mode-passing label (Some Utf16Be) unchanged = cc
@@ -103,9 +101,9 @@ module _ {R : Type 0} {remaining : R → Option (List ℕ)} {step : R → ReadRe
     abbrev mark : Option Label
     mark = found_mark settings.encoding settings.bom_sniffing (concat reads.pieces)
 
-    module _ (unchanged : passes_unchanged settings (concat reads.pieces) ≡ true) (settled : IsSettled d.mode) where
+    module _ (unchanged : encoding_of settings (concat reads.pieces) ≡ None) (settled : IsSettled d.mode) where
       passes : d.mode ≡ Passing
-      unfolding passes_unchanged
+      unfolding encoding_of
       passes = starts.mode-is _ _ reads settled ∙ mode-passing _ mark unchanged
 
       -- at most three bytes more were taken than given
@@ -115,12 +113,9 @@ module _ {R : Type 0} {remaining : R → Option (List ℕ)} {step : R → ReadRe
 
     -- what was decoded when the reader failed
     pub decoded-so_far : d.has_ended ≡ false → d.ready ≡ [] → IsWaiting d.mode d.held
-        → IsDecodedFront settings reads.pieces given
+        → IsDecodedSoFar settings reads.pieces given
     unfolding searched_bytes encoding_of
     decoded-so_far unended ready waits = record {
-      begins = λ bytes input.
-          let text = input-is bytes (input.0, (λ ended. absurd (false≢true (sym unended ∙ ended))), input.2) in
-          (text.0, text.1);
       none = starts.given-none _ _ reads few unended;
       all = λ enough.
           let settled = starts.settled-enough _ _ reads few enough in (
@@ -131,9 +126,6 @@ module _ {R : Type 0} {remaining : R → Option (List ℕ)} {step : R → ReadRe
             λ more. starts.waiting-text _ _ reads unended ready settled more
                 ∙ ap (λ xs. given ++ xs) (mode-decodes _ mark _),
           );
-      whole = λ enough unchanged.
-          let passing = passes unchanged (starts.settled-enough _ _ reads few enough) in
-          starts.decoded-all _ _ reads passing ready (subst (λ m. IsWaiting m d.held) passing waits);
     }
       where
         few : IsSettled d.mode ⊎ LooksForMark d.mode × (length d.held ≤ 2)

@@ -9,7 +9,6 @@ use Rattle.grep_decode.specs.Source.{ReadResult}
 use Rattle.grep_definitions.proofs.BoolLemmas.{clash}
 use Rattle.grep_definitions.proofs.FirstCallLemmas.{front_calls-begin}
 use Rattle.grep_definitions.proofs.FrontLemmas.{calls-within, front-none}
-use Rattle.grep_definitions.proofs.PlannedReaderLemmas.{passes-unchanged}
 use Rattle.grep_definitions.proofs.PlannedStreamLemmas.{stream-point, binary-made}
 use Rattle.grep_definitions.proofs.SeenLineLemmas.{asked-begin, calls-begin, plan-same}
 use Rattle.grep_definitions.proofs.SeenSearchLemmas.{on-ok}
@@ -27,8 +26,8 @@ use Rattle.grep_definitions.specs.Searches.{plan_with, calls_with, planned_binar
 use Rattle.grep_definitions.specs.Searches.{IsInput, searched_bytes, Taken, reports_nothing}
 use Rattle.grep_definitions.specs.Searches.{IsPoint, IsCutAt, IsReaderSearch, IsSearchOf, EachPoint}
 use Rattle.grep_definitions.specs.Searches.{EachAsked, ran, asked, IsStreamPoint, IsRead}
+use Rattle.grep_definitions.specs.Searches.{encoding_of}
 use Rattle.grep_definitions.specs.SinkRuns.{after_binary}
-use Rattle.grep_definitions.specs.DecodedInputs.{passes_unchanged}
 use Rattle.grep_core.proofs.StreamViewLemmas.{as-found}
 use Rattle.grep_line_buffer.proofs.DetectionLemmas.{first-none, found-nil}
 use Rattle.grep_line_buffer.specs.BufferStates.{BufferState, is_cut}
@@ -440,7 +439,7 @@ module _ {R : Type 0} {remaining : R → Option (List ℕ)} {read_step : R → R
 
     -- or in `finish`
     pub ended-there : ((e : E) → outcome ≡ failed e → ⊥)
-        → ((limit : ℕ) → k.heap_limit ≡ Some limit → passes_unchanged k (concat taken.pieces) ≡ true
+        → ((limit : ℕ) → k.heap_limit ≡ Some limit → encoding_of k (concat taken.pieces) ≡ None
         → length (concat taken.pieces) ≤ length seen + limit + 3)
         → IsStreamCounted step k meaning remaining read_step reader old finish reader' last
     ended-there succeeds ahead = record {
@@ -494,7 +493,7 @@ module _ {R : Type 0} (remaining : R → Option (List ℕ)) (read_step : R → R
         pub counted-unseen : is_across k meaning ≡ false → (k.passthru ≡ true → k.before_context ≡ 0) → {old new : S} {next : Origin S}
             → IsStartAt step k meaning given 0 old next found → (outcome : Outcome E)
             → ((bytes : List ℕ) → IsCountedFor step k meaning next bytes 0 outcome new)
-            → ((limit : ℕ) → k.heap_limit ≡ Some limit → passes_unchanged k (concat taken.pieces) ≡ true
+            → ((limit : ℕ) → k.heap_limit ≡ Some limit → encoding_of k (concat taken.pieces) ≡ None
             → length (concat taken.pieces) ≤ 0 + limit + 3)
             → IsStreamCounted step k meaning remaining read_step reader old (record { count = 0; binary = found }) reader'
             new
@@ -628,7 +627,7 @@ module _ {S E F : Type 0} (step : Steps S E) (errors : ErrorMakers F E) (matcher
                 ahead = λ limit limited passes.
                     subst (λ (f : Finish). length (concat counted.taken.pieces) ≤ f.count + limit + 3)
                     (sym (after-is _ _ _ counted.over_seen.ending))
-                    (counted.ahead limit limited (passes-unchanged k _ passes));
+                    (counted.ahead limit limited passes);
               }),
             );
         whole = λ across. absurd (clash across by_line);

@@ -1,7 +1,6 @@
 pub mod BinaryCalls
 pub mod Configured
 pub mod HeldViews
-pub mod InputSearches
 pub mod QuittingSinks
 pub mod Rolls
 pub mod SearchBuffers

@@ -16,7 +16,7 @@ use Rattle.grep_definitions.specs.Searches.{binary_of, is_detecting, on_stream, 
 use Rattle.grep_definitions.specs.Searches.{BinaryPoint, plan_with, quits, IsCutAt, IsPoint}
 use Rattle.grep_definitions.specs.Searches.{IsInput, IsClosed, IsFront, IsTooLong, Taken}
 use Rattle.grep_definitions.specs.Searches.{IsReadForLine, reports_nothing, reads_lines}
-use Rattle.grep_definitions.specs.DecodedInputs.{passes_unchanged}
+use Rattle.grep_definitions.specs.Searches.{encoding_of}
 use Rattle.grep_report.specs.ErrorMakers.{ErrorMakers}
 use Rattle.grep_core.specs.BinaryCalls.{Noted}
 use Rattle.grep_walk.specs.declared.walk.Walk.{Walk}
@@ -157,7 +157,7 @@ module _ {S E : Type 0} (step : Steps S E) (settings : Settings) (meaning : Mean
           → reports_end settings meaning (view_of settings bytes)
           ≤ length (lines (byte_of settings.line_terminator) input.seen)
       pub ahead : (limit : ℕ) → settings.heap_limit ≡ Some limit
-          → passes_unchanged settings (concat input.taken.pieces) ≡ true
+          → encoding_of settings (concat input.taken.pieces) ≡ None
           → length (concat input.taken.pieces) ≤ count + limit + 3
 
     -- or it ended in the sink's error or in the matcher's
@@ -250,5 +250,5 @@ pub record IsStreamCounted {S E : Type 0} (step : Steps S E) (settings : Setting
       → reports_end settings meaning (view_of settings bytes)
       ≤ length (lines (byte_of settings.line_terminator) seen)
   pub ahead : (limit : ℕ) → settings.heap_limit ≡ Some limit
-      → passes_unchanged settings (concat taken.pieces) ≡ true
+      → encoding_of settings (concat taken.pieces) ≡ None
       → length (concat taken.pieces) ≤ finish.count + limit + 3

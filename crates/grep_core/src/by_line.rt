@@ -1,12 +1,13 @@
 //! The walk of a search by line: over all lines of a slice, or over those of a window, with the
 //! calls that they make.
 ghost use Rattle.std.specs.Prelude.{◌≡◌, ◌≤◌, ◌<◌, ◌+◌, ◌-◌, ◌^◌, ℕ, true, false, length, List};
-ghost use Rattle.std.specs.Prelude.{IfOk, IfErr, IsOk};
+ghost use Rattle.std.specs.Prelude.{Err, IfOk, IfErr, IsOk};
 ghost use Rattle.grep_matcher.specs.Meanings.{IsInfallible};
 ghost use Rattle.grep_definitions.specs.Plans.{line_plan};
 ghost use Rattle.grep_definitions.specs.CallOrder.{BeginsInOrder, GoesOnInOrder};
 ghost use Rattle.grep_definitions.specs.Plans.{IsLawful, Outcome, NeverFails};
-ghost use Rattle.grep_definitions.specs.ContentsSearches.{IsLineFault};
+ghost use Rattle.grep_definitions.specs.Searches.{nowhere};
+ghost use Rattle.grep_definitions.specs.SliceSearches.{IsContentsSearch};
 ghost use Rattle.grep_walk.specs.LookAheads.{AreQuestions};
 ghost use Rattle.grep_walk.specs.WalkFaults.{IsWalkFault};
 ghost use Rattle.grep_walk.specs.Walks.{Counted, IsOrdered, CountedFrom};
@@ -43,9 +44,9 @@ impl<'c, A: Allocator + Copy, T> Search<'c, A, T> {
             count outcome sink.new) }
         ensures fault { IfErr result (λ e.
             IsLawful (M.facts matcher.now) self.now.config
-            → IsLineFault C.step
+            → IsContentsSearch C.step
             (makers_of M.Error.output C.Error.makers) (M.facts matcher.now)
-            self.now.config bytes.now sink.old e sink.new) }
+            self.now.config nowhere false bytes.now sink.old (Err e) sink.new) }
         ensures succeeds { NeverFails C.step C.may_call → IsInfallible (M.facts matcher.now).fails
             → IsOk result }
         ensures in_order { BeginsInOrder C.step self.now.config

@@ -1,11 +1,10 @@
 //! The search of a reader across lines, for which all of it is read first.
-ghost use Rattle.std.specs.Prelude.{◌≡◌, ℕ, Bool, List, Option, true, false, IfErr};
+ghost use Rattle.std.specs.Prelude.{◌≡◌, ℕ, Bool, List, true, false, IfErr};
 ghost use Rattle.std.specs.declared.io.Error.{Error};
 ghost use Rattle.grep_matcher.specs.Meanings.{IsInfallible};
 ghost use Rattle.grep_decode.specs.DecoderStates.{started};
-ghost use Rattle.grep_definitions.specs.Searches.{look_at, view_of, IsRead, IsInOrder};
+ghost use Rattle.grep_definitions.specs.Searches.{look_at, IsRead, IsUnread, IsInOrder};
 ghost use Rattle.grep_definitions.specs.Searches.{IsReadingError};
-ghost use Rattle.grep_definitions.specs.ReaderRuns.{IsUnreadIn};
 ghost use Rattle.grep_definitions.specs.Plans.{is_across, NeverFails};
 ghost use Rattle.grep_core.specs.Configured.{IsConfigured};
 ghost use Rattle.grep_report.specs.ErrorMakers.{makers_of};
@@ -46,11 +45,12 @@ impl<'c, A: Allocator + Copy, T> Search<'c, A, T> {
             (makers_of M.Error.output C.Error.makers) (M.facts matcher.now) self.now.config
             (IsReadingError R.remaining R.step reader.old reader.new) sink.old result sink.new }
         ensures succeeds { NeverFails C.step C.may_call → IsInfallible (M.facts matcher.now).fails
-            → IfErr result (λ e. (has_buffers : Bool) → (seen : Option (List ℕ)) × (error : Error)
-            × IsUnreadIn R.remaining R.step true (view_of self.now.config)
+            → is_across self.now.config (M.facts matcher.now).meaning ≡ true
+            → IfErr result (λ e. (has_buffers : Bool) → (begun : Bool) × (seen : List ℕ)
+            × (error : Error) × IsUnread R.remaining R.step
             (record { settings = self.now.config; has_buffers = has_buffers })
-            (M.facts matcher.now).meaning
-            reader.old seen error reader.new × C.Error.makers.is_io error e) }
+            (M.facts matcher.now).meaning reader.old begun seen error reader.new
+            × C.Error.makers.is_io error e) }
         ensures may_call { C.may_call sink.new }
     {
         if let Err(error) = read_contents(decoder, reader, self.heap_limit(), contents) {

@@ -1,8 +1,9 @@
 //! The walk of a search across lines, from one unit of lines that matches touch to the next.
-ghost use Rattle.std.specs.Prelude.{◌<◌, ◌+◌, ◌-◌, ◌&&◌, ◌==◌, true, Ok, IfOk, IfErr, IsOk};
+ghost use Rattle.std.specs.Prelude.{◌<◌, ◌+◌, ◌-◌, ◌&&◌, ◌==◌, true, Ok, Err, IfOk, IfErr, IsOk};
 ghost use Rattle.grep_matcher.specs.Meanings.{IsInfallible};
 ghost use Rattle.grep_definitions.specs.CallOrder.{BeginsInOrder, EndsInOrder};
-ghost use Rattle.grep_definitions.specs.ContentsSearches.{IsFaultIn};
+ghost use Rattle.grep_definitions.specs.Searches.{nowhere};
+ghost use Rattle.grep_definitions.specs.SliceSearches.{IsContentsSearch};
 ghost use Rattle.grep_definitions.specs.Plans.{begins, plan_in, Outcome, NeverFails};
 ghost use Rattle.grep_walk.specs.Walks.{Counted};
 ghost use Rattle.grep_core.specs.Configured.{IsConfigured};
@@ -32,10 +33,9 @@ impl<'c, A: Allocator + Copy, T> Search<'c, A, T> {
             (plan_in self.now.config (M.facts matcher.now).meaning bytes.now true).calls
             (plan_in self.now.config (M.facts matcher.now).meaning bytes.now true).finish.count
             count outcome sink.new) }
-        ensures fault { IfErr result (λ e. IsFaultIn C.step
+        ensures fault { IfErr result (λ e. IsContentsSearch C.step
             (makers_of M.Error.output C.Error.makers) (M.facts matcher.now)
-            true
-            self.now.config bytes.now sink.old e sink.new) }
+            self.now.config nowhere true bytes.now sink.old (Err e) sink.new) }
         ensures succeeds { NeverFails C.step C.may_call → IsInfallible (M.facts matcher.now).fails
             → IsOk result }
         ensures in_order { BeginsInOrder C.step self.now.config
@@ -68,10 +68,9 @@ impl<'c, A: Allocator + Copy, T> Search<'c, A, T> {
             count outcome sink.new) }
         ensures fault { IfErr result (λ e. (first : C.Sink)
             → C.step first self.now.config begins (Ok true) sink.old
-            → IsFaultIn C.step
+            → IsContentsSearch C.step
             (makers_of M.Error.output C.Error.makers) (M.facts matcher.now)
-            true
-            self.now.config bytes.now first e sink.new) }
+            self.now.config nowhere true bytes.now first (Err e) sink.new) }
         ensures succeeds { NeverFails C.step C.may_call → IsInfallible (M.facts matcher.now).fails
             → IsOk result }
         ensures in_order { EndsInOrder C.step self.now.config

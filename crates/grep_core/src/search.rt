@@ -1,14 +1,13 @@
 //! What a search runs with, and the search of bytes as they are.
-ghost use Rattle.std.specs.Prelude.{◌≡◌, false, IfOk, IfErr, IsOk};
+ghost use Rattle.std.specs.Prelude.{◌≡◌, false, Err, IfOk, IfErr, IsOk};
 ghost use Rattle.grep_core.specs.Configured.{IsConfigured};
 ghost use Rattle.grep_matcher.specs.Meanings.{IsInfallible};
 ghost use Rattle.grep_matcher.specs.Lines.{byte_of};
 ghost use Rattle.grep_report.specs.BinaryDetections.{quit_byte_of};
 ghost use Rattle.grep_definitions.specs.CallOrder.{BeginsInOrder};
-ghost use Rattle.grep_definitions.specs.Searches.{IsInOrder};
-ghost use Rattle.grep_definitions.specs.SliceSearches.{IsSliceSearch};
+ghost use Rattle.grep_definitions.specs.Searches.{nowhere, IsInOrder};
+ghost use Rattle.grep_definitions.specs.SliceSearches.{IsContentsSearch, IsSliceSearch};
 ghost use Rattle.grep_definitions.specs.Plans.{plan_in, IsLawful, NeverFails, Outcome};
-ghost use Rattle.grep_definitions.specs.ContentsSearches.{IsFaultIn};
 ghost use Rattle.grep_walk.specs.Walks.{Counted};
 ghost use Rattle.grep_report.specs.ErrorMakers.{makers_of};
 
@@ -86,10 +85,9 @@ impl<'c, A: Allocator + Copy, T> Search<'c, A, T> {
             count outcome sink.new) }
         ensures fault { IfErr result (λ e.
             (is_across ≡ false → IsLawful (M.facts matcher.now) self.now.config)
-            → IsFaultIn C.step
+            → IsContentsSearch C.step
             (makers_of M.Error.output C.Error.makers) (M.facts matcher.now)
-            is_across
-            self.now.config bytes.now sink.old e sink.new) }
+            self.now.config nowhere is_across bytes.now sink.old (Err e) sink.new) }
         ensures succeeds { NeverFails C.step C.may_call → IsInfallible (M.facts matcher.now).fails
             → IsOk result }
         ensures in_order { BeginsInOrder C.step self.now.config

@@ -1,10 +1,11 @@
 //! The search of whole contents that ends at a binary byte.
-ghost use Rattle.std.specs.Prelude.{◌≡◌, true, false, None, IsOk, take};
+ghost use Rattle.std.specs.Prelude.{◌≡◌, false, None, Some, IsOk, take};
 ghost use Rattle.grep_matcher.specs.Meanings.{IsInfallible};
-ghost use Rattle.grep_definitions.specs.Searches.{is_detecting, position_of, IsInOrder};
+ghost use Rattle.grep_definitions.specs.Searches.{in_contents, position_of, IsInOrder};
 ghost use Rattle.grep_definitions.specs.BinaryLaws.{first_look};
 ghost use Rattle.grep_definitions.specs.Plans.{IsLawful, NeverFails, IsRun};
-ghost use Rattle.grep_core.specs.InputSearches.{IsSearchedUntil};
+ghost use Rattle.grep_definitions.specs.SliceSearches.{IsContentsSearch};
+ghost use Rattle.grep_report.specs.BinaryDetections.{quit_byte_of};
 ghost use Rattle.grep_core.specs.Configured.{IsConfigured};
 ghost use Rattle.grep_core.specs.QuittingSinks.{first_quit};
 ghost use Rattle.grep_report.specs.ErrorMakers.{makers_of};
@@ -33,15 +34,14 @@ impl<'c, A: Allocator + Copy, T> Search<'c, A, T> {
     ) -> Result<(), C::Error>
     where
         C::Error: SinkError<A>,
-        requires detecting { is_detecting self.now.config.binary_detection ≡ true }
+        requires detecting { quit_byte_of self.now.config.binary_detection ≡ Some byte }
         requires configured { IsConfigured (C.settings self.now.searcher.now) self.now.config }
         requires may_call { C.may_call sink.old }
         ensures searched { (is_across ≡ false
             → IsLawful (M.facts matcher.now) self.now.config)
-            → IsSearchedUntil C.step
-            (makers_of M.Error.output C.Error.makers) (M.facts matcher.now)
-            is_across
-            byte self.now.config bytes.now sink.old result sink.new }
+            → IsContentsSearch C.step
+            (makers_of M.Error.output C.Error.makers) (M.facts matcher.now) self.now.config
+            (in_contents byte) is_across bytes.now sink.old result sink.new }
         ensures in_order { IsInOrder C.step
             (makers_of M.Error.output C.Error.makers) (M.facts matcher.now) self.now.config
             (λ _. ⊥) sink.old result sink.new }
@@ -88,15 +88,15 @@ impl<'c, A: Allocator + Copy, T> Search<'c, A, T> {
         requires none { position_of sink.old.byte (take first_look bytes.now) ≡ None }
         requires has_break { sink.old.has_break ≡ false }
         requires found { sink.old.found ≡ None }
-        requires detecting { is_detecting self.now.config.binary_detection ≡ true }
+        requires detecting { quit_byte_of self.now.config.binary_detection ≡ Some sink.old.byte }
         requires configured { IsConfigured (C.settings self.now.searcher.now) self.now.config }
         requires may_call { C.may_call sink.old.sink.now }
         ensures searched { (is_across ≡ false
             → IsLawful (M.facts matcher.now) self.now.config)
-            → IsSearchedUntil C.step
-            (makers_of M.Error.output C.Error.makers) (M.facts matcher.now)
-            is_across
-            sink.old.byte self.now.config bytes.now sink.old.sink.now result sink.new.sink.now }
+            → IsContentsSearch C.step
+            (makers_of M.Error.output C.Error.makers) (M.facts matcher.now) self.now.config
+            (in_contents sink.old.byte) is_across bytes.now sink.old.sink.now result
+            sink.new.sink.now }
         ensures in_order { IsInOrder C.step
             (makers_of M.Error.output C.Error.makers) (M.facts matcher.now) self.now.config
             (λ _. ⊥) sink.old.sink.now result sink.new.sink.now }

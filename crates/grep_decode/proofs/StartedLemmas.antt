@@ -1,24 +1,19 @@
 -- What a decoder that was started for a label gave, against the decoded bytes of what it took.
-use Rattle.std.proofs.Common.{◌≡◌, ◌⊎◌, ℕ, ◌<◌, ◌≤◌, Bool, true, false, List, [], ◌++◌, length, Option, ◌||◌, is_some}
-use Rattle.std.proofs.Common.{inl, inr, ⊎_elim, refl, sym, subst, ◌∙◌, ap, arith, append-nil}
+use Rattle.std.proofs.Common.{◌≡◌, ◌⊎◌, ℕ, ◌<◌, ◌≤◌, Bool, true, false, List, [], ◌++◌, length}
+use Rattle.std.proofs.Common.{Option, ◌||◌, is_some, inl, inr, ⊎_elim, refl, sym, subst, ◌∙◌, ap}
+use Rattle.std.proofs.Common.{arith, append-nil}
 use Rattle.std.proofs.lemmas.Bool.{false≢true}
 use Rattle.std.specs.List.{concat}
-use Rattle.grep_decode.proofs.DecoderLemmas.{looks-unsettled, mode-settled, unread-none}
+use Rattle.grep_decode.proofs.DecoderLemmas.{looks-unsettled, mode-settled}
 use Rattle.grep_decode.specs.Decoded.{decoded, found_mark}
 use Rattle.grep_decode.specs.DecoderStates.{DecoderState, Decodes, IsSettled, LooksForMark}
-use Rattle.grep_decode.specs.DecoderStates.{decode_by, mode_of, started, still_to_give, unread}
+use Rattle.grep_decode.specs.DecoderStates.{decode_by, mode_of, started, unread}
 use Rattle.grep_decode.specs.Source.{ReadResult}
 use Rattle.grep_decode.specs.declared.label.Label.{Label}
-use Rattle.grep_decode.specs.declared.mode.Mode.TheVariants.{Passing}
 
 module _ {R : Type 0} {remaining : R → Option (List ℕ)} {step : R → ReadResult → R → Type 0} (label : Option Label)
     (sniff : Bool) {capacity : ℕ} {reader reader' : R} {given : List ℕ} {d : DecoderState}
     (reads : Decodes remaining step (started capacity label sniff) reader given d reader') where
-  -- the decoded bytes, if the input ended here
-  decoded-is : decoded label sniff (concat reads.pieces) ≡ given ++ still_to_give d []
-  decoded-is = ap (decoded label sniff) (sym (append-nil (concat reads.pieces)))
-      ∙ reads.gives [] (λ _. refl)
-
   -- the mark in what was taken
   abbrev mark : Option Label
   mark = found_mark label sniff (concat reads.pieces)
@@ -28,15 +23,6 @@ module _ {R : Type 0} {remaining : R → Option (List ℕ)} {step : R → ReadRe
       sym (mode-settled _ _ settled) ∙ (sym (reads.settles [] (λ _. refl))
       ∙ ap (λ xs. mode_of (found_mark label sniff xs) label)
       (append-nil (concat reads.pieces)))
-
-  -- all is given if nothing is ready and held
-  pub decoded-all : d.mode ≡ Passing → d.ready ≡ [] → d.held ≡ [] → given ≡ decoded label sniff (concat reads.pieces)
-  decoded-all passes ready held =
-      let left : still_to_give d [] ≡ [] =
-      ap (λ xs. xs ++ decode_by d.mode (d.held ++ unread d.has_ended [])) ready
-      ∙ (ap (λ m. decode_by m (d.held ++ unread d.has_ended [])) passes
-      ∙ (ap (λ xs. xs ++ unread d.has_ended []) held ∙ unread-none _)) in
-      sym (decoded-is ∙ (ap (λ xs. given ++ xs) left ∙ append-nil given))
 
   -- a decoder that looks for a mark has given nothing, and holds all that was taken
   unsettled : IsSettled d.mode ⊎ LooksForMark d.mode × (length d.held ≤ 2)

@@ -25,9 +25,8 @@ pub mod MatchCallLemmas
 pub mod SearchModeLemmas
 pub mod PlannedLawLemmas
 pub mod PlannedReaderLemmas
-pub mod PlannedSliceLemmas
+pub mod ContentsSearchLemmas
 pub mod PlannedStreamLemmas
-pub mod PlannedUnreadLemmas
 pub mod ReaderViewLemmas
 pub mod ReportLemmas
 pub mod RunLemmas

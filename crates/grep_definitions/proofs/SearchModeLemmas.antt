@@ -53,7 +53,13 @@ look-quit no_detection b is = absurd (none-some b is)
 look-quit (Quit c) b is = ap (λ n. in_contents n) (same_Some c b is)
 look-quit (Convert c) b is = absurd (none-some b is)
 
--- then a byte is looked for
+-- then it is the byte that ends the search
+pub quit-is : (d : BinaryDetection) (b : ℕ) → quit_byte_of d ≡ Some b → d ≡ Quit b
+quit-is no_detection b is = absurd (none-some b is)
+quit-is (Quit c) b is = ap (λ n. Quit n) (same_Some c b is)
+quit-is (Convert c) b is = absurd (none-some b is)
+
+-- and a byte is looked for
 pub look-detects : (d : BinaryDetection) (b : ℕ) → quit_byte_of d ≡ Some b → is_detecting d ≡ true
 look-detects no_detection b is = absurd (none-some b is)
 look-detects (Quit c) b is = refl

@@ -2,14 +2,11 @@ pub mod AcrossLaws
 pub mod BinaryLaws
 pub mod BuiltSettings
 pub mod CallOrder
-pub mod ContentsSearches
 pub mod CountLaws
-pub mod DecodedInputs
 pub mod FileSearches
 pub mod LineCalls
 pub mod LineWalks
 pub mod Plans
-pub mod ReaderRuns
 pub mod SearchLaws
 pub mod Searches
 pub mod SinkArguments

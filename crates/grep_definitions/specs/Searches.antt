@@ -461,11 +461,14 @@ module _ {R : Type 0} (remaining : R → Option (List ℕ))
   IsUnread state meaning old begun seen error new = (mid : R) × (taken : Taken old mid)
       × IsCut state meaning old mid new taken seen begun error
 
+  -- some calls of a reader, of which the last one failed
+  abbrev pub HasFailedRead : R → Error → R → Type 0
+  HasFailedRead old error new = (mid : R) × (taken : Taken old mid) × (taken.ended ≡ false)
+      × read_step mid (Err error) new
+
   -- an error of reading, whatever the search: that of the reader's last call, or no reader's
   abbrev pub IsReadingError : R → R → Error → Type 0
-  IsReadingError old new error =
-      ((mid : R) × (taken : Taken old mid) × (taken.ended ≡ false) × read_step mid (Err error) new)
-      ⊎ IsOwnError error
+  IsReadingError old new error = HasFailedRead old error new ⊎ IsOwnError error
 
   -- what a search by line that ended in `Ok` has read: nothing if `begin` returned false
   pub record HasReadLines {S E : Type 0} (step : Steps S E) (settings : Settings) (reader : R)

@@ -5,23 +5,29 @@ use Rattle.grep_decode.specs.Source.{ReadResult}
 use Rattle.grep_matcher.specs.Meanings.{Meaning, MatcherFacts}
 use Rattle.grep_report.specs.ErrorMakers.{ErrorMakers}
 use Rattle.grep_decode.specs.Decoded.{is_unchanged}
-use Rattle.grep_definitions.specs.Searches.{look_of, IsUnread, IsPoint, IsReaderSearched}
+use Rattle.grep_definitions.specs.Searches.{Look, look_of, IsUnread, IsPoint, IsReaderSearched}
 use Rattle.grep_definitions.specs.Searches.{IsSearchOf, IsUnlessRefusedBy}
-use Rattle.grep_definitions.specs.Plans.{Steps, Settings, SearcherState, refusal_of, search_plan}
-use Rattle.grep_definitions.specs.Plans.{IsAskedWith}
+use Rattle.grep_definitions.specs.Plans.{Steps, Settings, SearcherState, refusal_of, plan_in}
+use Rattle.grep_definitions.specs.Plans.{is_across, IsAskedIn}
 
 -- no label is set and no mark is found, so that the input is searched as it is
 unfoldable pub is_searched_unchanged : Settings → List ℕ → Bool
 is_searched_unchanged settings input = is_unchanged settings.encoding settings.bom_sniffing input
 
--- a slice that is searched as it is
-abbrev pub IsSliceSearch : {S E F : Type 0} → Steps S E → ErrorMakers F E → MatcherFacts F
-    → Settings → List ℕ → S → Result (Unit {0}) E → S → Type 0
-IsSliceSearch step errors matcher settings bytes =
-    IsSearchOf step errors matcher settings
-    (IsPoint settings matcher.meaning bytes (look_of settings matcher.meaning true) (length bytes))
-    (IsAskedWith settings matcher.meaning bytes) (λ plan outcome result. Unit {0})
-    (search_plan settings matcher.meaning bytes)
+module _ {S E F : Type 0} (step : Steps S E) (errors : ErrorMakers F E) (matcher : MatcherFacts F)
+    (settings : Settings) where
+  -- whole contents, by line or across lines, by where binary bytes are looked for
+  abbrev pub IsContentsSearch : Look → Bool → List ℕ → S → Result (Unit {0}) E → S → Type 0
+  IsContentsSearch look across bytes =
+      IsSearchOf step errors matcher settings
+      (IsPoint settings matcher.meaning bytes look (length bytes))
+      (IsAskedIn settings matcher.meaning bytes across) (λ plan outcome result. Unit {0})
+      (plan_in settings matcher.meaning bytes across)
+
+  -- a slice that is searched as it is
+  abbrev pub IsSliceSearch : List ℕ → S → Result (Unit {0}) E → S → Type 0
+  IsSliceSearch =
+      IsContentsSearch (look_of settings matcher.meaning true) (is_across settings matcher.meaning)
 
 -- a read of a slice gives bytes from its front, and none fails
 abbrev pub IsSliceRead : List ℕ → ReadResult → List ℕ → Type 0

@@ -12,7 +12,7 @@ use Rattle.grep_definitions.specs.Searches.{Taken, of_buffers}
 use Rattle.grep_report.specs.ErrorMakers.{ErrorMakers}
 use Rattle.grep_matcher.specs.Meanings.{MatcherFacts}
 use Rattle.grep_definitions.specs.Plans.{IsLawful, refusal_of, Steps, Settings, SearcherState}
-use Rattle.grep_definitions.proofs.PlannedReaderLemmas.{consumes-none}
+use Rattle.std.proofs.KnownBytes.{Consumes-nil}
 
 -- another claim of an error
 pub if_err-each : {T E : Type 0} (P Q : E → Type 0) (result : Result T E) → ((e : E) → P e → Q e) → IfErr result P
@@ -39,7 +39,7 @@ module _ {R : Type 0} (remaining : R → Option (List ℕ)) (read_step : R → R
   -- nothing was taken
   abbrev taken-none : (reader : R) → Taken remaining read_step reader reader
   taken-none reader =
-      record { ended = false; pieces = []; calls = refl; takes = consumes-none (remaining reader) }
+      record { ended = false; pieces = []; calls = refl; takes = Consumes-nil (remaining reader) }
 
   -- there are no buffers, and no memory for them
   pub unread-buffers : {F : Type 0} (matcher : MatcherFacts F) (state : SearcherState) (reader : R) (error : Error)

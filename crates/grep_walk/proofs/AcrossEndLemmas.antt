@@ -9,7 +9,9 @@ use Rattle.grep_definitions.specs.Plans.{across_plan, calls_at, start, touched_l
 use Rattle.grep_definitions.specs.Plans.{joined_from, Settings, Planned, begins, Steps, Outcome}
 use Rattle.grep_definitions.specs.Plans.{all_true, stopped, failed, AreMade, counted, calls_before}
 use Rattle.grep_report.specs.ErrorMakers.{ErrorMakers}
-use Rattle.grep_definitions.specs.ContentsSearches.{IsFaultIn, of_sink, of_matcher}
+use Rattle.grep_definitions.specs.Searches.{nowhere}
+use Rattle.grep_definitions.specs.SliceSearches.{IsContentsSearch}
+use Rattle.grep_definitions.proofs.ContentsSearchLemmas.{plain-asked, plain-ran}
 use Rattle.grep_definitions.proofs.AcrossCountLemmas.{through-is}
 use Rattle.grep_definitions.proofs.BelowLemmas.{room-first}
 use Rattle.grep_definitions.proofs.SinkRunLemmas.{AreMade-append, AreMade-ended}
@@ -107,11 +109,11 @@ module _ (k : Settings) (meaning : Meaning) (bytes : List ℕ) where
 module _ {State E F : Type 0} (step : Steps State E) (errors : ErrorMakers F E) (matcher : MatcherFacts F) (k : Settings)
     (bytes : List ℕ) (first : State) where
   abbrev IsFaulty : E → State → Type 0
-  IsFaulty e new = IsFaultIn step errors matcher true k bytes first e new
+  IsFaulty e new = IsContentsSearch step errors matcher k nowhere true bytes first (Err e) new
 
   failed-run : (e : E) (new : State) → AreMade step k first (across_plan k matcher.meaning bytes).calls (failed e) new
       → IsFaulty e new
-  failed-run e new reported = of_sink (record {
+  failed-run e new reported = plain-ran step errors matcher k bytes first (record {
     outcome = failed e;
     mid = new;
     made = reported;
@@ -134,7 +136,7 @@ module _ {State E F : Type 0} (step : Steps State E) (errors : ErrorMakers F E) 
       → is_done k w ≡ false → matcher.fails haystack error → errors.is_message error e
       → IsFaulty e now
   fault-matcher w now across reported haystack error e asked goes fails message =
-      of_matcher haystack error (calls_before k bytes (touched_lines k matcher.meaning bytes) w.next_unreported)
+      plain-asked step errors matcher k bytes first haystack error (calls_before k bytes (touched_lines k matcher.meaning bytes) w.next_unreported)
       (record {
         index = w.line;
         question = record {

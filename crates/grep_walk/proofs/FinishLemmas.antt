@@ -1,12 +1,14 @@
 -- The end of a search.
-use Rattle.std.proofs.Common.{ℕ, List, subst, None, Result, Ok, Err}
+use Rattle.std.proofs.Common.{Bool, ℕ, List, subst, None, Result}
 use Rattle.grep_definitions.specs.Plans.{Settings, Planned, finishes, Steps, Outcome, all_true}
 use Rattle.grep_definitions.specs.Plans.{stopped, failed, IsFinished, IsRun, Finish, finish_result}
-use Rattle.grep_definitions.specs.Plans.{counted, search_plan}
+use Rattle.grep_definitions.specs.Plans.{counted, plan_in}
 use Rattle.grep_definitions.specs.SinkRuns.{plan_of}
 use Rattle.grep_report.specs.ErrorMakers.{ErrorMakers}
 use Rattle.grep_matcher.specs.Meanings.{MatcherFacts}
-use Rattle.grep_definitions.specs.ContentsSearches.{IsSearchedAlong, of_sink}
+use Rattle.grep_definitions.specs.Searches.{nowhere}
+use Rattle.grep_definitions.specs.SliceSearches.{IsContentsSearch}
+use Rattle.grep_definitions.proofs.ContentsSearchLemmas.{plain-ran}
 use Rattle.grep_walk.specs.Walks.{Counted, IsCount}
 
 module _ {S E : Type 0} (step : Steps S E) (k : Settings) (old : S) (calls : List Planned) (whole : ℕ) where
@@ -33,17 +35,13 @@ module _ {S E : Type 0} (step : Steps S E) (k : Settings) (old : S) (calls : Lis
 
 -- and so the search, whatever `finish` returned
 pub searched-finish : {S E F : Type 0} (step : Steps S E) (errors : ErrorMakers F E) (matcher : MatcherFacts F)
-    (k : Settings) (bytes : List ℕ) (old : S) (count : ℕ) (outcome : Outcome E) (mid : S)
+    (k : Settings) (bytes : List ℕ) (old : S) {across : Bool} (count : ℕ) (outcome : Outcome E) (mid : S)
     (result : Result (Unit {0}) E) (new : S)
-    → Counted step k old (search_plan k matcher.meaning bytes).calls (search_plan k matcher.meaning bytes).finish.count count
-    outcome mid
+    → Counted step k old (plan_in k matcher.meaning bytes across).calls
+    (plan_in k matcher.meaning bytes across).finish.count count outcome mid
     → step mid k (finishes count None) (finish_result result) new
-    → IsSearchedAlong step errors matcher k bytes old result new
-searched-finish step errors matcher k bytes old count outcome mid (Ok u) new counted finish =
-    run-finish step k old (search_plan k matcher.meaning bytes).calls (search_plan k matcher.meaning bytes).finish.count count
-    outcome mid (Ok u) new
-    counted finish
-searched-finish step errors matcher k bytes old count outcome mid (Err e) new counted finish = of_sink
-    (run-finish step k old (search_plan k matcher.meaning bytes).calls (search_plan k matcher.meaning bytes).finish.count count
-    outcome mid (Err e) new
-    counted finish)
+    → IsContentsSearch step errors matcher k nowhere across bytes old result new
+searched-finish step errors matcher k bytes old {across} count outcome mid result new counted finish =
+    plain-ran step errors matcher k bytes old
+    (run-finish step k old (plan_in k matcher.meaning bytes across).calls
+    (plan_in k matcher.meaning bytes across).finish.count count outcome mid result new counted finish)

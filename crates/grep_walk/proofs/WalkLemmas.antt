@@ -15,12 +15,13 @@ use Rattle.grep_matcher.specs.Lines.{byte_of, lines}
 use Rattle.grep_matcher.specs.Meanings.{Meaning, MatcherFacts}
 use Rattle.grep_lines.specs.Positions.{IsLine, IsLineStart}
 use Rattle.grep_report.specs.declared.sink_context.SinkContextKind.TheVariants.{After, Other}
-use Rattle.grep_definitions.specs.Searches.{reports_nothing}
+use Rattle.grep_definitions.specs.Searches.{reports_nothing, nowhere}
 use Rattle.grep_definitions.specs.LineCalls.{after_calls, context_calls, selected_calls}
 use Rattle.grep_definitions.specs.LineCalls.{pending_calls, matches_line}
 use Rattle.grep_definitions.specs.SearchLaws.{number_of}
 use Rattle.grep_report.specs.ErrorMakers.{ErrorMakers}
-use Rattle.grep_definitions.specs.ContentsSearches.{IsLineFault, of_sink, of_matcher}
+use Rattle.grep_definitions.specs.SliceSearches.{IsContentsSearch}
+use Rattle.grep_definitions.proofs.ContentsSearchLemmas.{plain-asked, plain-ran}
 use Rattle.grep_definitions.specs.LineWalks.{IsNear, IsOpen}
 use Rattle.grep_definitions.proofs.BelowLemmas.{joined_from-equal, joined_from-none, headed-through}
 use Rattle.grep_definitions.proofs.BelowLemmas.{headed-many}
@@ -419,8 +420,8 @@ module _ (k : Settings) (meaning : Meaning) (bytes : List ℕ) where
 module _ {S E F : Type 0} (step : Steps S E) (errors : ErrorMakers F E) (matcher : MatcherFacts F) (k : Settings)
     (bytes : List ℕ) where
   pub fault-begin : (old : S) (e : E) (new : S) → step old k begins (Err e) new
-      → IsLineFault step errors matcher k bytes old e new
-  fault-begin old e new fails = of_sink
+      → IsContentsSearch step errors matcher k nowhere false bytes old (Err e) new
+  fault-begin old e new fails = plain-ran step errors matcher k bytes old
       (record { outcome = failed e; mid = new; made = inr (inr (e, refl, fails)); finished = (refl, refl) })
 
   pub fault-matcher : (old : Origin S) (w : Walk) (new : S) → HasReported k matcher.meaning bytes step old w new
@@ -449,15 +450,15 @@ module _ {S E F : Type 0} (step : Steps S E) (errors : ErrorMakers F E) (matcher
 
   -- such a fault is one of the search by line
   pub fault-by_line : (old : S) (e : E) (new : S) → IsWalkFault step errors matcher k bytes (fresh old) e new
-      → IsLineFault step errors matcher k bytes old e new
-  fault-by_line old e new (at_call reported) = of_sink (record {
+      → IsContentsSearch step errors matcher k nowhere false bytes old (Err e) new
+  fault-by_line old e new (at_call reported) = plain-ran step errors matcher k bytes old (record {
     outcome = failed e;
     mid = new;
     made = fresh-made step k old (line_plan k matcher.meaning bytes).calls (failed e) new reported;
     finished = (refl, refl);
   })
   fault-by_line old e new (at_question haystack error made later asked first fails message reported) =
-      of_matcher haystack error made asked fails message (fresh-made step k old made all_true new reported)
+      plain-asked step errors matcher k bytes old haystack error made asked fails message (fresh-made step k old made all_true new reported)
 
 -- what was counted of a sink that had no call
 pub counted-fresh : {S E : Type 0} (step : Steps S E) (k : Settings) (old : S) (calls : List Planned) (whole count : ℕ)

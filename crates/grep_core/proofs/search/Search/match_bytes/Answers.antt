@@ -13,3 +13,7 @@ returns-clause-fault g c = rw c.if-is_across.false
 pub returns-then-is_across-clause-reported : goal.returns-then-is_across-clause-reported
 returns-then-is_across-clause-reported g c = rw c.if-is_across.true
     (if_ok-each _ _ c.match_across.result (λ count counted _. counted) c.match_across.ensures.reported)
+
+pub returns-then-is_across-clause-fault : goal.returns-then-is_across-clause-fault
+returns-then-is_across-clause-fault g c = rw c.if-is_across.true
+    (if_err-each _ _ c.match_across.result (λ e fault _. fault) c.match_across.ensures.fault)

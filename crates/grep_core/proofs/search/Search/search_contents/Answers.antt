@@ -1,30 +1,34 @@
-use Rattle.std.proofs.Common.{arith, ℕ, Bool, List, true, None, length, ◌∙◌, subst, sym, refl, inl}
-use Rattle.std.proofs.Common.{inr, ap, Err}
+use Rattle.std.proofs.Common.{arith, Bool, true, false, [], ◌≡◌, None, length, ◌∙◌, subst, sym}
+use Rattle.std.proofs.Common.{refl, inl, inr, ap, Err}
 use Rattle.std.proofs.lemmas.Bool.{true≢false}
 use Rattle.std.proofs.lemmas.Result.{err_from_is_err_and}
 use Rattle.std.specs.Prelude.{vec_capacity}
 use Rattle.grep_line_buffer.specs.Contents.{FailsAfter, IsBelow, ContentsFail}
 use Rattle.grep_line_buffer.specs.Fills.{IfRead}
-use Rattle.grep_definitions.specs.ReaderRuns.{IsUnreadIn}
 use Rattle.grep_core.proofs.InputSearchLemmas as whole
+use Rattle.grep_definitions.proofs.ContentsSearchLemmas.{search-at}
+use Rattle.grep_definitions.specs.Plans.{is_across}
+use Rattle.grep_walk.proofs.FinishLemmas.{searched-finish}
 use Rattle.grep_definitions.proofs.PlannedReaderLemmas.{contents-cut}
-use Rattle.grep_definitions.proofs.SearchModeLemmas.{look-detects}
+use Rattle.grep_definitions.proofs.SearchModeLemmas.{look-plain, look-quit}
 use Rattle.grep_core.proofs.search.Search.search_contents.Given.{Over}
 use Rattle.grep_report.specs.ErrorMakers.{makers_of, ErrorMakers}
-use Rattle.grep_definitions.specs.Searches.{read_in_order}
+use Rattle.grep_definitions.specs.Searches.{read_in_order, IsUnread}
 use Rattle.grep_definitions.proofs.CallOrderLemmas as order
 use Rattle.grep_core.proofs.OrderLemmas.{failed-read, reading-error}
 use Rattle.grep_core.proofs.search.Search.search_contents.Goals as goal
 use Rattle.grep_core.proofs.search.Search.search_contents.Goals.{After-error_io, After-quit_byte}
 
 -- why not all was read
-unread : (g : Over) (c : goal.After-error_io g) (has_buffers : Bool) (view : List ℕ → List ℕ)
-    → IsUnreadIn g.R.Source.remaining g.R.Source.step true view
+unread : (g : Over) (c : goal.After-error_io g) (has_buffers : Bool)
+    → is_across c.args.self.now.config (g.M.Matcher.facts c.args.matcher.now).meaning ≡ true
+    → IsUnread g.R.Source.remaining g.R.Source.step
     (record { settings = c.args.self.now.config; has_buffers = has_buffers })
-    (g.M.Matcher.facts c.args.matcher.now).meaning c.args.reader.now None c.io_error.result c.read_contents.new.reader
-unread g c has_buffers view =
+    (g.M.Matcher.facts c.args.matcher.now).meaning c.args.reader.now false [] c.io_error.result
+    c.read_contents.new.reader
+unread g c has_buffers across =
     let failed = c.in-Err.ensures in
-    whole.unread-read _ _ _ _ _ _ _ _ _ _
+    whole.unread-read _ _ _ _ _ _ _ across _ _
     _ c.requires.started _ c.io_error.ensures _
     (subst (λ limit. ContentsFail limit (vec_capacity c.args.contents.now) c.read_contents.new.contents.items
     c.in-Err.error) c.heap_limit.ensures failed.error)
@@ -32,11 +36,11 @@ unread g c has_buffers view =
 
 pub returns-in-Err-clause-searched : goal.returns-in-Err-clause-searched
 returns-in-Err-clause-searched g c = λ across has_buffers.
-    inr (contents-cut _ _ _ _ _ _ _ across c.io_error.result _ (unread g c has_buffers _) c.error_io.ensures)
+    inr (contents-cut _ _ _ _ _ _ _ across c.io_error.result _ (unread g c has_buffers across) c.error_io.ensures)
 
 pub returns-in-Err-clause-succeeds : goal.returns-in-Err-clause-succeeds
-returns-in-Err-clause-succeeds g c = λ never infallible has_buffers.
-    (None, c.io_error.result, unread g c _ _, c.error_io.ensures)
+returns-in-Err-clause-succeeds g c = λ never infallible across has_buffers.
+    (false, [], c.io_error.result, unread g c _ across, c.error_io.ensures)
 
 -- there are fewer bytes than the heap limit has
 below : (g : Over) (c : goal.After-quit_byte g)
@@ -56,8 +60,8 @@ returns-in-Some-clause-searched g c = λ across has_buffers.
     c.in_default.ensures.reads c.in_default.ensures.done
     (below g (goal.at.returns-in-Some-clause-searched g c).After-quit_byte) g.C.Calls.step (errors-of g) facts has_buffers
     c.args.sink.now across c.search_until.result c.search_until.new.sink
-    (whole.searched-at g.C.Calls.step (errors-of g) facts c.args.self.now.config given c.args.sink.now _
-    (sym c.quit_byte.ensures ∙ c.in-Some.is) (sym across) c.search_until.result c.search_until.new.sink searched)
+    (search-at g.C.Calls.step (errors-of g) facts c.args.self.now.config given c.args.sink.now
+    (look-quit _ _ (sym c.quit_byte.ensures ∙ c.in-Some.is)) across c.search_until.result c.search_until.new.sink searched)
 
 pub returns-in_err-count-clause-searched : goal.returns-in_err-count-clause-searched
 returns-in_err-count-clause-searched g c = λ across has_buffers.
@@ -65,13 +69,13 @@ returns-in_err-count-clause-searched g c = λ across has_buffers.
     let facts = g.M.Matcher.facts c.args.matcher.now in
     let given = c.read_contents.new.contents.items in
     rw (error.1, error.2)
-    (whole.contents-read-plain c.args.self.now.config c.requires.started
+    (whole.contents-read-all c.args.self.now.config c.requires.started
     c.in_default.ensures.reads c.in_default.ensures.done
     (below g (goal.at.returns-in_err-count-clause-searched g c).After-quit_byte) g.C.Calls.step (errors-of g) facts
-    has_buffers c.args.sink.now across
-    (λ b is. c.in_default-quit_byte.not-Some b (c.quit_byte.ensures ∙ is)) (Err c.in_err-count.field-0.0)
+    has_buffers c.args.sink.now across (Err c.in_err-count.field-0.0) c.match_across.new.sink
+    (search-at g.C.Calls.step (errors-of g) facts c.args.self.now.config given c.args.sink.now
+    (look-plain _ (λ b is. c.in_default-quit_byte.not-Some b (c.quit_byte.ensures ∙ is))) across _
     c.match_across.new.sink
-    (whole.failed-across g.C.Calls.step (errors-of g) facts c.args.self.now.config given c.args.sink.now across
     (rw c.deref-2.ensures.value at c.in_err-count.ensures.fault)))
 
 pub returns-clause-searched : goal.returns-clause-searched
@@ -79,17 +83,18 @@ returns-clause-searched g c = λ across has_buffers.
     let reported = rw c.deref-2.ensures.value at c.in_ok-count.ensures.reported in
     let facts = g.M.Matcher.facts c.args.matcher.now in
     let given = c.read_contents.new.contents.items in
-    whole.contents-read-plain c.args.self.now.config c.requires.started
+    whole.contents-read-all c.args.self.now.config c.requires.started
     c.in_default.ensures.reads c.in_default.ensures.done
     (below g (goal.at.returns-clause-searched g c).After-quit_byte) g.C.Calls.step (errors-of g) facts has_buffers
-    c.args.sink.now across
-    (λ b is. c.in_default-quit_byte.not-Some b (c.quit_byte.ensures ∙ is)) c.finish.result c.finish.new.sink
-    (whole.finished-across g.C.Calls.step (errors-of g) facts c.args.self.now.config given c.args.sink.now across
-    c.finish.result reported.1 (rw c.new.ensures at c.finish.ensures.step))
+    c.args.sink.now across c.finish.result c.finish.new.sink
+    (search-at g.C.Calls.step (errors-of g) facts c.args.self.now.config given c.args.sink.now
+    (look-plain _ (λ b is. c.in_default-quit_byte.not-Some b (c.quit_byte.ensures ∙ is))) across _ _
+    (searched-finish g.C.Calls.step (errors-of g) facts c.args.self.now.config given c.args.sink.now _ _ _
+    c.finish.result _ reported.1 (rw c.new.ensures at c.finish.ensures.step)))
 
 pub search_until-requires-clause-detecting : goal.search_until-requires-clause-detecting
 search_until-requires-clause-detecting g c =
-    look-detects _ _ (sym c.quit_byte.ensures ∙ c.in-Some.is)
+    sym c.quit_byte.ensures ∙ c.in-Some.is
 
 pub returns-in-Err-clause-in_order : goal.returns-in-Err-clause-in_order
 returns-in-Err-clause-in_order g c =

@@ -1,7 +1,9 @@
-use Rattle.std.proofs.Common.{arith, ◌∙◌, refl, sym, subst}
+use Rattle.std.proofs.Common.{Err, arith, ◌∙◌, refl, sym, subst}
 use Rattle.std.proofs.lemmas.Bool.{false≢true}
 use Rattle.std.proofs.lemmas.Result.{err_from_is_err_and}
-use Rattle.grep_definitions.specs.ContentsSearches.{IsFaultIn}
+use Rattle.grep_definitions.specs.Searches.{nowhere}
+use Rattle.grep_definitions.specs.SliceSearches.{IsContentsSearch}
+use Rattle.grep_definitions.proofs.SearchModeLemmas.{look-detects, quit-is}
 use Rattle.grep_core.proofs.QuittingLemmas.{fault-until, until-finished}
 use Rattle.grep_core.proofs.search.Search.search_quitting.Given.{Over}
 use Rattle.grep_core.specs.QuittingSinks.{Quits, count_to}
@@ -18,12 +20,11 @@ returns-in_err-count-clause-searched g c = λ lawful.
     let error = err_from_is_err_and c.from_residual.result c.from_residual.ensures.1 in
     rw error.1
     (fault-until _ g.C.Calls.may_call _ _ _
-    _ _ c.requires.none _ refl c.requires.has_break c.requires.found
+    _ (quit-is _ _ c.requires.detecting) _ c.requires.none _ refl c.requires.has_break c.requires.found
     _
-    (subst (λ e. IsFaultIn (Quits g.C.Calls.step g.C.Calls.may_call) (errors-of g) (g.M.Matcher.facts c.args.matcher.now)
-    c.args.is_across c.args.self.now.config
-    c.args.bytes.now
-    c.args.sink.now e c.match_bytes.new.sink) (sym error.2) (c.in_err-count.ensures.fault lawful)))
+    (subst (λ e. IsContentsSearch (Quits g.C.Calls.step g.C.Calls.may_call) (errors-of g)
+    (g.M.Matcher.facts c.args.matcher.now) c.args.self.now.config nowhere c.args.is_across c.args.bytes.now
+    c.args.sink.now (Err e) c.match_bytes.new.sink) (sym error.2) (c.in_err-count.ensures.fault lawful)))
 
 pub returns-in_err-count-clause-same_sink : goal.returns-in_err-count-clause-same_sink
 returns-in_err-count-clause-same_sink g c =
@@ -37,7 +38,7 @@ returns-clause-searched g c = λ lawful.
     let counted = c.in_ok-count.ensures.reported lawful in
     until-finished g.C.Calls.step g.C.Calls.may_call (errors-of g) (g.M.Matcher.facts c.args.matcher.now)
     _
-    _ _ c.requires.none _ refl c.requires.has_break c.requires.found
+    _ (quit-is _ _ c.requires.detecting) _ c.requires.none _ refl c.requires.has_break c.requires.found
     _ _ c.finish.new.sink counted.1
     (rw c.new.ensures at c.finish.ensures.step)
 
@@ -59,10 +60,10 @@ returns-in_err-count-clause-in_order g c =
     arith)
     _ _ _
     (order.passed-begun-failed _ _ k (λ q. q.sink.now)
-    (passed.FoundNone step k may_call c.requires.detecting)
-    (λ q n. count_to q.found n) (passed.quits-one step k may_call c.requires.detecting) _
+    (passed.FoundNone step k may_call (look-detects _ _ c.requires.detecting))
+    (λ q n. count_to q.found n) (passed.quits-one step k may_call (look-detects _ _ c.requires.detecting)) _
     _
-    (passed.quits-begun step k may_call c.requires.detecting) (passed.quits-held step k may_call c.requires.detecting)
+    (passed.quits-begun step k may_call (look-detects _ _ c.requires.detecting)) (passed.quits-held step k may_call (look-detects _ _ c.requires.detecting))
     _ _
     _ c.requires.found c.in_err-count.ensures.in_order))
 
@@ -77,11 +78,11 @@ returns-clause-in_order g c =
     _
     _ c.match_bytes.new.sink.found _
     _
-    (λ none. absurd (false≢true (sym none ∙ c.requires.detecting)))
+    (λ none. absurd (false≢true (sym none ∙ look-detects _ _ c.requires.detecting)))
     (order.passed-begun-to _ _ k (λ q. q.sink.now)
-    (passed.FoundNone step k may_call c.requires.detecting)
-    (λ q n. count_to q.found n) (passed.quits-one step k may_call c.requires.detecting) (errors-of g)
+    (passed.FoundNone step k may_call (look-detects _ _ c.requires.detecting))
+    (λ q n. count_to q.found n) (passed.quits-one step k may_call (look-detects _ _ c.requires.detecting)) (errors-of g)
     (g.M.Matcher.facts c.args.matcher.now)
-    (passed.quits-begun step k may_call c.requires.detecting) (passed.quits-held step k may_call c.requires.detecting)
+    (passed.quits-begun step k may_call (look-detects _ _ c.requires.detecting)) (passed.quits-held step k may_call (look-detects _ _ c.requires.detecting))
     _
     _ _ c.requires.found c.in_ok-count.ensures.in_order) finish.2.2

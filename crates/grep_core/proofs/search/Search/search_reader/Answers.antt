@@ -1,7 +1,5 @@
 use Rattle.std.proofs.Common.{sym, ◌∙◌, arith}
 use Rattle.std.proofs.lemmas.Result.{err_from_is_err_and}
-use Rattle.grep_definitions.proofs.PlannedUnreadLemmas.{unread-planned}
-use Rattle.grep_core.proofs.ResultLemmas.{if_err-each}
 use Rattle.grep_core.proofs.InputSearchLemmas.{read-across, read-by_line}
 use Rattle.grep_core.proofs.StreamSearchLemmas.{stream-finished}
 use Rattle.grep_definitions.proofs.CallOrderLemmas.{order-finished}
@@ -19,12 +17,7 @@ returns-then-is_across-clause-searched g c = λ lawful has_buffers.
 pub returns-then-is_across-clause-succeeds : goal.returns-then-is_across-clause-succeeds
 returns-then-is_across-clause-succeeds g c = λ never infallible lawful.
     let mode = (sym c.is_across.ensures ∙ c.if-is_across.true) in
-    if_err-each _ _ c.search_contents.result
-    (λ e unread has_buffers.
-    let why = unread has_buffers in
-    let planned = unread-planned _ _ _ _ _ why.1 _ mode why.0 _ why.2 in
-    (planned.0, planned.1, why.1, planned.2, why.3))
-    (c.search_contents.ensures.succeeds never infallible)
+    c.search_contents.ensures.succeeds never infallible mode
 
 pub returns-clause-searched : goal.returns-clause-searched
 returns-clause-searched g c = λ lawful has_buffers.

@@ -1,8 +1,9 @@
 use Rattle.std.proofs.Common.{◌∙◌, sym, subst}
-use Rattle.grep_core.specs.InputSearches.{IsSearchedUntil}
+use Rattle.grep_definitions.specs.SliceSearches.{IsContentsSearch}
+use Rattle.grep_definitions.proofs.SearchModeLemmas.{look-detects, quit-is}
 use Rattle.grep_core.proofs.QuittingLemmas.{first-found, quit-searched}
 use Rattle.grep_core.proofs.search.Search.search_until.Given.{Over}
-use Rattle.grep_definitions.specs.Searches.{IsInOrder}
+use Rattle.grep_definitions.specs.Searches.{in_contents, IsInOrder}
 use Rattle.grep_core.proofs.OrderLemmas.{quit-in-order}
 use Rattle.grep_report.specs.ErrorMakers.{makers_of, ErrorMakers}
 use Rattle.grep_core.proofs.search.Search.search_until.Goals as goal
@@ -17,23 +18,22 @@ search_quitting-requires-clause-none g c =
 
 pub returns-in-Some-clause-searched : goal.returns-in-Some-clause-searched
 returns-in-Some-clause-searched g c = λ lawful.
-    quit-searched (errors-of g) (g.M.Matcher.facts c.args.matcher.now) c.args.byte
+    quit-searched (errors-of g) (g.M.Matcher.facts c.args.matcher.now) c.args.byte (quit-is _ _ c.requires.detecting)
     c.args.bytes.now
     c.args.is_across _
     (first-found _ _ c.min.ensures c.in-Some.ensures) c.quit_first.ensures.quits
 
 pub returns-in-None-clause-searched : goal.returns-in-None-clause-searched
 returns-in-None-clause-searched g c = λ lawful.
-    subst (λ s. IsSearchedUntil g.C.Calls.step (errors-of g) (g.M.Matcher.facts c.args.matcher.now)
-    c.args.is_across c.args.byte
-    c.args.self.now.config
-    c.args.bytes.now c.args.sink.now c.search_quitting.result s)
+    subst (λ s. IsContentsSearch g.C.Calls.step (errors-of g) (g.M.Matcher.facts c.args.matcher.now)
+    c.args.self.now.config (in_contents c.args.byte) c.args.is_across c.args.bytes.now c.args.sink.now
+    c.search_quitting.result s)
     (sym (c.sink-1.given.1 (sym (c.search_quitting.ensures.same_sink ∙ c.new-quitting.ensures.same_sink))))
     (rw (c.new-quitting.ensures.byte, c.new-quitting.ensures.sink) at (c.search_quitting.ensures.searched lawful))
 
 pub returns-in-Some-clause-in_order : goal.returns-in-Some-clause-in_order
 returns-in-Some-clause-in_order g c =
-    quit-in-order _ _ g.C.Calls.may_call c.requires.detecting _
+    quit-in-order _ _ g.C.Calls.may_call (look-detects _ _ c.requires.detecting) _
     c.quit_first.ensures.quits
 
 pub returns-in-None-clause-in_order : goal.returns-in-None-clause-in_order
@@ -42,3 +42,7 @@ returns-in-None-clause-in_order g c =
     c.args.sink.now c.search_quitting.result s)
     (sym (c.sink-1.given.1 (sym (c.search_quitting.ensures.same_sink ∙ c.new-quitting.ensures.same_sink))))
     (rw c.new-quitting.ensures.sink at c.search_quitting.ensures.in_order)
+
+pub search_quitting-requires-clause-detecting : goal.search_quitting-requires-clause-detecting
+search_quitting-requires-clause-detecting g c =
+    rw c.new-quitting.ensures.byte c.requires.detecting
