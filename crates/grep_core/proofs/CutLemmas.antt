@@ -1,8 +1,7 @@
 -- A search of a stream between two fills, after `binary_data` or without it.
 use Rattle.grep_definitions.specs.Plans.{line_plan, reports_end, selected_lines, planned, AreMade}
 use Rattle.grep_definitions.specs.Plans.{Planned, begins, binary_data, Steps, all_true, Outcome}
-use Rattle.grep_definitions.specs.Plans.{failed, joined_from, Settings}
-use Rattle.grep_definitions.specs.Plans
+use Rattle.grep_definitions.specs.Plans.{failed, joined_from, Settings, calls_at}
 use Rattle.std.proofs.Common.{◌≡◌, ℕ, ◌+◌, ◌<◌, ◌≤◌, Bool, true, false, List, [], ◌++◌, ◌∷◌, length}
 use Rattle.std.proofs.Common.{take, drop, Option, Some, None, Ok, Err, inl, inr, refl, sym, ◌∙◌, ap}
 use Rattle.std.proofs.Common.{subst, arith, append_assoc, length-append, is_some, append-nil}
@@ -348,7 +347,7 @@ module _ {R : Type 0} {remaining : R → Option (List ℕ)} {read_step : R → R
             no-lines,
           ) in
           ap (λ xs. (line_plan k meaning xs).calls) is
-          ∙ ap (λ n. planned begins 0 ∷ joined_from (Plans.calls_at k [] (selected_lines k meaning [])) 0 n)
+          ∙ ap (λ n. planned begins 0 ∷ joined_from (calls_at k [] (selected_lines k meaning [])) 0 n)
           none_reportable
         where
           no-lines : length (lines (byte_of k.line_terminator) []) ≡ 0

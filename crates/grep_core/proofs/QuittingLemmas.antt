@@ -16,7 +16,7 @@ use Rattle.grep_definitions.specs.Plans.{binary_data, finishes, is_break, report
 use Rattle.grep_definitions.specs.Plans.{reported_from, Steps, Outcome, all_true, stopped, failed}
 use Rattle.grep_definitions.specs.Plans.{AreMade, IsFinished, IsRun, finish_result, Finish, counted}
 use Rattle.grep_definitions.specs.Plans.{planned, joined_from, Settings, plan_in, IsAskedIn}
-use Rattle.grep_definitions.specs.Plans
+use Rattle.grep_definitions.specs.Plans.{calls_at, line_count}
 use Rattle.grep_definitions.specs.BinaryLaws.{holds_byte, first_look}
 use Rattle.grep_definitions.specs.SearchLaws.{is_report}
 use Rattle.grep_definitions.specs.SinkRuns.{plan_of}
@@ -478,8 +478,8 @@ module _ {S E : Type 0} (step : Steps S E) (may_call : S → Type 0) (k : Settin
 module _ (k : Settings) (meaning : Meaning) (bytes : List ℕ) where
   -- the calls after `begin`
   abbrev after : Bool → List Planned
-  after true = joined_from (Plans.calls_at k bytes (touched_lines k meaning bytes)) 0 (Plans.line_count k bytes)
-  after false = joined_from (Plans.calls_at k bytes (selected_lines k meaning bytes)) 0 (reports_end k meaning bytes)
+  after true = joined_from (calls_at k bytes (touched_lines k meaning bytes)) 0 (line_count k bytes)
+  after false = joined_from (calls_at k bytes (selected_lines k meaning bytes)) 0 (reports_end k meaning bytes)
 
   are-reports : (across : Bool) → AreReports (after across)
   are-reports true = pairs.calls-across k meaning bytes

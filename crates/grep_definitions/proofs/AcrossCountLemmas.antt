@@ -1,7 +1,8 @@
 -- The counts of the calls across lines, against where lines start.
 use Rattle.grep_definitions.specs.Plans.{across_plan, calls_at, count_at, report_end, through}
 use Rattle.grep_definitions.specs.Plans.{touched_lines, planned, Planned, breaks, first_below, Kind}
-use Rattle.grep_definitions.specs.Plans.{matched, in_context, Settings}
+use Rattle.grep_definitions.specs.Plans.{matched, in_context, Settings, Selection, follows_selected}
+use Rattle.grep_definitions.specs.Plans.{next_report_end, precedes_selected}
 use Rattle.grep_definitions.specs.Plans
 use Rattle.std.proofs.Common.{◌≡◌, ◌⊎◌, ℕ, ◌+◌, ◌-◌, ◌<◌, ◌≤◌, Bool, true, false, ◌&&◌, List, []}
 use Rattle.std.proofs.Common.{◌∷◌, Option, Some, None, refl, sym, ◌∙◌, ap, subst, arith, ⊎_elim}
@@ -25,6 +26,9 @@ use Rattle.grep_definitions.proofs.CountLemmas.{ended-by}
 use Rattle.grep_definitions.proofs.UnitLemmas.{unit-lines}
 
 module _ (k : Settings) (meaning : Meaning) (bytes : List ℕ) where
+  abbrev selection : Selection
+  selection = touched_lines k meaning bytes
+
   abbrev at : ℕ → ℕ
   at = starts k meaning bytes
 
@@ -42,8 +46,8 @@ module _ (k : Settings) (meaning : Meaning) (bytes : List ℕ) where
   SelectsFrom i j = (q : ℕ) → j < q → q < count → selected q ≡ true → i ≤ q
 
   -- the next unit after line j ends after line i, if line j isn't before that, or if there is such a unit
-  next-late : (i j : ℕ) → SelectsFrom i j → (i ≤ j) ⊎ (Plans.precedes_selected k bytes (touched_lines k meaning bytes) j ≡ true)
-      → i < Plans.next_report_end k bytes (touched_lines k meaning bytes) j
+  next-late : (i j : ℕ) → SelectsFrom i j → (i ≤ j) ⊎ (precedes_selected k bytes selection j ≡ true)
+      → i < next_report_end k bytes selection j
   next-late i j from some = go (first_below later count) refl
     where
       later : ℕ → Bool
@@ -60,7 +64,7 @@ module _ (k : Settings) (meaning : Meaning) (bytes : List ℕ) where
           rw (above, here) refl
 
       go : (o : Option ℕ) → first_below later count ≡ o
-          → i < unwrap_or (option_map (report_end k bytes (touched_lines k meaning bytes)) o) (j + 1)
+          → i < unwrap_or (option_map (report_end k bytes selection) o) (j + 1)
       go None is = ⊎_elim
           (λ low. omega arith)
           (λ precedes.
@@ -79,10 +83,10 @@ module _ (k : Settings) (meaning : Meaning) (bytes : List ℕ) where
 
   -- if the count of a line is after some offset, so is that of each of its calls
   ends-calls_at : (bound j : ℕ)
-      → ((kind : Kind) → Plans.kind k bytes (touched_lines k meaning bytes) j ≡ Some kind
-      → bound ≤ count_at k bytes (touched_lines k meaning bytes) j (Some kind))
-      → All (λ call. bound ≤ call.if_false.count) (calls_at k bytes (touched_lines k meaning bytes) j)
-  ends-calls_at bound j late = go (Plans.kind k bytes (touched_lines k meaning bytes) j) refl
+      → ((kind : Kind) → Plans.kind k bytes selection j ≡ Some kind
+      → bound ≤ count_at k bytes selection j (Some kind))
+      → All (λ call. bound ≤ call.if_false.count) (calls_at k bytes selection j)
+  ends-calls_at bound j late = go (Plans.kind k bytes selection j) refl
     where
       P : Planned → Type 0
       P call = bound ≤ call.if_false.count
@@ -96,17 +100,17 @@ module _ (k : Settings) (meaning : Meaning) (bytes : List ℕ) where
       skip true call low = All-nil P
       skip false call low = All-cons P call [] low (All-nil P)
 
-      report : (kind : Kind) → bound ≤ count_at k bytes (touched_lines k meaning bytes) j (Some kind)
-          → All P (Plans.report k bytes (touched_lines k meaning bytes) j (Some kind))
+      report : (kind : Kind) → bound ≤ count_at k bytes selection j (Some kind)
+          → All P (Plans.report k bytes selection j (Some kind))
       report matched low = skip _ _ low
       report (in_context c) low = All-cons P _ [] low (All-nil P)
 
-      go : (kind : Option Kind) → Plans.kind k bytes (touched_lines k meaning bytes) j ≡ kind → All P (calls_at k bytes (touched_lines k meaning bytes) j)
+      go : (kind : Option Kind) → Plans.kind k bytes selection j ≡ kind → All P (calls_at k bytes selection j)
       go None is = rw (is, and-false (nat_lt 0 (k.after_context + k.before_context))) (All-nil P)
       go (Some kind) is =
           let low = late kind is in
-          rw is (choose _ (planned breaks (count_at k bytes (touched_lines k meaning bytes) j (Some kind)))
-          (Plans.report k bytes (touched_lines k meaning bytes) j (Some kind)) low (report kind low))
+          rw is (choose _ (planned breaks (count_at k bytes selection j (Some kind)))
+          (Plans.report k bytes selection j (Some kind)) low (report kind low))
 
   -- a line that a walk at line i passed unreported, or has still to come to, has a count after line i
   module _ {v i left : ℕ} (near : Near k meaning bytes v i left) where
@@ -122,37 +126,37 @@ module _ (k : Settings) (meaning : Meaning) (bytes : List ℕ) where
         after : i ≤ j → at (i + 1) ≤ at (j + 1)
         after over = higher (i + 1) (j + 1) (omega arith)
 
-        next : (i ≤ j) ⊎ (Plans.precedes_selected k bytes (touched_lines k meaning bytes) j ≡ true)
-            → at (i + 1) ≤ at (Plans.next_report_end k bytes (touched_lines k meaning bytes) j)
+        next : (i ≤ j) ⊎ (precedes_selected k bytes selection j ≡ true)
+            → at (i + 1) ≤ at (next_report_end k bytes selection j)
         next some = higher (i + 1) _ (omega (arith, next-late i j (from-here j low) some))
 
-        go : (kind : Kind) → Plans.kind k bytes (touched_lines k meaning bytes) j ≡ Some kind → (j < i) ⊎ (i ≤ j)
-            → at (i + 1) ≤ count_at k bytes (touched_lines k meaning bytes) j (Some kind)
+        go : (kind : Kind) → Plans.kind k bytes selection j ≡ Some kind → (j < i) ⊎ (i ≤ j)
+            → at (i + 1) ≤ count_at k bytes selection j (Some kind)
         go matched is (inl less) =
-            absurd (clash (kind-selected (selected j) (Plans.follows_selected k bytes (touched_lines k meaning bytes) j)
-            (Plans.precedes_selected k bytes (touched_lines k meaning bytes) j) k.passthru is) (near.passed j low less).0)
+            absurd (clash (kind-selected (selected j) (follows_selected k bytes selection j)
+            (precedes_selected k bytes selection j) k.passthru is) (near.passed j low less).0)
         go matched is (inr over) =
-            let here = kind-selected (selected j) (Plans.follows_selected k bytes (touched_lines k meaning bytes) j)
-            (Plans.precedes_selected k bytes (touched_lines k meaning bytes) j) k.passthru is in
-            higher (i + 1) (report_end k bytes (touched_lines k meaning bytes) j) (omega (arith, (unit-lines k meaning bytes j inside here).later))
+            let here = kind-selected (selected j) (follows_selected k bytes selection j)
+            (precedes_selected k bytes selection j) k.passthru is in
+            higher (i + 1) (report_end k bytes selection j) (omega (arith, (unit-lines k meaning bytes j inside here).later))
         go (in_context After) is (inr over) = after over
         go (in_context Other) is (inr over) = after over
         go (in_context Before) is (inr over) = next (inl over)
         go (in_context c) is (inl less) =
             let misses : selected j ≡ false = (near.passed j low less).0 in
-            let alone : Plans.follows_selected k bytes (touched_lines k meaning bytes) j ≡ false = (near.passed j low less).1 in
+            let alone : follows_selected k bytes selection j ≡ false = (near.passed j low less).1 in
             ⊎_elim
-            (λ (precedes : Plans.precedes_selected k bytes (touched_lines k meaning bytes) j ≡ true).
-            let before : Plans.kind k bytes (touched_lines k meaning bytes) j
+            (λ (precedes : precedes_selected k bytes selection j ≡ true).
+            let before : Plans.kind k bytes selection j
             ≡ Some (in_context Before) = rw (misses, alone, precedes) refl in
             let same : in_context c ≡ in_context Before = let e = sym is ∙ before in cc in
-            subst (λ o. at (i + 1) ≤ count_at k bytes (touched_lines k meaning bytes) j (Some o)) (sym same) (next (inr precedes)))
-            (λ (last : Plans.precedes_selected k bytes (touched_lines k meaning bytes) j ≡ false).
+            subst (λ o. at (i + 1) ≤ count_at k bytes selection j (Some o)) (sym same) (next (inr precedes)))
+            (λ (last : precedes_selected k bytes selection j ≡ false).
             let plain : k.passthru ≡ false = ⊎_elim (λ yes. absurd (omega (arith, near.bare yes))) (λ no. no)
             (cases_Bool k.passthru) in
-            let none : Plans.kind k bytes (touched_lines k meaning bytes) j ≡ None = rw (misses, alone, last, plain) refl in
+            let none : Plans.kind k bytes selection j ≡ None = rw (misses, alone, last, plain) refl in
             absurd (let e = sym none ∙ is in cc))
-            (cases_Bool (Plans.precedes_selected k bytes (touched_lines k meaning bytes) j))
+            (cases_Bool (precedes_selected k bytes selection j))
 
     -- just the calls so far have counts at or before the start of line i, if theirs are
     pub through-is : i < count → All (λ call. call.if_false.count ≤ at i) (front k meaning bytes v)

@@ -4,7 +4,9 @@ use Rattle.grep_definitions.specs.Plans.{line, line_count, number, start, touche
 use Rattle.grep_definitions.specs.Plans.{Planned, matches, context, breaks, Settings, count_below}
 use Rattle.grep_definitions.specs.Plans.{is_below, Kind, matched, in_context, all_matches}
 use Rattle.grep_definitions.specs.Plans.{matches_up_to, touches, is_touched, is_free, has_room}
-use Rattle.grep_definitions.specs.Plans.{selects_free}
+use Rattle.grep_definitions.specs.Plans.{selects_free, Selection, breaks_before, count_at}
+use Rattle.grep_definitions.specs.Plans.{follows_selected, precedes_selected, report, report_end}
+use Rattle.grep_definitions.specs.Plans.{report_lines}
 use Rattle.grep_definitions.specs.Plans
 use Rattle.std.proofs.Common.{◌≡◌, ℕ, ◌+◌, ◌-◌, ◌<◌, ◌≤◌, Bool, true, false, not, ◌&&◌, List, []}
 use Rattle.std.proofs.Common.{◌∷◌, length, refl, sym, ap, ◌∙◌, arith, ◌⊎◌, ⊎_elim, inl, inr, Option}
@@ -30,6 +32,9 @@ use Rattle.grep_definitions.proofs.SearchLawLemmas.{matches_in, matches-joined, 
 use Rattle.grep_definitions.proofs.SearchLawLemmas.{count_below-weaker, count_below-limited}
 
 module _ (k : Settings) (meaning : Meaning) (bytes : List ℕ) where
+  abbrev selection : Selection
+  selection = touched_lines k meaning bytes
+
   -- how many lines there are, where each starts, and its calls
   abbrev n : ℕ
   n = line_count k bytes
@@ -38,7 +43,7 @@ module _ (k : Settings) (meaning : Meaning) (bytes : List ℕ) where
   at = start k bytes
 
   abbrev T : ℕ → List Planned
-  T = calls_at k bytes (touched_lines k meaning bytes)
+  T = calls_at k bytes selection
 
   abbrev selected : ℕ → Bool
   selected = is_touched_selected k meaning bytes
@@ -94,7 +99,7 @@ module _ (k : Settings) (meaning : Meaning) (bytes : List ℕ) where
 
   -- whether a unit begins at a line
   abbrev begins_unit : ℕ → Bool
-  begins_unit i = selected i && not (continues k bytes (touched_lines k meaning bytes) i)
+  begins_unit i = selected i && not (continues k bytes selection i)
 
   -- there are at most as many units as the limit has
   units-few : (limit m : ℕ) → has_room k limit ≡ false → count_below begins_unit m ≤ limit
@@ -123,53 +128,53 @@ module _ (k : Settings) (meaning : Meaning) (bytes : List ℕ) where
   abbrev broken : ℕ → Bool → List Planned
   broken i b =
       if b
-      then (planned breaks (Plans.count_at k bytes (touched_lines k meaning bytes) i (Plans.kind k bytes (touched_lines k meaning bytes) i)))
-      ∷ Plans.report k bytes (touched_lines k meaning bytes) i (Plans.kind k bytes (touched_lines k meaning bytes) i)
-      else Plans.report k bytes (touched_lines k meaning bytes) i (Plans.kind k bytes (touched_lines k meaning bytes) i)
+      then (planned breaks (count_at k bytes selection i (Plans.kind k bytes selection i)))
+      ∷ report k bytes selection i (Plans.kind k bytes selection i)
+      else report k bytes selection i (Plans.kind k bytes selection i)
 
   -- a selected line that is in the unit of the line before it has no report
-  unreported : (i : ℕ) → selected i ≡ true → continues k bytes (touched_lines k meaning bytes) i ≡ true → report_calls (T i) ≡ []
+  unreported : (i : ℕ) → selected i ≡ true → continues k bytes selection i ≡ true → report_calls (T i) ≡ []
   unreported i here goes_on =
-      let kind : Plans.kind k bytes (touched_lines k meaning bytes) i ≡ Some matched = rw here refl in
-      report_calls-broken (Plans.breaks_before k bytes (touched_lines k meaning bytes) i) _ _
-      ∙ (ap (λ o. report_calls (Plans.report k bytes (touched_lines k meaning bytes) i o)) kind ∙ (rw goes_on refl))
+      let kind : Plans.kind k bytes selection i ≡ Some matched = rw here refl in
+      report_calls-broken (breaks_before k bytes selection i) _ _
+      ∙ (ap (λ o. report_calls (report k bytes selection i o)) kind ∙ (rw goes_on refl))
 
   -- a line has one report at most, of its bytes or of those of the unit that begins there
   reported-line : (i : ℕ) → i < n → (report_calls (T i) ≡ []) ⊎ IsReported T at i
   reported-line i inside =
-      go (Plans.kind k bytes (touched_lines k meaning bytes) i) refl (report_calls-broken (Plans.breaks_before k bytes (touched_lines k meaning bytes) i) _
+      go (Plans.kind k bytes selection i) refl (report_calls-broken (breaks_before k bytes selection i) _
       _)
     where
       above : at i < at (i + 1)
       above = line_start-ascends (byte_of k.line_terminator) bytes i inside
 
-      go : (o : Option Kind) → Plans.kind k bytes (touched_lines k meaning bytes) i ≡ o
-          → report_calls (T i) ≡ report_calls (Plans.report k bytes (touched_lines k meaning bytes) i o)
+      go : (o : Option Kind) → Plans.kind k bytes selection i ≡ o
+          → report_calls (T i) ≡ report_calls (report k bytes selection i o)
           → (report_calls (T i) ≡ []) ⊎ IsReported T at i
       go None kind is = inl is
       go (Some matched) kind is =
-          let here = kind-selected (selected i) (Plans.follows_selected k bytes (touched_lines k meaning bytes) i)
-          (Plans.precedes_selected k bytes (touched_lines k meaning bytes) i) k.passthru kind in
+          let here = kind-selected (selected i) (follows_selected k bytes selection i)
+          (precedes_selected k bytes selection i) k.passthru kind in
           ⊎_elim
-          (λ (goes_on : continues k bytes (touched_lines k meaning bytes) i ≡ true). inl (unreported i here goes_on))
-          (λ (first : continues k bytes (touched_lines k meaning bytes) i ≡ false).
+          (λ (goes_on : continues k bytes selection i ≡ true). inl (unreported i here goes_on))
+          (λ (first : continues k bytes selection i ≡ false).
           let unit = unit-lines k meaning bytes i inside here in
           inr (record {
-            call = matches (number k bytes i) (at i) (Plans.report_lines k bytes (touched_lines k meaning bytes) i);
-            next = Plans.report_end k bytes (touched_lines k meaning bytes) i;
+            call = matches (number k bytes i) (at i) (report_lines k bytes selection i);
+            next = report_end k bytes selection i;
             reports = is ∙ (rw first refl);
             later = unit.later;
             above = omega (
               arith,
               above,
               line_start-le (byte_of k.line_terminator) bytes (i + 1)
-                  (Plans.report_end k bytes (touched_lines k meaning bytes) i) (omega arith),
+                  (report_end k bytes selection i) (omega arith),
             );
             from = refl;
             to = unit.size;
             alone = λ j low high. unreported j (unit.hits j low high).0 (unit.hits j low high).1;
           }))
-          (cases_Bool (continues k bytes (touched_lines k meaning bytes) i))
+          (cases_Bool (continues k bytes selection i))
       go (Some (in_context c)) kind is = inr (record {
         call = context c (number k bytes i) (at i) (line k bytes i);
         next = i + 1;
@@ -191,30 +196,30 @@ module _ (k : Settings) (meaning : Meaning) (bytes : List ℕ) where
       → T i ≡ planned (context After (number k bytes i) (at i) (line k bytes i)) (at (i + 1)) ∷ []
   calls_at-follows i j misses hit less close =
       let near = le-leb (i - j) k.after_context close in
-      let follows : Plans.follows_selected k bytes (touched_lines k meaning bytes) i
+      let follows : follows_selected k bytes selection i
       ≡ true = some_below-some _ i j less (rw (near, hit) refl) in
-      let kind : Plans.kind k bytes (touched_lines k meaning bytes) i ≡ Some (in_context After) = rw (misses, follows) refl in
+      let kind : Plans.kind k bytes selection i ≡ Some (in_context After) = rw (misses, follows) refl in
       rw (kind, and-false (nat_lt 0 (k.after_context + k.before_context))) refl
 
   -- a match is reported at a line only if a unit begins there
-  matches-report : (i : ℕ) (kind : Option Kind) → Plans.kind k bytes (touched_lines k meaning bytes) i ≡ kind
-      → matches_in (Plans.report k bytes (touched_lines k meaning bytes) i kind) ≤ (if begins_unit i then 1 else 0)
+  matches-report : (i : ℕ) (kind : Option Kind) → Plans.kind k bytes selection i ≡ kind
+      → matches_in (report k bytes selection i kind) ≤ (if begins_unit i then 1 else 0)
   matches-report i None is = omega arith
   matches-report i (Some matched) is =
-      let here = kind-selected (selected i) (Plans.follows_selected k bytes (touched_lines k meaning bytes) i)
-      (Plans.precedes_selected k bytes (touched_lines k meaning bytes) i) k.passthru is in
+      let here = kind-selected (selected i) (follows_selected k bytes selection i)
+      (precedes_selected k bytes selection i) k.passthru is in
       ⊎_elim
       (λ yes. rw yes (omega arith))
-      (λ (no : continues k bytes (touched_lines k meaning bytes) i ≡ false). rw (here, no) (omega arith))
-      (cases_Bool (continues k bytes (touched_lines k meaning bytes) i))
+      (λ (no : continues k bytes selection i ≡ false). rw (here, no) (omega arith))
+      (cases_Bool (continues k bytes selection i))
   matches-report i (Some (in_context c)) is = omega arith
 
   matches-line : (i : ℕ) → matches_in (T i) ≤ (if begins_unit i then 1 else 0)
-  matches-line i = go (Plans.breaks_before k bytes (touched_lines k meaning bytes) i)
+  matches-line i = go (breaks_before k bytes selection i)
     where
       go : (b : Bool) → matches_in (broken i b) ≤ (if begins_unit i then 1 else 0)
-      go true = matches-report i (Plans.kind k bytes (touched_lines k meaning bytes) i) refl
-      go false = matches-report i (Plans.kind k bytes (touched_lines k meaning bytes) i) refl
+      go true = matches-report i (Plans.kind k bytes selection i) refl
+      go false = matches-report i (Plans.kind k bytes selection i) refl
 
   -- the calls report no more matches than the limit has
   pub matches-across : (limit : ℕ) → has_room k limit ≡ false → matches_in (across_plan k meaning bytes).calls ≤ limit

@@ -4,7 +4,7 @@ use Rattle.grep_definitions.specs.LineWalks.{IsNear}
 use Rattle.grep_definitions.specs.Plans.{across_plan, calls_at, continues, is_touched_selected}
 use Rattle.grep_definitions.specs.Plans.{line, line_count, number, start, touched_lines, planned}
 use Rattle.grep_definitions.specs.Plans.{Planned, begins, Settings, some_below, joined_from}
-use Rattle.grep_definitions.specs.Plans.{matched, in_context, selects_free}
+use Rattle.grep_definitions.specs.Plans.{matched, in_context, selects_free, Selection, report_end}
 use Rattle.grep_definitions.specs.Plans
 use Rattle.std.proofs.Common.{◌≡◌, ℕ, suc, ◌+◌, ◌-◌, ◌<◌, ◌≤◌, Bool, true, false, not, ◌&&◌, ◌||◌}
 use Rattle.std.proofs.Common.{List, [], ◌∷◌, ◌++◌, refl, sym, ap, subst, ◌∙◌, arith, ⊎_elim, Some}
@@ -26,6 +26,9 @@ use Rattle.grep_definitions.proofs.SelectionLemmas
 use Rattle.grep_definitions.proofs.LineSliceLemmas.{number-line, slice-line}
 
 module _ (k : Settings) (meaning : Meaning) (bytes : List ℕ) where
+  abbrev selection : Selection
+  selection = touched_lines k meaning bytes
+
   abbrev pub n : ℕ
   n = line_count k bytes
 
@@ -36,7 +39,7 @@ module _ (k : Settings) (meaning : Meaning) (bytes : List ℕ) where
   S = is_touched_selected k meaning bytes
 
   abbrev pub T : ℕ → List Planned
-  T = calls_at k bytes (touched_lines k meaning bytes)
+  T = calls_at k bytes selection
 
   -- the bytes of the lines from one up to another
   abbrev pub span : ℕ → ℕ → List ℕ
@@ -46,7 +49,7 @@ module _ (k : Settings) (meaning : Meaning) (bytes : List ℕ) where
   Bare = k.passthru ≡ true → (k.after_context ≡ 0) × (k.before_context ≡ 0)
 
   abbrev pub Near : ℕ → ℕ → ℕ → Type 0
-  Near v i left = IsNear k bytes (touched_lines k meaning bytes) v i left
+  Near v i left = IsNear k bytes selection v i left
 
   -- `begin`, and the calls of the first i lines
   abbrev pub front : ℕ → List Planned
@@ -59,7 +62,7 @@ module _ (k : Settings) (meaning : Meaning) (bytes : List ℕ) where
   B = k.before_context
 
   abbrev is_reported : ℕ → Bool
-  is_reported = Plans.is_reported k bytes (touched_lines k meaning bytes)
+  is_reported = Plans.is_reported k bytes selection
 
   -- and then those of the lines up to a later one
   pub front-through : (v i : ℕ) → v ≤ i → front i ≡ front v ++ joined_from T v (i - v)
@@ -67,7 +70,7 @@ module _ (k : Settings) (meaning : Meaning) (bytes : List ℕ) where
 
   -- before the first line
   pub near-none : Near 0 0 0
-  near-none = SelectionLemmas.IsNear-none k bytes (touched_lines k meaning bytes)
+  near-none = SelectionLemmas.IsNear-none k bytes selection
 
   -- lines that aren't selected are passed unreported
   pub near-skipped : {v i : ℕ} (e : ℕ) → Near v i 0 → k.passthru ≡ false → i ≤ e → e ≤ n
@@ -101,14 +104,14 @@ module _ (k : Settings) (meaning : Meaning) (bytes : List ℕ) where
 
       after : 0 < left → T i ≡ context_calls After (number_of k i) (starts i) (starts (i + 1)) (span i (i + 1))
       after some =
-          let kind : Plans.kind k bytes (touched_lines k meaning bytes) i ≡ Some (in_context After) =
+          let kind : Plans.kind k bytes selection i ≡ Some (in_context After) =
           SelectionLemmas.kind-after near missed some in
           rw (kind, and-false (nat_lt 0 (A + B)), is_number, is_line) refl
 
       other : left ≡ 0 → k.passthru ≡ true → T i ≡ context_calls Other (number_of k i) (starts i) (starts (i + 1))
           (span i (i + 1))
       other none is_p =
-          let kind : Plans.kind k bytes (touched_lines k meaning bytes) i ≡ Some (in_context Other) =
+          let kind : Plans.kind k bytes selection i ≡ Some (in_context Other) =
           SelectionLemmas.kind-other near missed none is_p (bare is_p).1 in
           rw (kind, and-false (nat_lt 0 (A + B)), is_number, is_line) refl
 
@@ -117,7 +120,7 @@ module _ (k : Settings) (meaning : Meaning) (bytes : List ℕ) where
   near-unit i e some high hits =
       let sum : (e - 1) + 1 ≡ e = omega arith in
       subst (λ x. Near x x k.after_context) sum
-      (SelectionLemmas.IsNear-hit k bytes (touched_lines k meaning bytes) (e - 1) (omega arith) (hits (e - 1) (omega arith) (omega arith)))
+      (SelectionLemmas.IsNear-hit k bytes selection (e - 1) (omega arith) (hits (e - 1) (omega arith) (omega arith)))
 
   module _ {v i left : ℕ} (e : ℕ) (near : Near v i left) (some : i < e) (high : e ≤ n)
       (hits : (j : ℕ) → i ≤ j → j < e → S j ≡ true)
@@ -129,7 +132,7 @@ module _ (k : Settings) (meaning : Meaning) (bytes : List ℕ) where
     hit = hits i (omega arith) some
 
     -- the unit ends there
-    end-is : Plans.report_end k bytes (touched_lines k meaning bytes) i ≡ e
+    end-is : report_end k bytes selection i ≡ e
     end-is = ⊎_elim
         (λ inverted. rw inverted (sym (alone inverted)))
         (λ plain. ap (λ b. if not b then run_end S n i else i + 1) plain
@@ -142,14 +145,14 @@ module _ (k : Settings) (meaning : Meaning) (bytes : List ℕ) where
         → T j ≡ before_calls k v j i (number k bytes j) (starts j) (starts e) (line k bytes j)
     passed-is j low less = ⊎_elim far close (cases_lt B (i - j))
       where
-        is_kind : Plans.kind k bytes (touched_lines k meaning bytes) j ≡ (if nat_le (i - j) B then Some (in_context Before) else None)
+        is_kind : Plans.kind k bytes selection j ≡ (if nat_le (i - j) B then Some (in_context Before) else None)
         is_kind = SelectionLemmas.kind-passed near inside inside hit j low less
 
         far : B < i - j → T j ≡ before_calls k v j i (number k bytes j) (starts j) (starts e)
             (line k bytes j)
         far out =
             let test = lt-leb (i - j) B out in
-            let kind : Plans.kind k bytes (touched_lines k meaning bytes) j ≡ None = is_kind
+            let kind : Plans.kind k bytes selection j ≡ None = is_kind
             ∙ ap (λ b. if b then Some (in_context Before) else None) test in
             rw (kind, and-false (nat_lt 0 (A + B)), test) refl
 
@@ -157,7 +160,7 @@ module _ (k : Settings) (meaning : Meaning) (bytes : List ℕ) where
             (line k bytes j)
         close inner =
             let test = le-leb (i - j) B inner in
-            let kind : Plans.kind k bytes (touched_lines k meaning bytes) j ≡ Some (in_context Before) = is_kind
+            let kind : Plans.kind k bytes selection j ≡ Some (in_context Before) = is_kind
             ∙ ap (λ b. if b then Some (in_context Before) else None) test in
             let gap : (nat_lt 0 (A + B) && true && not (is_reported (j - 1)) && some_below is_reported j)
             ≡ is_gap k v j i =
@@ -166,9 +169,9 @@ module _ (k : Settings) (meaning : Meaning) (bytes : List ℕ) where
             rw (kind, gap, found, end-is, test) refl
 
     -- those of its first line
-    hit-is : continues k bytes (touched_lines k meaning bytes) i ≡ false → T i ≡ selected_calls k v i (starts i) (starts e) (span i e)
+    hit-is : continues k bytes selection i ≡ false → T i ≡ selected_calls k v i (starts i) (starts e) (span i e)
     hit-is first =
-        let kind : Plans.kind k bytes (touched_lines k meaning bytes) i ≡ Some matched = rw hit refl in
+        let kind : Plans.kind k bytes selection i ≡ Some matched = rw hit refl in
         let gap : (nat_lt 0 (A + B) && true && not (is_reported (i - 1)) && some_below is_reported i)
         ≡ (nat_lt 0 A && is_gap k v i i) =
         SelectionLemmas.gap-hit near inside inside hit in
@@ -180,11 +183,11 @@ module _ (k : Settings) (meaning : Meaning) (bytes : List ℕ) where
     later-is j less below =
         let plain : selects_free k ≡ false = ⊎_elim (λ yes. absurd (omega (arith, alone yes))) (λ no. no)
         (cases_Bool (selects_free k)) in
-        let kind : Plans.kind k bytes (touched_lines k meaning bytes) j
+        let kind : Plans.kind k bytes selection j
         ≡ Some matched = let here = hits j (omega arith) below in rw here refl in
         let before = hits (j - 1) (omega arith) (omega arith) in
         let above = lt-ltb 0 j (omega arith) in
-        let goes_on : continues k bytes (touched_lines k meaning bytes) j ≡ true =
+        let goes_on : continues k bytes selection j ≡ true =
         ap (λ b. not b && nat_lt 0 j && S (j - 1)) plain ∙ rw (above, before) refl in
         let reported : is_reported (j - 1) ≡ true = let test = lt-ltb (j - 1) n (omega arith) in rw (before, test)
         refl in
@@ -193,7 +196,7 @@ module _ (k : Settings) (meaning : Meaning) (bytes : List ℕ) where
   -- the calls of a unit: those of the lines before it, and the match at its first line
   pub front-unit : {v i left : ℕ} (e : ℕ) → Near v i left → i < e → e ≤ n → ((j : ℕ) → i ≤ j → j < e → S j ≡ true)
       → (selects_free k ≡ false → e < n → S e ≡ false) → (selects_free k ≡ true → e ≡ i + 1)
-      → continues k bytes (touched_lines k meaning bytes) i ≡ false
+      → continues k bytes selection i ≡ false
       → front e ≡ front v ++ (pending_calls k bytes v i (starts e) v (i - v)
       ++ selected_calls k v i (starts i) (starts e) (span i e))
   front-unit {v} {i} e near some high hits closed alone first =
@@ -221,7 +224,7 @@ module _ (k : Settings) (meaning : Meaning) (bytes : List ℕ) where
     where
       none : (j : ℕ) → v ≤ j → j < v + (n - v) → T j ≡ []
       none j low below =
-          let kind : Plans.kind k bytes (touched_lines k meaning bytes) j ≡ None =
+          let kind : Plans.kind k bytes selection j ≡ None =
           SelectionLemmas.kind-done near (λ q late inner. absurd (omega arith)) j low
           (omega arith) in
           rw (kind, and-false (nat_lt 0 (A + B))) refl

@@ -12,7 +12,7 @@ use Rattle.grep_matcher.specs.Meanings.{Meaning}
 use Rattle.grep_matcher.specs.Lines.{byte_of}
 use Rattle.grep_definitions.specs.Plans.{line_plan, reports_end, selected_lines, calls_at}
 use Rattle.grep_definitions.specs.Plans.{joined_from, Settings, is_across, selection_in, Planned}
-use Rattle.grep_definitions.specs.Plans.{begins, is_break, planned}
+use Rattle.grep_definitions.specs.Plans.{begins, is_break, planned, Selection, line_count, start}
 use Rattle.grep_definitions.specs.Plans
 use Rattle.grep_definitions.specs.Searches.{binary_position, position_of, stream_view, BinaryPoint}
 use Rattle.grep_definitions.specs.Searches.{call_at, contents_point, point_at, point_unless}
@@ -102,28 +102,31 @@ slice-clear p bytes s e count up low clear =
     position-none p (slice_range bytes s e) (subst (All P) piece (All-drop P s (take e (take count bytes)) front))
 
 module _ (k : Settings) (meaning : Meaning) (bytes : List ℕ) where
+  abbrev selection : Selection
+  selection = selected_lines k meaning bytes
+
   module _ (b count : ℕ) (clear : position_of b (take count bytes) ≡ None) where
-    line-clear : (i : ℕ) → i < Plans.line_count k bytes → Plans.start k bytes (i + 1) ≤ count
+    line-clear : (i : ℕ) → i < line_count k bytes → start k bytes (i + 1) ≤ count
         → position_of b (Plans.line k bytes i) ≡ None
     line-clear i inside low =
         let up = line_start-le (byte_of k.line_terminator) bytes i (i + 1) (omega arith) in
         ap (position_of b) (sym (slice-line k bytes i))
-        ∙ slice-clear (λ x. x == b) bytes (Plans.start k bytes i)
-        (Plans.start k bytes (i + 1)) count up low
+        ∙ slice-clear (λ x. x == b) bytes (start k bytes i)
+        (start k bytes (i + 1)) count up low
         clear
 
     pub lines-clear : All (λ call. call.if_false.count ≤ count → holds_byte b call ≡ false)
         (line_plan k meaning bytes).calls
     lines-clear =
         All-cons P (planned begins 0)
-        (joined_from (Plans.calls_at k bytes (selected_lines k meaning bytes)) 0 (reports_end k meaning bytes)) (λ low. refl)
-        (All-joined_from P (Plans.calls_at k bytes (selected_lines k meaning bytes)) 0 (reports_end k meaning bytes)
+        (joined_from (Plans.calls_at k bytes selection) 0 (reports_end k meaning bytes)) (λ low. refl)
+        (All-joined_from P (Plans.calls_at k bytes selection) 0 (reports_end k meaning bytes)
         (λ i low high. each i (omega (arith, reports_end-le k meaning bytes))))
       where
         P : Planned → Type 0
         P call = call.if_false.count ≤ count → holds_byte b call ≡ false
 
-        each : (i : ℕ) → i < Plans.line_count k bytes → All P (Plans.calls_at k bytes (selected_lines k meaning bytes) i)
+        each : (i : ℕ) → i < line_count k bytes → All P (Plans.calls_at k bytes selection i)
         each i inside j d below low = ⊎_elim
             (λ none. ap (λ xs. is_some (position_of b xs)) none)
             (λ line.
@@ -154,7 +157,7 @@ seen_lines-clear b k meaning bytes seen quits front clear =
         ∙ ap (take (length seen)) (sym whole)))
         ∙ (sym (ap (λ d. binary_position d (byte_of k.line_terminator) (take (length seen) bytes)) quits) ∙ clear)
 
-    each : (i : ℕ) → i < Plans.line_count k seen → All P (Plans.calls_at k seen (selected_lines k meaning seen) i)
+    each : (i : ℕ) → i < line_count k seen → All P (Plans.calls_at k seen (selected_lines k meaning seen) i)
     each i inside j d below = ⊎_elim
         (λ none. ap (λ xs. is_some (position_of b xs)) none)
         (λ line. ap (λ xs. is_some (position_of b xs)) line

@@ -2,7 +2,9 @@
 use Rattle.grep_definitions.specs.Plans.{can_break, is_touched_selected, reports_end}
 use Rattle.grep_definitions.specs.Plans.{selected_lines, touched_lines, planned, Finish, Planned}
 use Rattle.grep_definitions.specs.Plans.{breaks, joined_from, some_below, Kind, matched, in_context}
-use Rattle.grep_definitions.specs.Plans.{Settings, selects_free}
+use Rattle.grep_definitions.specs.Plans.{Settings, selects_free, Selection, breaks_before, calls_at}
+use Rattle.grep_definitions.specs.Plans.{continues, count_at, follows_selected, is_reported}
+use Rattle.grep_definitions.specs.Plans.{line_count, precedes_selected, report}
 use Rattle.grep_definitions.specs.Plans
 use Rattle.grep_definitions.specs.SearchLaws.{is_report}
 use Rattle.std.proofs.Common.{◌≡◌, ℕ, zero, suc, ◌+◌, ◌-◌, Bool, true, false, not, ◌&&◌, List, []}
@@ -65,10 +67,16 @@ breaks-need true false c d is = cc
 breaks-need false b c d is = cc
 
 module _ (k : Settings) (meaning : Meaning) (bytes : List ℕ) where
+  abbrev selection : Selection
+  selection = touched_lines k meaning bytes
+
+  abbrev by_line : Selection
+  by_line = selected_lines k meaning bytes
+
   -- the report of a line, with its break or without
   report-by_line : (i : ℕ) (o : Option Kind) (b : Bool) → (b ≡ true → can_break o ≡ true)
-      → AreReports (if b then (planned breaks (Plans.count_at k bytes (selected_lines k meaning bytes) i o))
-      ∷ Plans.report k bytes (selected_lines k meaning bytes) i o else Plans.report k bytes (selected_lines k meaning bytes) i o)
+      → AreReports (if b then (planned breaks (count_at k bytes by_line i o))
+      ∷ report k bytes by_line i o else report k bytes by_line i o)
   report-by_line i None true can = absurd (clash (can refl) refl)
   report-by_line i None false can = no_reports
   report-by_line i (Some matched) true can = broken_report refl refl refl refl no_reports
@@ -76,39 +84,39 @@ module _ (k : Settings) (meaning : Meaning) (bytes : List ℕ) where
   report-by_line i (Some (in_context c)) true can = broken_report refl refl refl refl no_reports
   report-by_line i (Some (in_context c)) false can = plain_report refl refl no_reports
 
-  pub calls-by_line : AreReports (joined_from (Plans.calls_at k bytes (selected_lines k meaning bytes)) 0 (reports_end k meaning bytes))
-  calls-by_line = calls-joined (Plans.calls_at k bytes (selected_lines k meaning bytes)) 0 (reports_end k meaning bytes)
-      (λ j low high. report-by_line j (Plans.kind k bytes (selected_lines k meaning bytes) j) (Plans.breaks_before k bytes (selected_lines k meaning bytes) j)
+  pub calls-by_line : AreReports (joined_from (calls_at k bytes by_line) 0 (reports_end k meaning bytes))
+  calls-by_line = calls-joined (calls_at k bytes by_line) 0 (reports_end k meaning bytes)
+      (λ j low high. report-by_line j (Plans.kind k bytes by_line j) (breaks_before k bytes by_line j)
       (λ is. (breaks-need _ _ _ _ is).0))
 
   -- across lines a selected line is reported
-  reported-selected : (i : ℕ) → i < Plans.line_count k bytes → is_touched_selected k meaning bytes i
+  reported-selected : (i : ℕ) → i < line_count k bytes → is_touched_selected k meaning bytes i
       ≡ true
-      → Plans.is_reported k bytes (touched_lines k meaning bytes) i ≡ true
+      → is_reported k bytes selection i ≡ true
   reported-selected i inside selected =
-      let here = lt-ltb i (Plans.line_count k bytes) inside in
-      let kind : Plans.kind k bytes (touched_lines k meaning bytes) i ≡ Some matched =
+      let here = lt-ltb i (line_count k bytes) inside in
+      let kind : Plans.kind k bytes selection i ≡ Some matched =
       ap (λ (b : Bool). if b then Some matched
-      else (if Plans.follows_selected k bytes (touched_lines k meaning bytes) i then Some (in_context After)
-      else (if Plans.precedes_selected k bytes (touched_lines k meaning bytes) i then Some (in_context Before)
+      else (if follows_selected k bytes selection i then Some (in_context After)
+      else (if precedes_selected k bytes selection i then Some (in_context Before)
       else (if k.passthru then Some (in_context Other) else None)))) selected in
-      ap (λ b. b && is_some (Plans.kind k bytes (touched_lines k meaning bytes) i)) here ∙ ap is_some kind
+      ap (λ b. b && is_some (Plans.kind k bytes selection i)) here ∙ ap is_some kind
 
   -- so a break isn't made within a unit
-  unit-unbroken : (i : ℕ) → i < Plans.line_count k bytes → Plans.breaks_before k bytes (touched_lines k meaning bytes) i
+  unit-unbroken : (i : ℕ) → i < line_count k bytes → breaks_before k bytes selection i
       ≡ true
-      → Plans.continues k bytes (touched_lines k meaning bytes) i ≡ false
+      → continues k bytes selection i ≡ false
   unit-unbroken i inside is = ⊎_elim
       (λ goes.
       let parts = within (not (selects_free k)) (nat_lt 0 i) (is_touched_selected k meaning bytes (i - 1)) goes in
       let before = reported-selected (i - 1) (omega (arith, ltb-true 0 i parts.0)) parts.1 in
       let silent = (breaks-need (nat_lt 0 (k.after_context + k.before_context))
-      (can_break (Plans.kind k bytes (touched_lines k meaning bytes) i))
-      (not (Plans.is_reported k bytes (touched_lines k meaning bytes) (i - 1))) (some_below (Plans.is_reported k bytes (touched_lines k meaning bytes)) i)
+      (can_break (Plans.kind k bytes selection i))
+      (not (is_reported k bytes selection (i - 1))) (some_below (is_reported k bytes selection) i)
       is).1 in
-      absurd (clash before (not_false (Plans.is_reported k bytes (touched_lines k meaning bytes) (i - 1)) silent)))
+      absurd (clash before (not_false (is_reported k bytes selection (i - 1)) silent)))
       (λ ends. ends)
-      (cases_Bool (Plans.continues k bytes (touched_lines k meaning bytes) i))
+      (cases_Bool (continues k bytes selection i))
     where
       within : (a b c : Bool) → (a && b && c) ≡ true → (b ≡ true) × (c ≡ true)
       within true true true is = (refl, refl)
@@ -117,9 +125,9 @@ module _ (k : Settings) (meaning : Meaning) (bytes : List ℕ) where
       within false b c is = cc
 
   report-across : (i : ℕ) (o : Option Kind) (b : Bool) → (b ≡ true → can_break o ≡ true)
-      → (b ≡ true → Plans.continues k bytes (touched_lines k meaning bytes) i ≡ false)
-      → AreReports (if b then (planned breaks (Plans.count_at k bytes (touched_lines k meaning bytes) i o))
-      ∷ Plans.report k bytes (touched_lines k meaning bytes) i o else Plans.report k bytes (touched_lines k meaning bytes) i o)
+      → (b ≡ true → continues k bytes selection i ≡ false)
+      → AreReports (if b then (planned breaks (count_at k bytes selection i o))
+      ∷ report k bytes selection i o else report k bytes selection i o)
   report-across i None true can whole = absurd (clash (can refl) refl)
   report-across i None false can whole = no_reports
   report-across i (Some matched) true can whole =
@@ -127,11 +135,11 @@ module _ (k : Settings) (meaning : Meaning) (bytes : List ℕ) where
   report-across i (Some matched) false can whole = ⊎_elim
       (λ goes. rw goes no_reports)
       (λ ends. rw ends (plain_report refl refl no_reports))
-      (cases_Bool (Plans.continues k bytes (touched_lines k meaning bytes) i))
+      (cases_Bool (continues k bytes selection i))
   report-across i (Some (in_context c)) true can whole = broken_report refl refl refl refl no_reports
   report-across i (Some (in_context c)) false can whole = plain_report refl refl no_reports
 
-  pub calls-across : AreReports (joined_from (Plans.calls_at k bytes (touched_lines k meaning bytes)) 0 (Plans.line_count k bytes))
-  calls-across = calls-joined (Plans.calls_at k bytes (touched_lines k meaning bytes)) 0 (Plans.line_count k bytes)
-      (λ j low high. report-across j (Plans.kind k bytes (touched_lines k meaning bytes) j) (Plans.breaks_before k bytes (touched_lines k meaning bytes) j)
+  pub calls-across : AreReports (joined_from (calls_at k bytes selection) 0 (line_count k bytes))
+  calls-across = calls-joined (calls_at k bytes selection) 0 (line_count k bytes)
+      (λ j low high. report-across j (Plans.kind k bytes selection j) (breaks_before k bytes selection j)
       (λ is. (breaks-need _ _ _ _ is).0) (unit-unbroken j (omega arith)))

@@ -1,7 +1,9 @@
 -- The counts of calls, against where lines start.
 use Rattle.grep_definitions.specs.Plans.{calls_at, selected_lines, through, planned, Call, Planned}
 use Rattle.grep_definitions.specs.Plans.{matches, context, breaks, Settings, first_below}
-use Rattle.grep_definitions.specs.Plans.{joined_from, Kind, matched, in_context}
+use Rattle.grep_definitions.specs.Plans.{joined_from, Kind, matched, in_context, Selection}
+use Rattle.grep_definitions.specs.Plans.{count_at, follows_selected, is_selected, line_count}
+use Rattle.grep_definitions.specs.Plans.{next_report_end, number, precedes_selected}
 use Rattle.grep_definitions.specs.Plans
 use Rattle.std.proofs.Common.{◌≡◌, ℕ, ◌+◌, ◌-◌, ◌<◌, ◌≤◌, Bool, true, false, ◌&&◌, List, [], ◌∷◌}
 use Rattle.std.proofs.Common.{◌++◌, refl, sym, ap, append-nil, ◌∙◌, arith, ⊎_elim, Option, Some}
@@ -60,7 +62,7 @@ module _ (k : Settings) (bytes : List ℕ) (v i end : ℕ) where
   ends-listed : (q : ℕ) → EndThere (listed_calls k bytes v i end q)
   ends-listed q =
       go (nat_le (i - q) k.before_context)
-      (context Before (Plans.number k bytes q) (line_start (byte_of k.line_terminator) bytes q)
+      (context Before (number k bytes q) (line_start (byte_of k.line_terminator) bytes q)
       (slice_index_or (lines (byte_of k.line_terminator) bytes) q []))
     where
       go : (near : Bool) (call : Call) → EndThere (if near then broken_calls (is_gap k v q i) call end else [])
@@ -76,42 +78,45 @@ module _ (k : Settings) (bytes : List ℕ) (v i end : ℕ) where
       (matches (number_of k i) offset line) end
 
 module _ (k : Settings) (meaning : Meaning) (bytes : List ℕ) where
+  abbrev selection : Selection
+  selection = selected_lines k meaning bytes
+
   abbrev start : ℕ → ℕ
   start = Plans.start k bytes
 
   -- a line's count is no earlier than its end
-  pub count_at-late : (q : ℕ) (kind : Option Kind) → start (q + 1) ≤ Plans.count_at k bytes (selected_lines k meaning bytes) q kind
+  pub count_at-late : (q : ℕ) (kind : Option Kind) → start (q + 1) ≤ count_at k bytes selection q kind
   count_at-late q None = omega arith
   count_at-late q (Some matched) = omega arith
   count_at-late q (Some (in_context After)) = omega arith
   count_at-late q (Some (in_context Other)) = omega arith
-  count_at-late q (Some (in_context Before)) = go (first_below later (Plans.line_count k bytes)) refl
+  count_at-late q (Some (in_context Before)) = go (first_below later (line_count k bytes)) refl
     where
       later : ℕ → Bool
-      later j = nat_lt q j && Plans.is_selected k meaning bytes j
+      later j = nat_lt q j && is_selected k meaning bytes j
 
-      go : (found : Option ℕ) → first_below later (Plans.line_count k bytes) ≡ found
-          → start (q + 1) ≤ start (Plans.next_report_end k bytes (selected_lines k meaning bytes) q)
+      go : (found : Option ℕ) → first_below later (line_count k bytes) ≡ found
+          → start (q + 1) ≤ start (next_report_end k bytes selection q)
       go None is = rw is (omega arith)
       go (Some j) is =
-          let found = first_below-of later (Plans.line_count k bytes) j is in
-          let above = ltb-true q j (both_true (nat_lt q j) (Plans.is_selected k meaning bytes j) found.1).0 in
+          let found = first_below-of later (line_count k bytes) j is in
+          let above = ltb-true q j (both_true (nat_lt q j) (is_selected k meaning bytes j) found.1).0 in
           rw is (line_start-le (byte_of k.line_terminator) bytes (q + 1) (j + 1) (omega arith))
 
   -- if the count of a line is no earlier than some offset, so is that of each of its calls
   pub ends-calls_at : (bound j : ℕ)
-      → ((kind : Kind) → Plans.kind k bytes (selected_lines k meaning bytes) j ≡ Some kind
-      → bound ≤ Plans.count_at k bytes (selected_lines k meaning bytes) j (Some kind))
-      → All (λ call. bound ≤ call.if_false.count) (calls_at k bytes (selected_lines k meaning bytes) j)
-  ends-calls_at bound j late = go (Plans.kind k bytes (selected_lines k meaning bytes) j) refl
+      → ((kind : Kind) → Plans.kind k bytes selection j ≡ Some kind
+      → bound ≤ count_at k bytes selection j (Some kind))
+      → All (λ call. bound ≤ call.if_false.count) (calls_at k bytes selection j)
+  ends-calls_at bound j late = go (Plans.kind k bytes selection j) refl
     where
       P : Planned → Type 0
       P call = bound ≤ call.if_false.count
 
       end : Kind → ℕ
-      end kind = Plans.count_at k bytes (selected_lines k meaning bytes) j (Some kind)
+      end kind = count_at k bytes selection j (Some kind)
 
-      report : (kind : Kind) → bound ≤ end kind → All P (Plans.report k bytes (selected_lines k meaning bytes) j (Some kind))
+      report : (kind : Kind) → bound ≤ end kind → All P (Plans.report k bytes selection j (Some kind))
       report matched low = All-cons P _ [] low (All-nil P)
       report (in_context c) low = All-cons P _ [] low (All-nil P)
 
@@ -120,16 +125,16 @@ module _ (k : Settings) (meaning : Meaning) (bytes : List ℕ) where
       choose true call rest low all = All-cons P call rest low all
       choose false call rest low all = all
 
-      go : (kind : Option Kind) → Plans.kind k bytes (selected_lines k meaning bytes) j ≡ kind → All P (calls_at k bytes (selected_lines k meaning bytes) j)
+      go : (kind : Option Kind) → Plans.kind k bytes selection j ≡ kind → All P (calls_at k bytes selection j)
       go None is = rw (is, and-false (nat_lt 0 (k.after_context + k.before_context))) (All-nil P)
       go (Some kind) is =
           let low = late kind is in
-          rw is (choose _ (planned breaks (end kind)) (Plans.report k bytes (selected_lines k meaning bytes) j (Some kind))
+          rw is (choose _ (planned breaks (end kind)) (Plans.report k bytes selection j (Some kind))
           low
           (report kind low))
 
   -- the calls of a line end no earlier than the line
-  pub ends-late : (i q : ℕ) → i ≤ q → All (λ call. start (i + 1) ≤ call.if_false.count) (calls_at k bytes (selected_lines k meaning bytes) q)
+  pub ends-late : (i q : ℕ) → i ≤ q → All (λ call. start (i + 1) ≤ call.if_false.count) (calls_at k bytes selection q)
   ends-late i q low = ends-calls_at (start (i + 1)) q
       (λ kind is. omega (
         arith,
@@ -139,18 +144,18 @@ module _ (k : Settings) (meaning : Meaning) (bytes : List ℕ) where
       ))
 
   -- those of a line that was passed unreported can only belong to a later match
-  pub ends-passed : {v i left : ℕ} → IsNear k bytes (selected_lines k meaning bytes) v i left → (j : ℕ) → v ≤ j → j < i
-      → All (λ call. start (i + 1) ≤ call.if_false.count) (calls_at k bytes (selected_lines k meaning bytes) j)
+  pub ends-passed : {v i left : ℕ} → IsNear k bytes selection v i left → (j : ℕ) → v ≤ j → j < i
+      → All (λ call. start (i + 1) ≤ call.if_false.count) (calls_at k bytes selection j)
   ends-passed {v} {i} {left} near j low high = ends-calls_at (start (i + 1)) j late
     where
       n : ℕ
-      n = Plans.line_count k bytes
+      n = line_count k bytes
 
       later : ℕ → Bool
-      later q = nat_lt j q && Plans.is_selected k meaning bytes q
+      later q = nat_lt j q && is_selected k meaning bytes q
 
       nearer : ℕ → Bool
-      nearer q = nat_lt j q && nat_le (q - j) k.before_context && Plans.is_selected k meaning bytes q
+      nearer q = nat_lt j q && nat_le (q - j) k.before_context && is_selected k meaning bytes q
 
       missed : (q : ℕ) → q < i → later q ≡ false
       missed q less = ⊎_elim
@@ -161,13 +166,13 @@ module _ (k : Settings) (meaning : Meaning) (bytes : List ℕ) where
       nearer-later : (q : ℕ) → nearer q ≡ true → later q ≡ true
       nearer-later q is =
           let both = both_true (nat_lt j q && nat_le (q - j) k.before_context)
-          (Plans.is_selected k meaning bytes q) is in
+          (is_selected k meaning bytes q) is in
           let above = (both_true (nat_lt j q) (nat_le (q - j) k.before_context) both.0).0 in
           let chosen = both.1 in
           rw (above, chosen) refl
 
-      next : (first : Option ℕ) → first_below later n ≡ first → Plans.precedes_selected k bytes (selected_lines k meaning bytes) j ≡ true
-          → start (i + 1) ≤ start (Plans.next_report_end k bytes (selected_lines k meaning bytes) j)
+      next : (first : Option ℕ) → first_below later n ≡ first → precedes_selected k bytes selection j ≡ true
+          → start (i + 1) ≤ start (next_report_end k bytes selection j)
       next None is precedes =
           let found = some_below-find nearer n precedes in
           absurd (clash (some_below-some later n found.0 found.1 (nearer-later found.0 found.2))
@@ -177,23 +182,23 @@ module _ (k : Settings) (meaning : Meaning) (bytes : List ℕ) where
           let far : i ≤ q = ⊎_elim (λ less. absurd (clash passes (missed q less))) (λ le. le) (cases_lt q i) in
           rw is (line_start-le (byte_of k.line_terminator) bytes (i + 1) (q + 1) (omega arith))
 
-      out : (Plans.is_selected k meaning bytes j ≡ false) × (Plans.follows_selected k bytes (selected_lines k meaning bytes) j ≡ false)
+      out : (is_selected k meaning bytes j ≡ false) × (follows_selected k bytes selection j ≡ false)
       out = near.passed j low high
 
       plain : k.passthru ≡ false
       plain = ⊎_elim (λ yes. absurd (omega (arith, near.bare yes))) (λ no. no) (cases_Bool k.passthru)
 
-      late : (kind : Kind) → Plans.kind k bytes (selected_lines k meaning bytes) j ≡ Some kind
-          → start (i + 1) ≤ Plans.count_at k bytes (selected_lines k meaning bytes) j (Some kind)
-      late kind is = go (Plans.precedes_selected k bytes (selected_lines k meaning bytes) j) refl
+      late : (kind : Kind) → Plans.kind k bytes selection j ≡ Some kind
+          → start (i + 1) ≤ count_at k bytes selection j (Some kind)
+      late kind is = go (precedes_selected k bytes selection j) refl
         where
-          go : (b : Bool) → Plans.precedes_selected k bytes (selected_lines k meaning bytes) j ≡ b
-              → start (i + 1) ≤ Plans.count_at k bytes (selected_lines k meaning bytes) j (Some kind)
+          go : (b : Bool) → precedes_selected k bytes selection j ≡ b
+              → start (i + 1) ≤ count_at k bytes selection j (Some kind)
           go false alone = absurd
-              (let none : Plans.kind k bytes (selected_lines k meaning bytes) j
+              (let none : Plans.kind k bytes selection j
               ≡ None = rw (out.0, out.1, alone, plain) refl in let e = sym none ∙ is in cc)
           go true precedes =
-              let before : Plans.kind k bytes (selected_lines k meaning bytes) j
+              let before : Plans.kind k bytes selection j
               ≡ Some (in_context Before) = rw (out.0, out.1, precedes) refl in
               let same : kind ≡ in_context Before = cc in
               rw same (next (first_below later n) refl precedes)

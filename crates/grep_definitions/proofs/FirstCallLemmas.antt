@@ -3,7 +3,10 @@ use Rattle.grep_definitions.specs.Plans.{can_break, end_by_limit, end_by_stop, l
 use Rattle.grep_definitions.specs.Plans.{reports_end, selected_lines, planned, Call, Planned}
 use Rattle.grep_definitions.specs.Plans.{begins, breaks, matches, context, Settings, some_below}
 use Rattle.grep_definitions.specs.Plans.{first_below, at_most, joined_from, Kind, matched}
-use Rattle.grep_definitions.specs.Plans.{in_context, has_room, through}
+use Rattle.grep_definitions.specs.Plans.{in_context, has_room, through, Selection, breaks_before}
+use Rattle.grep_definitions.specs.Plans.{calls_at, calls_before, count_at, ends_search, fills_limit}
+use Rattle.grep_definitions.specs.Plans.{follows_selected, is_reported, is_selected, is_trailing}
+use Rattle.grep_definitions.specs.Plans.{kind, line_count, next_report_end, precedes_selected}
 use Rattle.grep_definitions.specs.Plans
 use Rattle.std.proofs.Common.{◌≡◌, ℕ, zero, suc, ◌+◌, ◌-◌, ◌<◌, ◌≤◌, min, Bool, true, false, ◌&&◌}
 use Rattle.std.proofs.Common.{not, List, [], ◌∷◌, ◌++◌, length, refl, sym, ap, subst, ◌∙◌, arith}
@@ -41,15 +44,18 @@ first_below-far p n (suc m) is =
 
 module _ (k : Settings) (meaning : Meaning) (front back : List ℕ)
     (closed : IsClosed (byte_of k.line_terminator) front) where
+  abbrev selection : List ℕ → Selection
+  selection = selected_lines k meaning
+
   -- all bytes, and how many lines the front and they have
   abbrev pub whole : List ℕ
   whole = front ++ back
 
   abbrev pub n : ℕ
-  n = Plans.line_count k front
+  n = line_count k front
 
   abbrev pub all : ℕ
-  all = Plans.line_count k whole
+  all = line_count k whole
 
   -- the whole has the lines of the front and those of the back
   pub more_lines : all ≡ n + length (lines (byte_of k.line_terminator) back)
@@ -58,26 +64,26 @@ module _ (k : Settings) (meaning : Meaning) (front back : List ℕ)
 
   -- whether a line of the front is selected
   abbrev pub selected : ℕ → Bool
-  selected i = Plans.is_selected k meaning front i
+  selected i = is_selected k meaning front i
 
   -- the whole selects the same lines there
-  pub same_selected : (i : ℕ) → i < n → Plans.is_selected k meaning whole i ≡ selected i
+  pub same_selected : (i : ℕ) → i < n → is_selected k meaning whole i ≡ selected i
   same_selected i below = prefix.is_selected-same k meaning front back closed i below
 
   -- a selected line that has line i in the reach before it
   abbrev pub near_before : List ℕ → ℕ → ℕ → Bool
-  near_before bytes i j = nat_lt i j && nat_le (j - i) k.before_context && Plans.is_selected k meaning bytes j
+  near_before bytes i j = nat_lt i j && nat_le (j - i) k.before_context && is_selected k meaning bytes j
 
   -- what that says of the two lines
   pub record IsNearMatch (bytes : List ℕ) (i j : ℕ) : Type 0 where
     pub beyond : i < j
     pub within : j - i ≤ k.before_context
-    pub chosen : Plans.is_selected k meaning bytes j ≡ true
+    pub chosen : is_selected k meaning bytes j ≡ true
 
   -- what the test says
   pub near-from : (bytes : List ℕ) (i j : ℕ) → near_before bytes i j ≡ true → IsNearMatch bytes i j
   near-from bytes i j is =
-      let both = both_true (nat_lt i j && nat_le (j - i) k.before_context) (Plans.is_selected k meaning bytes j)
+      let both = both_true (nat_lt i j && nat_le (j - i) k.before_context) (is_selected k meaning bytes j)
       is in
       let near = both_true (nat_lt i j) (nat_le (j - i) k.before_context) both.0 in
       record {
@@ -89,13 +95,13 @@ module _ (k : Settings) (meaning : Meaning) (front back : List ℕ)
   -- the test, if that holds
   pub near-to : (bytes : List ℕ) (i j : ℕ) → IsNearMatch bytes i j → near_before bytes i j ≡ true
   near-to bytes i j h = and-both (nat_lt i j && nat_le (j - i) k.before_context)
-      (Plans.is_selected k meaning bytes j)
+      (is_selected k meaning bytes j)
       (and-both (nat_lt i j) (nat_le (j - i) k.before_context) (lt-ltb i j h.beyond)
       (le-leb (j - i) k.before_context h.within)) h.chosen
 
   -- a line before a match in the front is so in the whole
-  precedes-more : (i : ℕ) → Plans.precedes_selected k front (selected_lines k meaning front) i ≡ true
-      → Plans.precedes_selected k whole (selected_lines k meaning whole) i ≡ true
+  precedes-more : (i : ℕ) → precedes_selected k front (selection front) i ≡ true
+      → precedes_selected k whole (selection whole) i ≡ true
   precedes-more i is =
       let found = some_below-find (near_before front i) n is in
       let near = near-from front i found.0 found.2 in
@@ -107,28 +113,28 @@ module _ (k : Settings) (meaning : Meaning) (front back : List ℕ)
   pub record IsLate (i : ℕ) : Type 0 where
     pub inside : i < n
     pub unselected : selected i ≡ false
-    pub unfollowed : Plans.follows_selected k front (selected_lines k meaning front) i ≡ false
-    pub precedes : Plans.precedes_selected k whole (selected_lines k meaning whole) i ≡ true
-    pub unpreceded : Plans.precedes_selected k front (selected_lines k meaning front) i ≡ false
+    pub unfollowed : follows_selected k front (selection front) i ≡ false
+    pub precedes : precedes_selected k whole (selection whole) i ≡ true
+    pub unpreceded : precedes_selected k front (selection front) i ≡ false
 
   -- a line of the front is reported the same way in the whole, or is late
-  pub kind-same : (i : ℕ) → i < n → (Plans.kind k whole (selected_lines k meaning whole) i ≡ Plans.kind k front (selected_lines k meaning front) i) ⊎ IsLate i
-  kind-same i below = go (selected i) (Plans.follows_selected k front (selected_lines k meaning front) i)
-      (Plans.precedes_selected k front (selected_lines k meaning front) i)
-      (Plans.precedes_selected k whole (selected_lines k meaning whole) i) refl refl refl refl
+  pub kind-same : (i : ℕ) → i < n → (kind k whole (selection whole) i ≡ kind k front (selection front) i) ⊎ IsLate i
+  kind-same i below = go (selected i) (follows_selected k front (selection front) i)
+      (precedes_selected k front (selection front) i)
+      (precedes_selected k whole (selection whole) i) refl refl refl refl
     where
-      s : Plans.is_selected k meaning whole i ≡ selected i
+      s : is_selected k meaning whole i ≡ selected i
       s = same_selected i below
 
-      f : Plans.follows_selected k whole (selected_lines k meaning whole) i ≡ Plans.follows_selected k front (selected_lines k meaning front) i
+      f : follows_selected k whole (selection whole) i ≡ follows_selected k front (selection front) i
       f = prefix.follows-same k meaning front back closed i below
 
-      t : Plans.is_trailing k meaning whole i ≡ Plans.is_trailing k meaning front i
+      t : is_trailing k meaning whole i ≡ is_trailing k meaning front i
       t = prefix.is_trailing-same k meaning front back closed i below
 
-      go : (a b c d : Bool) → selected i ≡ a → Plans.follows_selected k front (selected_lines k meaning front) i ≡ b
-          → Plans.precedes_selected k front (selected_lines k meaning front) i ≡ c → Plans.precedes_selected k whole (selected_lines k meaning whole) i ≡ d
-          → (Plans.kind k whole (selected_lines k meaning whole) i ≡ Plans.kind k front (selected_lines k meaning front) i) ⊎ IsLate i
+      go : (a b c d : Bool) → selected i ≡ a → follows_selected k front (selection front) i ≡ b
+          → precedes_selected k front (selection front) i ≡ c → precedes_selected k whole (selection whole) i ≡ d
+          → (kind k whole (selection whole) i ≡ kind k front (selection front) i) ⊎ IsLate i
       go true b c d is_a is_b is_c is_d = inl (rw (s, is_a) refl)
       go false true c d is_a is_b is_c is_d =
           inl (rw (s, is_a, f, is_b) (ap (λ (x : Bool). Some (if x then matched else in_context After)) t))
@@ -169,11 +175,11 @@ module _ (k : Settings) (meaning : Meaning) (front back : List ℕ)
   near_after i j = nat_le (i - j) k.after_context && selected j
 
   -- after a late line no line of the front follows a selected one
-  late-unfollowed : (i j : ℕ) → IsLate i → i ≤ j → j < n → Plans.follows_selected k front (selected_lines k meaning front) j ≡ false
+  late-unfollowed : (i j : ℕ) → IsLate i → i ≤ j → j < n → follows_selected k front (selection front) j ≡ false
   late-unfollowed i j late low below = ⊎_elim (λ holds. absurd (found holds)) (λ no. no)
-      (cases_Bool (Plans.follows_selected k front (selected_lines k meaning front) j))
+      (cases_Bool (follows_selected k front (selection front) j))
     where
-      found : Plans.follows_selected k front (selected_lines k meaning front) j ≡ true → ⊥
+      found : follows_selected k front (selection front) j ≡ true → ⊥
       found holds =
           let match = some_below-find (near_after j) j holds in
           let both = both_true (nat_le (j - match.0) k.after_context) (selected match.0) match.2 in
@@ -189,11 +195,11 @@ module _ (k : Settings) (meaning : Meaning) (front back : List ℕ)
           cc
 
   -- after a late line no line of the front is before a selected one
-  late-unpreceded : (i j : ℕ) → IsLate i → i ≤ j → j < n → Plans.precedes_selected k front (selected_lines k meaning front) j ≡ false
+  late-unpreceded : (i j : ℕ) → IsLate i → i ≤ j → j < n → precedes_selected k front (selection front) j ≡ false
   late-unpreceded i j late low below = ⊎_elim (λ holds. absurd (found holds)) (λ no. no)
-      (cases_Bool (Plans.precedes_selected k front (selected_lines k meaning front) j))
+      (cases_Bool (precedes_selected k front (selection front) j))
     where
-      found : Plans.precedes_selected k front (selected_lines k meaning front) j ≡ true → ⊥
+      found : precedes_selected k front (selection front) j ≡ true → ⊥
       found holds =
           let match = some_below-find (near_before front j) n holds in
           let near = near-from front j match.0 match.2 in
@@ -203,7 +209,7 @@ module _ (k : Settings) (meaning : Meaning) (front back : List ℕ)
 
   module _ (built : k.passthru ≡ true → k.before_context ≡ 0) where
     -- after a late line no line of the front is reported
-    pub late-kind : (i j : ℕ) → IsLate i → i ≤ j → j < n → Plans.kind k front (selected_lines k meaning front) j ≡ None
+    pub late-kind : (i j : ℕ) → IsLate i → i ≤ j → j < n → kind k front (selection front) j ≡ None
     late-kind i j late low below =
         let near = near-from whole i _ (some_below-find (near_before whole i) all late.precedes).2 in
         let plain : k.passthru
@@ -218,17 +224,17 @@ module _ (k : Settings) (meaning : Meaning) (front back : List ℕ)
         ) refl
 
     -- after a late line no line of the front has a call
-    pub late-calls : (i j : ℕ) → IsLate i → i ≤ j → j < n → Plans.calls_at k front (selected_lines k meaning front) j ≡ []
+    pub late-calls : (i j : ℕ) → IsLate i → i ≤ j → j < n → calls_at k front (selection front) j ≡ []
     late-calls i j late low below =
         let none = late-kind i j late low below in
         rw (none, and-false (nat_lt 0 (k.after_context + k.before_context))) refl
 
   -- a selected line after line i
   abbrev later_in : List ℕ → ℕ → ℕ → Bool
-  later_in bytes i j = nat_lt i j && Plans.is_selected k meaning bytes j
+  later_in bytes i j = nat_lt i j && is_selected k meaning bytes j
 
   -- a line before a match in the front has the same next match in the whole
-  next-same : (i : ℕ) → Plans.precedes_selected k front (selected_lines k meaning front) i ≡ true → first_below (later_in whole i) all
+  next-same : (i : ℕ) → precedes_selected k front (selection front) i ≡ true → first_below (later_in whole i) all
       ≡ first_below (later_in front i) n
   next-same i precedes =
       let found = some_below-find (near_before front i) n precedes in
@@ -236,63 +242,63 @@ module _ (k : Settings) (meaning : Meaning) (front back : List ℕ)
       let same : (j : ℕ) → j < n → later_in whole i j ≡ later_in front i j = λ j below. ap (λ b. nat_lt i j && b)
       (same_selected j below) in
       let there = some_below-some (later_in whole i) n found.0 found.1
-      (and-both (nat_lt i found.0) (Plans.is_selected k meaning whole found.0) (lt-ltb i found.0 near.beyond)
+      (and-both (nat_lt i found.0) (is_selected k meaning whole found.0) (lt-ltb i found.0 near.beyond)
       (same_selected found.0 found.1 ∙ near.chosen)) in
       ap (first_below (later_in whole i)) more_lines ∙ first_below-far (later_in whole i) n _ there
       ∙ first_below-same (later_in whole i) (later_in front i) n same
 
   -- the count of a line before a match is that of the match
-  through-same : (i : ℕ) → i < n → Plans.precedes_selected k front (selected_lines k meaning front) i ≡ true
-      → (Plans.next_report_end k whole (selected_lines k meaning whole) i ≡ Plans.next_report_end k front (selected_lines k meaning front) i)
-      × (Plans.next_report_end k front (selected_lines k meaning front) i ≤ n)
+  through-same : (i : ℕ) → i < n → precedes_selected k front (selection front) i ≡ true
+      → (next_report_end k whole (selection whole) i ≡ next_report_end k front (selection front) i)
+      × (next_report_end k front (selection front) i ≤ n)
   through-same i below precedes = go (first_below (later_in front i) n) refl
     where
       go : (o : Option ℕ) → first_below (later_in front i) n ≡ o
-          → (Plans.next_report_end k whole (selected_lines k meaning whole) i ≡ Plans.next_report_end k front (selected_lines k meaning front) i)
-          × (Plans.next_report_end k front (selected_lines k meaning front) i ≤ n)
+          → (next_report_end k whole (selection whole) i ≡ next_report_end k front (selection front) i)
+          × (next_report_end k front (selection front) i ≤ n)
       go None is = let next = next-same i precedes in (rw (next, is) refl, rw is (omega arith))
       go (Some u) is = let next = next-same i precedes in let inside = (first_below-of (later_in front i) n u is).0 in
           (rw (next, is) refl, rw is (omega arith))
 
   -- a line that is reported as one before a match is before one
-  kind-before : (i : ℕ) → Plans.kind k front (selected_lines k meaning front) i ≡ Some (in_context Before)
-      → Plans.precedes_selected k front (selected_lines k meaning front) i
+  kind-before : (i : ℕ) → kind k front (selection front) i ≡ Some (in_context Before)
+      → precedes_selected k front (selection front) i
       ≡ true
-  kind-before i is = go (selected i) (Plans.follows_selected k front (selected_lines k meaning front) i)
-      (Plans.precedes_selected k front (selected_lines k meaning front) i) k.passthru refl refl refl refl
+  kind-before i is = go (selected i) (follows_selected k front (selection front) i)
+      (precedes_selected k front (selection front) i) k.passthru refl refl refl refl
     where
       unlike : (x : Bool) → Some (if x then matched else in_context After) ≡ Some (in_context Before) → ⊥
       unlike true at = cc
       unlike false at = cc
 
-      go : (a b c d : Bool) → selected i ≡ a → Plans.follows_selected k front (selected_lines k meaning front) i ≡ b
-          → Plans.precedes_selected k front (selected_lines k meaning front) i ≡ c → k.passthru ≡ d
-          → Plans.precedes_selected k front (selected_lines k meaning front) i ≡ true
+      go : (a b c d : Bool) → selected i ≡ a → follows_selected k front (selection front) i ≡ b
+          → precedes_selected k front (selection front) i ≡ c → k.passthru ≡ d
+          → precedes_selected k front (selection front) i ≡ true
       go true b c d p q r t = absurd (let at = rw p at is in cc)
-      go false true c d p q r t = absurd (unlike (Plans.is_trailing k meaning front i) (rw (p, q) at is))
+      go false true c d p q r t = absurd (unlike (is_trailing k meaning front i) (rw (p, q) at is))
       go false false true d p q r t = r
       go false false false true p q r t = absurd (let at = rw (p, q, r, t) at is in cc)
       go false false false false p q r t = absurd (let at = rw (p, q, r, t) at is in cc)
 
   -- the count of a line of the front is the same in the whole
-  end-same : (i : ℕ) → i < n → (kd : Option Kind) → Plans.kind k front (selected_lines k meaning front) i ≡ kd
-      → Plans.count_at k whole (selected_lines k meaning whole) i kd
-      ≡ Plans.count_at k front (selected_lines k meaning front) i kd
+  end-same : (i : ℕ) → i < n → (kd : Option Kind) → kind k front (selection front) i ≡ kd
+      → count_at k whole (selection whole) i kd
+      ≡ count_at k front (selection front) i kd
   end-same i below None is = prefix.start-same k meaning front back closed (i + 1) (omega arith)
   end-same i below (Some matched) is = prefix.start-same k meaning front back closed (i + 1) (omega arith)
   end-same i below (Some (in_context Before)) is =
       let through = through-same i below (kind-before i is) in
       ap (Plans.start k whole) through.0 ∙ prefix.start-same k meaning front back closed
-      (Plans.next_report_end k front (selected_lines k meaning front) i) through.1
+      (next_report_end k front (selection front) i) through.1
   end-same i below (Some (in_context After)) is = prefix.start-same k meaning front back closed (i + 1)
       (omega arith)
   end-same i below (Some (in_context Other)) is = prefix.start-same k meaning front back closed (i + 1)
       (omega arith)
 
   -- a line of the front has the same report in the whole
-  report-same : (i : ℕ) → i < n → (kd : Option Kind) → Plans.kind k front (selected_lines k meaning front) i ≡ kd
-      → Plans.report k whole (selected_lines k meaning whole) i kd
-      ≡ Plans.report k front (selected_lines k meaning front) i kd
+  report-same : (i : ℕ) → i < n → (kd : Option Kind) → kind k front (selection front) i ≡ kd
+      → Plans.report k whole (selection whole) i kd
+      ≡ Plans.report k front (selection front) i kd
   report-same i below None is = refl
   report-same i below (Some matched) is =
       let number = prefix.number-same k meaning front back closed i (omega arith) in
@@ -301,11 +307,11 @@ module _ (k : Settings) (meaning : Meaning) (front back : List ℕ)
       let end = end-same i below (Some matched) is in
       line-report k whole meaning i
       ∙ ap (λ x. planned (matches x (Plans.start k whole i) (Plans.line k whole i))
-      (Plans.count_at k whole (selected_lines k meaning whole) i (Some matched)) ∷ []) number
+      (count_at k whole (selection whole) i (Some matched)) ∷ []) number
       ∙ ap (λ x. planned (matches (Plans.number k front i) x (Plans.line k whole i))
-      (Plans.count_at k whole (selected_lines k meaning whole) i (Some matched)) ∷ []) start
+      (count_at k whole (selection whole) i (Some matched)) ∷ []) start
       ∙ ap (λ x. planned (matches (Plans.number k front i) (Plans.start k front i) x)
-      (Plans.count_at k whole (selected_lines k meaning whole) i (Some matched)) ∷ []) line
+      (count_at k whole (selection whole) i (Some matched)) ∷ []) line
       ∙ ap (λ x. planned (matches (Plans.number k front i) (Plans.start k front i)
       (Plans.line k front i)) x ∷ []) end
       ∙ sym (line-report k front meaning i)
@@ -315,11 +321,11 @@ module _ (k : Settings) (meaning : Meaning) (front back : List ℕ)
       let line = prefix.line-same k meaning front back closed i below in
       let end = end-same i below (Some (in_context c)) is in
       ap (λ x. (planned (context c x (Plans.start k whole i) (Plans.line k whole i))
-      (Plans.count_at k whole (selected_lines k meaning whole) i (Some (in_context c)))) ∷ []) number
+      (count_at k whole (selection whole) i (Some (in_context c)))) ∷ []) number
       ∙ ap (λ x. (planned (context c (Plans.number k front i) x (Plans.line k whole i))
-      (Plans.count_at k whole (selected_lines k meaning whole) i (Some (in_context c)))) ∷ []) start
+      (count_at k whole (selection whole) i (Some (in_context c)))) ∷ []) start
       ∙ ap (λ x. (planned (context c (Plans.number k front i) (Plans.start k front i) x)
-      (Plans.count_at k whole (selected_lines k meaning whole) i (Some (in_context c)))) ∷ []) line
+      (count_at k whole (selection whole) i (Some (in_context c)))) ∷ []) line
       ∙ ap (λ x. planned (context c (Plans.number k front i) (Plans.start k front i)
       (Plans.line k front i)) x ∷ []) end
 
@@ -367,8 +373,8 @@ module _ (k : Settings) (meaning : Meaning) (front back : List ℕ)
 
   -- so is the bound by the stop
   stop-bounds : Bounds (end_by_stop k meaning whole) (end_by_stop k meaning front)
-  stop-bounds = first-bounds suc (λ u. omega arith) (Plans.ends_search k meaning whole)
-      (Plans.ends_search k meaning front) (λ j below. prefix.ends_search-same k meaning front back closed j below)
+  stop-bounds = first-bounds suc (λ u. omega arith) (ends_search k meaning whole)
+      (ends_search k meaning front) (λ j below. prefix.ends_search-same k meaning front back closed j below)
 
   -- so is the bound by the limit
   limit-bounds : Bounds (end_by_limit k meaning whole) (end_by_limit k meaning front)
@@ -376,14 +382,14 @@ module _ (k : Settings) (meaning : Meaning) (front back : List ℕ)
     where
       by : (bytes : List ℕ) → Option ℕ
       by bytes = option_map (λ m. suc (m + k.after_context))
-          (first_below (Plans.fills_limit k meaning bytes) (Plans.line_count k bytes))
+          (first_below (fills_limit k meaning bytes) (line_count k bytes))
 
       go : (b room : Bool) → Bounds (if b then None else (if room then by whole else Some 0))
           (if b then None else (if room then by front else Some 0))
       go true room = inl refl
       go false false = inl refl
       go false true = first-bounds (λ m. suc (m + k.after_context)) (λ u. omega arith)
-          (Plans.fills_limit k meaning whole) (Plans.fills_limit k meaning front)
+          (fills_limit k meaning whole) (fills_limit k meaning front)
           (λ j below. prefix.fills_limit-same k meaning front back closed j below)
 
   -- the lines of the front that may be reported are the same
@@ -396,16 +402,16 @@ module _ (k : Settings) (meaning : Meaning) (front back : List ℕ)
 
   -- up to line i the kinds are the same
   abbrev pub Same : ℕ → Type 0
-  Same i = (j : ℕ) → j < i → Plans.kind k whole (selected_lines k meaning whole) j ≡ Plans.kind k front (selected_lines k meaning front) j
+  Same i = (j : ℕ) → j < i → kind k whole (selection whole) j ≡ kind k front (selection front) j
 
   -- a line up to there is reported in both or in neither
-  reported-same : (i j : ℕ) → Same (i + 1) → i < count_front → j ≤ i → Plans.is_reported k whole (selected_lines k meaning whole) j
-      ≡ Plans.is_reported k front (selected_lines k meaning front) j
+  reported-same : (i j : ℕ) → Same (i + 1) → i < count_front → j ≤ i → is_reported k whole (selection whole) j
+      ≡ is_reported k front (selection front) j
   reported-same i j same below inside =
       let near : nat_lt j count_front ≡ true = lt-ltb j count_front (omega arith) in
       let far : nat_lt j count_whole ≡ true = lt-ltb j count_whole (omega (arith, count-same)) in
       let kinds = same j (omega arith) in
-      ap (λ b. b && is_some (Plans.kind k whole (selected_lines k meaning whole) j)) (far ∙ sym near)
+      ap (λ b. b && is_some (kind k whole (selection whole) j)) (far ∙ sym near)
       ∙ ap (λ o. nat_lt j count_front && is_some o) kinds
 
   -- a break may come before the same kinds
@@ -417,38 +423,38 @@ module _ (k : Settings) (meaning : Meaning) (front back : List ℕ)
   breaks-same (Some (in_context Other)) = refl
 
   -- a line up to there has the same calls
-  calls_at-same : (i : ℕ) → Same (i + 1) → i < count_front → Plans.calls_at k whole (selected_lines k meaning whole) i
-      ≡ Plans.calls_at k front (selected_lines k meaning front) i
+  calls_at-same : (i : ℕ) → Same (i + 1) → i < count_front → calls_at k whole (selection whole) i
+      ≡ calls_at k front (selection front) i
   calls_at-same i same below =
       let inside : i < n = omega (arith, count-same) in
       let kinds = same i (omega arith) in
       let last = reported-same i (i - 1) same below (omega arith) in
-      let some = some_below-same (Plans.is_reported k whole (selected_lines k meaning whole)) (Plans.is_reported k front (selected_lines k meaning front)) i
+      let some = some_below-same (is_reported k whole (selection whole)) (is_reported k front (selection front)) i
       (λ j less. reported-same i j same below (omega arith)) in
-      let end = end-same i inside (Plans.kind k front (selected_lines k meaning front) i) refl in
-      let report = report-same i inside (Plans.kind k front (selected_lines k meaning front) i) refl in
-      let breaks_same : Plans.breaks_before k whole (selected_lines k meaning whole) i ≡ Plans.breaks_before k front (selected_lines k meaning front) i =
+      let end = end-same i inside (kind k front (selection front) i) refl in
+      let report = report-same i inside (kind k front (selection front) i) refl in
+      let breaks_same : breaks_before k whole (selection whole) i ≡ breaks_before k front (selection front) i =
       ap (λ o. nat_lt 0 (k.after_context + k.before_context) && can_break o
-      && not (Plans.is_reported k whole (selected_lines k meaning whole) (i - 1)) && some_below (Plans.is_reported k whole (selected_lines k meaning whole)) i)
+      && not (is_reported k whole (selection whole) (i - 1)) && some_below (is_reported k whole (selection whole)) i)
       kinds
       ∙ ap (λ b. nat_lt 0 (k.after_context + k.before_context)
-      && can_break (Plans.kind k front (selected_lines k meaning front) i) && not b
-      && some_below (Plans.is_reported k whole (selected_lines k meaning whole)) i) last
+      && can_break (kind k front (selection front) i) && not b
+      && some_below (is_reported k whole (selection whole)) i) last
       ∙ ap (λ b. nat_lt 0 (k.after_context + k.before_context)
-      && can_break (Plans.kind k front (selected_lines k meaning front) i)
-      && not (Plans.is_reported k front (selected_lines k meaning front) (i - 1)) && b) some
+      && can_break (kind k front (selection front) i)
+      && not (is_reported k front (selection front) (i - 1)) && b) some
       ∙ ap (λ b. nat_lt 0 (k.after_context + k.before_context) && b
-      && not (Plans.is_reported k front (selected_lines k meaning front) (i - 1))
-      && some_below (Plans.is_reported k front (selected_lines k meaning front)) i) (breaks-same (Plans.kind k front (selected_lines k meaning front) i)) in
+      && not (is_reported k front (selection front) (i - 1))
+      && some_below (is_reported k front (selection front)) i) (breaks-same (kind k front (selection front) i)) in
       let F : Bool → ℕ → List Planned → List Planned = λ b e ts. if b then planned breaks e ∷ ts else ts in
-      ap (λ b. F b (Plans.count_at k whole (selected_lines k meaning whole) i (Plans.kind k whole (selected_lines k meaning whole) i))
-      (Plans.report k whole (selected_lines k meaning whole) i (Plans.kind k whole (selected_lines k meaning whole) i))) breaks_same
-      ∙ ap (λ o. F (Plans.breaks_before k front (selected_lines k meaning front) i) (Plans.count_at k whole (selected_lines k meaning whole) i o)
-      (Plans.report k whole (selected_lines k meaning whole) i o)) kinds
-      ∙ ap (λ e. F (Plans.breaks_before k front (selected_lines k meaning front) i) e
-      (Plans.report k whole (selected_lines k meaning whole) i (Plans.kind k front (selected_lines k meaning front) i))) end
-      ∙ ap (λ ts. F (Plans.breaks_before k front (selected_lines k meaning front) i)
-      (Plans.count_at k front (selected_lines k meaning front) i (Plans.kind k front (selected_lines k meaning front) i)) ts) report
+      ap (λ b. F b (count_at k whole (selection whole) i (kind k whole (selection whole) i))
+      (Plans.report k whole (selection whole) i (kind k whole (selection whole) i))) breaks_same
+      ∙ ap (λ o. F (breaks_before k front (selection front) i) (count_at k whole (selection whole) i o)
+      (Plans.report k whole (selection whole) i o)) kinds
+      ∙ ap (λ e. F (breaks_before k front (selection front) i) e
+      (Plans.report k whole (selection whole) i (kind k front (selection front) i))) end
+      ∙ ap (λ ts. F (breaks_before k front (selection front) i)
+      (count_at k front (selection front) i (kind k front (selection front) i)) ts) report
 
   -- the kinds are the same, or up to a first late line
   pub split : (t : ℕ) → t ≤ n → Same t ⊎ ((i : ℕ) × (i < t) × IsLate i × Same i)
@@ -461,37 +467,37 @@ module _ (k : Settings) (meaning : Meaning) (front back : List ℕ)
     ]
   ]
     where
-      at_last : (j t : ℕ) → Plans.kind k whole (selected_lines k meaning whole) t ≡ Plans.kind k front (selected_lines k meaning front) t → j < suc t → t ≤ j
-          → Plans.kind k whole (selected_lines k meaning whole) j ≡ Plans.kind k front (selected_lines k meaning front) j
+      at_last : (j t : ℕ) → kind k whole (selection whole) t ≡ kind k front (selection front) t → j < suc t → t ≤ j
+          → kind k whole (selection whole) j ≡ kind k front (selection front) j
       at_last j t here below out =
           let is : t ≡ j = omega arith in
-          subst (λ j. Plans.kind k whole (selected_lines k meaning whole) j ≡ Plans.kind k front (selected_lines k meaning front) j) is here
+          subst (λ j. kind k whole (selection whole) j ≡ kind k front (selection front) j) is here
 
   -- up to a line before which the kinds are the same, the calls are the same
-  pub joined-same : (m : ℕ) → Same m → m ≤ count_front → joined_from (Plans.calls_at k whole (selected_lines k meaning whole)) 0 m
-      ≡ joined_from (Plans.calls_at k front (selected_lines k meaning front)) 0 m
+  pub joined-same : (m : ℕ) → Same m → m ≤ count_front → joined_from (calls_at k whole (selection whole)) 0 m
+      ≡ joined_from (calls_at k front (selection front)) 0 m
   joined-same m same inside =
-      joined_from-equal (Plans.calls_at k whole (selected_lines k meaning whole)) (Plans.calls_at k front (selected_lines k meaning front)) 0 m
+      joined_from-equal (calls_at k whole (selection whole)) (calls_at k front (selection front)) 0 m
       (λ j low high. calls_at-same j (λ q less. same q (omega arith)) (omega arith))
 
   -- a late line's calls belong to a match after the front
   pub late-through : (i : ℕ) → IsLate i
       → Plans.start k whole n < Plans.start k whole
-      (Plans.next_report_end k whole (selected_lines k meaning whole) i)
+      (next_report_end k whole (selection whole) i)
   late-through i late = go (first_below (later_in whole i) all) refl
     where
       go : (first : Option ℕ) → first_below (later_in whole i) all ≡ first
           → Plans.start k whole n < Plans.start k whole
-          (Plans.next_report_end k whole (selected_lines k meaning whole) i)
+          (next_report_end k whole (selection whole) i)
       go None is =
           let found = some_below-find (near_before whole i) all late.precedes in
           let match = near-from whole i found.0 found.2 in
           absurd (clash (some_below-some (later_in whole i) all found.0 found.1
-          (and-both (nat_lt i found.0) (Plans.is_selected k meaning whole found.0)
+          (and-both (nat_lt i found.0) (is_selected k meaning whole found.0)
           (lt-ltb i found.0 match.beyond) match.chosen)) (first_below-none (later_in whole i) all is))
       go (Some q) is =
           let found = first_below-of (later_in whole i) all q is in
-          let both = both_true (nat_lt i q) (Plans.is_selected k meaning whole q) found.1 in
+          let both = both_true (nat_lt i q) (is_selected k meaning whole q) found.1 in
           let beyond = ltb-true i q both.0 in
           let far : n ≤ q = ⊎_elim
           (λ less. absurd (clash (sym (same_selected q less) ∙ both.1)
@@ -507,11 +513,11 @@ module _ (k : Settings) (meaning : Meaning) (front back : List ℕ)
     front_calls-begin = elim (split count_front (omega (arith, count-same))) [
       | inl same ↦
           let sum : count_whole ≡ count_front + (count_whole - count_front) = omega (arith, count-same) in (
-            joined_from (Plans.calls_at k whole (selected_lines k meaning whole)) (0 + count_front) (count_whole - count_front),
-            ap (λ m. planned begins 0 ∷ joined_from (Plans.calls_at k whole (selected_lines k meaning whole)) 0 m) sum
+            joined_from (calls_at k whole (selection whole)) (0 + count_front) (count_whole - count_front),
+            ap (λ m. planned begins 0 ∷ joined_from (calls_at k whole (selection whole)) 0 m) sum
                 ∙ ap (λ ts. planned begins 0 ∷ ts)
-                (joined_from-add (Plans.calls_at k whole (selected_lines k meaning whole)) 0 count_front (count_whole - count_front)
-                ∙ ap (λ ts. ts ++ joined_from (Plans.calls_at k whole (selected_lines k meaning whole)) (0 + count_front)
+                (joined_from-add (calls_at k whole (selection whole)) 0 count_front (count_whole - count_front)
+                ∙ ap (λ ts. ts ++ joined_from (calls_at k whole (selection whole)) (0 + count_front)
                 (count_whole - count_front))
                 (joined-same count_front same (omega arith))),
           )
@@ -521,55 +527,55 @@ module _ (k : Settings) (meaning : Meaning) (front back : List ℕ)
           let sum : count_whole ≡ i + (count_whole - i) = omega (arith, count-same) in
           let part : count_front ≡ i + (count_front - i) = omega arith in
           let here = joined-same i late.3 (omega arith) in
-          let empty = joined_from-none (Plans.calls_at k front (selected_lines k meaning front)) (0 + i) (count_front - i)
+          let empty = joined_from-none (calls_at k front (selection front)) (0 + i) (count_front - i)
           (λ j low high. late-calls built i j late.2 (omega arith) (omega (arith, count-same))) in (
-            joined_from (Plans.calls_at k whole (selected_lines k meaning whole)) (0 + i) (count_whole - i),
-            ap (λ m. planned begins 0 ∷ joined_from (Plans.calls_at k whole (selected_lines k meaning whole)) 0 m) sum
+            joined_from (calls_at k whole (selection whole)) (0 + i) (count_whole - i),
+            ap (λ m. planned begins 0 ∷ joined_from (calls_at k whole (selection whole)) 0 m) sum
                 ∙ ap (λ ts. planned begins 0 ∷ ts)
-                (joined_from-add (Plans.calls_at k whole (selected_lines k meaning whole)) 0 i (count_whole - i)
-                ∙ ap (λ ts. ts ++ joined_from (Plans.calls_at k whole (selected_lines k meaning whole)) (0 + i) (count_whole - i))
-                (here ∙ sym (append-nil _) ∙ ap (λ ts. joined_from (Plans.calls_at k front (selected_lines k meaning front)) 0 i ++ ts)
+                (joined_from-add (calls_at k whole (selection whole)) 0 i (count_whole - i)
+                ∙ ap (λ ts. ts ++ joined_from (calls_at k whole (selection whole)) (0 + i) (count_whole - i))
+                (here ∙ sym (append-nil _) ∙ ap (λ ts. joined_from (calls_at k front (selection front)) 0 i ++ ts)
                 (sym empty)
-                ∙ sym (joined_from-add (Plans.calls_at k front (selected_lines k meaning front)) 0 i (count_front - i))
-                ∙ ap (joined_from (Plans.calls_at k front (selected_lines k meaning front)) 0) (sym part))),
+                ∙ sym (joined_from-add (calls_at k front (selection front)) 0 i (count_front - i))
+                ∙ ap (joined_from (calls_at k front (selection front)) 0) (sym part))),
           )
     ]
 
     -- the calls that a walk has made that has come to the end of the front, if their counts are at most that, are those
     -- over the front
-    module _ (v left : ℕ) (near : IsNear k whole (selected_lines k meaning whole) v n left) (reportable : n ≤ count_whole)
-        (ended : All (λ call. call.if_false.count ≤ Plans.start k whole n) (Plans.calls_before k whole (selected_lines k meaning whole) v))
+    module _ (v left : ℕ) (near : IsNear k whole (selection whole) v n left) (reportable : n ≤ count_whole)
+        (ended : All (λ call. call.if_false.count ≤ Plans.start k whole n) (calls_before k whole (selection whole) v))
       where
         front_reportable : n ≡ count_front
         front_reportable = omega (arith, count-same)
 
         -- a line that was passed has no call
-        passed-kind : (j : ℕ) → v ≤ j → j < n → Plans.kind k front (selected_lines k meaning front) j ≡ None
+        passed-kind : (j : ℕ) → v ≤ j → j < n → kind k front (selection front) j ≡ None
         passed-kind j low below =
             let out = near.passed j low below in
             let unselected : selected j ≡ false = sym (same_selected j below) ∙ out.0 in
-            let unfollowed : Plans.follows_selected k front (selected_lines k meaning front) j ≡ false =
+            let unfollowed : follows_selected k front (selection front) j ≡ false =
             sym (prefix.follows-same k meaning front back closed j below) ∙ out.1 in
             let plain : k.passthru ≡ false = ⊎_elim (λ yes. absurd (omega (arith, near.bare yes)))
             (λ no. no) (cases_Bool k.passthru) in
-            let unpreceded : Plans.precedes_selected k front (selected_lines k meaning front) j ≡ false = ⊎_elim
+            let unpreceded : precedes_selected k front (selection front) j ≡ false = ⊎_elim
             (λ holds. absurd (let found = some_below-find (near_before front j) n holds in
             let match = near-from front j found.0 found.2 in
             clash match.chosen (sym (same_selected found.0 found.1)
             ∙ (near.passed found.0 (omega arith) found.1).0)))
-            (λ no. no) (cases_Bool (Plans.precedes_selected k front (selected_lines k meaning front) j)) in
+            (λ no. no) (cases_Bool (precedes_selected k front (selection front) j)) in
             rw (unselected, unfollowed, unpreceded, plain) refl
 
-        passed-calls : (j : ℕ) → v ≤ j → j < n → Plans.calls_at k front (selected_lines k meaning front) j ≡ []
+        passed-calls : (j : ℕ) → v ≤ j → j < n → calls_at k front (selection front) j ≡ []
         passed-calls j low below =
             let none = passed-kind j low below in
             rw (none, and-false (nat_lt 0 (k.after_context + k.before_context))) refl
 
         -- the calls of a line before
         ended-at : (i : ℕ) → i < v
-            → All (λ call. call.if_false.count ≤ Plans.start k whole n) (Plans.calls_at k whole (selected_lines k meaning whole) i)
+            → All (λ call. call.if_false.count ≤ Plans.start k whole n) (calls_at k whole (selection whole) i)
         ended-at i below =
-            let f = Plans.calls_at k whole (selected_lines k meaning whole) in
+            let f = calls_at k whole (selection whole) in
             let one : v ≡ i + suc (v - (i + 1)) = omega arith in
             let from_zero : 0 + i ≡ i = omega arith in
             let split : joined_from f 0 v ≡ joined_from f 0 i ++ (f i ++ joined_from f (i + 1) (v - (i + 1))) =
@@ -585,19 +591,19 @@ module _ (k : Settings) (meaning : Meaning) (front back : List ℕ)
 
         not-late : (i : ℕ) → i < v → IsLate i → ⊥
         not-late i below late =
-            let is : Plans.kind k whole (selected_lines k meaning whole) i ≡ Some (in_context Before) =
+            let is : kind k whole (selection whole) i ≡ Some (in_context Before) =
             let s = same_selected i late.inside ∙ late.unselected in
             let f = prefix.follows-same k meaning front back closed i late.inside ∙ late.unfollowed in
             let p = late.precedes in
             rw (s, f, p) refl in
-            let end = Plans.count_at k whole (selected_lines k meaning whole) i (Some (in_context Before)) in
+            let end = count_at k whole (selection whole) i (Some (in_context Before)) in
             let all_ended = subst (λ kd. All (λ (call : Planned). call.if_false.count ≤ Plans.start k whole
             n)
-            (if Plans.breaks_before k whole (selected_lines k meaning whole) i
-            then (planned breaks (Plans.count_at k whole (selected_lines k meaning whole) i kd))
-            ∷ Plans.report k whole (selected_lines k meaning whole) i kd
-            else Plans.report k whole (selected_lines k meaning whole) i kd)) is (ended-at i below) in
-            let low : end ≤ Plans.start k whole n = go (Plans.breaks_before k whole (selected_lines k meaning whole) i)
+            (if breaks_before k whole (selection whole) i
+            then (planned breaks (count_at k whole (selection whole) i kd))
+            ∷ Plans.report k whole (selection whole) i kd
+            else Plans.report k whole (selection whole) i kd)) is (ended-at i below) in
+            let low : end ≤ Plans.start k whole n = go (breaks_before k whole (selection whole) i)
             (context Before (Plans.number k whole i) (Plans.start k whole i)
             (Plans.line k whole i)) end all_ended in
             omega (arith, late-through i late)
@@ -614,10 +620,10 @@ module _ (k : Settings) (meaning : Meaning) (front back : List ℕ)
         same-kinds j below = ⊎_elim (λ same. same) (λ late. absurd (not-late j below late))
             (kind-same j (omega arith))
 
-        pub front_calls-seen : Plans.calls_before k whole (selected_lines k meaning whole) v ≡ (line_plan k meaning front).calls
+        pub front_calls-seen : calls_before k whole (selection whole) v ≡ (line_plan k meaning front).calls
         front_calls-seen =
             let begin : Planned = (planned begins 0) in
-            let f = Plans.calls_at k front (selected_lines k meaning front) in
+            let f = calls_at k front (selection front) in
             let same = ap (λ ts. begin ∷ ts) (joined-same v same-kinds (omega (arith, front_reportable))) in
             let none = joined_from-none f v (count_front - v)
             (λ j low high. passed-calls j low (omega (arith, front_reportable))) in

@@ -10,8 +10,9 @@ use Rattle.grep_matcher.specs.Lines.{byte_of, lines}
 use Rattle.grep_matcher.specs.Meanings.{Meaning}
 use Rattle.grep_matcher.proofs.LineLemmas.{lines-append}
 use Rattle.grep_definitions.specs.Plans.{selected_lines, Settings, some_below, count_below}
-use Rattle.grep_definitions.specs.Plans.{first_below}
-use Rattle.grep_definitions.specs.Plans
+use Rattle.grep_definitions.specs.Plans.{first_below, ends_search, fills_limit, follows_selected}
+use Rattle.grep_definitions.specs.Plans.{hits, is_chosen, is_selected, is_trailing, line, number}
+use Rattle.grep_definitions.specs.Plans.{start}
 use Rattle.grep_matcher.proofs.LineStartLemmas.{line_start-within}
 
 -- as many pass if the tests agree
@@ -55,18 +56,18 @@ module _ (k : Settings) (meaning : Meaning) (front back : List ℕ)
   all_lines = lines-append (byte_of k.line_terminator) front back closed
 
   -- a line of the front is that line of the whole
-  pub line-same : (i : ℕ) → i < n → Plans.line k whole i ≡ Plans.line k front i
+  pub line-same : (i : ℕ) → i < n → line k whole i ≡ line k front i
   line-same i below = ap (λ ls. get_or ls i []) all_lines ∙ get_or_append_left (lines (byte_of k.line_terminator) front)
       (lines (byte_of k.line_terminator) back) [] i below
 
   -- it begins at the same offset
-  pub start-same : (i : ℕ) → i ≤ n → Plans.start k whole i ≡ Plans.start k front i
+  pub start-same : (i : ℕ) → i ≤ n → start k whole i ≡ start k front i
   start-same i inside = ap (λ ls. length (concat (take i ls))) all_lines
       ∙ ap (λ ls. length (concat ls))
       (take-append-le i (lines (byte_of k.line_terminator) front) (lines (byte_of k.line_terminator) back) inside)
 
   -- it hits in both or in neither
-  pub hits-same : (i : ℕ) → i < n → Plans.hits k meaning whole i ≡ Plans.hits k meaning front i
+  pub hits-same : (i : ℕ) → i < n → hits k meaning whole i ≡ hits k meaning front i
   hits-same i below =
       let here : nat_lt i n ≡ true = lt-ltb i n below in
       let inside : i < length (lines (byte_of k.line_terminator) whole) = omega (
@@ -81,57 +82,57 @@ module _ (k : Settings) (meaning : Meaning) (front back : List ℕ)
       rw (here, there, line-same i below) refl
 
   -- it is chosen in both or in neither
-  pub is_chosen-same : (i : ℕ) → i < n → Plans.is_chosen k meaning whole i ≡ Plans.is_chosen k meaning front i
+  pub is_chosen-same : (i : ℕ) → i < n → is_chosen k meaning whole i ≡ is_chosen k meaning front i
   is_chosen-same i below =
-      let before = count_below-same (Plans.hits k meaning whole) (Plans.hits k meaning front) i
+      let before = count_below-same (hits k meaning whole) (hits k meaning front) i
       (λ j less. hits-same j (omega arith)) in
       rw (hits-same i below, before) refl
 
   -- it is trailing in both or in neither
-  pub is_trailing-same : (i : ℕ) → i < n → Plans.is_trailing k meaning whole i
-      ≡ Plans.is_trailing k meaning front i
+  pub is_trailing-same : (i : ℕ) → i < n → is_trailing k meaning whole i
+      ≡ is_trailing k meaning front i
   is_trailing-same i below =
-      let before = count_below-same (Plans.hits k meaning whole) (Plans.hits k meaning front) i
+      let before = count_below-same (hits k meaning whole) (hits k meaning front) i
       (λ j less. hits-same j (omega arith)) in
       rw (hits-same i below, before) refl
 
   -- it ends the chosen lines in both or in neither
-  pub ends_search-same : (i : ℕ) → i < n → Plans.ends_search k meaning whole i
-      ≡ Plans.ends_search k meaning front i
+  pub ends_search-same : (i : ℕ) → i < n → ends_search k meaning whole i
+      ≡ ends_search k meaning front i
   ends_search-same i below =
-      let before = some_below-same (Plans.is_chosen k meaning whole) (Plans.is_chosen k meaning front) i
+      let before = some_below-same (is_chosen k meaning whole) (is_chosen k meaning front) i
       (λ j less. is_chosen-same j (omega arith)) in
       rw (is_chosen-same i below, before) refl
 
   -- it is selected in both or in neither
-  pub is_selected-same : (i : ℕ) → i < n → Plans.is_selected k meaning whole i
-      ≡ Plans.is_selected k meaning front i
+  pub is_selected-same : (i : ℕ) → i < n → is_selected k meaning whole i
+      ≡ is_selected k meaning front i
   is_selected-same i below =
-      let before = some_below-same (Plans.ends_search k meaning whole) (Plans.ends_search k meaning front) i
+      let before = some_below-same (ends_search k meaning whole) (ends_search k meaning front) i
       (λ j less. ends_search-same j (omega arith)) in
       rw (is_chosen-same i below, before) refl
 
   -- it follows a selected line in both or in neither
-  pub follows-same : (i : ℕ) → i < n → Plans.follows_selected k whole (selected_lines k meaning whole) i
-      ≡ Plans.follows_selected k front (selected_lines k meaning front) i
+  pub follows-same : (i : ℕ) → i < n → follows_selected k whole (selected_lines k meaning whole) i
+      ≡ follows_selected k front (selected_lines k meaning front) i
   follows-same i below = some_below-same (λ j. nat_le (i - j) k.after_context
-      && Plans.is_selected k meaning whole j)
-      (λ j. nat_le (i - j) k.after_context && Plans.is_selected k meaning front j) i
+      && is_selected k meaning whole j)
+      (λ j. nat_le (i - j) k.after_context && is_selected k meaning front j) i
       (λ j less. ap (λ b. nat_le (i - j) k.after_context && b) (is_selected-same j (omega arith)))
 
   -- it has the same number
-  pub number-same : (i : ℕ) → i ≤ n → Plans.number k whole i ≡ Plans.number k front i
+  pub number-same : (i : ℕ) → i ≤ n → number k whole i ≡ number k front i
   number-same i inside =
-      let cut : take (Plans.start k whole i) whole
-      ≡ take (Plans.start k front i) front = ap (λ p. take p whole)
-      (start-same i inside) ∙ take-append-le (Plans.start k front i) front back
+      let cut : take (start k whole i) whole
+      ≡ take (start k front i) front = ap (λ p. take p whole)
+      (start-same i inside) ∙ take-append-le (start k front i) front back
       (line_start-within (byte_of k.line_terminator) front i) in
       ap (λ bs. if k.line_number then Some (count_by (λ b. nat_eq b (byte_of k.line_terminator)) bs + 1) else None) cut
 
   -- it fills the limit in both or in neither
-  pub fills_limit-same : (i : ℕ) → i < n → Plans.fills_limit k meaning whole i
-      ≡ Plans.fills_limit k meaning front i
+  pub fills_limit-same : (i : ℕ) → i < n → fills_limit k meaning whole i
+      ≡ fills_limit k meaning front i
   fills_limit-same i below =
-      let before = count_below-same (Plans.hits k meaning whole) (Plans.hits k meaning front) i
+      let before = count_below-same (hits k meaning whole) (hits k meaning front) i
       (λ j less. hits-same j (omega arith)) in
       rw (is_chosen-same i below, before) refl

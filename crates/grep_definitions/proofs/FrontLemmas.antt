@@ -18,8 +18,8 @@ use Rattle.grep_matcher.specs.Meanings.{Meaning}
 use Rattle.grep_matcher.proofs.LineLemmas.{AreLines-lines, lines-append}
 use Rattle.grep_lines.specs.Positions.{IsLineStart}
 use Rattle.grep_definitions.specs.Plans.{line_plan, is_reported, is_selected, line_count}
-use Rattle.grep_definitions.specs.Plans.{reports_end, selected_lines, Settings}
-use Rattle.grep_definitions.specs.Plans
+use Rattle.grep_definitions.specs.Plans.{reports_end, selected_lines, Settings, kind}
+use Rattle.grep_definitions.specs.Plans.{precedes_selected}
 use Rattle.grep_definitions.specs.Searches.{IsBelowLimit, IsClosed, IsCrowded, IsFront, IsTooLong}
 use Rattle.grep_definitions.specs.LineWalks.{IsNear}
 use Rattle.grep_definitions.proofs.BelowLemmas.{some_below-find}
@@ -145,13 +145,13 @@ unreported-passed k meaning bytes v left near i low below =
     let plain : k.passthru ≡ false = ⊎_elim (λ yes. absurd (omega (arith, near.bare yes)))
     (λ no. no) (cases_Bool k.passthru) in
     let apart = unpreceded in
-    let none : Plans.kind k bytes (selected_lines k meaning bytes) i ≡ None = rw (out.0, out.1, apart, plain) refl in
+    let none : kind k bytes (selected_lines k meaning bytes) i ≡ None = rw (out.0, out.1, apart, plain) refl in
     ap (λ o. nat_lt i (reports_end k meaning bytes) && is_some o) none ∙ and-false (nat_lt i (reports_end k meaning bytes))
   where
     before : ℕ → Bool
     before j = nat_lt i j && nat_le (j - i) k.before_context && is_selected k meaning bytes j
 
-    unpreceded : Plans.precedes_selected k bytes (selected_lines k meaning bytes) i ≡ false
+    unpreceded : precedes_selected k bytes (selected_lines k meaning bytes) i ≡ false
     unpreceded = ⊎_elim
         (λ holds.
         let found = some_below-find before (line_count k bytes) holds in
@@ -160,7 +160,7 @@ unreported-passed k meaning bytes v left near i low below =
         let above = ltb-true i found.0 (both_true (nat_lt i found.0) _ both.0).0 in
         absurd (clash both.1 (near.passed found.0 (omega arith) found.1).0))
         (λ no. no)
-        (cases_Bool (Plans.precedes_selected k bytes (selected_lines k meaning bytes) i))
+        (cases_Bool (precedes_selected k bytes (selected_lines k meaning bytes) i))
 
 -- a buffer that shows some lines after those that are gone, and holds bytes after them that end none, can't hold the
 -- next line

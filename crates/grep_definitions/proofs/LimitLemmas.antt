@@ -10,6 +10,7 @@ use Rattle.grep_matcher.specs.Lines.{byte_of, lines}
 use Rattle.grep_matcher.specs.Meanings.{Meaning}
 use Rattle.grep_definitions.specs.Plans.{end_by_limit, end_by_stop, reports_end, Settings}
 use Rattle.grep_definitions.specs.Plans.{some_below, count_below, first_below, has_room, at_most}
+use Rattle.grep_definitions.specs.Plans.{ends_search, fills_limit, is_selected, stops_next}
 use Rattle.grep_definitions.specs.Plans
 use Rattle.grep_definitions.specs.LineWalks.{IsOpen}
 use Rattle.grep_definitions.proofs.BelowLemmas.{some_below-none, some_below-some, first_below-here}
@@ -30,10 +31,10 @@ module _ (k : Settings) (meaning : Meaning) (bytes : List ℕ) where
   is_chosen = Plans.is_chosen k meaning bytes
 
   abbrev ends : ℕ → Bool
-  ends = Plans.ends_search k meaning bytes
+  ends = ends_search k meaning bytes
 
   abbrev fills : ℕ → Bool
-  fills = Plans.fills_limit k meaning bytes
+  fills = fills_limit k meaning bytes
 
   abbrev by_stop : Option ℕ
   by_stop = end_by_stop k meaning bytes
@@ -47,18 +48,18 @@ module _ (k : Settings) (meaning : Meaning) (bytes : List ℕ) where
   -- no line from the i-th on may be reported
   pub record IsDone (i : ℕ) : Type 0 where
     pub last : reportable ≡ i
-    pub silent : (q : ℕ) → i ≤ q → q < n → Plans.is_selected k meaning bytes q ≡ false
+    pub silent : (q : ℕ) → i ≤ q → q < n → is_selected k meaning bytes q ≡ false
 
   -- a line that isn't chosen isn't selected
-  selected-none : (q : ℕ) → is_chosen q ≡ false → Plans.is_selected k meaning bytes q ≡ false
+  selected-none : (q : ℕ) → is_chosen q ≡ false → is_selected k meaning bytes q ≡ false
   selected-none q unchosen = ap (λ b. b && not (some_below ends q)) unchosen
 
   -- in a search that doesn't stop no line ends it, and each chosen line is selected
-  module _ (never : (some : Bool) → Plans.stops_next k some ≡ false) where
+  module _ (never : (some : Bool) → stops_next k some ≡ false) where
     pub ends-none : (i : ℕ) → some_below ends i ≡ false
     ends-none i = some_below-none ends i (λ j less. rw (never (some_below is_chosen j)) refl)
 
-    pub selected-unstopped : (i : ℕ) → Plans.is_selected k meaning bytes i ≡ is_chosen i
+    pub selected-unstopped : (i : ℕ) → is_selected k meaning bytes i ≡ is_chosen i
     selected-unstopped i = rw (ends-none i) (and-true _)
 
     pub by_stop-none : by_stop ≡ None
@@ -143,7 +144,7 @@ module _ (k : Settings) (meaning : Meaning) (bytes : List ℕ) where
       let s = at_most-over by_stop n (stop_bound opened) in
       ap (λ m. at_most by_limit m) s ∙ at_most-over by_limit n (limit_bound (omega arith) opened)
 
-  pub selected-is : {i left c : ℕ} → IsOpen k meaning bytes i left c → Plans.is_selected k meaning bytes i
+  pub selected-is : {i left c : ℕ} → IsOpen k meaning bytes i left c → is_selected k meaning bytes i
       ≡ is_chosen i
   selected-is opened = rw opened.unended (and-true _)
 
@@ -217,7 +218,7 @@ module _ (k : Settings) (meaning : Meaning) (bytes : List ℕ) where
           room-le k _ _ (count_below-le hits i j (omega arith)) (opened.below ∙ full) ∙ sym full)
           (cases_Bool (has_room k c))
 
-      pub IsOpen-missed : Plans.stops_next k (nat_lt 0 c) ≡ false
+      pub IsOpen-missed : stops_next k (nat_lt 0 c) ≡ false
           → (k.passthru ≡ false → has_room k c ≡ false → 1 < left)
           → IsOpen k meaning bytes (i + 1) (left - 1) c
       IsOpen-missed on goes = at (i + 1) (omega arith)
@@ -252,7 +253,7 @@ module _ (k : Settings) (meaning : Meaning) (bytes : List ℕ) where
                 rw no_more (and-false _));
           }
 
-      pub IsDone-stop : Plans.stops_next k (nat_lt 0 c) ≡ true → IsDone (i + 1)
+      pub IsDone-stop : stops_next k (nat_lt 0 c) ≡ true → IsDone (i + 1)
       IsDone-stop stop =
           let ended : ends i ≡ true = rw (opened.any, stop, no) refl in
           let found = first_below-here ends n i inside ended opened.unended in

@@ -8,8 +8,7 @@ use Rattle.std.specs.List.{concat}
 use Rattle.grep_matcher.specs.Lines.{lines, byte_of}
 use Rattle.grep_matcher.specs.Meanings.{Meaning}
 use Rattle.grep_definitions.specs.Plans.{selected_lines, matches, planned, line, line_count}
-use Rattle.grep_definitions.specs.Plans.{matched, number, start, Settings}
-use Rattle.grep_definitions.specs.Plans
+use Rattle.grep_definitions.specs.Plans.{matched, number, start, Settings, report}
 use Rattle.grep_lines.proofs.LineStepLemmas.{IsStep-line, lines-numbered}
 use Rattle.grep_definitions.specs.SearchLaws.{number_of}
 
@@ -32,6 +31,6 @@ module _ (k : Settings) (bytes : List ℕ) where
       ap (λ c. if k.line_number then Some (c + 1) else None) (lines-numbered (byte_of k.line_terminator) bytes i inside)
 
   -- by line a match is reported with its line
-  pub line-report : (meaning : Meaning) (i : ℕ) → Plans.report k bytes (selected_lines k meaning bytes) i (Some matched)
+  pub line-report : (meaning : Meaning) (i : ℕ) → report k bytes (selected_lines k meaning bytes) i (Some matched)
       ≡ planned (matches (number k bytes i) (start k bytes i) (line k bytes i)) (start k bytes (i + 1)) ∷ []
   line-report meaning i = rw (slice-line i) refl

@@ -2,7 +2,11 @@
 use Rattle.grep_definitions.specs.Plans.{end_by_limit, end_by_stop, line_plan, reports_end}
 use Rattle.grep_definitions.specs.Plans.{selected_lines, planned, Call, Planned, breaks, matches}
 use Rattle.grep_definitions.specs.Plans.{Settings, some_below, count_below, first_below}
-use Rattle.grep_definitions.specs.Plans.{joined_from, in_context, has_room}
+use Rattle.grep_definitions.specs.Plans.{joined_from, in_context, has_room, Selection}
+use Rattle.grep_definitions.specs.Plans.{breaks_before, calls_at, count_at, ends_search}
+use Rattle.grep_definitions.specs.Plans.{fills_limit, follows_selected, is_chosen, is_selected}
+use Rattle.grep_definitions.specs.Plans.{is_trailing, kind, line, line_count, matched}
+use Rattle.grep_definitions.specs.Plans.{precedes_selected, start}
 use Rattle.grep_definitions.specs.Plans
 use Rattle.std.proofs.Math.Bool.{and-false}
 use Rattle.std.proofs.Common.{◌≡◌, ℕ, zero, suc, ◌+◌, ◌-◌, ◌<◌, ◌≤◌, Bool, true, false, ◌&&◌, ◌||◌}
@@ -109,32 +113,35 @@ match_calls-joined f i (suc n) =
     ∙ ap (λ xs. match_calls (f i) ++ xs) (match_calls-joined f (i + 1) n)
 
 module _ (k : Settings) (meaning : Meaning) (bytes : List ℕ) where
+  abbrev selection : Selection
+  selection = selected_lines k meaning bytes
+
   abbrev n : ℕ
-  n = Plans.line_count k bytes
+  n = line_count k bytes
 
   abbrev hits : ℕ → Bool
   hits = Plans.hits k meaning bytes
 
   abbrev selected : ℕ → Bool
-  selected = Plans.is_selected k meaning bytes
+  selected = is_selected k meaning bytes
 
   abbrev fills : ℕ → Bool
-  fills = Plans.fills_limit k meaning bytes
+  fills = fills_limit k meaning bytes
 
   abbrev ends : ℕ → Bool
-  ends = Plans.ends_search k meaning bytes
+  ends = ends_search k meaning bytes
 
   -- a selected line comes before each bound of the reports
   stop-bound : (i : ℕ) → selected i ≡ true → IfSome (end_by_stop k meaning bytes) (λ b. i < b)
   stop-bound i taken = go (first_below ends n) refl
-      (not_false _ (both_true (Plans.is_chosen k meaning bytes i) _ taken).1)
+      (not_false _ (both_true (is_chosen k meaning bytes i) _ taken).1)
     where
       go : (found : Option ℕ) → first_below ends n ≡ found → some_below ends i ≡ false
           → IfSome (option_map suc found) (λ b. i < b)
       go None is none = tt
       go (Some u) is none = let late = first_below-late ends i n u none is in omega arith
 
-  limit-bound : (i : ℕ) → Plans.is_chosen k meaning bytes i ≡ true
+  limit-bound : (i : ℕ) → is_chosen k meaning bytes i ≡ true
       → IfSome (end_by_limit k meaning bytes) (λ b. i < b)
   limit-bound i taken = go k.passthru (has_room k 0) refl (first_below fills n) refl
     where
@@ -143,7 +150,7 @@ module _ (k : Settings) (meaning : Meaning) (bytes : List ℕ) where
 
       late : (m : ℕ) → fills m ≡ true → i ≤ m
       late m full =
-          let parts = both_true (Plans.is_chosen k meaning bytes m) _ full in
+          let parts = both_true (is_chosen k meaning bytes m) _ full in
           let hit : hits m ≡ true = (both_true (hits m) _ parts.0).0 in
           let next : count_below hits m + 1 ≡ count_below hits (suc m) = rw hit refl in
           ⊎_elim
@@ -163,13 +170,13 @@ module _ (k : Settings) (meaning : Meaning) (bytes : List ℕ) where
   -- it is one of the lines
   selected-inside : (i : ℕ) → selected i ≡ true → i < n
   selected-inside i taken =
-      let hit = both_true (hits i) _ (both_true (Plans.is_chosen k meaning bytes i) _ taken).0 in
+      let hit = both_true (hits i) _ (both_true (is_chosen k meaning bytes i) _ taken).0 in
       ltb-true i n (both_true (nat_lt i n) _ hit.0).0
 
   -- so it may be reported
   pub selected-reportable : (i : ℕ) → selected i ≡ true → i < reports_end k meaning bytes
   selected-reportable i taken =
-      let chosen = both_true (Plans.is_chosen k meaning bytes i) _ taken in
+      let chosen = both_true (is_chosen k meaning bytes i) _ taken in
       at_most-above (end_by_limit k meaning bytes) i _
       (limit-bound i chosen.0)
       (at_most-above (end_by_stop k meaning bytes) i n (stop-bound i taken) (selected-inside i taken))
@@ -183,18 +190,18 @@ module _ (k : Settings) (meaning : Meaning) (bytes : List ℕ) where
   match_at i = if is_matched k meaning bytes i then match_of k bytes i ∷ [] else []
 
   match_calls-kind : (i : ℕ) → i < n
-      → match_calls (Plans.report k bytes (selected_lines k meaning bytes) i (Plans.kind k bytes (selected_lines k meaning bytes) i)) ≡ match_at i
+      → match_calls (Plans.report k bytes selection i (kind k bytes selection i)) ≡ match_at i
   match_calls-kind i inside =
-      go (selected i) (Plans.follows_selected k bytes (selected_lines k meaning bytes) i) (Plans.is_trailing k meaning bytes i)
-      (Plans.precedes_selected k bytes (selected_lines k meaning bytes) i) k.passthru
+      go (selected i) (follows_selected k bytes selection i) (is_trailing k meaning bytes i)
+      (precedes_selected k bytes selection i) k.passthru
     where
-      one : match_calls (Plans.report k bytes (selected_lines k meaning bytes) i (Some Plans.matched)) ≡ match_of k bytes i ∷ []
-      one = ap match_calls (line-report k bytes meaning i) ∙ ap (λ number. matches number (Plans.start k bytes i) (Plans.line k bytes i) ∷ [])
+      one : match_calls (Plans.report k bytes selection i (Some matched)) ≡ match_of k bytes i ∷ []
+      one = ap match_calls (line-report k bytes meaning i) ∙ ap (λ number. matches number (start k bytes i) (line k bytes i) ∷ [])
           (rw (lines-numbered (byte_of k.line_terminator) bytes i inside) refl)
 
       go : (a b t c d : Bool)
-          → match_calls (Plans.report k bytes (selected_lines k meaning bytes) i (if a then Some Plans.matched
-          else (if b then Some (if t then Plans.matched else in_context After)
+          → match_calls (Plans.report k bytes selection i (if a then Some matched
+          else (if b then Some (if t then matched else in_context After)
           else (if c then Some (in_context Before) else (if d then Some (in_context Other) else None)))))
           ≡ (if a || (b && t) then match_of k bytes i ∷ [] else [])
       go true b t c d = one
@@ -205,12 +212,12 @@ module _ (k : Settings) (meaning : Meaning) (bytes : List ℕ) where
       go false false t false false = refl
 
   abbrev report : ℕ → List Planned
-  report i = Plans.report k bytes (selected_lines k meaning bytes) i (Plans.kind k bytes (selected_lines k meaning bytes) i)
+  report i = Plans.report k bytes selection i (kind k bytes selection i)
 
-  match_calls-line : (i : ℕ) → i < n → match_calls (Plans.calls_at k bytes (selected_lines k meaning bytes) i) ≡ match_at i
+  match_calls-line : (i : ℕ) → i < n → match_calls (calls_at k bytes selection i) ≡ match_at i
   match_calls-line i inside =
-      go (Plans.breaks_before k bytes (selected_lines k meaning bytes) i)
-      (Plans.count_at k bytes (selected_lines k meaning bytes) i (Plans.kind k bytes (selected_lines k meaning bytes) i))
+      go (breaks_before k bytes selection i)
+      (count_at k bytes selection i (kind k bytes selection i))
     where
       go : (b : Bool) (end : ℕ) → match_calls (if b then planned breaks end ∷ report i else report i)
           ≡ match_at i
@@ -221,7 +228,7 @@ module _ (k : Settings) (meaning : Meaning) (bytes : List ℕ) where
   pub match_calls-plan : match_calls (line_plan k meaning bytes).calls
       ≡ map (match_of k bytes) (matched_lines k meaning bytes)
   match_calls-plan =
-      match_calls-joined (Plans.calls_at k bytes (selected_lines k meaning bytes)) 0 reportable
+      match_calls-joined (calls_at k bytes selection) 0 reportable
       ∙ joined_from-equal _ match_at 0 reportable (λ j low high. match_calls-line j
       (omega (arith, reports_end-le k meaning bytes)))
       ∙ sym (map-passing (match_of k bytes) (is_matched k meaning bytes) 0 reportable)
@@ -239,7 +246,7 @@ module _ (k : Settings) (meaning : Meaning) (bytes : List ℕ) where
       -- before the first selected line, no line is matched
       unmatched : (j : ℕ) → ((i : ℕ) → i ≤ j → selected i ≡ false) → is_matched k meaning bytes j ≡ false
       unmatched j none =
-          let follows : Plans.follows_selected k bytes (selected_lines k meaning bytes) j ≡ false =
+          let follows : follows_selected k bytes selection j ≡ false =
           some_below-none _ j (λ i less. let no = none i (omega arith) in rw no
           (and-false (nat_le (j - i) k.after_context))) in
           rw (none j (omega arith), follows) refl

@@ -3,7 +3,10 @@ use Rattle.grep_definitions.specs.Plans.{calls_at, end_by_limit, end_by_stop, li
 use Rattle.grep_definitions.specs.Plans.{reports_end, selected_lines, planned, Call, Planned}
 use Rattle.grep_definitions.specs.Plans.{matches, context, breaks, reported_bytes, reported_from}
 use Rattle.grep_definitions.specs.Plans.{Settings, count_below, first_below, has_room, at_most}
-use Rattle.grep_definitions.specs.Plans.{joined_from, Kind, matched, in_context}
+use Rattle.grep_definitions.specs.Plans.{joined_from, Kind, matched, in_context, Selection}
+use Rattle.grep_definitions.specs.Plans.{breaks_before, count_at, follows_selected, hits, is_chosen}
+use Rattle.grep_definitions.specs.Plans.{is_open_at, is_reported, is_selected, is_trailing}
+use Rattle.grep_definitions.specs.Plans.{line_count, number, precedes_selected, report}
 use Rattle.grep_definitions.specs.Plans
 use Rattle.std.proofs.Common.{◌≡◌, ℕ, zero, suc, ◌+◌, ◌-◌, ◌<◌, ◌≤◌, Bool, true, false, List, []}
 use Rattle.std.proofs.Common.{◌∷◌, length, slice_index, refl, sym, ap, subst, ◌∙◌, arith, ◌⊎◌, inl}
@@ -128,24 +131,27 @@ kind-selected a b c d is =
     (or-cases a (b && false) (kind-matched a b false c d is))
 
 module _ (k : Settings) (meaning : Meaning) (bytes : List ℕ) where
+  abbrev selection : Selection
+  selection = selected_lines k meaning bytes
+
   -- how many lines there are, where each starts, whether it is chosen, and its calls
   abbrev n : ℕ
-  n = Plans.line_count k bytes
+  n = line_count k bytes
 
   abbrev start : ℕ → ℕ
   start = Plans.start k bytes
 
   abbrev chosen : ℕ → Bool
-  chosen = Plans.is_chosen k meaning bytes
+  chosen = is_chosen k meaning bytes
 
   abbrev selected : ℕ → Bool
-  selected = Plans.is_selected k meaning bytes
+  selected = is_selected k meaning bytes
 
   abbrev is_open : ℕ → Bool
-  is_open = Plans.is_open_at k meaning bytes
+  is_open = is_open_at k meaning bytes
 
   abbrev T : ℕ → List Planned
-  T = calls_at k bytes (selected_lines k meaning bytes)
+  T = calls_at k bytes selection
 
   -- no more lines may be reported than there are
   pub reports_end-le : reports_end k meaning bytes ≤ n
@@ -159,14 +165,14 @@ module _ (k : Settings) (meaning : Meaning) (bytes : List ℕ) where
 
   -- a line after a selected one follows it
   follows-near : (i j : ℕ) → selected j ≡ true → j < i → i - j ≤ k.after_context
-      → Plans.follows_selected k bytes (selected_lines k meaning bytes) i ≡ true
+      → follows_selected k bytes selection i ≡ true
   follows-near i j hit less close = let near = le-leb (i - j) k.after_context close in some_below-some _ i j less
       (rw (near, hit) refl)
 
   -- and so is reported, if it may be
   shown-near : (i j : ℕ) → i < reports_end k meaning bytes → selected j ≡ true → j ≤ i
       → i - j ≤ k.after_context
-      → Plans.is_reported k bytes (selected_lines k meaning bytes) i ≡ true
+      → is_reported k bytes selection i ≡ true
   shown-near i j has hit low close = ⊎_elim
       (λ less. let here = lt-ltb i _ has in let follows = follows-near i j hit less close in rw (here, follows)
       (some (selected i)))
@@ -178,7 +184,7 @@ module _ (k : Settings) (meaning : Meaning) (bytes : List ℕ) where
       one same = omega arith
 
       some : (a : Bool) → is_some (if a then Some matched
-          else Some (if Plans.is_trailing k meaning bytes i then matched else in_context After)) ≡ true
+          else Some (if is_trailing k meaning bytes i then matched else in_context After)) ≡ true
       some true = refl
       some false = refl
 
@@ -186,21 +192,21 @@ module _ (k : Settings) (meaning : Meaning) (bytes : List ℕ) where
   -- trailing
   pub calls_at-follows : (i j : ℕ) → i < reports_end k meaning bytes → selected i ≡ false → selected j ≡ true
       → j < i → i - j ≤ k.after_context → T i
-      ≡ planned (if Plans.is_trailing k meaning bytes i then matches (Plans.number k bytes i) (start
-      i) (Plans.line k bytes i) else context After (Plans.number k bytes i) (start i)
+      ≡ planned (if is_trailing k meaning bytes i then matches (number k bytes i) (start
+      i) (Plans.line k bytes i) else context After (number k bytes i) (start i)
       (Plans.line k bytes i)) (start (i + 1)) ∷ []
-  calls_at-follows i j has misses hit less close = go (Plans.is_trailing k meaning bytes i) refl
+  calls_at-follows i j has misses hit less close = go (is_trailing k meaning bytes i) refl
     where
-      is_kind : Plans.kind k bytes (selected_lines k meaning bytes) i ≡ Some
-          (if Plans.is_trailing k meaning bytes i then matched else in_context After)
+      is_kind : Plans.kind k bytes selection i ≡ Some
+          (if is_trailing k meaning bytes i then matched else in_context After)
       is_kind = let follows = follows-near i j hit less close in rw (misses, follows) refl
 
-      shown : Plans.is_reported k bytes (selected_lines k meaning bytes) (i - 1) ≡ true
+      shown : is_reported k bytes selection (i - 1) ≡ true
       shown = shown-near (i - 1) j (omega arith) hit (omega arith) (omega arith)
 
-      go : (t : Bool) → Plans.is_trailing k meaning bytes i ≡ t → T i
-          ≡ planned (if t then matches (Plans.number k bytes i) (start i) (Plans.line k bytes
-          i) else context After (Plans.number k bytes i) (start i) (Plans.line k bytes i))
+      go : (t : Bool) → is_trailing k meaning bytes i ≡ t → T i
+          ≡ planned (if t then matches (number k bytes i) (start i) (Plans.line k bytes
+          i) else context After (number k bytes i) (start i) (Plans.line k bytes i))
           (start (i + 1)) ∷ []
       go true is =
           let kind = is_kind ∙ ap (λ b. Some (if b then matched else in_context After)) is in
@@ -212,8 +218,8 @@ module _ (k : Settings) (meaning : Meaning) (bytes : List ℕ) where
 
   -- a line has one report at most, of its bytes
   reported-line : (i : ℕ) → i < n → (report_calls (T i) ≡ []) ⊎ IsReported T start i
-  reported-line i inside = go (Plans.kind k bytes (selected_lines k meaning bytes) i)
-      (report_calls-broken (Plans.breaks_before k bytes (selected_lines k meaning bytes) i) _ _)
+  reported-line i inside = go (Plans.kind k bytes selection i)
+      (report_calls-broken (breaks_before k bytes selection i) _ _)
     where
       one : (call : Call) → report_calls (T i) ≡ call ∷ [] → reported_from call ≡ start i
           → reported_bytes call ≡ Plans.line k bytes i → IsReported T start i
@@ -228,7 +234,7 @@ module _ (k : Settings) (meaning : Meaning) (bytes : List ℕ) where
         alone = λ j above below. absurd (omega arith);
       }
 
-      go : (o : Option Kind) → report_calls (T i) ≡ report_calls (Plans.report k bytes (selected_lines k meaning bytes) i o)
+      go : (o : Option Kind) → report_calls (T i) ≡ report_calls (report k bytes selection i o)
           → (report_calls (T i) ≡ []) ⊎ IsReported T start i
       go None is = inl is
       go (Some matched) is = inr (one _ is refl (slice-line k bytes i))
@@ -242,32 +248,32 @@ module _ (k : Settings) (meaning : Meaning) (bytes : List ℕ) where
 
   -- whether a line is trailing in the context after a selected line
   abbrev late : ℕ → Bool
-  late i = Plans.follows_selected k bytes (selected_lines k meaning bytes) i && Plans.is_trailing k meaning bytes i
+  late i = follows_selected k bytes selection i && is_trailing k meaning bytes i
 
   -- a report tells one match at most, and only where its line is a match
-  matches-report : (i : ℕ) (kind : Option Kind) → Plans.kind k bytes (selected_lines k meaning bytes) i ≡ kind
-      → matches_in (Plans.report k bytes (selected_lines k meaning bytes) i kind) ≤ (if is_matched k meaning bytes i then 1 else 0)
+  matches-report : (i : ℕ) (kind : Option Kind) → Plans.kind k bytes selection i ≡ kind
+      → matches_in (report k bytes selection i kind) ≤ (if is_matched k meaning bytes i then 1 else 0)
   matches-report i None is = omega arith
   matches-report i (Some matched) is =
-      let here = kind-matched (selected i) (Plans.follows_selected k bytes (selected_lines k meaning bytes) i)
-      (Plans.is_trailing k meaning bytes i)
-      (Plans.precedes_selected k bytes (selected_lines k meaning bytes) i) k.passthru is in
+      let here = kind-matched (selected i) (follows_selected k bytes selection i)
+      (is_trailing k meaning bytes i)
+      (precedes_selected k bytes selection i) k.passthru is in
       rw here (omega arith)
   matches-report i (Some (in_context c)) is = omega arith
 
   -- only such a line is reported as a match, and once
   matches-line : (i : ℕ) → matches_in (T i) ≤ (if is_matched k meaning bytes i then 1 else 0)
-  matches-line i = go (Plans.breaks_before k bytes (selected_lines k meaning bytes) i)
+  matches-line i = go (breaks_before k bytes selection i)
     where
       go : (b : Bool) → matches_in
-          (if b then (planned breaks (Plans.count_at k bytes (selected_lines k meaning bytes) i (Plans.kind k bytes (selected_lines k meaning bytes) i)))
-          ∷ Plans.report k bytes (selected_lines k meaning bytes) i (Plans.kind k bytes (selected_lines k meaning bytes) i) else Plans.report k bytes (selected_lines k meaning bytes) i
-          (Plans.kind k bytes (selected_lines k meaning bytes) i)) ≤ (if is_matched k meaning bytes i then 1 else 0)
-      go true = matches-report i (Plans.kind k bytes (selected_lines k meaning bytes) i) refl
-      go false = matches-report i (Plans.kind k bytes (selected_lines k meaning bytes) i) refl
+          (if b then (planned breaks (count_at k bytes selection i (Plans.kind k bytes selection i)))
+          ∷ report k bytes selection i (Plans.kind k bytes selection i) else report k bytes selection i
+          (Plans.kind k bytes selection i)) ≤ (if is_matched k meaning bytes i then 1 else 0)
+      go true = matches-report i (Plans.kind k bytes selection i) refl
+      go false = matches-report i (Plans.kind k bytes selection i) refl
 
   chosen-few : (limit m : ℕ) → has_room k limit ≡ false → count_below chosen m ≤ limit
-  chosen-few limit m = count_below-limited k (Plans.hits k meaning bytes) limit m
+  chosen-few limit m = count_below-limited k (hits k meaning bytes) limit m
 
   -- what a late line has: a selected line before it in reach, before which the limit had room, as it hasn't there
   record IsLate (i : ℕ) : Type 0 where
@@ -280,25 +286,25 @@ module _ (k : Settings) (meaning : Meaning) (bytes : List ℕ) where
 
   late-is : (i : ℕ) → late i ≡ true → IsLate i
   late-is i is =
-      let parts = both_true (Plans.follows_selected k bytes (selected_lines k meaning bytes) i) (Plans.is_trailing k meaning bytes i)
+      let parts = both_true (follows_selected k bytes selection i) (is_trailing k meaning bytes i)
       is in
       let found = some_below-find (λ j. nat_le (i - j) k.after_context && selected j) i parts.0 in
       let near = both_true (nat_le (i - found.0) k.after_context) (selected found.0) found.2 in
       let chosen = (both_true (chosen found.0) _ near.1).0 in
-      let past = both_true (Plans.hits k meaning bytes i) (not (is_open i)) parts.1 in
+      let past = both_true (hits k meaning bytes i) (not (is_open i)) parts.1 in
       record {
         line = found.0;
         before = found.1;
         near = leb-true (i - found.0) k.after_context near.0;
         chosen = chosen;
-        room = (both_true (Plans.hits k meaning bytes found.0) (is_open found.0) chosen).1;
+        room = (both_true (hits k meaning bytes found.0) (is_open found.0) chosen).1;
         shut = not_false (is_open i) past.1;
       }
 
   -- the limit has no room after a line before which it has none
   shut-later : (i j : ℕ) → i ≤ j → is_open i ≡ false → is_open j ≡ false
   shut-later i j low shut =
-      room-le k _ _ (count_below-le (Plans.hits k meaning bytes) i j low) shut
+      room-le k _ _ (count_below-le (hits k meaning bytes) i j low) shut
 
   -- there are at most as many late lines as lines in the context
   late-few : (m : ℕ) → count_below late m ≤ k.after_context

@@ -28,6 +28,8 @@ use Rattle.grep_definitions.specs.Plans.{calls_at, line_plan, reports_end, selec
 use Rattle.grep_definitions.specs.Plans.{begins, has_room, in_context, is_across, is_open_at}
 use Rattle.grep_definitions.specs.Plans.{joined_from, line_count, planned, search_plan, stops_next}
 use Rattle.grep_definitions.specs.Plans.{IsAskedAhead, Kind, Planned, Settings, IsAskedIn}
+use Rattle.grep_definitions.specs.Plans.{Selection, count_at, follows_selected, hits, is_chosen}
+use Rattle.grep_definitions.specs.Plans.{start}
 use Rattle.grep_definitions.specs.Plans
 use Rattle.grep_definitions.specs.Searches.{IsFront}
 use Rattle.grep_definitions.specs.SinkRuns.{plan_of}
@@ -51,22 +53,25 @@ through-none offset calls after = filter-none (ends-by offset) calls
     (λ call above. lt-leb call.if_false.count offset above) calls after)
 
 module _ (k : Settings) (meaning : Meaning) where
+  abbrev selection : List ℕ → Selection
+  selection = selected_lines k meaning
+
   abbrev t : ℕ
   t = byte_of k.line_terminator
 
   -- up to the start of a line, only calls of the lines before it end
   through-before : (bytes : List ℕ) (i : ℕ) → i < reports_end k meaning bytes
-      → through (Plans.start k bytes i) (line_plan k meaning bytes).calls
-      ≡ through (Plans.start k bytes i) (headed (planned begins 0) (calls_at k bytes (selected_lines k meaning bytes)) i)
+      → through (start k bytes i) (line_plan k meaning bytes).calls
+      ≡ through (start k bytes i) (headed (planned begins 0) (calls_at k bytes (selection bytes)) i)
   through-before bytes i below =
-      let T = calls_at k bytes (selected_lines k meaning bytes) in
+      let T = calls_at k bytes (selection bytes) in
       let begin : Planned = planned begins 0 in
       let count = reports_end k meaning bytes in
-      let at = Plans.start k bytes i in
+      let at = start k bytes i in
       let up = line_start-ascends t bytes i (omega (arith, reports_end-le k meaning bytes)) in
       let none = through-none at (joined_from T i (count - i))
       (All-joined_from (λ call. at < call.if_false.count) T i (count - i) (λ j low high.
-      All-weaker (λ call. Plans.start k bytes (i + 1) ≤ call.if_false.count)
+      All-weaker (λ call. start k bytes (i + 1) ≤ call.if_false.count)
       (λ call. at < call.if_false.count) (λ call over. omega arith) (T j) (ends-late k meaning bytes i j low))) in
       ap (through at) (headed-through begin T i count (omega arith))
       ∙ (filter-append (ends-by at) (headed begin T i) (joined_from T i (count - i))
@@ -88,7 +93,7 @@ module _ (k : Settings) (meaning : Meaning) where
     few : min count_whole n ≡ count_front
     few = first.count-same k meaning front back closed
 
-    start-same : (i : ℕ) → i ≤ n → Plans.start k whole i ≡ Plans.start k front i
+    start-same : (i : ℕ) → i ≤ n → start k whole i ≡ start k front i
     start-same = prefix.start-same k meaning front back closed
 
     -- if each line that may be reported is of the front, each match is
@@ -110,39 +115,39 @@ module _ (k : Settings) (meaning : Meaning) where
     pub calls-same : count_whole ≤ n → (line_plan k meaning whole).calls ≡ (line_plan k meaning front).calls
     calls-same inside =
         let same : count_whole ≡ count_front = omega (arith, few) in
-        let joined : joined_from (calls_at k whole (selected_lines k meaning whole)) 0 count_front
-        ≡ joined_from (calls_at k front (selected_lines k meaning front)) 0 count_front = elim (first.split k meaning front back closed count_front (omega (arith, few))) [
+        let joined : joined_from (calls_at k whole (selection whole)) 0 count_front
+        ≡ joined_from (calls_at k front (selection front)) 0 count_front = elim (first.split k meaning front back closed count_front (omega (arith, few))) [
           | inl alike ↦ first.joined-same k meaning front back closed count_front alike (omega arith)
           | inr late ↦ absurd (none-late inside late.0 late.2)
         ] in
-        ap (λ m. planned begins 0 ∷ joined_from (calls_at k whole (selected_lines k meaning whole)) 0 m) same
+        ap (λ m. planned begins 0 ∷ joined_from (calls_at k whole (selection whole)) 0 m) same
         ∙ ap (λ calls. planned begins 0 ∷ calls) joined
 
     -- and the same byte count
     pub bytes-same : count_whole ≤ n → (line_plan k meaning whole).finish.count ≡ (line_plan k meaning front).finish.count
     bytes-same inside =
-        ap (Plans.start k whole) (omega (arith, few)) ∙ start-same count_front (omega (arith, few))
+        ap (start k whole) (omega (arith, few)) ∙ start-same count_front (omega (arith, few))
 
     -- the calls of a late line end after the front
     late-after : (i : ℕ) → first.IsLate k meaning front back closed i
-        → All (λ call. Plans.start k whole n < call.if_false.count) (calls_at k whole (selected_lines k meaning whole) i)
+        → All (λ call. start k whole n < call.if_false.count) (calls_at k whole (selection whole) i)
     late-after i late =
         let s = first.same_selected k meaning front back closed i late.inside ∙ late.unselected in
         let f = prefix.follows-same k meaning front back closed i late.inside ∙ late.unfollowed in
         let p = late.precedes in
-        let is : Plans.kind k whole (selected_lines k meaning whole) i ≡ Some (in_context Before) = rw (s, f, p) refl in
+        let is : Plans.kind k whole (selection whole) i ≡ Some (in_context Before) = rw (s, f, p) refl in
         let over = first.late-through k meaning front back closed i late in
-        All-weaker (λ call. Plans.start k whole n + 1 ≤ call.if_false.count)
-        (λ call. Plans.start k whole n < call.if_false.count) (λ call low. omega arith) _
-        (ends-calls_at k meaning whole (Plans.start k whole n + 1) i (λ kind same.
-        subst (λ (x : Kind). Plans.start k whole n + 1 ≤ Plans.count_at k whole (selected_lines k meaning whole) i (Some x))
+        All-weaker (λ call. start k whole n + 1 ≤ call.if_false.count)
+        (λ call. start k whole n < call.if_false.count) (λ call low. omega arith) _
+        (ends-calls_at k meaning whole (start k whole n + 1) i (λ kind same.
+        subst (λ (x : Kind). start k whole n + 1 ≤ count_at k whole (selection whole) i (Some x))
         (sym (same_Some kind (in_context Before) (sym same ∙ is))) (omega (arith, over))))
 
     module _ (built : k.passthru ≡ true → k.before_context ≡ 0) where
       -- up to a line that may be reported, the same calls are kept
       through-same : (i : ℕ) → i < count_front
-          → through (Plans.start k whole i) (headed (planned begins 0) (calls_at k whole (selected_lines k meaning whole)) i)
-          ≡ through (Plans.start k whole i) (headed (planned begins 0) (calls_at k front (selected_lines k meaning front)) i)
+          → through (start k whole i) (headed (planned begins 0) (calls_at k whole (selection whole)) i)
+          ≡ through (start k whole i) (headed (planned begins 0) (calls_at k front (selection front)) i)
       through-same i below = elim (first.split k meaning front back closed i (omega (arith, few))) [
         | inl alike ↦ ap (λ calls. through at (begin ∷ calls))
             (first.joined-same k meaning front back closed i alike (omega arith))
@@ -150,36 +155,36 @@ module _ (k : Settings) (meaning : Meaning) where
       ]
         where
           at : ℕ
-          at = Plans.start k whole i
+          at = start k whole i
 
           begin : Planned
           begin = planned begins 0
 
           -- between a late line and this one no call ends by then
           between : (j q : ℕ) → first.IsLate k meaning front back closed j → j ≤ q → q < i
-              → All (λ call. at < call.if_false.count) (calls_at k whole (selected_lines k meaning whole) q)
+              → All (λ call. at < call.if_false.count) (calls_at k whole (selection whole) q)
           between j q late low less = elim (first.kind-same k meaning front back closed q (omega (arith, few))) [
             | inl alike ↦
                 let none = alike ∙ first.late-kind k meaning front back closed built j q late low (omega (arith, few)) in
                 subst (λ (calls : List Planned). All (λ call. at < call.if_false.count) calls)
                 (sym (unreported q none))
                 (All-nil (λ (call : Planned). at < call.if_false.count))
-            | inr later ↦ All-weaker (λ call. Plans.start k whole n < call.if_false.count)
+            | inr later ↦ All-weaker (λ call. start k whole n < call.if_false.count)
                 (λ call. at < call.if_false.count)
                 (λ call over. omega (arith, line_start-le t whole i n (omega (arith, few))))
-                (calls_at k whole (selected_lines k meaning whole) q) (late-after q later)
+                (calls_at k whole (selection whole) q) (late-after q later)
           ]
             where
-              unreported : (q : ℕ) → Plans.kind k whole (selected_lines k meaning whole) q ≡ None → calls_at k whole (selected_lines k meaning whole) q ≡ []
+              unreported : (q : ℕ) → Plans.kind k whole (selection whole) q ≡ None → calls_at k whole (selection whole) q ≡ []
               unreported q none = rw (none, and-false (nat_lt 0 (k.after_context + k.before_context))) refl
 
           -- from a late line on none does
           cut : (j : ℕ) → j < i → first.IsLate k meaning front back closed j → first.Same k meaning front back closed j
-              → through at (headed begin (calls_at k whole (selected_lines k meaning whole)) i)
-              ≡ through at (headed begin (calls_at k front (selected_lines k meaning front)) i)
+              → through at (headed begin (calls_at k whole (selection whole)) i)
+              ≡ through at (headed begin (calls_at k front (selection front)) i)
           cut j less late alike =
-              let T = calls_at k whole (selected_lines k meaning whole) in
-              let U = calls_at k front (selected_lines k meaning front) in
+              let T = calls_at k whole (selection whole) in
+              let U = calls_at k front (selection front) in
               let none = through-none at (joined_from T j (i - j))
               (All-joined_from (λ call. at < call.if_false.count) T j (i - j)
               (λ q low high. between j q late low (omega arith))) in
@@ -200,7 +205,7 @@ module _ (k : Settings) (meaning : Meaning) where
         index = i;
         question = record {
           may_report = omega (arith, few, asks.question.may_report);
-          room = ap (λ b. b || Plans.follows_selected k whole (selected_lines k meaning whole) i) opens
+          room = ap (λ b. b || follows_selected k whole (selection whole) i) opens
               ∙ (ap (λ b. is_open_at k meaning front i || b)
               (prefix.follows-same k meaning front back closed i inside) ∙ asks.question.room);
           question = elim asks.question.question [
@@ -211,7 +216,7 @@ module _ (k : Settings) (meaning : Meaning) where
         };
         before = asks.before
             ∙ (through-before front i asks.question.may_report
-            ∙ (ap (λ s. through s (headed (planned begins 0) (calls_at k front (selected_lines k meaning front)) i)) (sym same)
+            ∙ (ap (λ s. through s (headed (planned begins 0) (calls_at k front (selection front)) i)) (sym same)
             ∙ (sym (through-same i asks.question.may_report) ∙ sym (through-before whole i (omega (arith, few, asks.question.may_report))))));
       }
         where
@@ -221,30 +226,30 @@ module _ (k : Settings) (meaning : Meaning) where
           inside : i < n
           inside = omega (arith, few, asks.question.may_report)
 
-          same : Plans.start k whole i ≡ Plans.start k front i
+          same : start k whole i ≡ start k front i
           same = start-same i (omega (arith, inside))
 
           opens : is_open_at k meaning whole i ≡ is_open_at k meaning front i
-          opens = ap (has_room k) (count_below-same (Plans.hits k meaning whole) (Plans.hits k meaning front) i
+          opens = ap (has_room k) (count_below-same (hits k meaning whole) (hits k meaning front) i
               (λ j less. prefix.hits-same k meaning front back closed j (omega (arith, inside))))
 
           asked-ahead : IsAskedAhead k meaning front i haystack → IsAskedAhead k meaning whole i haystack
           asked-ahead ahead = record {
             allowed = ahead.allowed;
             room = opens ∙ ahead.room;
-            unstopped = ap (stops_next k) (some_below-same (Plans.is_chosen k meaning whole)
-                (Plans.is_chosen k meaning front) i
+            unstopped = ap (stops_next k) (some_below-same (is_chosen k meaning whole)
+                (is_chosen k meaning front) i
                 (λ j less. prefix.is_chosen-same k meaning front back closed j (omega (arith, inside))))
                 ∙ ahead.unstopped;
             end = ahead.end;
             after = ahead.after;
             within = omega (arith, ahead.within, first.more_lines k meaning front back closed);
             lines = ahead.lines
-                ∙ (sym (slice-front front back (Plans.start k front i)
-                (Plans.start k front ahead.end) (line_start-within t front i)
+                ∙ (sym (slice-front front back (start k front i)
+                (start k front ahead.end) (line_start-within t front i)
                 (line_start-within t front ahead.end))
-                ∙ (ap (λ x. slice_range whole x (Plans.start k front ahead.end)) (sym same)
-                ∙ ap (slice_range whole (Plans.start k whole i))
+                ∙ (ap (λ x. slice_range whole x (start k front ahead.end)) (sym same)
+                ∙ ap (slice_range whole (start k whole i))
                 (sym (start-same ahead.end ahead.within))));
           }
 

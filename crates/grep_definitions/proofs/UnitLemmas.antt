@@ -2,7 +2,9 @@
 use Rattle.grep_definitions.specs.Plans.{across_plan, calls_at, is_touched_selected, line}
 use Rattle.grep_definitions.specs.Plans.{line_count, number, start, touched_lines, planned, Call}
 use Rattle.grep_definitions.specs.Plans.{Planned, matches, context, breaks, Settings, joined_from}
-use Rattle.grep_definitions.specs.Plans.{Kind, matched, in_context, selects_free}
+use Rattle.grep_definitions.specs.Plans.{Kind, matched, in_context, selects_free, Selection}
+use Rattle.grep_definitions.specs.Plans.{breaks_before, count_at, follows_selected}
+use Rattle.grep_definitions.specs.Plans.{precedes_selected, report, report_end, report_lines}
 use Rattle.grep_definitions.specs.Plans
 use Rattle.std.proofs.Common.{◌≡◌, ℕ, zero, suc, ◌+◌, ◌-◌, ◌<◌, ◌≤◌, Bool, true, false, not, ◌&&◌}
 use Rattle.std.proofs.Common.{List, [], ◌∷◌, ◌++◌, length, take, drop, refl, sym, ap, subst, ◌∙◌}
@@ -55,6 +57,9 @@ slice-join bytes a b c first second =
     ∙ ap (λ l. take (b - a) (drop a bytes) ++ take (c - b) l) (drop-drop (b - a) a bytes ∙ ap (λ k. drop k bytes) at))
 
 module _ (k : Settings) (meaning : Meaning) (bytes : List ℕ) where
+  abbrev selection : Selection
+  selection = touched_lines k meaning bytes
+
   abbrev n : ℕ
   n = line_count k bytes
 
@@ -65,14 +70,14 @@ module _ (k : Settings) (meaning : Meaning) (bytes : List ℕ) where
   selected = is_touched_selected k meaning bytes
 
   abbrev goes_on : ℕ → Bool
-  goes_on = Plans.continues k bytes (touched_lines k meaning bytes)
+  goes_on = Plans.continues k bytes selection
 
   -- the bytes of a line, if it is selected, and those of the report that begins there
   abbrev each : ℕ → List ℕ
   each i = if selected i then line k bytes i else []
 
   abbrev whole : ℕ → List ℕ
-  whole i = if selected i && not (goes_on i) then Plans.report_lines k bytes (touched_lines k meaning bytes) i else []
+  whole i = if selected i && not (goes_on i) then report_lines k bytes selection i else []
 
   -- and so are those of selected lines, one after the other
   lines-slice : (i m : ℕ) → i + m ≤ n → ((j : ℕ) → i ≤ j → j < i + m → selected j ≡ true)
@@ -98,7 +103,7 @@ module _ (k : Settings) (meaning : Meaning) (bytes : List ℕ) where
 
   -- the match report of the unit that begins at a line
   abbrev report_at : ℕ → Call
-  report_at i = matches (number k bytes i) (at i) (Plans.report_lines k bytes (touched_lines k meaning bytes) i)
+  report_at i = matches (number k bytes i) (at i) (report_lines k bytes selection i)
 
   -- what is gathered of the match reports alone
   module _ (g : Call → List ℕ) (in_context_none : (c : SinkContextKind) (o : Option ℕ) (offset : ℕ) (bytes : List ℕ)
@@ -106,41 +111,41 @@ module _ (k : Settings) (meaning : Meaning) (bytes : List ℕ) where
     abbrev gathered : ℕ → List ℕ
     gathered i = if selected i && not (goes_on i) then g (report_at i) else []
 
-    gathered-report : (i : ℕ) (kind : Option Kind) → Plans.kind k bytes (touched_lines k meaning bytes) i ≡ kind
-        → flat_map (λ call. g call.call) (Plans.report k bytes (touched_lines k meaning bytes) i kind) ≡ gathered i
+    gathered-report : (i : ℕ) (kind : Option Kind) → Plans.kind k bytes selection i ≡ kind
+        → flat_map (λ call. g call.call) (report k bytes selection i kind) ≡ gathered i
     gathered-report i None is =
-        let none = kind-other (selected i) (Plans.follows_selected k bytes (touched_lines k meaning bytes) i)
-        (Plans.precedes_selected k bytes (touched_lines k meaning bytes) i) k.passthru None is (λ same. cc) in
+        let none = kind-other (selected i) (follows_selected k bytes selection i)
+        (precedes_selected k bytes selection i) k.passthru None is (λ same. cc) in
         rw none refl
     gathered-report i (Some matched) is =
-        let here = kind-selected (selected i) (Plans.follows_selected k bytes (touched_lines k meaning bytes) i)
-        (Plans.precedes_selected k bytes (touched_lines k meaning bytes) i) k.passthru is in
+        let here = kind-selected (selected i) (follows_selected k bytes selection i)
+        (precedes_selected k bytes selection i) k.passthru is in
         ⊎_elim
         (λ (later : goes_on i ≡ true). rw (here, later) refl)
         (λ (first : goes_on i ≡ false). rw (here, first) (append-nil (g (report_at i))))
         (cases_Bool (goes_on i))
     gathered-report i (Some (in_context c)) is =
-        let none = kind-other (selected i) (Plans.follows_selected k bytes (touched_lines k meaning bytes) i)
-        (Plans.precedes_selected k bytes (touched_lines k meaning bytes) i) k.passthru (Some (in_context c)) is (λ same. cc) in
+        let none = kind-other (selected i) (follows_selected k bytes selection i)
+        (precedes_selected k bytes selection i) k.passthru (Some (in_context c)) is (λ same. cc) in
         rw (none, in_context_none c (number k bytes i) (at i) (line k bytes i)) refl
 
-    gathered-line : (i : ℕ) → flat_map (λ call. g call.call) (calls_at k bytes (touched_lines k meaning bytes) i) ≡ gathered i
+    gathered-line : (i : ℕ) → flat_map (λ call. g call.call) (calls_at k bytes selection i) ≡ gathered i
     gathered-line i =
-        go (Plans.breaks_before k bytes (touched_lines k meaning bytes) i)
-        (Plans.count_at k bytes (touched_lines k meaning bytes) i (Plans.kind k bytes (touched_lines k meaning bytes) i))
+        go (breaks_before k bytes selection i)
+        (count_at k bytes selection i (Plans.kind k bytes selection i))
       where
         go : (b : Bool) (end : ℕ) → flat_map (λ call. g call.call)
             (if b then (planned breaks end)
-            ∷ Plans.report k bytes (touched_lines k meaning bytes) i (Plans.kind k bytes (touched_lines k meaning bytes) i)
-            else Plans.report k bytes (touched_lines k meaning bytes) i (Plans.kind k bytes (touched_lines k meaning bytes) i)) ≡ gathered i
-        go true end = rw in_breaks_none (gathered-report i (Plans.kind k bytes (touched_lines k meaning bytes) i) refl)
-        go false end = gathered-report i (Plans.kind k bytes (touched_lines k meaning bytes) i) refl
+            ∷ report k bytes selection i (Plans.kind k bytes selection i)
+            else report k bytes selection i (Plans.kind k bytes selection i)) ≡ gathered i
+        go true end = rw in_breaks_none (gathered-report i (Plans.kind k bytes selection i) refl)
+        go false end = gathered-report i (Plans.kind k bytes selection i) refl
 
-    gathered-lines : flat_map (λ call. g call.call) (joined_from (calls_at k bytes (touched_lines k meaning bytes)) 0 n)
+    gathered-lines : flat_map (λ call. g call.call) (joined_from (calls_at k bytes selection) 0 n)
         ≡ joined_from gathered 0 n
     gathered-lines =
-        flat_map-joined (λ call. g call.call) (calls_at k bytes (touched_lines k meaning bytes)) 0 n
-        ∙ joined_from-equal (λ j. flat_map (λ call. g call.call) (calls_at k bytes (touched_lines k meaning bytes) j)) gathered 0 n
+        flat_map-joined (λ call. g call.call) (calls_at k bytes selection) 0 n
+        ∙ joined_from-equal (λ j. flat_map (λ call. g call.call) (calls_at k bytes selection j)) gathered 0 n
         (λ j low high. gathered-line j)
 
   -- under inversion a report has one line
@@ -158,11 +163,11 @@ module _ (k : Settings) (meaning : Meaning) (bytes : List ℕ) where
       (λ i here later. let on = same i plain ∙ later in rw (here, on) refl)
       (λ i inside here first.
       let fresh = same i plain ∙ first in
-      let end : Plans.report_end k bytes (touched_lines k meaning bytes) i ≡ run_end selected n i =
+      let end : report_end k bytes selection i ≡ run_end selected n i =
       ap (λ b. if not b then run_end selected n i else i + 1) plain in
       let run = IsRunEnd-run_end selected n i inside here in
       let sum : i + (run_end selected n i - i) ≡ run_end selected n i = omega arith in
-      let unit : Plans.report_lines k bytes (touched_lines k meaning bytes) i ≡ joined_from each i (run_end selected n i - i) =
+      let unit : report_lines k bytes selection i ≡ joined_from each i (run_end selected n i - i) =
       ap (λ e. slice_range bytes (at i) (at e)) (end ∙ sym sum)
       ∙ lines-slice i (run_end selected n i - i) (omega arith)
       (λ j low below. run.inner j low (omega arith)) in
@@ -182,9 +187,9 @@ module _ (k : Settings) (meaning : Meaning) (bytes : List ℕ) where
 
   -- a unit's bytes end where its last line ends
   unit-end : (i : ℕ) → i < n → selected i ≡ true → selects_free k ≡ false
-      → at i + length (Plans.report_lines k bytes (touched_lines k meaning bytes) i) ≡ at (run_end selected n i)
+      → at i + length (report_lines k bytes selection i) ≡ at (run_end selected n i)
   unit-end i inside here plain =
-      let end : Plans.report_end k bytes (touched_lines k meaning bytes) i ≡ run_end selected n i =
+      let end : report_end k bytes selection i ≡ run_end selected n i =
       ap (λ b. if not b then run_end selected n i else i + 1) plain in
       let run = IsRunEnd-run_end selected n i inside here in
       omega (
@@ -198,14 +203,14 @@ module _ (k : Settings) (meaning : Meaning) (bytes : List ℕ) where
 
   -- the lines of the unit that begins at a selected line, and where its bytes end
   pub record IsUnitOf (i : ℕ) : Type 0 where
-    pub later : i < Plans.report_end k bytes (touched_lines k meaning bytes) i
-    pub size : at i + length (Plans.report_lines k bytes (touched_lines k meaning bytes) i) ≡ at (Plans.report_end k bytes (touched_lines k meaning bytes) i)
-    pub hits : (j : ℕ) → i < j → j < Plans.report_end k bytes (touched_lines k meaning bytes) i → (selected j ≡ true) × (goes_on j ≡ true)
+    pub later : i < report_end k bytes selection i
+    pub size : at i + length (report_lines k bytes selection i) ≡ at (report_end k bytes selection i)
+    pub hits : (j : ℕ) → i < j → j < report_end k bytes selection i → (selected j ≡ true) × (goes_on j ≡ true)
 
   pub unit-lines : (i : ℕ) → i < n → selected i ≡ true → IsUnitOf i
   unit-lines i inside here = ⊎_elim
       (λ (inverted : selects_free k ≡ true).
-      let end : Plans.report_end k bytes (touched_lines k meaning bytes) i
+      let end : report_end k bytes selection i
       ≡ i + 1 = ap (λ b. if not b then run_end selected n i else i + 1) inverted in
       record {
         later = omega arith;
@@ -219,7 +224,7 @@ module _ (k : Settings) (meaning : Meaning) (bytes : List ℕ) where
         hits = λ j low high. absurd (omega arith);
       })
       (λ (plain : selects_free k ≡ false).
-      let end : Plans.report_end k bytes (touched_lines k meaning bytes) i ≡ run_end selected n i =
+      let end : report_end k bytes selection i ≡ run_end selected n i =
       ap (λ b. if not b then run_end selected n i else i + 1) plain in
       let run = IsRunEnd-run_end selected n i inside here in
       record {

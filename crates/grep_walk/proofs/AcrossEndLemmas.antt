@@ -8,6 +8,7 @@ use Rattle.grep_matcher.specs.Meanings.{Meaning, MatcherFacts}
 use Rattle.grep_definitions.specs.Plans.{across_plan, calls_at, start, touched_lines, IsAskedAt}
 use Rattle.grep_definitions.specs.Plans.{joined_from, Settings, Planned, begins, Steps, Outcome}
 use Rattle.grep_definitions.specs.Plans.{all_true, stopped, failed, AreMade, counted, calls_before}
+use Rattle.grep_definitions.specs.Plans.{Selection}
 use Rattle.grep_report.specs.ErrorMakers.{ErrorMakers}
 use Rattle.grep_definitions.specs.Searches.{nowhere}
 use Rattle.grep_definitions.specs.SliceSearches.{IsContentsSearch}
@@ -108,6 +109,9 @@ module _ (k : Settings) (meaning : Meaning) (bytes : List ℕ) where
 -- how it ends in a fault
 module _ {State E F : Type 0} (step : Steps State E) (errors : ErrorMakers F E) (matcher : MatcherFacts F) (k : Settings)
     (bytes : List ℕ) (first : State) where
+  abbrev selection : Selection
+  selection = touched_lines k matcher.meaning bytes
+
   abbrev IsFaulty : E → State → Type 0
   IsFaulty e new = IsContentsSearch step errors matcher k nowhere true bytes first (Err e) new
 
@@ -124,19 +128,19 @@ module _ {State E F : Type 0} (step : Steps State E) (errors : ErrorMakers F E) 
   fault-begin e new fails = failed-run e new (inr (inr (e, refl, fails)))
 
   pub fault-sink : (w : Walk) (e : E) (new : State) → IsAcross k matcher.meaning bytes w
-      → AreMade step k first (calls_before k bytes (touched_lines k matcher.meaning bytes) w.next_unreported) (failed e) new
+      → AreMade step k first (calls_before k bytes selection w.next_unreported) (failed e) new
       → IsFaulty e new
   fault-sink w e new across reported = failed-run e new
       (failed-whole k matcher.meaning bytes step first w e new across reported)
 
   -- a question at the line that a walk is at
   pub fault-matcher : (w : Walk) (now : State) → IsAcross k matcher.meaning bytes w
-      → AreMade step k first (calls_before k bytes (touched_lines k matcher.meaning bytes) w.next_unreported) all_true now
+      → AreMade step k first (calls_before k bytes selection w.next_unreported) all_true now
       → (haystack : List ℕ) (error : F) (e : E) → IsAskedAt k matcher.meaning bytes w.line haystack
       → is_done k w ≡ false → matcher.fails haystack error → errors.is_message error e
       → IsFaulty e now
   fault-matcher w now across reported haystack error e asked goes fails message =
-      plain-asked step errors matcher k bytes first haystack error (calls_before k bytes (touched_lines k matcher.meaning bytes) w.next_unreported)
+      plain-asked step errors matcher k bytes first haystack error (calls_before k bytes selection w.next_unreported)
       (record {
         index = w.line;
         question = record {
@@ -145,7 +149,7 @@ module _ {State E F : Type 0} (step : Steps State E) (errors : ErrorMakers F E) 
         };
         before = sym (through-is k matcher.meaning bytes across.near
             (asked-inside k matcher.meaning bytes w.line haystack asked)
-            (subst (λ o. All (λ call. call.if_false.count ≤ o) (calls_before k bytes (touched_lines k matcher.meaning bytes) w.next_unreported))
+            (subst (λ o. All (λ call. call.if_false.count ≤ o) (calls_before k bytes selection w.next_unreported))
             (sym across.placed.at.begins) across.ended));
       })
       fails message reported

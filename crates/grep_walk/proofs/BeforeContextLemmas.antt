@@ -6,8 +6,7 @@ use Rattle.std.specs.Prelude.{slice_range}
 use Rattle.grep_matcher.specs.Lines.{byte_of, lines, line_start}
 use Rattle.grep_lines.specs.Positions.{IsLine, IsLineStart}
 use Rattle.grep_definitions.specs.Plans.{Settings, Planned, Steps, Outcome, all_true, AreMade}
-use Rattle.grep_definitions.specs.Plans.{joined_from}
-use Rattle.grep_definitions.specs.Plans
+use Rattle.grep_definitions.specs.Plans.{joined_from, number}
 use Rattle.grep_definitions.specs.LineCalls.{before_calls, listed_calls, pending_calls}
 use Rattle.grep_definitions.specs.SearchLaws.{number_of}
 use Rattle.grep_definitions.proofs.BelowLemmas.{joined_from-add, joined_from-more, joined_from-none}
@@ -30,8 +29,8 @@ module _ (k : Settings) (bytes : List ℕ) (v i end : ℕ) where
       → before_calls k v q i (number_of k q) start end (slice_range bytes start next) ≡ at_line q
   here-is q start next line =
       ap (λ m. before_calls k v q i m start end (slice_range bytes start next)) (sym (number-line k bytes q line.listed))
-      ∙ (ap (λ p. before_calls k v q i (Plans.number k bytes q) p end (slice_range bytes start next)) (sym line.begins)
-      ∙ ap (λ l. before_calls k v q i (Plans.number k bytes q) (line_start t bytes q) end l) (sym line.line))
+      ∙ (ap (λ p. before_calls k v q i (number k bytes q) p end (slice_range bytes start next)) (sym line.begins)
+      ∙ ap (λ l. before_calls k v q i (number k bytes q) (line_start t bytes q) end l) (sym line.line))
 
   -- the lines that the context doesn't reach have no calls
   pub pending-near : (a : ℕ) → v ≤ i → a ≡ i - min k.before_context (i - v)

@@ -3,6 +3,8 @@ use Rattle.grep_definitions.specs.Plans.{calls_at, line_plan, reports_end, selec
 use Rattle.grep_definitions.specs.Plans.{planned, Planned, begins, context, Steps, Outcome}
 use Rattle.grep_definitions.specs.Plans.{all_true, stopped, failed, AreMade, counted, Settings}
 use Rattle.grep_definitions.specs.Plans.{joined_from, stops_next, has_room, hits_if, IsAskedFrom}
+use Rattle.grep_definitions.specs.Plans.{Selection, follows_selected, hits, is_chosen, is_open_at}
+use Rattle.grep_definitions.specs.Plans.{is_selected, is_trailing, number}
 use Rattle.grep_definitions.specs.Plans
 use Rattle.std.proofs.Common.{◌≡◌, ℕ, ◌+◌, ◌-◌, ◌<◌, ◌≤◌, Bool, true, false, ◌||◌, List, [], ◌∷◌}
 use Rattle.std.proofs.Common.{◌++◌, length, drop, refl, sym, ◌∙◌, ap, subst, arith, ⊎_elim, inl}
@@ -76,6 +78,9 @@ ended-next k window w line chosen trailing made ended =
     go false r false false = All-nil E
 
 module _ (k : Settings) (meaning : Meaning) (bytes : List ℕ) where
+  abbrev selection : Selection
+  selection = selected_lines k meaning bytes
+
   abbrev pub t : ℕ
   t = byte_of k.line_terminator
 
@@ -83,7 +88,7 @@ module _ (k : Settings) (meaning : Meaning) (bytes : List ℕ) where
   n = length (lines t bytes)
 
   abbrev pub T : ℕ → List Planned
-  T = calls_at k bytes (selected_lines k meaning bytes)
+  T = calls_at k bytes selection
 
   abbrev pub reportable : ℕ
   reportable = reports_end k meaning bytes
@@ -161,29 +166,29 @@ module _ (k : Settings) (meaning : Meaning) (bytes : List ℕ) where
       has : w.line < reportable
       has = reportable-above k meaning bytes walk.opened line.listed
 
-      number-is : Plans.number k bytes w.line ≡ number_of k w.line
+      number-is : number k bytes w.line ≡ number_of k w.line
       number-is = number-line k bytes w.line line.listed
 
-      hits-here : Plans.hits k meaning bytes w.line ≡ hits_if k (matches_line k meaning here)
+      hits-here : hits k meaning bytes w.line ≡ hits_if k (matches_line k meaning here)
       hits-here = let inside = lt-ltb w.line n line.listed in rw (inside, line.line) refl
 
-      pub chosen-here : (b r : Bool) → IsDecided k meaning w here b r → Plans.is_chosen k meaning bytes w.line ≡ b
+      pub chosen-here : (b r : Bool) → IsDecided k meaning w here b r → is_chosen k meaning bytes w.line ≡ b
       chosen-here b r decided = grind (arith, chosen-is k meaning bytes walk.opened, hits-here, decided.chosen_is)
 
       pub trailing-here : (b r : Bool) → IsDecided k meaning w here b r → 0 < w.after_context_left
-          → Plans.is_trailing k meaning bytes w.line ≡ r
+          → is_trailing k meaning bytes w.line ≡ r
       trailing-here b r decided some = grind (arith, hits-here, walk.opened.below, decided.trailing_is some)
 
       -- the matcher is asked about it only if the limit has room, or in the context after a selected line
       pub room-here : can_hit k w ≡ true
-          → (Plans.is_open_at k meaning bytes w.line || Plans.follows_selected k bytes (selected_lines k meaning bytes) w.line) ≡ true
+          → (is_open_at k meaning bytes w.line || follows_selected k bytes selection w.line) ≡ true
       room-here can = grind (arith, walk.opened.below, follows-selected k meaning bytes walk.near, can)
 
-      selected : (b : Bool) → Plans.is_chosen k meaning bytes w.line ≡ b
-          → Plans.is_selected k meaning bytes w.line ≡ b
+      selected : (b : Bool) → is_chosen k meaning bytes w.line ≡ b
+          → is_selected k meaning bytes w.line ≡ b
       selected b is = selected-is k meaning bytes walk.opened ∙ is
 
-      pending-is : Plans.is_selected k meaning bytes w.line ≡ true
+      pending-is : is_selected k meaning bytes w.line ≡ true
           → joined_from T w.next_unreported (w.line - w.next_unreported)
           ≡ pending_calls k bytes w.next_unreported w.line (line_end w here) w.next_unreported
           (w.line - w.next_unreported)
@@ -191,15 +196,15 @@ module _ (k : Settings) (meaning : Meaning) (bytes : List ℕ) where
           calls_at-passed k meaning bytes walk.near line.listed has hit
           j _ (line_end w here) _ low (omega arith) refl start-after refl)
 
-      hit-is : Plans.is_selected k meaning bytes w.line ≡ true → T w.line
+      hit-is : is_selected k meaning bytes w.line ≡ true → T w.line
           ≡ selected_calls k w.next_unreported w.line w.offset (line_end w here) here
       hit-is hit = calls_at-hit k meaning bytes walk.near line.listed has
           hit
           w.offset (line_end w here) _ number-is start-is start-after line.line
 
       -- the calls of the line
-      pub front-step : (chosen trailing : Bool) → Plans.is_chosen k meaning bytes w.line ≡ chosen
-          → (0 < w.after_context_left → Plans.is_trailing k meaning bytes w.line ≡ trailing)
+      pub front-step : (chosen trailing : Bool) → is_chosen k meaning bytes w.line ≡ chosen
+          → (0 < w.after_context_left → is_trailing k meaning bytes w.line ≡ trailing)
           → front (after_line k w here chosen).next_unreported
           ≡ front w.next_unreported ++ line_calls k bytes w here chosen trailing
       front-step true trailing is late =
@@ -213,7 +218,7 @@ module _ (k : Settings) (meaning : Meaning) (bytes : List ℕ) where
           headed-missed walk.near
           (planned begins 0) T _ _ after_is other_is
         where
-          miss : Plans.is_selected k meaning bytes w.line ≡ false
+          miss : is_selected k meaning bytes w.line ≡ false
           miss = selected false is
 
           after_is : 0 < w.after_context_left
@@ -229,8 +234,8 @@ module _ (k : Settings) (meaning : Meaning) (bytes : List ℕ) where
               calls_at-other k meaning bytes walk.near line.listed has
               w.offset (line_end w here) _ miss none is_p (bare is_p).1 number-is start-is start-after line.line
 
-      pub near-next : (chosen : Bool) → Plans.is_chosen k meaning bytes w.line ≡ chosen
-          → IsNear k bytes (selected_lines k meaning bytes) (after_line k w here chosen).next_unreported (w.line + 1)
+      pub near-next : (chosen : Bool) → is_chosen k meaning bytes w.line ≡ chosen
+          → IsNear k bytes selection (after_line k w here chosen).next_unreported (w.line + 1)
           (after_line k w here chosen).after_context_left
       near-next true is = IsNear-hit k meaning bytes walk.near line.listed
           has
@@ -239,7 +244,7 @@ module _ (k : Settings) (meaning : Meaning) (bytes : List ℕ) where
           IsNear-missed k meaning bytes walk.near line.listed has
           (λ is_p. (bare is_p).1) (selected false is)
 
-      open-next : (chosen : Bool) → Plans.is_chosen k meaning bytes w.line ≡ chosen
+      open-next : (chosen : Bool) → is_chosen k meaning bytes w.line ≡ chosen
           → is_over k (after_line k w here chosen) chosen
           ≡ false
           → IsOpen k meaning bytes (w.line + 1) (after_line k w here chosen).after_context_left
@@ -249,8 +254,8 @@ module _ (k : Settings) (meaning : Meaning) (bytes : List ℕ) where
       open-next false is goes = IsOpen-missed k meaning bytes walk.opened line.listed is
           (grind (arith, nat_tests, goes)) (λ plain full. grind (arith, nat_tests, goes, plain, full))
 
-      pub walk-next : (chosen trailing : Bool) → Plans.is_chosen k meaning bytes w.line ≡ chosen
-          → (0 < w.after_context_left → Plans.is_trailing k meaning bytes w.line ≡ trailing)
+      pub walk-next : (chosen trailing : Bool) → is_chosen k meaning bytes w.line ≡ chosen
+          → (0 < w.after_context_left → is_trailing k meaning bytes w.line ≡ trailing)
           → is_over k (after_line k w here chosen) chosen ≡ false
           → IsWalk k meaning bytes (after_line k w here chosen)
       walk-next chosen trailing is late goes = record {
@@ -261,7 +266,7 @@ module _ (k : Settings) (meaning : Meaning) (bytes : List ℕ) where
             (ended-next k bytes w here chosen trailing (front w.next_unreported) walk.ended);
       }
 
-      pub done-next : (chosen : Bool) → Plans.is_chosen k meaning bytes w.line ≡ chosen
+      pub done-next : (chosen : Bool) → is_chosen k meaning bytes w.line ≡ chosen
           → is_over k (after_line k w here chosen) chosen ≡ true
           → IsDone k meaning bytes (w.line + 1)
       done-next true is over = IsDone-chosen k meaning bytes walk.opened line.listed is
@@ -293,7 +298,7 @@ module _ (k : Settings) (meaning : Meaning) (bytes : List ℕ) where
   }
 
   -- after the last report nothing is reported of the lines that were passed
-  rest-is : (w : Walk) → IsNear k bytes (selected_lines k meaning bytes) w.next_unreported w.line w.after_context_left
+  rest-is : (w : Walk) → IsNear k bytes selection w.next_unreported w.line w.after_context_left
       → IsDone k meaning bytes w.line
       → joined_from T w.next_unreported (reportable - w.next_unreported) ≡ []
   rest-is w near done = joined_from-none T w.next_unreported (reportable - w.next_unreported) (λ j low high.
@@ -315,7 +320,7 @@ module _ (k : Settings) (meaning : Meaning) (bytes : List ℕ) where
 
     -- no more calls are to come
     counted-done : (w : Walk) (new : S) → IsLineStart t bytes w.offset w.line
-        → IsNear k bytes (selected_lines k meaning bytes) w.next_unreported w.line w.after_context_left → IsDone k meaning bytes w.line
+        → IsNear k bytes selection w.next_unreported w.line w.after_context_left → IsDone k meaning bytes w.line
         → AreMadeFrom step k old (front w.next_unreported) all_true new → IsCounted w.offset all_true new
     counted-done w new at near done reported = record {
       reported = subst (λ ts. AreMadeFrom step k old ts all_true new)
@@ -356,10 +361,10 @@ module _ (k : Settings) (meaning : Meaning) (bytes : List ℕ) where
       abbrev next : Walk
       next = after_line k w text chosen
 
-      is : Plans.is_chosen k meaning bytes w.line ≡ chosen
+      is : is_chosen k meaning bytes w.line ≡ chosen
       is = chosen-here w same line bare so_far.walk chosen trailing decided
 
-      late : 0 < w.after_context_left → Plans.is_trailing k meaning bytes w.line ≡ trailing
+      late : 0 < w.after_context_left → is_trailing k meaning bytes w.line ≡ trailing
       late = trailing-here w same line bare so_far.walk chosen trailing decided
 
       few : next.next_unreported ≤ reportable
