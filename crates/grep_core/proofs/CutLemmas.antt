@@ -95,7 +95,7 @@ module _ {R : Type 0} {remaining : R → Option (List ℕ)} {read_step : R → R
 
     -- the calls so far are those for the lines that were seen
     reported-so_far : AreMadeFrom step k on.start (line_plan k meaning seen).calls all_true sink.sink
-    reported-so_far = (rolls.counted-seen so_far.between).reported
+    reported-so_far = (rolls.counted-seen so_far.between).made
 
     -- without `binary_data` they are calls from the first state on
     plain-so_far : sink.binary ≡ None → AreMade step k first (line_plan k meaning seen).calls all_true sink.sink

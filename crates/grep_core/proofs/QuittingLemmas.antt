@@ -5,6 +5,7 @@ use Rattle.grep_core.specs.QuittingSinks.{IsMadeAfter, count_to, Quits, watch_of
 use Rattle.grep_core.specs.declared.quitting.Quitting.{Quitting}
 use Rattle.grep_definitions.proofs.BreakLemmas.{AreReports, no_reports, plain_report, broken_report}
 use Rattle.grep_definitions.proofs.SinkRunLemmas.{AreMade-append, AreMade-ended}
+use Rattle.grep_definitions.specs.SinkRuns.{IsMadeTo, plan_of}
 use Rattle.grep_definitions.specs.SliceSearches.{IsContentsSearch}
 use Rattle.grep_definitions.proofs.ContentsSearchLemmas.{quit-ran}
 use Rattle.grep_definitions.specs.Searches.{asked, calls_with, contents_point, in_contents, nowhere}
@@ -19,13 +20,11 @@ use Rattle.grep_definitions.specs.Plans.{planned, joined_from, Settings, plan_in
 use Rattle.grep_definitions.specs.Plans.{calls_at, line_count}
 use Rattle.grep_definitions.specs.BinaryLaws.{holds_byte, first_look}
 use Rattle.grep_definitions.specs.SearchLaws.{is_report}
-use Rattle.grep_definitions.specs.SinkRuns.{plan_of}
 use Rattle.grep_lines.proofs.ReplaceLemmas.{position-found}
 use Rattle.grep_matcher.specs.Meanings.{Meaning, MatcherFacts}
 use Rattle.grep_report.specs.ErrorMakers.{ErrorMakers}
 use Rattle.grep_report.specs.declared.binary_detection.BinaryDetection.TheVariants.{Quit}
 use Rattle.grep_walk.proofs.FinishLemmas.{run-finish}
-use Rattle.grep_walk.specs.Walks.{Counted}
 use Rattle.memchr.specs.Find.{IsFirstByte, is_byte}
 use Rattle.std.proofs.Common.{◌≡◌, ◌⊎◌, ℕ, zero, suc, ◌+◌, ◌-◌, ◌<◌, Bool, true, false, List, []}
 use Rattle.std.proofs.Common.{◌∷◌, ◌++◌, take, if◌then◌else◌, ◌==◌, Result, Ok, Err, Option, None}
@@ -590,8 +589,7 @@ module _ {S E F : Type 0} (step : Steps S E) (may_call : S → Type 0) (errors :
   -- `finish` ends what was counted
   pub until-finished : {count : ℕ} {outcome : Outcome E} {mid : Quitting S} (result : Result (Unit {0}) E)
       (new : Quitting S)
-      → Counted (Quits step may_call) k old (plan_in k matcher.meaning bytes across).calls
-      (plan_in k matcher.meaning bytes across).finish.count count outcome mid
+      → IsMadeTo (Quits step may_call) k old (plan_in k matcher.meaning bytes across) outcome (counted count) mid
       → Quits step may_call mid k (finishes count None) (finish_result result) new → IsSearched result new
   until-finished {count} {outcome} {mid} result new counted finish =
-      searched-until (run-finish _ k old _ _ _ _ mid _ new counted finish)
+      searched-until (run-finish _ k old _ _ _ mid _ new counted finish)

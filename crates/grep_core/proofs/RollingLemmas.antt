@@ -11,7 +11,8 @@ use Rattle.grep_definitions.proofs.FrontLemmas.{closed-append, closed-drop, coun
 use Rattle.grep_definitions.proofs.FrontLemmas.{longer-front, calls-within, unreported-passed}
 use Rattle.grep_definitions.proofs.LimitLemmas.{reportable-above}
 use Rattle.grep_definitions.specs.Plans.{line_plan, reports_end, Steps, Outcome, all_true, begins}
-use Rattle.grep_definitions.specs.Plans.{is_reported, line_count, selected_lines, Settings}
+use Rattle.grep_definitions.specs.Plans.{is_reported, line_count, selected_lines, Settings, counted}
+use Rattle.grep_definitions.specs.Plans.{Finish}
 use Rattle.grep_definitions.specs.Plans
 use Rattle.grep_definitions.specs.Searches.{is_detecting, binary_of, view_of, GoesOnAfter, IsClosed}
 use Rattle.grep_definitions.specs.Searches.{IsTooLong, reports_nothing, IsInput, IsFront}
@@ -35,7 +36,8 @@ use Rattle.grep_walk.proofs.WindowSearchLemmas.{line-seen, passed-end, searched-
 use Rattle.grep_walk.proofs.WindowSearchLemmas.{searched-start}
 use Rattle.grep_walk.specs.Origins.{Origin, fresh}
 use Rattle.grep_walk.specs.WalkFaults.{IsWalkFault}
-use Rattle.grep_walk.specs.Walks.{AreCounts, with_counts, IsCount, IsWalk}
+use Rattle.grep_definitions.specs.SinkRuns.{IsEnding}
+use Rattle.grep_walk.specs.Walks.{AreCounts, with_counts, IsWalk}
 use Rattle.grep_walk.specs.Windows.{HasPassed, HasSearched, IsInWindow}
 use Rattle.grep_walk.specs.declared.walk.Walk.{Walk}
 use Rattle.std.proofs.Common.{◌≡◌, ℕ, ◌+◌, ◌-◌, ◌<◌, ◌≤◌, ◌&&◌, ◌==◌, Bool, true, false, List, []}
@@ -513,8 +515,9 @@ module _ {R : Type 0} {remaining : R → Option (List ℕ)} {read_step : R → R
             (append-nil new.shown)
             (ended.counted so_far.gone first so_far.between.opens ready [] nothing (λ _. refl));
         all = λ bytes input all.
-            let count = subst (λ o. IsCount o (line_plan k meaning (view_of k bytes)).finish.count w'.offset) all
-            (over bytes input).is_count in
+            let count = ap (λ (f : Finish). f.count)
+            (subst (λ o. IsEnding o (line_plan k meaning (view_of k bytes)).finish (counted w'.offset)) all
+            (over bytes input).ending) in
             let text : view_of k bytes ≡ shown ++ after bytes input = (front bytes input).whole in
             subst (λ xs. reports_end k meaning xs ≤ length (lines (t_of k) shown)) (sym text)
             (calls-within k meaning shown _ (front bytes input).closed

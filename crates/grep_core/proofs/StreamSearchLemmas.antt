@@ -1,8 +1,9 @@
 -- What a search of a stream comes to: before its first line, at `binary_data` and after it, and at `finish`.
 use Rattle.grep_core.proofs.ReadingLemmas.{IsStream}
 use Rattle.grep_core.specs.BinaryCalls.{Noted, PassesBinary}
-use Rattle.grep_core.specs.Rolls.{HasCounted, HasFailed, HasSeen, IsCountedFor, IsStartAt, IsEnding}
-use Rattle.grep_core.specs.Rolls.{IsMadeTo, IsStreamCounted, not_passed, was_passed, HasBegun}
+use Rattle.grep_core.specs.Rolls.{HasCounted, HasFailed, HasSeen, IsCountedFor, IsStartAt}
+use Rattle.grep_core.specs.Rolls.{IsStreamCounted, not_passed, was_passed, HasBegun}
+use Rattle.grep_definitions.specs.SinkRuns.{IsEnding, after_binary}
 use Rattle.grep_core.specs.SearchBuffers.{detection_of}
 use Rattle.grep_decode.specs.DecoderStates.{DecoderState}
 use Rattle.grep_decode.specs.Source.{ReadResult}
@@ -16,18 +17,17 @@ use Rattle.grep_definitions.proofs.SearchModeLemmas.{asked-with, calls-are, fini
 use Rattle.grep_definitions.proofs.SearchModeLemmas.{with-finish}
 use Rattle.grep_definitions.proofs.SinkRunLemmas.{all-by, AreMade-append, outcome_by, made-binary}
 use Rattle.grep_definitions.proofs.SinkRunLemmas.{by-none, by-some}
+use Rattle.grep_walk.proofs.FinishLemmas.{run-finish}
 use Rattle.grep_definitions.specs.Plans.{line_plan, search_plan, is_across, selection_in, Steps}
 use Rattle.grep_definitions.specs.Plans.{Planned, Plan, AreMade, Outcome, all_true, stopped, failed}
 use Rattle.grep_definitions.specs.Plans.{counted, Finish, IsRun, begins, finish_after, finishes}
-use Rattle.grep_definitions.specs.Plans.{finish_result, IsFinished, start, line_count, Settings}
-use Rattle.grep_definitions.specs.Plans.{SearcherState}
+use Rattle.grep_definitions.specs.Plans.{finish_result, start, line_count, Settings, SearcherState}
 use Rattle.grep_definitions.specs.Searches.{quits, on_stream, binary_of, view_of, BinaryPoint}
 use Rattle.grep_definitions.specs.Searches.{plan_with, calls_with, planned_binary, with_offset}
 use Rattle.grep_definitions.specs.Searches.{IsInput, searched_bytes, Taken, reports_nothing}
 use Rattle.grep_definitions.specs.Searches.{IsPoint, IsCutAt, IsReaderSearch, IsSearchOf, EachPoint}
 use Rattle.grep_definitions.specs.Searches.{EachAsked, ran, asked, IsStreamPoint, IsRead}
 use Rattle.grep_definitions.specs.Searches.{encoding_of}
-use Rattle.grep_definitions.specs.SinkRuns.{after_binary}
 use Rattle.grep_core.proofs.StreamViewLemmas.{as-found}
 use Rattle.grep_line_buffer.proofs.DetectionLemmas.{first-none, found-nil}
 use Rattle.grep_line_buffer.specs.BufferStates.{BufferState, is_cut}
@@ -42,7 +42,6 @@ use Rattle.grep_report.specs.declared.binary_detection.BinaryDetection.TheVarian
 use Rattle.grep_walk.proofs.OriginLemmas.{fresh-made}
 use Rattle.grep_walk.specs.Origins.{AreMadeFrom, Origin, fresh}
 use Rattle.grep_walk.specs.WalkFaults.{IsWalkFault, at_call, at_question}
-use Rattle.grep_walk.specs.Walks.{IsCount}
 use Rattle.std.proofs.Common.{◌≡◌, ℕ, Bool, true, false, inl, inr, Option, Some, None, refl, sym}
 use Rattle.std.proofs.Common.{◌∙◌, ap, List, ◌∷◌, ◌++◌, subst, arith, length, map, take, drop}
 use Rattle.std.proofs.Common.{length-append, Err, ◌≤◌, ◌+◌, [], Ok, Result}
@@ -179,12 +178,12 @@ module _ {S E : Type 0} {step : Steps S E} {k : Settings} {meaning : Meaning} (b
           ∙ ap (calls_with (point_of (was_passed offset start))) (calls-are k meaning by_line bytes)
 
   ending-along : {found : Option ℕ} (start : IsStartAt step k meaning given at old next found) (bytes : List ℕ)
-      (count : ℕ) (outcome : Outcome E) → IsCount outcome (line_plan k meaning bytes).finish.count count
+      (count : ℕ) (outcome : Outcome E) → IsEnding outcome (line_plan k meaning bytes).finish (counted count)
       → IsEnding (outcome_by found outcome)
       (plan_with k.binary_detection (point_of start) (search_plan k meaning bytes)).finish
       (record { count = count; binary = found })
   ending-along {found} start bytes count all_true same =
-      ap (λ n. record { count = n; binary = found }) same ∙ sym (go start)
+      ap (λ (f : Finish). record { count = f.count; binary = found }) same ∙ sym (go start)
     where
       go : {found : Option ℕ} (start : IsStartAt step k meaning given at old next found)
           → (plan_with k.binary_detection (point_of start) (search_plan k meaning bytes)).finish
@@ -277,10 +276,10 @@ module _ {S E : Type 0} {step : Steps S E} {k : Settings} {meaning : Meaning} (b
     outcome = outcome_by found ended.outcome;
     front = ended.input.front;
     begins = λ bytes is. calls-begin meaning by_line (ended.input.front bytes is) built;
-    at_seen = plan-point start ended.input _ ended.over_seen.reported;
+    at_seen = plan-point start ended.input _ ended.over_seen.made;
     over_seen = record {
-      made = made-along start ended.input.seen ended.over_seen.reported;
-      ending = ending-along start ended.input.seen at ended.outcome ended.over_seen.is_count;
+      made = made-along start ended.input.seen ended.over_seen.made;
+      ending = ending-along start ended.input.seen at ended.outcome ended.over_seen.ending;
     };
     within = ended.input.within;
     all = λ all goes_on bytes is. ended.all bytes is (all-by found _ all);
@@ -465,9 +464,10 @@ idle-unread true detecting unread = refl
 idle-unread false detecting unread = absurd (false≢true (sym unread))
 
 -- the whole count is 0 if it is that of calls that all returned true
-pub none-counted : {E : Type 0} {outcome : Outcome E} (whole : ℕ) → IsCount outcome whole 0 → outcome ≡ all_true → whole
-    ≡ 0
-none-counted whole same all = sym (subst (λ o. IsCount o whole 0) all same)
+pub none-counted : {E : Type 0} {outcome : Outcome E} (whole : ℕ) → IsEnding outcome (counted whole) (counted 0)
+    → outcome ≡ all_true → whole ≡ 0
+none-counted whole same all =
+    sym (ap (λ (f : Finish). f.count) (subst (λ o. IsEnding o (counted whole) (counted 0)) all same))
 
 module _ {R : Type 0} (remaining : R → Option (List ℕ)) (read_step : R → ReadResult → R → Type 0) where
   -- nothing was taken
@@ -505,7 +505,7 @@ module _ {R : Type 0} (remaining : R → Option (List ℕ)) (read_step : R → R
               (λ more some. absurd (omega (arith, some)))
               (omega (
                 arith,
-                none-counted (line_plan k meaning (view_of k bytes)).finish.count (over (view_of k bytes)).is_count
+                none-counted (line_plan k meaning (view_of k bytes)).finish.count (over (view_of k bytes)).ending
                     all,
               ));
           ahead = ahead;
@@ -567,34 +567,12 @@ module _ {S E F : Type 0} (step : Steps S E) (errors : ErrorMakers F E) (matcher
   abbrev state : SearcherState
   state = record { settings = k; has_buffers = has_buffers }
 
-  -- `finish` follows calls that didn't fail
-  finished-after : (plan : Plan) (outcome : Outcome E) (result : Result (Unit {0}) E) {new : S}
-      → IsEnding outcome plan.finish finish → step last k (finishes finish.count finish.binary) (finish_result result)
-      new
-      → IsFinished step k outcome last plan.finish result new
-  finished-after plan all_true result {new} is made =
-      subst (λ (f : Finish). step last k (finishes f.count f.binary) (finish_result result) new) is made
-  finished-after plan (stopped if_false) result {new} is made =
-      subst (λ (f : Finish). step last k (finishes f.count f.binary) (finish_result result) new) is made
-  finished-after plan (failed e) result never made = absurd never
-
-  run-over : {plan : Plan} {outcome : Outcome E} {result : Result (Unit {0}) E} {new : S}
-      → IsMadeTo step k old plan outcome finish last
-      → step last k (finishes finish.count finish.binary) (finish_result result) new
-      → IsRun step k old plan result new
-  run-over {plan} {outcome} {result} {new} to made = record {
-    outcome = outcome;
-    mid = last;
-    made = to.made;
-    finished = finished-after plan _ _ to.ending made;
-  }
-
   ended : (result : Result (Unit {0}) E) {new : S} → HasBegun step k matcher.meaning remaining read_step reader old
       reader'
       → IsStreamCounted step k matcher.meaning remaining read_step reader old finish reader' last
       → step last k (finishes finish.count finish.binary) (finish_result result) new
       → IsReaderSearch remaining read_step step errors matcher state on_stream reader old result reader' new
-  unfolding run-over
+  unfolding run-finish
   ended result {new} begun counted made =
       let meaning = matcher.meaning in
       let plan : Plan = plan_with k.binary_detection counted.point (search_plan k meaning counted.seen) in
@@ -605,7 +583,7 @@ module _ {S E F : Type 0} (step : Steps S E) (errors : ErrorMakers F E) (matcher
             let begins = counted.begins bytes input in
             record { front = counted.front bytes input; later = begins.0; calls = begins.1 };
         over_seen = ran counted.point counted.at_seen
-            (run-over counted.over_seen made) (
+            (run-finish step k old _ finish _ last result new counted.over_seen made) (
               (λ all goes_on bytes input.
                   let few = counted.all all
                   (λ ends. ap (λ (f : Finish). f.binary)

@@ -9,9 +9,10 @@ use Rattle.grep_line_buffer.specs.BufferStates.{BufferState, is_cut, Lacks}
 use Rattle.grep_core.specs.HeldViews.{HoldsGiven}
 use Rattle.grep_matcher.specs.Lines.{byte_of, lines}
 use Rattle.grep_matcher.specs.Meanings.{Meaning, MatcherFacts}
-use Rattle.grep_definitions.specs.Plans.{line_plan, reports_end, search_plan, AreMade, Finish, Plan}
-use Rattle.grep_definitions.specs.Plans.{Planned, begins, binary_data, Steps, Outcome, all_true}
-use Rattle.grep_definitions.specs.Plans.{stopped, failed, planned, Settings}
+use Rattle.grep_definitions.specs.SinkRuns.{IsMadeTo}
+use Rattle.grep_definitions.specs.Plans.{counted, line_plan, reports_end, search_plan, AreMade}
+use Rattle.grep_definitions.specs.Plans.{Finish, Planned, begins, binary_data, Steps, Outcome}
+use Rattle.grep_definitions.specs.Plans.{all_true, planned, Settings}
 use Rattle.grep_definitions.specs.Searches.{binary_of, is_detecting, on_stream, view_of}
 use Rattle.grep_definitions.specs.Searches.{BinaryPoint, plan_with, quits, IsCutAt, IsPoint}
 use Rattle.grep_definitions.specs.Searches.{IsInput, IsClosed, IsFront, IsTooLong, Taken}
@@ -23,8 +24,7 @@ use Rattle.grep_walk.specs.declared.walk.Walk.{Walk}
 use Rattle.grep_walk.specs.WalkFaults.{IsWalkFault}
 use Rattle.grep_core.specs.SearchBuffers.{detection_of}
 use Rattle.grep_walk.specs.Windows.{HasSearched}
-use Rattle.grep_walk.specs.Walks.{CountedFrom}
-use Rattle.grep_walk.specs.Origins.{Origin, fresh, AreMadeFrom}
+use Rattle.grep_walk.specs.Origins.{Origin, fresh, AreMadeFrom, IsMadeToFrom}
 
 -- how far a walk is into the bytes that a buffer shows
 abbrev pub start_in : BufferState → Walk → ℕ
@@ -49,8 +49,7 @@ module _ {S E : Type 0} (step : Steps S E) (settings : Settings) (meaning : Mean
   -- the calls were counted for an input
   abbrev pub IsCountedFor : Origin S → List ℕ → ℕ → Outcome E → S → Type 0
   IsCountedFor first input count outcome new =
-      CountedFrom step settings first (line_plan settings meaning input).calls
-      (line_plan settings meaning input).finish.count count outcome new
+      IsMadeToFrom step settings first (line_plan settings meaning input) outcome (counted count) new
 
   -- a search in which no line may be reported has read nothing yet, and looks for a binary byte
   pub record IsIdle (gone : List ℕ) (buffer : BufferState) (first : Origin S) (now : S) : Type 0
@@ -208,18 +207,6 @@ module _ {S E : Type 0} (step : Steps S E) (settings : Settings) (meaning : Mean
     pub rolling : IsRolling step settings meaning remaining read_step decoder reader start buffer
         decoder' reader' w now.sink
     pub passed : IsStartAt rolling.given w.offset old start now.binary
-
--- what `finish` has after calls that didn't fail
-abbrev pub IsEnding : {E : Type 0} → Outcome E → Finish → Finish → Type 0
-IsEnding all_true whole finish = finish ≡ whole
-IsEnding (stopped if_false) whole finish = finish ≡ if_false
-IsEnding (failed e) whole finish = ⊥
-
--- the calls along a plan were made, and `finish` is still to be called
-pub record IsMadeTo {S E : Type 0} (step : Steps S E) (settings : Settings) (old : S) (plan : Plan)
-    (outcome : Outcome E) (finish : Finish) (last : S) : Type 0 where
-  pub made : AreMade step settings old plan.calls outcome last
-  pub ending : IsEnding outcome plan.finish finish
 
 -- a search of a reader came to its end, and `finish` is still to be called
 pub record IsStreamCounted {S E : Type 0} (step : Steps S E) (settings : Settings)

@@ -5,15 +5,16 @@ ghost use Rattle.std.specs.Prelude.{Err, IfOk, IfErr, IsOk};
 ghost use Rattle.grep_matcher.specs.Meanings.{IsInfallible};
 ghost use Rattle.grep_definitions.specs.Plans.{line_plan};
 ghost use Rattle.grep_definitions.specs.CallOrder.{BeginsInOrder, GoesOnInOrder};
-ghost use Rattle.grep_definitions.specs.Plans.{IsLawful, Outcome, NeverFails};
+ghost use Rattle.grep_definitions.specs.SinkRuns.{IsMadeTo};
+ghost use Rattle.grep_definitions.specs.Plans.{counted, IsLawful, Outcome, NeverFails};
 ghost use Rattle.grep_definitions.specs.Searches.{nowhere};
 ghost use Rattle.grep_definitions.specs.SliceSearches.{IsContentsSearch};
 ghost use Rattle.grep_walk.specs.LookAheads.{AreQuestions};
 ghost use Rattle.grep_walk.specs.WalkFaults.{IsWalkFault};
-ghost use Rattle.grep_walk.specs.Walks.{Counted, IsOrdered, CountedFrom};
+ghost use Rattle.grep_walk.specs.Walks.{IsOrdered};
 ghost use Rattle.grep_walk.specs.Windows.{HasSearched, HasPassed};
 ghost use Rattle.grep_core.specs.Configured.{IsConfigured};
-ghost use Rattle.grep_walk.specs.Origins.{Origin};
+ghost use Rattle.grep_walk.specs.Origins.{IsMadeToFrom, Origin};
 ghost use Rattle.grep_report.specs.ErrorMakers.{makers_of};
 
 use crate::calls::Calls;
@@ -38,10 +39,9 @@ impl<'c, A: Allocator + Copy, T> Search<'c, A, T> {
         ensures reported { IfOk result (λ count.
             IsLawful (M.facts matcher.now) self.now.config
             → (outcome : Outcome C.Error)
-            × Counted C.step self.now.config sink.old
-            (line_plan self.now.config (M.facts matcher.now).meaning bytes.now).calls
-            (line_plan self.now.config (M.facts matcher.now).meaning bytes.now).finish.count
-            count outcome sink.new) }
+            × IsMadeTo C.step self.now.config sink.old
+            (line_plan self.now.config (M.facts matcher.now).meaning bytes.now)
+            outcome (counted count) sink.new) }
         ensures fault { IfErr result (λ e.
             IsLawful (M.facts matcher.now) self.now.config
             → IsContentsSearch C.step
@@ -108,10 +108,9 @@ impl<'c, A: Allocator + Copy, T> Search<'c, A, T> {
             × ((gone input : List ℕ) (first : Origin C.Sink)
             → HasSearched C.step self.now.config (M.facts matcher.now).meaning gone window.now input
             first start walk.old sink.old
-            → CountedFrom C.step self.now.config first
-            (line_plan self.now.config (M.facts matcher.now).meaning input).calls
-            (line_plan self.now.config (M.facts matcher.now).meaning input).finish.count
-            walk.new.offset outcome sink.new)) }
+            → IsMadeToFrom C.step self.now.config first
+            (line_plan self.now.config (M.facts matcher.now).meaning input)
+            outcome (counted walk.new.offset) sink.new)) }
         ensures fault { IfErr result (λ e.
             IsLawful (M.facts matcher.now) self.now.config
             → (gone input : List ℕ) (first : Origin C.Sink)

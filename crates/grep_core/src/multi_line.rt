@@ -4,8 +4,8 @@ ghost use Rattle.grep_matcher.specs.Meanings.{IsInfallible};
 ghost use Rattle.grep_definitions.specs.CallOrder.{BeginsInOrder, EndsInOrder};
 ghost use Rattle.grep_definitions.specs.Searches.{nowhere};
 ghost use Rattle.grep_definitions.specs.SliceSearches.{IsContentsSearch};
-ghost use Rattle.grep_definitions.specs.Plans.{begins, plan_in, Outcome, NeverFails};
-ghost use Rattle.grep_walk.specs.Walks.{Counted};
+ghost use Rattle.grep_definitions.specs.Plans.{begins, counted, plan_in, Outcome, NeverFails};
+ghost use Rattle.grep_definitions.specs.SinkRuns.{IsMadeTo};
 ghost use Rattle.grep_core.specs.Configured.{IsConfigured};
 ghost use Rattle.grep_report.specs.ErrorMakers.{makers_of};
 
@@ -29,10 +29,9 @@ impl<'c, A: Allocator + Copy, T> Search<'c, A, T> {
         requires configured { IsConfigured (C.settings self.now.searcher.now) self.now.config }
         requires may_call { C.may_call sink.old }
         ensures reported { IfOk result (λ count. (outcome : Outcome C.Error)
-            × Counted C.step self.now.config sink.old
-            (plan_in self.now.config (M.facts matcher.now).meaning bytes.now true).calls
-            (plan_in self.now.config (M.facts matcher.now).meaning bytes.now true).finish.count
-            count outcome sink.new) }
+            × IsMadeTo C.step self.now.config sink.old
+            (plan_in self.now.config (M.facts matcher.now).meaning bytes.now true)
+            outcome (counted count) sink.new) }
         ensures fault { IfErr result (λ e. IsContentsSearch C.step
             (makers_of M.Error.output C.Error.makers) (M.facts matcher.now)
             self.now.config nowhere true bytes.now sink.old (Err e) sink.new) }
@@ -62,10 +61,9 @@ impl<'c, A: Allocator + Copy, T> Search<'c, A, T> {
         requires may_call { C.may_call sink.old }
         ensures reported { IfOk result (λ count. (first : C.Sink)
             → C.step first self.now.config begins (Ok true) sink.old
-            → (outcome : Outcome C.Error) × Counted C.step self.now.config first
-            (plan_in self.now.config (M.facts matcher.now).meaning bytes.now true).calls
-            (plan_in self.now.config (M.facts matcher.now).meaning bytes.now true).finish.count
-            count outcome sink.new) }
+            → (outcome : Outcome C.Error) × IsMadeTo C.step self.now.config first
+            (plan_in self.now.config (M.facts matcher.now).meaning bytes.now true)
+            outcome (counted count) sink.new) }
         ensures fault { IfErr result (λ e. (first : C.Sink)
             → C.step first self.now.config begins (Ok true) sink.old
             → IsContentsSearch C.step

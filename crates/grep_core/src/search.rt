@@ -7,8 +7,8 @@ ghost use Rattle.grep_report.specs.BinaryDetections.{quit_byte_of};
 ghost use Rattle.grep_definitions.specs.CallOrder.{BeginsInOrder};
 ghost use Rattle.grep_definitions.specs.Searches.{nowhere, IsInOrder};
 ghost use Rattle.grep_definitions.specs.SliceSearches.{IsContentsSearch, IsSliceSearch};
-ghost use Rattle.grep_definitions.specs.Plans.{plan_in, IsLawful, NeverFails, Outcome};
-ghost use Rattle.grep_walk.specs.Walks.{Counted};
+ghost use Rattle.grep_definitions.specs.Plans.{counted, plan_in, IsLawful, NeverFails, Outcome};
+ghost use Rattle.grep_definitions.specs.SinkRuns.{IsMadeTo};
 ghost use Rattle.grep_report.specs.ErrorMakers.{makers_of};
 
 use crate::calls::Calls;
@@ -79,10 +79,9 @@ impl<'c, A: Allocator + Copy, T> Search<'c, A, T> {
         ensures reported { IfOk result (λ count.
             (is_across ≡ false → IsLawful (M.facts matcher.now) self.now.config)
             → (outcome : Outcome C.Error)
-            × Counted C.step self.now.config sink.old
-            (plan_in self.now.config (M.facts matcher.now).meaning bytes.now is_across).calls
-            (plan_in self.now.config (M.facts matcher.now).meaning bytes.now is_across).finish.count
-            count outcome sink.new) }
+            × IsMadeTo C.step self.now.config sink.old
+            (plan_in self.now.config (M.facts matcher.now).meaning bytes.now is_across)
+            outcome (counted count) sink.new) }
         ensures fault { IfErr result (λ e.
             (is_across ≡ false → IsLawful (M.facts matcher.now) self.now.config)
             → IsContentsSearch C.step

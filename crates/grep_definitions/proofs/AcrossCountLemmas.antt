@@ -8,7 +8,7 @@ use Rattle.std.proofs.Common.{◌≡◌, ◌⊎◌, ℕ, ◌+◌, ◌-◌, ◌<�
 use Rattle.std.proofs.Common.{◌∷◌, Option, Some, None, refl, sym, ◌∙◌, ap, subst, arith, ⊎_elim}
 use Rattle.std.proofs.Common.{inl, inr, if◌then◌else◌}
 use Rattle.std.proofs.Math.Bool.{and-false}
-use Rattle.std.proofs.lemmas.Bool.{ltb-true, cases_lt, cases_Bool}
+use Rattle.std.proofs.lemmas.Bool.{ltb-true, cases_lt, cases_Bool, and_parts}
 use Rattle.std.proofs.lemmas.List.Elements.{All-nil, All-cons, All-weaker}
 use Rattle.std.specs.Prelude.{nat_le, nat_lt, All}
 use Rattle.std.specs.Option.{option_map, unwrap_or}
@@ -19,7 +19,7 @@ use Rattle.grep_report.specs.declared.sink_context.SinkContextKind.TheVariants.{
 use Rattle.grep_definitions.proofs.AcrossWalkLemmas.{Near, front, front-through, n, S, starts, T}
 use Rattle.grep_definitions.proofs.BelowLemmas.{first_below-none, first_below-of, some_below-find}
 use Rattle.grep_definitions.proofs.BelowLemmas.{some_below-some}
-use Rattle.grep_definitions.proofs.BoolLemmas.{both_true, clash}
+use Rattle.grep_definitions.proofs.BoolLemmas.{clash}
 use Rattle.grep_matcher.proofs.LineStartLemmas.{line_start-ascends, line_start-le}
 use Rattle.grep_definitions.proofs.SearchLawLemmas.{kind-selected}
 use Rattle.grep_definitions.proofs.CountLemmas.{ended-by}
@@ -58,8 +58,8 @@ module _ (k : Settings) (meaning : Meaning) (bytes : List ℕ) where
 
       weaker : (q : ℕ) → nearer q ≡ true → later q ≡ true
       weaker q is =
-          let both = both_true (nat_lt j q && nat_le (q - j) k.before_context) (selected q) is in
-          let above = (both_true (nat_lt j q) (nat_le (q - j) k.before_context) both.0).0 in
+          let both = and_parts (nat_lt j q && nat_le (q - j) k.before_context) (selected q) is in
+          let above = (and_parts (nat_lt j q) (nat_le (q - j) k.before_context) both.0).0 in
           let here = both.1 in
           rw (above, here) refl
 
@@ -74,7 +74,7 @@ module _ (k : Settings) (meaning : Meaning) (bytes : List ℕ) where
           some
       go (Some q) is =
           let found = first_below-of later count q is in
-          let both = both_true (nat_lt j q) (selected q) found.1 in
+          let both = and_parts (nat_lt j q) (selected q) found.1 in
           omega (
             arith,
             from q (ltb-true j q both.0) found.0 both.1,

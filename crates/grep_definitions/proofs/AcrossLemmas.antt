@@ -12,7 +12,8 @@ use Rattle.std.proofs.Common.{◌≡◌, ℕ, ◌+◌, ◌-◌, ◌<◌, ◌≤�
 use Rattle.std.proofs.Common.{◌∷◌, length, refl, sym, ap, ◌∙◌, arith, ◌⊎◌, ⊎_elim, inl, inr, Option}
 use Rattle.std.proofs.Common.{Some, None, if◌then◌else◌, ltb-false}
 use Rattle.std.proofs.Math.Bool.{and-false}
-use Rattle.std.proofs.lemmas.Bool.{cases_Bool, le-leb}
+use Rattle.std.proofs.lemmas.Bool.{cases_Bool, le-leb, and_parts, and_from, or_cases, or_left}
+use Rattle.std.proofs.lemmas.Bool.{or_right}
 use Rattle.std.proofs.lemmas.List.{length-take}
 use Rattle.std.specs.Prelude.{nat_lt}
 use Rattle.std.specs.List.{list_any}
@@ -21,7 +22,6 @@ use Rattle.grep_matcher.specs.Meanings.{Meaning}
 use Rattle.grep_lines.specs.Blocks.{block_start, block_end}
 use Rattle.grep_report.specs.declared.sink_context.SinkContextKind.TheVariants.{After}
 use Rattle.grep_definitions.specs.SearchLaws.{AreReportsInOrder, report_calls}
-use Rattle.grep_definitions.proofs.BoolLemmas.{both_true, and-both, or-cases, or-first, or-second}
 use Rattle.grep_definitions.proofs.BelowLemmas.{some_below-some, count_below-none, count_below-once}
 use Rattle.grep_definitions.proofs.BelowLemmas.{count_below-either}
 use Rattle.grep_definitions.proofs.RunLemmas.{begins_run, begins_run-either, is_inside-run}
@@ -81,21 +81,21 @@ module _ (k : Settings) (meaning : Meaning) (bytes : List ℕ) where
       either : (i : ℕ) → is_touched k meaning bytes (x ∷ found) i ≡ true
           → (touched_by x i ≡ true) ⊎ (is_touched k meaning bytes found i ≡ true)
       either i is =
-          let parts = both_true (nat_lt i n) _ is in
+          let parts = and_parts (nat_lt i n) _ is in
           ⊎_elim
-          (λ one. inl (and-both (nat_lt i n) _ parts.0 one))
-          (λ later. inr (and-both (nat_lt i n) _ parts.0 later))
-          (or-cases (touches k meaning bytes i x) (list_any (touches k meaning bytes i) found) parts.1)
+          (λ one. inl (and_from (nat_lt i n) _ parts.0 one))
+          (λ later. inr (and_from (nat_lt i n) _ parts.0 later))
+          (or_cases (touches k meaning bytes i x) (list_any (touches k meaning bytes i) found) parts.1)
 
       first : (i : ℕ) → touched_by x i ≡ true → is_touched k meaning bytes (x ∷ found) i ≡ true
       first i is =
-          let parts = both_true (nat_lt i n) _ is in
-          and-both (nat_lt i n) _ parts.0 (or-first (touches k meaning bytes i x) _ parts.1)
+          let parts = and_parts (nat_lt i n) _ is in
+          and_from (nat_lt i n) _ parts.0 (or_left (touches k meaning bytes i x) _ parts.1)
 
       second : (i : ℕ) → is_touched k meaning bytes found i ≡ true → is_touched k meaning bytes (x ∷ found) i ≡ true
       second i is =
-          let parts = both_true (nat_lt i n) _ is in
-          and-both (nat_lt i n) _ parts.0 (or-second (touches k meaning bytes i x) _ parts.1)
+          let parts = and_parts (nat_lt i n) _ is in
+          and_from (nat_lt i n) _ parts.0 (or_right (touches k meaning bytes i x) _ parts.1)
 
   -- whether a unit begins at a line
   abbrev begins_unit : ℕ → Bool
@@ -119,7 +119,7 @@ module _ (k : Settings) (meaning : Meaning) (bytes : List ℕ) where
           && not (not b && nat_lt 0 i && (if b then free (i - 1) else held (i - 1)))) m ≤ limit
       go true = omega (
         arith,
-        count_below-weaker (λ i. free i && not false) free m (λ j yes. (both_true (free j) _ yes).0),
+        count_below-weaker (λ i. free i && not false) free m (λ j yes. (and_parts (free j) _ yes).0),
         count_below-limited k (is_free k meaning bytes) limit m shut,
       )
       go false = omega (arith, touched-runs (matches_up_to meaning bytes k.max_matches) m, few _ shut)

@@ -10,12 +10,12 @@ use Rattle.grep_definitions.specs.SearchLaws.{is_report}
 use Rattle.std.proofs.Common.{◌≡◌, ℕ, zero, suc, ◌+◌, ◌-◌, Bool, true, false, not, ◌&&◌, List, []}
 use Rattle.std.proofs.Common.{◌∷◌, ◌++◌, Option, Some, None, refl, ◌∙◌, ◌<◌, ◌≤◌, ap, arith, ⊎_elim}
 use Rattle.std.proofs.Common.{if◌then◌else◌}
-use Rattle.std.proofs.lemmas.Bool.{cases_Bool, lt-ltb, ltb-true}
+use Rattle.std.proofs.lemmas.Bool.{cases_Bool, lt-ltb, ltb-true, not-true}
 use Rattle.std.specs.Prelude.{nat_le, nat_lt, filter, is_some}
 use Rattle.grep_matcher.specs.Meanings.{Meaning}
 use Rattle.grep_report.specs.declared.sink_context.SinkContextKind.TheVariants.{Before, After}
 use Rattle.grep_report.specs.declared.sink_context.SinkContextKind.TheVariants.{Other}
-use Rattle.grep_definitions.proofs.BoolLemmas.{clash, not_false}
+use Rattle.grep_definitions.proofs.BoolLemmas.{clash}
 
 -- the calls of a search between `begin` and `finish`: reports, and breaks, each directly before a report that ends alike;
 -- after one that returns false `finish` has no offset
@@ -114,7 +114,7 @@ module _ (k : Settings) (meaning : Meaning) (bytes : List ℕ) where
       (can_break (Plans.kind k bytes selection i))
       (not (is_reported k bytes selection (i - 1))) (some_below (is_reported k bytes selection) i)
       is).1 in
-      absurd (clash before (not_false (is_reported k bytes selection (i - 1)) silent)))
+      absurd (clash before (not-true (is_reported k bytes selection (i - 1)) silent)))
       (λ ends. ends)
       (cases_Bool (continues k bytes selection i))
     where

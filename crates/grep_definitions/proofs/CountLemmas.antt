@@ -10,6 +10,7 @@ use Rattle.std.proofs.Common.{◌++◌, refl, sym, ap, append-nil, ◌∙◌, ar
 use Rattle.std.proofs.Common.{None, if◌then◌else◌}
 use Rattle.std.proofs.Math.Bool.{and-false}
 use Rattle.std.proofs.lemmas.Bool.{ltb-true, le-ltb, le-leb, lt-leb, cases_lt, cases_Bool}
+use Rattle.std.proofs.lemmas.Bool.{and_parts}
 use Rattle.std.proofs.lemmas.List.Elements.{All-nil, All-cons, All-weaker, filter-append}
 use Rattle.std.specs.Prelude.{filter, nat_le, nat_lt, All, slice_index_or}
 use Rattle.grep_matcher.specs.Lines.{byte_of, lines, line_start}
@@ -23,7 +24,7 @@ use Rattle.grep_definitions.proofs.BelowLemmas.{some_below-some, some_below-find
 use Rattle.grep_definitions.proofs.BelowLemmas.{first_below-none}
 use Rattle.grep_matcher.proofs.LineStartLemmas.{line_start-le}
 use Rattle.grep_definitions.specs.LineWalks.{IsNear}
-use Rattle.grep_definitions.proofs.BoolLemmas.{both_true, clash}
+use Rattle.grep_definitions.proofs.BoolLemmas.{clash}
 use Rattle.grep_definitions.proofs.ListLemmas.{All-joined_from, filter-all, filter-none}
 
 -- of calls whose counts are at most an offset, and later ones whose counts are above it, just the first are kept
@@ -100,7 +101,7 @@ module _ (k : Settings) (meaning : Meaning) (bytes : List ℕ) where
       go None is = rw is (omega arith)
       go (Some j) is =
           let found = first_below-of later (line_count k bytes) j is in
-          let above = ltb-true q j (both_true (nat_lt q j) (is_selected k meaning bytes j) found.1).0 in
+          let above = ltb-true q j (and_parts (nat_lt q j) (is_selected k meaning bytes j) found.1).0 in
           rw is (line_start-le (byte_of k.line_terminator) bytes (q + 1) (j + 1) (omega arith))
 
   -- if the count of a line is no earlier than some offset, so is that of each of its calls
@@ -165,9 +166,9 @@ module _ (k : Settings) (meaning : Meaning) (bytes : List ℕ) where
 
       nearer-later : (q : ℕ) → nearer q ≡ true → later q ≡ true
       nearer-later q is =
-          let both = both_true (nat_lt j q && nat_le (q - j) k.before_context)
+          let both = and_parts (nat_lt j q && nat_le (q - j) k.before_context)
           (is_selected k meaning bytes q) is in
-          let above = (both_true (nat_lt j q) (nat_le (q - j) k.before_context) both.0).0 in
+          let above = (and_parts (nat_lt j q) (nat_le (q - j) k.before_context) both.0).0 in
           let chosen = both.1 in
           rw (above, chosen) refl
 

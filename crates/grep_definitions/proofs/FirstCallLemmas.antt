@@ -14,6 +14,7 @@ use Rattle.std.proofs.Common.{inl, inr, ◌⊎◌, ⊎_elim, Option, Some, None,
 use Rattle.std.proofs.Common.{append-nil, if◌then◌else◌}
 use Rattle.std.proofs.Math.Bool.{and-false}
 use Rattle.std.proofs.lemmas.Bool.{lt-ltb, ltb-true, leb-true, le-leb, cases_lt, cases_Bool}
+use Rattle.std.proofs.lemmas.Bool.{and_from, and_parts}
 use Rattle.std.specs.Prelude.{nat_lt, nat_le, All}
 use Rattle.std.specs.Option.{option_map}
 use Rattle.grep_matcher.specs.Lines.{byte_of, lines}
@@ -27,7 +28,7 @@ use Rattle.grep_definitions.proofs.BelowLemmas.{first_below-none, joined_from-ad
 use Rattle.grep_definitions.proofs.BelowLemmas.{joined_from-equal, headed-through, joined_from-none}
 use Rattle.grep_definitions.proofs.FirstLineLemmas as prefix
 use Rattle.grep_definitions.proofs.FirstLineLemmas.{IsClosed, some_below-same, first_below-same}
-use Rattle.grep_definitions.proofs.BoolLemmas.{and-both, both_true, clash}
+use Rattle.grep_definitions.proofs.BoolLemmas.{clash}
 use Rattle.grep_matcher.proofs.LineStartLemmas.{line_start-ascends, line_start-le}
 use Rattle.grep_definitions.specs.LineWalks.{IsNear}
 use Rattle.std.proofs.lemmas.List.{take_at, drop_at}
@@ -83,9 +84,9 @@ module _ (k : Settings) (meaning : Meaning) (front back : List ℕ)
   -- what the test says
   pub near-from : (bytes : List ℕ) (i j : ℕ) → near_before bytes i j ≡ true → IsNearMatch bytes i j
   near-from bytes i j is =
-      let both = both_true (nat_lt i j && nat_le (j - i) k.before_context) (is_selected k meaning bytes j)
+      let both = and_parts (nat_lt i j && nat_le (j - i) k.before_context) (is_selected k meaning bytes j)
       is in
-      let near = both_true (nat_lt i j) (nat_le (j - i) k.before_context) both.0 in
+      let near = and_parts (nat_lt i j) (nat_le (j - i) k.before_context) both.0 in
       record {
         beyond = ltb-true i j near.0;
         within = leb-true (j - i) k.before_context near.1;
@@ -94,9 +95,9 @@ module _ (k : Settings) (meaning : Meaning) (front back : List ℕ)
 
   -- the test, if that holds
   pub near-to : (bytes : List ℕ) (i j : ℕ) → IsNearMatch bytes i j → near_before bytes i j ≡ true
-  near-to bytes i j h = and-both (nat_lt i j && nat_le (j - i) k.before_context)
+  near-to bytes i j h = and_from (nat_lt i j && nat_le (j - i) k.before_context)
       (is_selected k meaning bytes j)
-      (and-both (nat_lt i j) (nat_le (j - i) k.before_context) (lt-ltb i j h.beyond)
+      (and_from (nat_lt i j) (nat_le (j - i) k.before_context) (lt-ltb i j h.beyond)
       (le-leb (j - i) k.before_context h.within)) h.chosen
 
   -- a line before a match in the front is so in the whole
@@ -182,14 +183,14 @@ module _ (k : Settings) (meaning : Meaning) (front back : List ℕ)
       found : follows_selected k front (selection front) j ≡ true → ⊥
       found holds =
           let match = some_below-find (near_after j) j holds in
-          let both = both_true (nat_le (j - match.0) k.after_context) (selected match.0) match.2 in
+          let both = and_parts (nat_le (j - match.0) k.after_context) (selected match.0) match.2 in
           let within = leb-true (j - match.0) k.after_context both.0 in
           let chosen = both.1 in
           let earlier : match.0 < i = ⊎_elim (λ less. less)
           (λ out. absurd (let no = late-unselected i match.0 late out (omega arith) in cc))
           (cases_lt match.0 i) in
           let here = some_below-some (near_after i) i match.0 earlier
-          (and-both (nat_le (i - match.0) k.after_context) (selected match.0)
+          (and_from (nat_le (i - match.0) k.after_context) (selected match.0)
           (le-leb (i - match.0) k.after_context (omega (arith, within))) chosen) in
           let no = late.unfollowed in
           cc
@@ -242,7 +243,7 @@ module _ (k : Settings) (meaning : Meaning) (front back : List ℕ)
       let same : (j : ℕ) → j < n → later_in whole i j ≡ later_in front i j = λ j below. ap (λ b. nat_lt i j && b)
       (same_selected j below) in
       let there = some_below-some (later_in whole i) n found.0 found.1
-      (and-both (nat_lt i found.0) (is_selected k meaning whole found.0) (lt-ltb i found.0 near.beyond)
+      (and_from (nat_lt i found.0) (is_selected k meaning whole found.0) (lt-ltb i found.0 near.beyond)
       (same_selected found.0 found.1 ∙ near.chosen)) in
       ap (first_below (later_in whole i)) more_lines ∙ first_below-far (later_in whole i) n _ there
       ∙ first_below-same (later_in whole i) (later_in front i) n same
@@ -493,11 +494,11 @@ module _ (k : Settings) (meaning : Meaning) (front back : List ℕ)
           let found = some_below-find (near_before whole i) all late.precedes in
           let match = near-from whole i found.0 found.2 in
           absurd (clash (some_below-some (later_in whole i) all found.0 found.1
-          (and-both (nat_lt i found.0) (is_selected k meaning whole found.0)
+          (and_from (nat_lt i found.0) (is_selected k meaning whole found.0)
           (lt-ltb i found.0 match.beyond) match.chosen)) (first_below-none (later_in whole i) all is))
       go (Some q) is =
           let found = first_below-of (later_in whole i) all q is in
-          let both = both_true (nat_lt i q) (is_selected k meaning whole q) found.1 in
+          let both = and_parts (nat_lt i q) (is_selected k meaning whole q) found.1 in
           let beyond = ltb-true i q both.0 in
           let far : n ≤ q = ⊎_elim
           (λ less. absurd (clash (sym (same_selected q less) ∙ both.1)

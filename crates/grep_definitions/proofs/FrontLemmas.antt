@@ -4,7 +4,7 @@ use Rattle.std.proofs.Common.{drop, get_or, inl, inr, refl, sym, ◌∙◌, ap, 
 use Rattle.std.proofs.Common.{append-nil, append_assoc, length-append, length-drop}
 use Rattle.std.proofs.Math.Seq.{take-append-add, get_or-append_right}
 use Rattle.std.proofs.Math.Bool.{and-false}
-use Rattle.std.proofs.lemmas.Bool.{cases_Bool, cases_lt, ltb-true}
+use Rattle.std.proofs.lemmas.Bool.{cases_Bool, cases_lt, ltb-true, and_parts}
 use Rattle.std.proofs.lemmas.List.{take-append-le, take-append-drop, take_all, take_at}
 use Rattle.std.proofs.lemmas.List.{get_or-append-add, get_or-drop, get_or-take, length-take-le}
 use Rattle.std.proofs.lemmas.List.{nil_from_length}
@@ -23,7 +23,7 @@ use Rattle.grep_definitions.specs.Plans.{precedes_selected}
 use Rattle.grep_definitions.specs.Searches.{IsBelowLimit, IsClosed, IsCrowded, IsFront, IsTooLong}
 use Rattle.grep_definitions.specs.LineWalks.{IsNear}
 use Rattle.grep_definitions.proofs.BelowLemmas.{some_below-find}
-use Rattle.grep_definitions.proofs.BoolLemmas.{both_true, clash}
+use Rattle.grep_definitions.proofs.BoolLemmas.{clash}
 use Rattle.grep_matcher.proofs.LineLengthLemmas.{lines-within, lines-end, first-long, first-open}
 use Rattle.grep_definitions.proofs.SearchLawLemmas as laws
 use Rattle.grep_lines.proofs.LineRangeLemmas.{comes-from}
@@ -155,9 +155,9 @@ unreported-passed k meaning bytes v left near i low below =
     unpreceded = ⊎_elim
         (λ holds.
         let found = some_below-find before (line_count k bytes) holds in
-        let both = both_true (nat_lt i found.0 && nat_le (found.0 - i) k.before_context)
+        let both = and_parts (nat_lt i found.0 && nat_le (found.0 - i) k.before_context)
         (is_selected k meaning bytes found.0) found.2 in
-        let above = ltb-true i found.0 (both_true (nat_lt i found.0) _ both.0).0 in
+        let above = ltb-true i found.0 (and_parts (nat_lt i found.0) _ both.0).0 in
         absurd (clash both.1 (near.passed found.0 (omega arith) found.1).0))
         (λ no. no)
         (cases_Bool (precedes_selected k bytes (selected_lines k meaning bytes) i))

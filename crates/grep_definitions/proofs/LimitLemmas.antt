@@ -3,7 +3,7 @@ use Rattle.std.proofs.Common.{◌≡◌, ℕ, suc, ◌+◌, ◌-◌, ◌<◌, �
 use Rattle.std.proofs.Common.{List, refl, sym, ◌∙◌, ap, arith, ⊎_elim, Option, Some, None}
 use Rattle.std.proofs.Common.{if◌then◌else◌}
 use Rattle.std.proofs.Math.Bool.{or-true, or-false, and-false, and-true}
-use Rattle.std.proofs.lemmas.Bool.{lt-ltb, cases_Bool}
+use Rattle.std.proofs.lemmas.Bool.{lt-ltb, cases_Bool, and_parts}
 use Rattle.std.specs.Prelude.{nat_lt, IfSome}
 use Rattle.std.specs.Option.{option_map}
 use Rattle.grep_matcher.specs.Lines.{byte_of, lines}
@@ -18,7 +18,7 @@ use Rattle.grep_definitions.proofs.BelowLemmas.{first_below-of, first_below-more
 use Rattle.grep_definitions.proofs.BelowLemmas.{first_below-nowhere, first_below-late}
 use Rattle.grep_definitions.proofs.BelowLemmas.{count_below-le, room-first, room-le, at_most-over}
 use Rattle.grep_definitions.proofs.BelowLemmas.{at_most-above, at_most-next, at_most-some}
-use Rattle.grep_definitions.proofs.BoolLemmas.{both_true, clash}
+use Rattle.grep_definitions.proofs.BoolLemmas.{clash}
 
 module _ (k : Settings) (meaning : Meaning) (bytes : List ℕ) where
   abbrev n : ℕ
@@ -90,7 +90,7 @@ module _ (k : Settings) (meaning : Meaning) (bytes : List ℕ) where
 
   -- the limit of a search in which a line fills it isn't 0
   filled-room : (m : ℕ) → fills m ≡ true → has_room k 0 ≡ true
-  filled-room m full = room-first k (count_below hits m) (both_true (hits m) _ (both_true (is_chosen m) _ full).0).1
+  filled-room m full = room-first k (count_below hits m) (and_parts (hits m) _ (and_parts (is_chosen m) _ full).0).1
 
   by_limit-is : (m : ℕ) → k.passthru ≡ false → first_below fills n ≡ Some m → by_limit
       ≡ Some (suc (m + k.after_context))
@@ -155,10 +155,10 @@ module _ (k : Settings) (meaning : Meaning) (bytes : List ℕ) where
   module _ {i left c : ℕ} (opened : IsOpen k meaning bytes i left c) (inside : i < n) where
     module _ (yes : is_chosen i ≡ true) where
       free : has_room k c ≡ true
-      free = sym opened.below ∙ (both_true (hits i) _ yes).1
+      free = sym opened.below ∙ (and_parts (hits i) _ yes).1
 
       count_next : (j : ℕ) → j ≡ suc i → count_below hits j ≡ c + 1
-      count_next j is = let hit = (both_true (hits i) _ yes).0 in rw (is, hit, opened.counted free) refl
+      count_next j is = let hit = (and_parts (hits i) _ yes).0 in rw (is, hit, opened.counted free) refl
 
       fills-is : fills i ≡ not (has_room k (c + 1))
       fills-is = rw (yes, opened.counted free) refl

@@ -12,7 +12,7 @@ use Rattle.std.proofs.Math.Bool.{and-false}
 use Rattle.std.proofs.Common.{◌≡◌, ℕ, zero, suc, ◌+◌, ◌-◌, ◌<◌, ◌≤◌, Bool, true, false, ◌&&◌, ◌||◌}
 use Rattle.std.proofs.Common.{List, [], ◌∷◌, ◌++◌, length, refl, sym, ◌∙◌, ap, arith, ⊎_elim}
 use Rattle.std.proofs.Common.{Option, Some, None, if◌then◌else◌}
-use Rattle.std.proofs.lemmas.Bool.{ltb-true, cases_lt}
+use Rattle.std.proofs.lemmas.Bool.{ltb-true, cases_lt, and_parts, not-true}
 use Rattle.std.proofs.lemmas.List.{map-append, length-append, length-map}
 use Rattle.std.proofs.lemmas.List.Elements.{filter-append}
 use Rattle.std.proofs.lemmas.Option.{slice_get-map}
@@ -27,7 +27,7 @@ use Rattle.grep_definitions.proofs.LineSliceLemmas.{line-report}
 use Rattle.grep_definitions.specs.SearchLaws.{is_match, is_matched, match_calls, match_of}
 use Rattle.grep_definitions.specs.SearchLaws.{matched_lines, FirstMatchIsFirst, MatchesAreCounted}
 use Rattle.grep_definitions.specs.SearchLaws.{MatchesAreMatchedLines}
-use Rattle.grep_definitions.proofs.BoolLemmas.{both_true, not_false, clash}
+use Rattle.grep_definitions.proofs.BoolLemmas.{clash}
 use Rattle.grep_definitions.proofs.BelowLemmas.{first_below-before, first_below-here}
 use Rattle.grep_definitions.proofs.BelowLemmas.{first_below-of, first_below-late, first_below-more}
 use Rattle.grep_definitions.proofs.BelowLemmas.{first_below-none, first_below-nowhere}
@@ -134,7 +134,7 @@ module _ (k : Settings) (meaning : Meaning) (bytes : List ℕ) where
   -- a selected line comes before each bound of the reports
   stop-bound : (i : ℕ) → selected i ≡ true → IfSome (end_by_stop k meaning bytes) (λ b. i < b)
   stop-bound i taken = go (first_below ends n) refl
-      (not_false _ (both_true (is_chosen k meaning bytes i) _ taken).1)
+      (not-true _ (and_parts (is_chosen k meaning bytes i) _ taken).1)
     where
       go : (found : Option ℕ) → first_below ends n ≡ found → some_below ends i ≡ false
           → IfSome (option_map suc found) (λ b. i < b)
@@ -146,17 +146,17 @@ module _ (k : Settings) (meaning : Meaning) (bytes : List ℕ) where
   limit-bound i taken = go k.passthru (has_room k 0) refl (first_below fills n) refl
     where
       room : has_room k (count_below hits i) ≡ true
-      room = (both_true (hits i) _ taken).1
+      room = (and_parts (hits i) _ taken).1
 
       late : (m : ℕ) → fills m ≡ true → i ≤ m
       late m full =
-          let parts = both_true (is_chosen k meaning bytes m) _ full in
-          let hit : hits m ≡ true = (both_true (hits m) _ parts.0).0 in
+          let parts = and_parts (is_chosen k meaning bytes m) _ full in
+          let hit : hits m ≡ true = (and_parts (hits m) _ parts.0).0 in
           let next : count_below hits m + 1 ≡ count_below hits (suc m) = rw hit refl in
           ⊎_elim
           (λ before. absurd (clash room (room-le k _ _
           (omega (arith, next, count_below-le hits (suc m) i (omega arith)))
-          (not_false _ parts.1))))
+          (not-true _ parts.1))))
           (λ over. over) (cases_lt m i)
 
       go : (s some : Bool) → has_room k 0 ≡ some → (found : Option ℕ) → first_below fills n ≡ found
@@ -170,13 +170,13 @@ module _ (k : Settings) (meaning : Meaning) (bytes : List ℕ) where
   -- it is one of the lines
   selected-inside : (i : ℕ) → selected i ≡ true → i < n
   selected-inside i taken =
-      let hit = both_true (hits i) _ (both_true (is_chosen k meaning bytes i) _ taken).0 in
-      ltb-true i n (both_true (nat_lt i n) _ hit.0).0
+      let hit = and_parts (hits i) _ (and_parts (is_chosen k meaning bytes i) _ taken).0 in
+      ltb-true i n (and_parts (nat_lt i n) _ hit.0).0
 
   -- so it may be reported
   pub selected-reportable : (i : ℕ) → selected i ≡ true → i < reports_end k meaning bytes
   selected-reportable i taken =
-      let chosen = both_true (is_chosen k meaning bytes i) _ taken in
+      let chosen = and_parts (is_chosen k meaning bytes i) _ taken in
       at_most-above (end_by_limit k meaning bytes) i _
       (limit-bound i chosen.0)
       (at_most-above (end_by_stop k meaning bytes) i n (stop-bound i taken) (selected-inside i taken))

@@ -3,6 +3,7 @@ use Rattle.std.proofs.Common.{◌≡◌, ℕ, zero, suc, ◌+◌, ◌-◌, ◌<�
 use Rattle.std.proofs.Common.{List, [], ◌∷◌, ◌++◌, if◌then◌else◌, refl, sym, ap, ◌∙◌, arith, ◌⊎◌}
 use Rattle.std.proofs.Common.{⊎_elim, inl, inr, Option, Some, None}
 use Rattle.std.proofs.lemmas.Bool.{lt-ltb, ltb-true, le-leb, leb-true, cases_Bool, cases_lt}
+use Rattle.std.proofs.lemmas.Bool.{and_parts, and_from, not-true}
 use Rattle.std.specs.Prelude.{nat_lt, nat_le}
 use Rattle.std.specs.Option.{unwrap_or}
 use Rattle.std.specs.List.Sorted.{IsStrictlyIncreasing}
@@ -10,7 +11,7 @@ use Rattle.grep_definitions.specs.Plans.{first_below, joined_from}
 use Rattle.grep_definitions.proofs.BelowLemmas.{some_below-false, first_below-of}
 use Rattle.grep_definitions.proofs.BelowLemmas.{first_below-before, first_below-none}
 use Rattle.grep_definitions.proofs.BelowLemmas.{joined_from-add}
-use Rattle.grep_definitions.proofs.BoolLemmas.{both_true, and-both, not_false, clash}
+use Rattle.grep_definitions.proofs.BoolLemmas.{clash}
 use Rattle.grep_definitions.proofs.SearchLawLemmas.{AscendFrom, IsStrictlyIncreasing-cons}
 
 -- whether a run of numbers that pass begins at number i
@@ -22,14 +23,14 @@ pub begins_run-either : (p q r : ℕ → Bool) → ((i : ℕ) → r i ≡ true �
     → ((i : ℕ) → p i ≡ true → r i ≡ true) → ((i : ℕ) → q i ≡ true → r i ≡ true) → (i : ℕ) → begins_run r i ≡ true
     → (begins_run p i ≡ true) ⊎ (begins_run q i ≡ true)
 begins_run-either p q r either first second i is =
-    let parts = both_true (r i) (not (nat_lt 0 i && r (i - 1))) is in
+    let parts = and_parts (r i) (not (nat_lt 0 i && r (i - 1))) is in
     ⊎_elim
-    (λ here. inl (and-both (p i) _ here (fewer (nat_lt 0 i) (p (i - 1)) (r (i - 1)) (first (i - 1)) parts.1)))
-    (λ here. inr (and-both (q i) _ here (fewer (nat_lt 0 i) (q (i - 1)) (r (i - 1)) (second (i - 1)) parts.1)))
+    (λ here. inl (and_from (p i) _ here (fewer (nat_lt 0 i) (p (i - 1)) (r (i - 1)) (first (i - 1)) parts.1)))
+    (λ here. inr (and_from (q i) _ here (fewer (nat_lt 0 i) (q (i - 1)) (r (i - 1)) (second (i - 1)) parts.1)))
     (either i parts.0)
   where
     fewer : (z x y : Bool) → (x ≡ true → y ≡ true) → not (z && y) ≡ true → not (z && x) ≡ true
-    fewer true true y weaker none = absurd (clash (weaker refl) (not_false y none))
+    fewer true true y weaker none = absurd (clash (weaker refl) (not-true y none))
     fewer true false y weaker none = refl
     fewer false x y weaker none = refl
 
@@ -41,19 +42,19 @@ is_inside f n low high i = nat_lt i n && (nat_le low (f i) && nat_le (f (i + 1))
 pub is_inside-run : (f : ℕ → ℕ) (n low high : ℕ) → ((i j : ℕ) → i ≤ j → f i ≤ f j) → (i j : ℕ) → i < j
     → begins_run (is_inside f n low high) i ≡ true → begins_run (is_inside f n low high) j ≡ true → ⊥
 is_inside-run f n low high rises i j less first second =
-    let a = both_true (nat_lt i n) _ (both_true (is_inside f n low high i) _ first).0 in
-    let b = both_true (nat_lt j n) _ (both_true (is_inside f n low high j) _ second).0 in
-    let is_low : low ≤ f i = leb-true low (f i) (both_true (nat_le low (f i)) _ a.1).0 in
-    let is_high : f (j + 1) ≤ high = leb-true (f (j + 1)) high (both_true (nat_le low (f j)) _ b.1).1 in
+    let a = and_parts (nat_lt i n) _ (and_parts (is_inside f n low high i) _ first).0 in
+    let b = and_parts (nat_lt j n) _ (and_parts (is_inside f n low high j) _ second).0 in
+    let is_low : low ≤ f i = leb-true low (f i) (and_parts (nat_le low (f i)) _ a.1).0 in
+    let is_high : f (j + 1) ≤ high = leb-true (f (j + 1)) high (and_parts (nat_le low (f j)) _ b.1).1 in
     let below : j < n = ltb-true j n b.0 in
     let back : (j - 1) + 1 ≡ j = omega arith in
     let starts = le-leb low (f (j - 1)) (omega (arith, rises i (j - 1) (omega arith))) in
     let ends : nat_le (f ((j - 1) + 1)) high ≡ true =
     le-leb (f ((j - 1) + 1)) high (rw back (omega (arith, rises j (j + 1) (omega arith)))) in
     let here : is_inside f n low high (j - 1) ≡ true =
-    and-both (nat_lt (j - 1) n) _ (lt-ltb (j - 1) n (omega arith)) (and-both (nat_le low (f (j - 1))) _ starts ends) in
-    clash (and-both (nat_lt 0 j) _ (lt-ltb 0 j (omega arith)) here)
-    (not_false _ (both_true (is_inside f n low high j) _ second).1)
+    and_from (nat_lt (j - 1) n) _ (lt-ltb (j - 1) n (omega arith)) (and_from (nat_le low (f (j - 1))) _ starts ends) in
+    clash (and_from (nat_lt 0 j) _ (lt-ltb 0 j (omega arith)) here)
+    (not-true _ (and_parts (is_inside f n low high j) _ second).1)
 
 module _ (p : ℕ → Bool) (n : ℕ) where
   -- a run from number i on ends before number e: those from i on pass, and e doesn't, if it is below n
@@ -74,7 +75,7 @@ module _ (p : ℕ → Bool) (n : ℕ) where
       passes j low none = ⊎_elim
           (λ yes. yes)
           (λ no. ⊎_elim
-          (λ less. absurd (clash (and-both (nat_lt i j) (not (p j)) (lt-ltb i j less) (rw no refl)) none))
+          (λ less. absurd (clash (and_from (nat_lt i j) (not (p j)) (lt-ltb i j less) (rw no refl)) none))
           (λ over. let same : i ≡ j = omega arith in ap p (sym same) ∙ here)
           (cases_lt i j))
           (cases_Bool (p j))
@@ -90,12 +91,12 @@ module _ (p : ℕ → Bool) (n : ℕ) where
       }
       go (Some q) is =
           let found = first_below-of (λ j. nat_lt i j && not (p j)) n q is in
-          let parts = both_true (nat_lt i q) (not (p q)) found.1 in
+          let parts = and_parts (nat_lt i q) (not (p q)) found.1 in
           record {
             low = omega (arith, ltb-true i q parts.0);
             high = omega arith;
             inner = λ j low below. passes j low (first_below-before (λ j. nat_lt i j && not (p j)) n q j is below);
-            closed = λ below. not_false (p q) parts.1;
+            closed = λ below. not-true (p q) parts.1;
           }
 
   -- no run from number i on ends at two numbers

@@ -12,7 +12,8 @@ use Rattle.std.proofs.Common.{◌≡◌, ℕ, zero, suc, ◌+◌, ◌-◌, ◌<�
 use Rattle.std.proofs.Common.{◌∷◌, length, slice_index, refl, sym, ap, subst, ◌∙◌, arith, ◌⊎◌, inl}
 use Rattle.std.proofs.Common.{inr, ⊎_elim, Option, Some, None, if◌then◌else◌}
 use Rattle.std.proofs.Math.Bool.{and-false}
-use Rattle.std.proofs.lemmas.Bool.{le-leb, leb-true, lt-ltb, cases_Bool, cases_lt}
+use Rattle.std.proofs.lemmas.Bool.{le-leb, leb-true, lt-ltb, cases_Bool, cases_lt, and_parts}
+use Rattle.std.proofs.lemmas.Bool.{not-true, or_cases}
 use Rattle.std.proofs.lemmas.List.Sums.{sum_by-append}
 use Rattle.std.specs.Prelude.{nat_lt, nat_le, ◌&&◌, ◌||◌, not, is_some, count_by, cond}
 use Rattle.std.specs.List.Sorted.{IsStrictlyIncreasing}
@@ -28,7 +29,7 @@ use Rattle.grep_definitions.proofs.BelowLemmas.{first_below-of, count_below-eith
 use Rattle.grep_definitions.proofs.BelowLemmas.{count_below-none, count_below-within, room-le}
 use Rattle.grep_definitions.proofs.BelowLemmas.{joined_from-more}
 use Rattle.grep_matcher.proofs.LineStartLemmas.{line_start-ascends, line_start-more}
-use Rattle.grep_definitions.proofs.BoolLemmas.{both_true, clash, not_false, or-cases}
+use Rattle.grep_definitions.proofs.BoolLemmas.{clash}
 use Rattle.grep_definitions.proofs.ReportLemmas.{IsReported, in_order-joined, report_calls-broken}
 
 -- a bound never gives more
@@ -94,7 +95,7 @@ count_below-limited k p limit (suc m) shut =
   where
     few : count_below (λ i. p i && has_room k (count_below p i)) m ≤ count_below p m
     few = count_below-weaker (λ i. p i && has_room k (count_below p i)) p m
-        (λ j yes. (both_true (p j) (has_room k (count_below p j)) yes).0)
+        (λ j yes. (and_parts (p j) (has_room k (count_below p j)) yes).0)
 
     go : (a b : Bool) → has_room k (count_below p m) ≡ b
         → count_below (λ i. p i && has_room k (count_below p i)) m ≤ limit
@@ -128,7 +129,7 @@ pub kind-selected : (a b c d : Bool)
     ≡ true
 kind-selected a b c d is =
     ⊎_elim (λ yes. yes) (λ no. absurd (clash no (and-false b)))
-    (or-cases a (b && false) (kind-matched a b false c d is))
+    (or_cases a (b && false) (kind-matched a b false c d is))
 
 module _ (k : Settings) (meaning : Meaning) (bytes : List ℕ) where
   abbrev selection : Selection
@@ -286,19 +287,19 @@ module _ (k : Settings) (meaning : Meaning) (bytes : List ℕ) where
 
   late-is : (i : ℕ) → late i ≡ true → IsLate i
   late-is i is =
-      let parts = both_true (follows_selected k bytes selection i) (is_trailing k meaning bytes i)
+      let parts = and_parts (follows_selected k bytes selection i) (is_trailing k meaning bytes i)
       is in
       let found = some_below-find (λ j. nat_le (i - j) k.after_context && selected j) i parts.0 in
-      let near = both_true (nat_le (i - found.0) k.after_context) (selected found.0) found.2 in
-      let chosen = (both_true (chosen found.0) _ near.1).0 in
-      let past = both_true (hits k meaning bytes i) (not (is_open i)) parts.1 in
+      let near = and_parts (nat_le (i - found.0) k.after_context) (selected found.0) found.2 in
+      let chosen = (and_parts (chosen found.0) _ near.1).0 in
+      let past = and_parts (hits k meaning bytes i) (not (is_open i)) parts.1 in
       record {
         line = found.0;
         before = found.1;
         near = leb-true (i - found.0) k.after_context near.0;
         chosen = chosen;
-        room = (both_true (hits k meaning bytes found.0) (is_open found.0) chosen).1;
-        shut = not_false (is_open i) past.1;
+        room = (and_parts (hits k meaning bytes found.0) (is_open found.0) chosen).1;
+        shut = not-true (is_open i) past.1;
       }
 
   -- the limit has no room after a line before which it has none
@@ -319,7 +320,7 @@ module _ (k : Settings) (meaning : Meaning) (bytes : List ℕ) where
                 (some_below-false (λ i. not (is_open i)) m i none less))),
           )
       go (Some first) is =
-          let shut = not_false (is_open first) (first_below-of (λ i. not (is_open i)) m first is).1 in
+          let shut = not-true (is_open first) (first_below-of (λ i. not (is_open i)) m first is).1 in
           omega (
             arith,
             count_below-within late first k.after_context m (λ i less yes.
@@ -347,8 +348,8 @@ module _ (k : Settings) (meaning : Meaning) (bytes : List ℕ) where
   ))
     where
       either : (i : ℕ) → is_matched k meaning bytes i ≡ true → (chosen i ≡ true) ⊎ (late i ≡ true)
-      either i here = ⊎_elim (λ taken. inl (both_true (chosen i) _ taken).0) (λ after. inr after)
-          (or-cases (selected i) (late i) here)
+      either i here = ⊎_elim (λ taken. inl (and_parts (chosen i) _ taken).0) (λ after. inr after)
+          (or_cases (selected i) (late i) here)
 
       unchosen : (i : ℕ) → chosen i ≡ true → count_below chosen (suc i) ≡ 0 → ⊥
       unchosen i taken none =

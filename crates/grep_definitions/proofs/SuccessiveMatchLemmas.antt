@@ -4,7 +4,8 @@ use Rattle.std.proofs.Common.{◌∷◌, ◌++◌, length, take, drop, refl, ap,
 use Rattle.std.proofs.Common.{Option, Some, None, if◌then◌else◌, length-drop}
 use Rattle.std.proofs.Math.Seq.{take-nil}
 use Rattle.std.proofs.lemmas.List.Elements.{All-nil, All-cons, All-take}
-use Rattle.std.proofs.lemmas.Bool.{lt-ltb, le-ltb, le-leb, leb-true, ltb-true, cases_lt}
+use Rattle.std.proofs.lemmas.Bool.{lt-ltb, le-ltb, le-leb, leb-true, ltb-true, cases_lt, and_from}
+use Rattle.std.proofs.lemmas.Bool.{and_parts}
 use Rattle.std.specs.Prelude.{nat_lt, nat_le, ◌&&◌, IfSome, All}
 use Rattle.std.specs.Option.{option_map}
 use Rattle.grep_matcher.specs.Meanings.{Meaning}
@@ -12,7 +13,7 @@ use Rattle.grep_matcher.specs.FindResults.{IsWithin}
 use Rattle.grep_definitions.specs.Plans.{position_after, position_past, if_within, match_from}
 use Rattle.grep_definitions.specs.Plans.{matches_from, matches_up_to, is_below}
 use Rattle.grep_definitions.specs.SuccessiveMatches.{matches_left}
-use Rattle.grep_definitions.proofs.BoolLemmas.{and-both, both_true, clash}
+use Rattle.grep_definitions.proofs.BoolLemmas.{clash}
 
 -- after a match that doesn't end before it starts, the next is looked for at a later position
 pub position_after-later : (p : ℕ) (m : ℕ × ℕ) → p ≤ m.0 → m.0 ≤ m.1 → p < position_after m
@@ -36,7 +37,7 @@ pub if_within-same : (haystack : List ℕ) (found : Option (ℕ × ℕ)) → IsW
     ≡ found
 if_within-same haystack None inside = refl
 if_within-same haystack (Some m) inside =
-    let both = and-both _ _ (le-leb m.0 m.1 inside.0) (le-leb m.1 (length haystack) inside.1) in rw both refl
+    let both = and_from _ _ (le-leb m.0 m.1 inside.0) (le-leb m.1 (length haystack) inside.1) in rw both refl
 
 if_within-is : (haystack : List ℕ) (found : Option (ℕ × ℕ)) → IsWithin haystack (if_within haystack found)
 if_within-is haystack None = tt
@@ -44,7 +45,7 @@ if_within-is haystack (Some m) = go _ refl
   where
     go : (b : Bool) → (nat_le m.0 m.1 && nat_le m.1 (length haystack)) ≡ b
         → IsWithin haystack (if b then Some m else None)
-    go true is = let parts = both_true _ _ is in (leb-true _ _ parts.0, leb-true _ _ parts.1)
+    go true is = let parts = and_parts _ _ is in (leb-true _ _ parts.0, leb-true _ _ parts.1)
     go false is = tt
 
 module _ (meaning : Meaning) (bytes : List ℕ) where

@@ -3,7 +3,7 @@ use Rattle.std.proofs.Common.{◌≡◌, ◌≢◌, ℕ, zero, suc, ◌+◌, ◌
 use Rattle.std.proofs.Common.{List, length, slice_index, refl, sym, ap, ◌∙◌, arith, ⊎_elim, inl}
 use Rattle.std.proofs.Common.{inr, take_all}
 use Rattle.std.proofs.lemmas.Bool.{le-leb, lt-leb, leb-true, lt-ltb, le-ltb, cases_lt, cases_eq}
-use Rattle.std.proofs.lemmas.Bool.{ne_eqb}
+use Rattle.std.proofs.lemmas.Bool.{ne_eqb, and_parts, and_from}
 use Rattle.std.proofs.lemmas.List.Sums.{count_by_more_no}
 use Rattle.std.specs.Prelude.{nat_lt, nat_le}
 use Rattle.grep_matcher.specs.declared.line_terminator.LineTerminator.{LineTerminator}
@@ -14,7 +14,6 @@ use Rattle.grep_lines.specs.Blocks.{lines_before, block_start, block_end}
 use Rattle.grep_matcher.proofs.LineLemmas.{count, lines-closed, lines-unclosed}
 use Rattle.grep_lines.proofs.LinePositionLemmas.{block_start-is, block_end-closed, block_end-open}
 use Rattle.grep_lines.proofs.LineStepLemmas.{IsLastStart-line}
-use Rattle.grep_definitions.proofs.BoolLemmas.{both_true, and-both}
 use Rattle.grep_matcher.proofs.LineStartLemmas.{line_start-ascends, line_start-within}
 use Rattle.grep_matcher.proofs.LineStartLemmas.{line_start-last, line_start-le}
 
@@ -237,7 +236,7 @@ module _ (terminator : LineTerminator) (meaning : Meaning) (bytes : List ℕ) (p
     where
       parts : (nat_le (block_start t bytes (p, p)) (starts i) ≡ true)
           × (nat_le (starts (i + 1)) (block_end t bytes (p, p)) ≡ true)
-      parts = both_true _ _ is
+      parts = and_parts _ _ is
 
       first : block_start t bytes (p, p) ≤ starts i
       first = leb-true _ _ parts.0
@@ -249,7 +248,7 @@ module _ (terminator : LineTerminator) (meaning : Meaning) (bytes : List ℕ) (p
   pub holds-is_within : HoldsPosition terminator meaning bytes i p → is_within (byte_of terminator) bytes i (p, p)
       ≡ true
   holds-is_within (low, inl below) =
-      and-both _ _ (le-leb (block_start t bytes (p, p)) (starts i)
+      and_from _ _ (le-leb (block_start t bytes (p, p)) (starts i)
       (omega (arith, block_start-line t bytes (p, p) i here low below)))
       (le-leb (starts (i + 1)) (block_end t bytes (p, p)) (omega (arith, block_end-empty t bytes p i here low below)))
   holds-is_within (low, inr (last, over, other)) =
@@ -257,5 +256,5 @@ module _ (terminator : LineTerminator) (meaning : Meaning) (bytes : List ℕ) (p
       let same : lines_before t bytes p ≡ i = omega (arith, before) in
       let next = block_end-open t bytes (p, p) (starts (i + 1)) (λ less. absurd (omega arith))
       (ap (λ q. starts (q + 1)) (sym same)) in
-      and-both _ _ (le-leb (block_start t bytes (p, p)) (starts i) (omega (arith, ap starts same)))
+      and_from _ _ (le-leb (block_start t bytes (p, p)) (starts i) (omega (arith, ap starts same)))
       (le-leb (starts (i + 1)) (block_end t bytes (p, p)) (omega (arith, next)))

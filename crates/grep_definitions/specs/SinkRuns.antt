@@ -1,6 +1,7 @@
 -- What came of calls, by what is returned of them.
-use Rattle.std.specs.Prelude.{ℕ, Bool, true, false, List, Option, Result, Ok, Err}
+use Rattle.std.specs.Prelude.{◌≡◌, ℕ, Bool, true, false, List, Option, Result, Ok, Err}
 use Rattle.grep_definitions.specs.Plans.{Planned, Plan, Outcome, all_true, stopped, failed, counted}
+use Rattle.grep_definitions.specs.Plans.{Settings, Steps, Finish, AreMade}
 use Rattle.grep_definitions.specs.Searches.{BinaryPoint, with_offset}
 
 -- the plan of some calls after which `finish` has this byte count
@@ -21,3 +22,15 @@ abbrev pub outcome_of : {E : Type 0} → ℕ → Result Bool E → Outcome E
 outcome_of count (Ok true) = all_true
 outcome_of count (Ok false) = stopped (counted count)
 outcome_of count (Err e) = failed e
+
+-- what `finish` has after calls that didn't fail
+abbrev pub IsEnding : {E : Type 0} → Outcome E → Finish → Finish → Type 0
+IsEnding all_true whole finish = finish ≡ whole
+IsEnding (stopped if_false) whole finish = finish ≡ if_false
+IsEnding (failed e) whole finish = ⊥
+
+-- the calls along a plan were made, and `finish` is still to be called
+pub record IsMadeTo {S E : Type 0} (step : Steps S E) (settings : Settings) (old : S) (plan : Plan)
+    (outcome : Outcome E) (finish : Finish) (last : S) : Type 0 where
+  pub made : AreMade step settings old plan.calls outcome last
+  pub ending : IsEnding outcome plan.finish finish

@@ -5,6 +5,7 @@ use Rattle.std.specs.Prelude.{Ok, Err, false, All, slice_range}
 use Rattle.grep_lines.proofs.LineRangeLemmas.{comes-from, end-start}
 use Rattle.grep_matcher.specs.Lines.{lines, byte_of}
 use Rattle.grep_matcher.specs.Meanings.{Meaning, MatcherFacts}
+use Rattle.grep_definitions.specs.SinkRuns.{IsMadeTo}
 use Rattle.grep_definitions.specs.Plans.{across_plan, calls_at, start, touched_lines, IsAskedAt}
 use Rattle.grep_definitions.specs.Plans.{joined_from, Settings, Planned, begins, Steps, Outcome}
 use Rattle.grep_definitions.specs.Plans.{all_true, stopped, failed, AreMade, counted, calls_before}
@@ -18,7 +19,7 @@ use Rattle.grep_definitions.proofs.BelowLemmas.{room-first}
 use Rattle.grep_definitions.proofs.SinkRunLemmas.{AreMade-append, AreMade-ended}
 use Rattle.grep_walk.specs.declared.walk.Walk.{Walk}
 use Rattle.grep_walk.specs.AcrossWalks.{IsAcross, is_done}
-use Rattle.grep_walk.specs.Walks.{Counted, skip_lines}
+use Rattle.grep_walk.specs.Walks.{skip_lines}
 use Rattle.grep_definitions.proofs.AcrossWalkLemmas as calls
 use Rattle.grep_walk.proofs.AcrossStepLemmas as steps
 use Rattle.grep_walk.proofs.AcrossUnitLemmas.{IsNext}
@@ -39,11 +40,10 @@ module _ (k : Settings) (meaning : Meaning) (bytes : List ℕ) where
 
   module _ {State E : Type 0} (step : Steps State E) (first : State) where
     abbrev IsCounted : ℕ → Outcome E → State → Type 0
-    IsCounted count outcome new = Counted step k first (across_plan k meaning bytes).calls (across_plan k meaning bytes).finish.count count
-        outcome new
+    IsCounted count outcome new = IsMadeTo step k first (across_plan k meaning bytes) outcome (counted count) new
 
     pub counted-unbegun : (new : State) → step first k begins (Ok false) new → IsCounted 0 (stopped (counted 0)) new
-    counted-unbegun new stops = record { reported = inr (inl (refl, stops)); is_count = refl }
+    counted-unbegun new stops = record { made = inr (inl (refl, stops)); ending = refl }
 
     pub reported-begin : (now : State) → step first k begins (Ok true) now
         → AreMade step k first (front 0) all_true now
@@ -68,8 +68,8 @@ module _ (k : Settings) (meaning : Meaning) (bytes : List ℕ) where
         → AreMade step k first (front w.next_unreported) (stopped (counted end)) new → IsCounted count (stopped (counted
         end)) new
     counted-stopped w end count new across same reported = record {
-      reported = ended-whole w.next_unreported (stopped (counted end)) new (passed-few w across) (λ same. cc) reported;
-      is_count = ap counted same;
+      made = ended-whole w.next_unreported (stopped (counted end)) new (passed-few w across) (λ same. cc) reported;
+      ending = ap counted same;
     }
 
     pub failed-whole : (w : Walk) (e : E) (new : State) → IsAcross k meaning bytes w
@@ -88,11 +88,11 @@ module _ (k : Settings) (meaning : Meaning) (bytes : List ℕ) where
     counted-end w new across end reported =
         let all = all-passed w across end in
         record {
-          reported = subst (λ ts. AreMade step k first ts all_true new)
+          made = subst (λ ts. AreMade step k first ts all_true new)
               (sym (calls.front-done k meaning bytes
               (subst (λ i. calls.Near k meaning bytes w.next_unreported i w.after_context_left) all across.near)))
               reported;
-          is_count = sym across.placed.at.begins ∙ ap (start k bytes) all;
+          ending = ap counted (sym across.placed.at.begins ∙ ap (start k bytes) all);
         }
 
     -- the lines up to the end are passed unreported

@@ -3,7 +3,7 @@ use Rattle.std.proofs.Common.{◌≡◌, ℕ, ◌+◌, ◌-◌, ◌<◌, ◌≤�
 use Rattle.std.proofs.Common.{length, if◌then◌else◌, refl, sym, ◌∙◌, ap, subst, arith, ⊎_elim}
 use Rattle.std.proofs.Math.Bool.{and-false}
 use Rattle.std.proofs.lemmas.Bool.Decides.{nat_tests}
-use Rattle.std.proofs.lemmas.Bool.{lt-ltb, ltb-true, ltb-false, cases_Bool, cases_lt}
+use Rattle.std.proofs.lemmas.Bool.{lt-ltb, ltb-true, ltb-false, cases_Bool, cases_lt, and_from}
 use Rattle.std.specs.Prelude.{nat_lt, IfOk, Result, Ok, Err}
 use Rattle.grep_matcher.specs.Lines.{lines, byte_of}
 use Rattle.grep_matcher.specs.Meanings.{Meaning}
@@ -11,7 +11,7 @@ use Rattle.grep_lines.specs.Positions.{IsLine, IsLineStart}
 use Rattle.grep_definitions.specs.Plans.{continues, is_touched_selected, line_count, touched_lines}
 use Rattle.grep_definitions.specs.Plans.{is_free, count_below, Settings, has_room, selects_free}
 use Rattle.grep_definitions.proofs.BelowLemmas.{count_below-le, room-le, room-first}
-use Rattle.grep_definitions.proofs.BoolLemmas.{and-both, clash}
+use Rattle.grep_definitions.proofs.BoolLemmas.{clash}
 use Rattle.grep_walk.specs.declared.blocks.Blocks.{Blocks}
 use Rattle.grep_walk.specs.declared.walk.Walk.{Walk}
 use Rattle.grep_walk.specs.AcrossWalks.{IsAcross, IsComing, IsReady, is_done, is_joined}
@@ -322,7 +322,7 @@ module _ {k : Settings} {meaning : Meaning} {bytes : List ℕ} {start : ℕ} {w 
           (omega (arith, ltb-true start unit.0 is_d)) in
           let is_open = room-is is_b is_c in
           let hit = selected-inverted k meaning bytes is_b w.line
-          ∙ and-both (is_free k meaning bytes w.line) _
+          ∙ and_from (is_free k meaning bytes w.line) _
           (free-is k meaning bytes is_b (room-first k _ is_open) w.line line.listed ∙ ap not missed)
           is_open in
           record {

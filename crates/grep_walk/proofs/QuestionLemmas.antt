@@ -3,7 +3,8 @@ use Rattle.std.proofs.Common.{◌≡◌, ℕ, ◌-◌, ◌+◌, ◌<◌, ◌≤�
 use Rattle.std.proofs.Common.{sym, ◌∙◌, ap, arith, ⊎_elim}
 use Rattle.std.proofs.Math.Bool.{and-false}
 use Rattle.std.proofs.lemmas.Bool.Decides.{nat_tests}
-use Rattle.std.proofs.lemmas.Bool.{cases_lt, lt-ltb, le-ltb, le-leb, lt-leb, ltb-true}
+use Rattle.std.proofs.lemmas.Bool.{cases_lt, lt-ltb, le-ltb, le-leb, lt-leb, ltb-true, and_from}
+use Rattle.std.proofs.lemmas.Bool.{and_parts}
 use Rattle.std.specs.Prelude.{nat_lt, nat_le}
 use Rattle.grep_lines.specs.Positions.{IsLineStart}
 use Rattle.grep_matcher.specs.Meanings.{Meaning}
@@ -11,7 +12,7 @@ use Rattle.grep_matcher.specs.Lines.{byte_of}
 use Rattle.grep_definitions.specs.Plans.{line_count, start, is_touched, IsAskedAfter, IsAskedAt}
 use Rattle.grep_definitions.specs.Plans.{Settings}
 use Rattle.grep_definitions.proofs.BlockLemmas.{block_start-low}
-use Rattle.grep_definitions.proofs.BoolLemmas.{and-both, both_true, clash}
+use Rattle.grep_definitions.proofs.BoolLemmas.{clash}
 use Rattle.grep_walk.specs.TouchedUnits.{is_in, AreTouched}
 use Rattle.grep_lines.proofs.LineRangeLemmas.{starts-before, starts-from, comes-before, comes-from}
 use Rattle.grep_lines.proofs.LineRangeLemmas.{end-start}
@@ -40,8 +41,8 @@ module _ (k : Settings) (meaning : Meaning) (bytes : List ℕ) where
       (cases_lt 0 (length asked.found)) in
       let less = asked.some some in
       let here = asked.run asked.first asked.low
-      ∙ and-both _ _ (le-leb asked.first asked.first (omega arith)) (lt-ltb asked.first asked.last less) in
-      let inside = ltb-true asked.first n (both_true _ _ here).0 in
+      ∙ and_from _ _ (le-leb asked.first asked.first (omega arith)) (lt-ltb asked.first asked.last less) in
+      let inside = ltb-true asked.first n (and_parts _ _ here).0 in
       omega arith)
       (λ none.
       let some = first-line (omega arith) in
@@ -105,7 +106,7 @@ module _ (k : Settings) (meaning : Meaning) (bytes : List ℕ) where
       after = λ above.
           let back : (i - 1) + 1 ≡ i = omega arith in
           let inside : i - 1 < n = omega arith in
-          and-both (nat_lt (i - 1) n) _ (lt-ltb (i - 1) n inside)
+          and_from (nat_lt (i - 1) n) _ (lt-ltb (i - 1) n inside)
           (touched.before (omega (arith, begins-inside)) (i - 1) inside
           (ap from back ∙ at.begins));
       apart = λ above.

@@ -4,7 +4,7 @@ use Rattle.grep_definitions.specs.Plans.{planned, Planned, begins, context, Step
 use Rattle.grep_definitions.specs.Plans.{all_true, stopped, failed, AreMade, counted, Settings}
 use Rattle.grep_definitions.specs.Plans.{joined_from, stops_next, has_room, hits_if, IsAskedFrom}
 use Rattle.grep_definitions.specs.Plans.{Selection, follows_selected, hits, is_chosen, is_open_at}
-use Rattle.grep_definitions.specs.Plans.{is_selected, is_trailing, number}
+use Rattle.grep_definitions.specs.Plans.{is_selected, is_trailing, number, Finish, Plan}
 use Rattle.grep_definitions.specs.Plans
 use Rattle.std.proofs.Common.{◌≡◌, ℕ, ◌+◌, ◌-◌, ◌<◌, ◌≤◌, Bool, true, false, ◌||◌, List, [], ◌∷◌}
 use Rattle.std.proofs.Common.{◌++◌, length, drop, refl, sym, ◌∙◌, ap, subst, arith, ⊎_elim, inl}
@@ -40,10 +40,11 @@ use Rattle.grep_definitions.proofs.CountLemmas.{ends-one, ends-pending, ends-mat
 use Rattle.grep_definitions.proofs.CountLemmas.{ends-passed, ended-by}
 use Rattle.grep_walk.specs.declared.walk.Walk.{Walk}
 use Rattle.grep_walk.specs.WalkFaults.{IsWalkFault, at_call, at_question}
-use Rattle.grep_walk.specs.Walks.{IsDecided, IsPlaced, IsWalk, HasReported, Counted, can_hit}
-use Rattle.grep_walk.specs.Walks.{line_end, line_calls, after_line, is_over, CountedFrom}
+use Rattle.grep_definitions.specs.SinkRuns.{IsMadeTo}
+use Rattle.grep_walk.specs.Origins.{IsMadeToFrom, AreMadeFrom, Origin, fresh}
+use Rattle.grep_walk.specs.Walks.{IsDecided, IsPlaced, IsWalk, HasReported, can_hit, line_end}
+use Rattle.grep_walk.specs.Walks.{line_calls, after_line, is_over}
 use Rattle.grep_walk.proofs.OriginLemmas.{from-append, from-ended, from-fresh, fresh-made}
-use Rattle.grep_walk.specs.Origins.{AreMadeFrom, Origin, fresh}
 
 -- if the counts of the calls so far are at most a walk's offset, those with the calls of its line are at most the line's end
 pub ended-next : (k : Settings) (window : List ℕ) (w : Walk) (line : List ℕ) (chosen trailing : Bool) (made : List
@@ -314,23 +315,21 @@ module _ (k : Settings) (meaning : Meaning) (bytes : List ℕ) where
         (from-ended step k old (front i) (joined_from T i (reportable - i)) outcome new ended reported)
 
     abbrev IsCounted : ℕ → Outcome E → S → Type 0
-    IsCounted count outcome new = CountedFrom step k old (line_plan k meaning bytes).calls (line_plan k meaning bytes).finish.count count
-        outcome
-        new
+    IsCounted count outcome new = IsMadeToFrom step k old (line_plan k meaning bytes) outcome (counted count) new
 
     -- no more calls are to come
     counted-done : (w : Walk) (new : S) → IsLineStart t bytes w.offset w.line
         → IsNear k bytes selection w.next_unreported w.line w.after_context_left → IsDone k meaning bytes w.line
         → AreMadeFrom step k old (front w.next_unreported) all_true new → IsCounted w.offset all_true new
     counted-done w new at near done reported = record {
-      reported = subst (λ ts. AreMadeFrom step k old ts all_true new)
+      made = subst (λ ts. AreMadeFrom step k old ts all_true new)
           (sym (front-through w.next_unreported reportable (omega arith)))
           (from-append step k old (front w.next_unreported)
           (joined_from T w.next_unreported (reportable - w.next_unreported)) new
           all_true
           new reported
           (subst (λ ts. AreMade step k new ts all_true new) (sym (rest-is w near done)) (refl, refl)));
-      is_count = sym at.begins ∙ ap starts (sym done.last);
+      ending = ap counted (sym at.begins ∙ ap starts (sym done.last));
     }
 
     pub counted-end : (w : Walk) (new : S) → HasReported k meaning bytes step old w new → w.line ≡ n
@@ -382,8 +381,8 @@ module _ (k : Settings) (meaning : Meaning) (bytes : List ℕ) where
               → Comes (line_end w text) (is_over k next chosen) (HasReported k meaning bytes step old next) outcome new
           go (failed e) reported = AreMade-whole _ (failed e) new few (λ x. cc) reported
           go (stopped finish) reported = λ ends. record {
-            reported = AreMade-whole _ (stopped finish) new few (λ x. cc) reported;
-            is_count = ends;
+            made = AreMade-whole _ (stopped finish) new few (λ x. cc) reported;
+            ending = ends;
           }
           go all_true reported = (
             λ over. counted-done next new (after w same line) (near-next w same line bare so_far.walk chosen is)
@@ -405,9 +404,9 @@ module _ (k : Settings) (meaning : Meaning) (bytes : List ℕ) where
     pub counted-unbegun : (new : S) → step old k begins (Ok false) new
         → IsCounted step (fresh old) 0 (stopped (counted 0)) new
     counted-unbegun new stops = record {
-      reported = from-ended step k (fresh old) (front 0) (joined_from T 0 reportable) (stopped (counted 0)) new (λ is. cc)
+      made = from-ended step k (fresh old) (front 0) (joined_from T 0 reportable) (stopped (counted 0)) new (λ is. cc)
           (from-fresh step k old (front 0) (stopped (counted 0)) new (inr (inl (refl, stops))));
-      is_count = refl;
+      ending = refl;
     }
 
     pub reported-begin : (new : S) → step old k begins (Ok true) new
@@ -466,8 +465,8 @@ module _ {S E F : Type 0} (step : Steps S E) (errors : ErrorMakers F E) (matcher
       plain-asked step errors matcher k bytes old haystack error made asked fails message (fresh-made step k old made all_true new reported)
 
 -- what was counted of a sink that had no call
-pub counted-fresh : {S E : Type 0} (step : Steps S E) (k : Settings) (old : S) (calls : List Planned) (whole count : ℕ)
-    (outcome : Outcome E) (new : S) → CountedFrom step k (fresh old) calls whole count outcome new
-    → Counted step k old calls whole count outcome new
-counted-fresh step k old calls whole count outcome new counted =
-    record { reported = fresh-made step k old calls outcome new counted.reported; is_count = counted.is_count }
+pub counted-fresh : {S E : Type 0} (step : Steps S E) (k : Settings) (old : S) (plan : Plan) (finish : Finish)
+    (outcome : Outcome E) (new : S) → IsMadeToFrom step k (fresh old) plan outcome finish new
+    → IsMadeTo step k old plan outcome finish new
+counted-fresh step k old plan finish outcome new counted =
+    record { made = fresh-made step k old plan.calls outcome new counted.made; ending = counted.ending }

@@ -8,9 +8,10 @@ use Rattle.grep_matcher.specs.Lines.{lines, line_start, strip, byte_of}
 use Rattle.grep_matcher.specs.Meanings.{Meaning, MatcherFacts}
 use Rattle.std.specs.Prelude.{slice_range, All}
 use Rattle.grep_lines.specs.Positions.{IsLine, IsLineStart}
-use Rattle.grep_definitions.specs.Plans.{calls_before, line_plan, reports_end, selected_lines}
-use Rattle.grep_definitions.specs.Plans.{Settings, begins, Steps, Outcome, all_true, AreMade}
-use Rattle.grep_definitions.specs.Plans.{stops_next, Planned, IsAskedFrom}
+use Rattle.grep_definitions.specs.Plans.{counted, calls_before, line_plan, reports_end}
+use Rattle.grep_definitions.specs.Plans.{selected_lines, Settings, begins, Steps, Outcome, all_true}
+use Rattle.grep_definitions.specs.Plans.{AreMade, stops_next, Planned, IsAskedFrom}
+use Rattle.grep_walk.specs.Origins.{IsMadeToFrom, Origin, fresh}
 use Rattle.grep_definitions.specs.Plans
 use Rattle.grep_definitions.specs.LineWalks.{IsNear, IsOpen}
 use Rattle.grep_definitions.specs.Searches.{IsClosed, reports_nothing}
@@ -21,13 +22,12 @@ use Rattle.grep_report.specs.ErrorMakers.{ErrorMakers}
 use Rattle.grep_walk.specs.WalkFaults.{IsWalkFault}
 use Rattle.grep_walk.specs.declared.walk.Walk.{Walk}
 use Rattle.grep_walk.specs.Walks.{IsDecided, IsOrdered, HasReported, can_hit, line_end, line_calls}
-use Rattle.grep_walk.specs.Walks.{after_line, is_over, with_counts, CountedFrom}
+use Rattle.grep_walk.specs.Walks.{after_line, is_over, with_counts}
 use Rattle.grep_walk.specs.LookAheads.{MayAskAhead}
 use Rattle.grep_walk.specs.Windows.{IsWindow, IsInWindow, HasPassed, HasSearched, HasWalked}
 use Rattle.grep_lines.proofs.LineRangeLemmas.{line-at, end-start, start-same}
 use Rattle.grep_walk.proofs.WalkLemmas as walks
 use Rattle.grep_walk.proofs.WalkLemmas.{Bare, Comes, start_walk}
-use Rattle.grep_walk.specs.Origins.{Origin, fresh}
 use Rattle.grep_walk.proofs.WindowLemmas as windows
 
 -- a line leaves the counts of a walk in order
@@ -106,7 +106,7 @@ passed-end {k} {window} so_far end = passed-all _ _ _ _ _ _ _ _ _ _ so_far end (
 
 abbrev IsCounted : {S E : Type 0} → Steps S E → Settings → Meaning → List ℕ → Origin S → ℕ → Outcome E → S → Type 0
 IsCounted step k meaning input first count outcome new =
-    CountedFrom step k first (line_plan k meaning input).calls (line_plan k meaning input).finish.count count outcome new
+    IsMadeToFrom step k first (line_plan k meaning input) outcome (counted count) new
 
 -- once all lines of the input are passed, all calls were made and returned true
 pub counted-passed : {S E : Type 0} (step : Steps S E) (k : Settings) (meaning : Meaning) (gone window input : List ℕ)

@@ -6,9 +6,8 @@ use Rattle.grep_matcher.specs.Lines.{byte_of, lines}
 use Rattle.grep_matcher.specs.Meanings.{Meaning}
 use Rattle.grep_lines.specs.Positions.{IsLineStart}
 use Rattle.grep_report.specs.declared.sink_context.SinkContextKind.TheVariants.{Other}
-use Rattle.grep_definitions.specs.Plans.{calls_before, selected_lines, Settings, Planned, Outcome}
-use Rattle.grep_definitions.specs.Plans.{all_true, stopped, failed, Steps, AreMade, counted}
-use Rattle.grep_definitions.specs.Plans.{has_room, hits_if, stops_next}
+use Rattle.grep_definitions.specs.Plans.{calls_before, selected_lines, Settings, Planned, all_true}
+use Rattle.grep_definitions.specs.Plans.{Steps, has_room, hits_if, stops_next}
 use Rattle.grep_definitions.specs.LineWalks.{IsNear, IsOpen}
 use Rattle.grep_definitions.specs.LineCalls.{matches_line, pending_calls, selected_calls}
 use Rattle.grep_definitions.specs.LineCalls.{after_calls, context_calls}
@@ -110,27 +109,6 @@ is_over settings w chosen =
     (stops_next settings (nat_lt 0 w.match_count) && not chosen)
     || (not settings.passthru && not (has_room settings w.match_count)
     && w.after_context_left == 0)
-
--- the byte count after calls: that of the whole search, or the count of the call that returned
--- false
-abbrev pub IsCount : {E : Type 0} → Outcome E → ℕ → ℕ → Type 0
-IsCount all_true whole count = count ≡ whole
-IsCount (stopped finish) whole count = counted count ≡ finish
-IsCount (failed e) whole count = ⊥
-
--- the calls were made up to the first false or the last, with this outcome, and that is the byte
--- count
-pub record Counted {S E : Type 0} (step : Steps S E) (settings : Settings) (old : S)
-    (calls : List Planned)
-    (whole count : ℕ) (outcome : Outcome E) (new : S) : Type 0 where
-  pub reported : AreMade step settings old calls outcome new
-  pub is_count : IsCount outcome whole count
-
--- what was counted of calls from an origin on
-pub record CountedFrom {S E : Type 0} (step : Steps S E) (settings : Settings) (first : Origin S)
-    (calls : List Planned) (whole count : ℕ) (outcome : Outcome E) (new : S) : Type 0 where
-  pub reported : AreMadeFrom step settings first calls outcome new
-  pub is_count : IsCount outcome whole count
 
 -- the counts of a walk are in order
 pub record IsOrdered (w : Walk) : Type 0 where

@@ -20,7 +20,7 @@ pub returns-then-not-branch-clause-reported : goal.returns-then-not-branch-claus
 returns-then-not-branch-clause-reported g c = λ lawful.
     let unbegun : c.in_ok-begin.field-0 ≡ false = search rules in (
       stopped (counted 0),
-      walks.counted-fresh _ _ _ _ _ _ _ _
+      walks.counted-fresh _ _ _ _ _ _ _
           (walks.counted-unbegun _ (g.M.Matcher.facts c.args.matcher.now).meaning _
           _ _ _ (rw unbegun at c.in_ok-begin.ensures.step)),
     )
@@ -30,7 +30,7 @@ returns-then-reports_nothing-clause-reported g c = λ lawful.
     let idle = c.reports_nothing.ensures in
     let goes : c.in_ok-begin.field-0 ≡ true = search rules in (
       all_true,
-      walks.counted-fresh _ _ _ _ _ _ _ _
+      walks.counted-fresh _ _ _ _ _ _ _
           (walks.counted-idle _ (g.M.Matcher.facts c.args.matcher.now).meaning _
           _ _ _ (sym idle ∙ c.if-reports_nothing.true)
           (walks.reported-begin _ (g.M.Matcher.facts c.args.matcher.now).meaning c.args.bytes.now
@@ -71,7 +71,7 @@ returns-clause-reported g c = λ lawful.
     let ends = c.in_ok-search_window.ensures.ends lawful off in
     (ends.0, ends.1 [] c.args.bytes.now (fresh c.args.sink.now) start)) (omega arith) in (
       counted.0,
-      walks.counted-fresh _ _ _ _ _ _ _ _ counted.1,
+      walks.counted-fresh _ _ _ _ _ _ _ counted.1,
     )
 
 pub returns-in_err-begin-clause-in_order : goal.returns-in_err-begin-clause-in_order
