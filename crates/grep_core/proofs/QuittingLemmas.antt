@@ -11,6 +11,7 @@ use Rattle.grep_definitions.proofs.ContentsSearchLemmas.{quit-ran}
 use Rattle.grep_definitions.specs.Searches.{asked, calls_with, contents_point, in_contents, nowhere}
 use Rattle.grep_definitions.specs.Searches.{ran, position_of, call_at, offset_at, plan_with}
 use Rattle.grep_definitions.specs.Searches.{point_at, point_unless, planned_binary, with_offset}
+use Rattle.grep_definitions.specs.Searches.{first_look}
 use Rattle.grep_definitions.specs.Plans.{start, through, reports_end, selected_lines, touched_lines}
 use Rattle.grep_definitions.specs.Plans.{Call, Planned, begins, matches, context, breaks}
 use Rattle.grep_definitions.specs.Plans.{binary_data, finishes, is_break, reported_bytes}
@@ -18,7 +19,7 @@ use Rattle.grep_definitions.specs.Plans.{reported_from, Steps, Outcome, all_true
 use Rattle.grep_definitions.specs.Plans.{AreMade, IsFinished, IsRun, finish_result, Finish, counted}
 use Rattle.grep_definitions.specs.Plans.{planned, joined_from, Settings, plan_in, IsAskedIn}
 use Rattle.grep_definitions.specs.Plans.{calls_at, line_count}
-use Rattle.grep_definitions.specs.BinaryLaws.{holds_byte, first_look}
+use Rattle.grep_definitions.specs.BinaryLaws.{holds_byte}
 use Rattle.grep_definitions.specs.SearchLaws.{is_report}
 use Rattle.grep_lines.proofs.ReplaceLemmas.{position-found}
 use Rattle.grep_matcher.specs.Meanings.{Meaning, MatcherFacts}

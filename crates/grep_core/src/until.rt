@@ -2,7 +2,7 @@
 ghost use Rattle.std.specs.Prelude.{◌≡◌, false, None, Some, IsOk, take};
 ghost use Rattle.grep_matcher.specs.Meanings.{IsInfallible};
 ghost use Rattle.grep_definitions.specs.Searches.{in_contents, position_of, IsInOrder};
-ghost use Rattle.grep_definitions.specs.BinaryLaws.{first_look};
+ghost use Rattle.grep_definitions.specs.Searches.{first_look};
 ghost use Rattle.grep_definitions.specs.Plans.{IsLawful, NeverFails, IsRun};
 ghost use Rattle.grep_definitions.specs.SliceSearches.{IsContentsSearch};
 ghost use Rattle.grep_report.specs.BinaryDetections.{quit_byte_of};

@@ -16,7 +16,8 @@ use Rattle.grep_definitions.specs.Plans.{is_across, search_plan, IsAskedWith, al
 use Rattle.grep_definitions.specs.Plans.{is_touched, touches, Settings}
 use Rattle.grep_definitions.specs.BuiltSettings.{default_settings}
 use Rattle.grep_definitions.proofs.WorkedExamples.{has_a, begun, match_call, context_call}
-use Rattle.grep_definitions.proofs.WorkedExamples.{break_call, plan_of}
+use Rattle.grep_definitions.proofs.WorkedExamples.{break_call}
+use Rattle.grep_definitions.specs.SinkRuns.{plan_of}
 
 -- the settings that let a search run across lines
 abbrev wide : Settings

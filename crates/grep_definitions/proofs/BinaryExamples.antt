@@ -11,7 +11,8 @@ use Rattle.grep_definitions.specs.Searches.{nowhere, in_contents, on_stream, con
 use Rattle.grep_definitions.specs.Searches.{point_unless, plan_with, IsTooLong}
 use Rattle.grep_definitions.specs.BuiltSettings.{default_settings}
 use Rattle.grep_definitions.proofs.WorkedExamples.{has_a, begun, match_call, context_call}
-use Rattle.grep_definitions.proofs.WorkedExamples.{break_call, plan_of}
+use Rattle.grep_definitions.proofs.WorkedExamples.{break_call}
+use Rattle.grep_definitions.specs.SinkRuns.{plan_of}
 
 module _ (settings : Settings) (bytes : List ℕ) where
   -- the calls of whole contents as if they had no binary byte

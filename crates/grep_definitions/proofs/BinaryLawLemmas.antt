@@ -16,7 +16,8 @@ use Rattle.grep_definitions.specs.Plans.{begins, is_break, planned, Selection, l
 use Rattle.grep_definitions.specs.Plans
 use Rattle.grep_definitions.specs.Searches.{binary_position, position_of, stream_view, BinaryPoint}
 use Rattle.grep_definitions.specs.Searches.{call_at, contents_point, point_at, point_unless}
-use Rattle.grep_definitions.specs.BinaryLaws.{first_look, holds_byte, QuitReportsAreClear}
+use Rattle.grep_definitions.specs.Searches.{first_look}
+use Rattle.grep_definitions.specs.BinaryLaws.{holds_byte, QuitReportsAreClear}
 use Rattle.grep_definitions.specs.BinaryLaws.{CountedReportsAreClear, SeenLinesAreClear}
 use Rattle.grep_definitions.proofs.LineReportLemmas.{reports-line}
 use Rattle.grep_matcher.proofs.LineStartLemmas.{line_start-within, line_start-le}

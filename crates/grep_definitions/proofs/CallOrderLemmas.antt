@@ -10,9 +10,9 @@ use Rattle.std.proofs.lemmas.List.Elements.{All-map}
 use Rattle.grep_definitions.specs.Searches.{is_detecting, AreInOrder, HasBegun, IsInOrder}
 use Rattle.grep_definitions.specs.Searches.{ran_in_order, asked_in_order, read_in_order}
 use Rattle.grep_definitions.specs.Searches.{comes_between}
-use Rattle.grep_definitions.specs.CallOrder.{AreInner, after_begin, EndsAt, HasCalled, HasBegunWith}
-use Rattle.grep_definitions.specs.CallOrder.{HasCalledTo, HasBegunTo, HasFailedIn, of_call}
-use Rattle.grep_definitions.specs.CallOrder.{of_question, BeginsInOrder, EndsInOrder, GoesOnInOrder}
+use Rattle.grep_definitions.specs.CallOrder.{AreInner, EndsAt, HasCalled, HasBegunWith, HasCalledTo}
+use Rattle.grep_definitions.specs.CallOrder.{HasBegunTo, HasFailedIn, of_call, of_question}
+use Rattle.grep_definitions.specs.CallOrder.{BeginsInOrder, EndsInOrder, GoesOnInOrder}
 use Rattle.grep_definitions.specs.CallOrder.{ReadsInOrder, binary_count}
 use Rattle.grep_report.specs.ErrorMakers.{ErrorMakers}
 use Rattle.grep_matcher.specs.Meanings.{MatcherFacts}
@@ -261,7 +261,7 @@ module _ {S E : Type 0} (step : Steps S E) (k : Settings) where
     -- `begin` and such calls are in order, if `finish` has an offset only if binary bytes are looked for
     in-order : (binary : Option ℕ) → (is_detecting k.binary_detection ≡ false → binary ≡ None) → (calls : List Planned)
         → AreInner k calls → binary_count calls ≤ 1
-        → AreInOrder step errors matcher k (map (with_binary binary) (after_begin calls))
+        → AreInOrder step errors matcher k (map (with_binary binary) (planned begins 0 ∷ calls))
     in-order binary plain calls inner few = record {
       first = with_binary binary (planned begins 0);
       later = map (with_binary binary) calls;
@@ -269,16 +269,16 @@ module _ {S E : Type 0} (step : Steps S E) (k : Settings) where
       begin = (refl, refl);
       inner = All-map (IsInner k) (with_binary binary) calls inner;
       once = omega (arith, binary-with binary calls);
-      plain = λ none. All-map (λ (call : Planned). call.if_false.binary ≡ None) (with_binary binary) (after_begin calls)
+      plain = λ none. All-map (λ (call : Planned). call.if_false.binary ≡ None) (with_binary binary) (planned begins 0 ∷ calls)
           (λ n d below. plain none);
     }
 
     begun-in-order : {bound : ℕ} → bound ≤ 1 → (old new : S) → HasBegunWith step k bound old all_true new
         → HasBegun step errors matcher k old new
     begun-in-order once old new begun = (
-      map (with_binary None) (after_begin begun.calls),
+      map (with_binary None) (planned begins 0 ∷ begun.calls),
       in-order None (λ none. refl) begun.calls begun.inner (omega arith),
-      made-binary step k None (after_begin begun.calls) old all_true new begun.reported,
+      made-binary step k None (planned begins 0 ∷ begun.calls) old all_true new begun.reported,
     )
 
     ordered-run : {IsOfReading : Error → Type 0} {bound : ℕ} → bound ≤ 1 → (old mid : S) (count : ℕ) (binary : Option ℕ)
@@ -289,12 +289,12 @@ module _ {S E : Type 0} (step : Steps S E) (k : Settings) where
     ordered-run once old mid count binary result new noted to made =
         let calls = to.called.calls in
         ran_in_order (record {
-          calls = map (with_binary binary) (after_begin calls);
+          calls = map (with_binary binary) (planned begins 0 ∷ calls);
           finish = record { count = count; binary = binary };
         }) (in-order binary noted calls to.called.inner (omega arith)) noted (record {
           outcome = outcome_with binary to.outcome;
           mid = mid;
-          made = made-binary step k binary (after_begin calls) old to.outcome mid to.called.reported;
+          made = made-binary step k binary (planned begins 0 ∷ calls) old to.outcome mid to.called.reported;
           finished = finished to.outcome mid count binary result new to.ends made;
         })
 
@@ -303,13 +303,13 @@ module _ {S E : Type 0} (step : Steps S E) (k : Settings) where
         → HasBegunWith step k bound old (failed e) new → IsInOrder step errors matcher k IsOfReading old (Err e) new
     ordered-failed once old e new begun =
         ran_in_order (record {
-          calls = map (with_binary None) (after_begin begun.calls);
+          calls = map (with_binary None) (planned begins 0 ∷ begun.calls);
           finish = record { count = 0; binary = None };
         }) (in-order None (λ none. refl) begun.calls begun.inner (omega arith)) (λ none. refl)
         (record {
           outcome = failed e;
           mid = new;
-          made = made-binary step k None (after_begin begun.calls) old (failed e) new begun.reported;
+          made = made-binary step k None (planned begins 0 ∷ begun.calls) old (failed e) new begun.reported;
           finished = (refl, refl);
         })
 
@@ -357,10 +357,10 @@ module _ {S E : Type 0} (step : Steps S E) (k : Settings) where
       pub begun-keeps : (old : S) (result : Result ℕ E) (new : S) → BeginsInOrder step k errors matcher old result new
           → name new ≡ name old
       begun-keeps old (Ok count) new to =
-          reported-keeps name each (after_begin to.called.calls) old to.outcome new to.called.reported
+          reported-keeps name each (planned begins 0 ∷ to.called.calls) old to.outcome new to.called.reported
       begun-keeps old (Err e) new fails =
           failed-keeps (HasBegunWith step k 0 old) old
-          (λ outcome t called. reported-keeps name each (after_begin called.calls) old outcome t called.reported) e new
+          (λ outcome t called. reported-keeps name each (planned begins 0 ∷ called.calls) old outcome t called.reported) e new
           fails
 
     -- it ends the search
@@ -475,7 +475,7 @@ module _ {S T E : Type 0} (step : Steps S E) (around : Steps T E) (k : Settings)
             go with_calls.calls with_calls.inner with_calls.few with_calls.reported
           where
             go : (calls : List Planned) → AreInner k calls → binary_count calls ≤ 0
-                → AreMade around k old (after_begin calls) (failed e) new
+                → AreMade around k old (planned begins 0 ∷ calls) (failed e) new
                 → HasBegunWith step k 1 (view old) (failed e) (view new)
             go calls inner few (inl (mid, made, reported)) =
                 let first = begun old (Ok true) mid holds made in
@@ -493,7 +493,7 @@ module _ {S T E : Type 0} (step : Steps S E) (around : Steps T E) (k : Settings)
             go with_calls.calls with_calls.inner with_calls.few with_calls.reported
           where
             go : (calls : List Planned) → AreInner k calls → binary_count calls ≤ 0
-                → AreMade around k old (after_begin calls) all_true new
+                → AreMade around k old (planned begins 0 ∷ calls) all_true new
                 → HasBegunWith step k 1 (view old) all_true (view new)
             go calls inner few (inl (mid, made, reported)) =
                 let first = begun old (Ok true) mid holds made in
@@ -509,7 +509,7 @@ module _ {S T E : Type 0} (step : Steps S E) (around : Steps T E) (k : Settings)
             go to.outcome to.ends to.called.calls to.called.inner to.called.few to.called.reported
           where
             go : (outcome : Outcome E) → EndsAt outcome count → (calls : List Planned) → AreInner k calls
-                → binary_count calls ≤ 0 → AreMade around k old (after_begin calls) outcome new
+                → binary_count calls ≤ 0 → AreMade around k old (planned begins 0 ∷ calls) outcome new
                 → HasBegunTo step k 1 (view old) (count_of new count) (view new)
             go outcome ends calls inner few (inl (mid, made, reported)) =
                 let first = begun old (Ok true) mid holds made in

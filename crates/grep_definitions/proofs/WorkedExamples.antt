@@ -10,9 +10,10 @@ use Rattle.grep_matcher.specs.Meanings.{Meaning}
 use Rattle.grep_report.specs.declared.sink_context.SinkContextKind.{SinkContextKind}
 use Rattle.grep_report.specs.declared.sink_context.SinkContextKind.TheVariants.{Before, After}
 use Rattle.grep_report.specs.declared.sink_context.SinkContextKind.TheVariants.{Other}
+use Rattle.grep_definitions.specs.SinkRuns.{plan_of}
 use Rattle.grep_definitions.specs.Plans.{search_plan, begins, matches, context, breaks, finishes}
-use Rattle.grep_definitions.specs.Plans.{Finish, Planned, Plan, Steps, stopped, finish_result}
-use Rattle.grep_definitions.specs.Plans.{AreMade, IsFinished, IsRun, counted, planned, Settings}
+use Rattle.grep_definitions.specs.Plans.{Finish, Planned, Steps, stopped, finish_result, AreMade}
+use Rattle.grep_definitions.specs.Plans.{IsFinished, IsRun, counted, planned, Settings}
 use Rattle.grep_definitions.specs.BuiltSettings.{default_settings}
 
 -- a matcher of one byte
@@ -43,10 +44,6 @@ context_call kind number offset line count = planned (context kind (Some number)
 -- a break
 abbrev pub break_call : ℕ → Planned
 break_call count = planned breaks count
-
--- some calls, and the whole count
-abbrev pub plan_of : List Planned → ℕ → Plan
-plan_of calls count = record { calls = calls; finish = counted count }
 
 -- an empty input has no line to report, and no bytes to count
 empty_input : search_plan default_settings has_a [] ≡ plan_of (begun ∷ []) 0

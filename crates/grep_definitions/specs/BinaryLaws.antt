@@ -7,10 +7,6 @@ use Rattle.grep_definitions.specs.Plans.{search_plan, Planned, Settings, reporte
 use Rattle.grep_definitions.specs.Searches.{binary_of, position_of, view_of, BinaryPoint}
 use Rattle.grep_definitions.specs.Searches.{contents_point, IsCutAt, IsFront}
 
--- how many bytes are looked at before the first line
-abbrev pub first_look : ℕ
-first_look = 65536
-
 -- whether a call reports bytes that hold the byte
 abbrev pub holds_byte : ℕ → Planned → Bool
 holds_byte b call = is_some (position_of b (reported_bytes call.call))

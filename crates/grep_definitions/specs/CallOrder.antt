@@ -1,8 +1,8 @@
 -- In which order a search that isn't refused calls its sink, whatever the matcher finds and the
 -- reader gives: `begin`, calls in between, up to the first that doesn't return true, and `finish`,
 -- which doesn't follow an error.
-use Rattle.std.specs.Prelude.{◌≡◌, ◌≤◌, ◌⊎◌, ℕ, Bool, true, false, List, ◌∷◌, All, count_by, Result}
-use Rattle.std.specs.Prelude.{Ok, Err}
+use Rattle.std.specs.Prelude.{◌≡◌, ◌≤◌, ◌⊎◌, ℕ, Bool, true, false, List, [], ◌∷◌, ◌++◌, All}
+use Rattle.std.specs.Prelude.{count_by, Result, Ok, Err}
 use Rattle.std.specs.declared.io.Error.{Error}
 use Rattle.grep_definitions.specs.Searches.{is_detecting, comes_between}
 use Rattle.grep_report.specs.ErrorMakers.{ErrorMakers}
@@ -19,10 +19,6 @@ AreInner settings calls =
 abbrev pub binary_count : List Planned → ℕ
 binary_count calls = count_by (λ call. is_binary_data call.call) calls
 
--- `begin`, and then some calls
-abbrev pub after_begin : List Planned → List Planned
-after_begin calls = planned begins 0 ∷ calls
-
 -- the byte count after calls with this outcome: any, or that of the call that returned false
 abbrev pub EndsAt : {E : Type 0} → Outcome E → ℕ → Type 0
 EndsAt all_true count = Unit {0}
@@ -30,31 +26,34 @@ EndsAt (stopped finish) count = finish ≡ counted count
 EndsAt (failed e) count = ⊥
 
 module _ {S E : Type 0} (step : Steps S E) (settings : Settings) where
-  -- some calls between `begin` and `finish`, up to the first that didn't return true, with this
-  -- outcome; at most so many are `binary_data`
-  pub record HasCalled (bound : ℕ) (old : S) (outcome : Outcome E) (new : S) : Type 0 where
+  -- after some calls, others between `begin` and `finish`, up to the first that didn't return true,
+  -- with this outcome; at most so many are `binary_data`
+  pub record HasCalledAfter (before : List Planned) (bound : ℕ) (old : S) (outcome : Outcome E)
+      (new : S) : Type 0 where
     pub calls : List Planned
     pub inner : AreInner settings calls
     pub few : binary_count calls ≤ bound
-    pub reported : AreMade step settings old calls outcome new
-
-  -- `begin` and then such calls
-  pub record HasBegunWith (bound : ℕ) (old : S) (outcome : Outcome E) (new : S) : Type 0 where
-    pub calls : List Planned
-    pub inner : AreInner settings calls
-    pub few : binary_count calls ≤ bound
-    pub reported : AreMade step settings old (after_begin calls) outcome new
+    pub reported : AreMade step settings old (before ++ calls) outcome new
 
   -- such calls after which `finish` has this byte count
-  pub record HasCalledTo (bound : ℕ) (old : S) (count : ℕ) (new : S) : Type 0 where
+  pub record HasCountedAfter (before : List Planned) (bound : ℕ) (old : S) (count : ℕ) (new : S)
+      : Type 0 where
     pub outcome : Outcome E
     pub ends : EndsAt outcome count
-    pub called : HasCalled bound old outcome new
+    pub called : HasCalledAfter before bound old outcome new
 
-  pub record HasBegunTo (bound : ℕ) (old : S) (count : ℕ) (new : S) : Type 0 where
-    pub outcome : Outcome E
-    pub ends : EndsAt outcome count
-    pub called : HasBegunWith bound old outcome new
+  abbrev pub HasCalled : ℕ → S → Outcome E → S → Type 0
+  HasCalled = HasCalledAfter []
+
+  abbrev pub HasCalledTo : ℕ → S → ℕ → S → Type 0
+  HasCalledTo = HasCountedAfter []
+
+  -- and with `begin`
+  abbrev pub HasBegunWith : ℕ → S → Outcome E → S → Type 0
+  HasBegunWith = HasCalledAfter (planned begins 0 ∷ [])
+
+  abbrev pub HasBegunTo : ℕ → S → ℕ → S → Type 0
+  HasBegunTo = HasCountedAfter (planned begins 0 ∷ [])
 
   module _ {F : Type 0} (errors : ErrorMakers F E) (matcher : MatcherFacts F) where
     -- the sink's own error in the last of such calls, or the matcher's after calls that all

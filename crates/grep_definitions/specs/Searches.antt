@@ -142,9 +142,13 @@ module _ (b : ℕ) (calls : List Planned) where
       option_map point_at (position (λ p. is_some (position_of b (reported_bytes p.call))) calls)
   point_unless (Some offset) = Some (record { position = 1; offset = offset; count = 0 })
 
+-- how many bytes of contents are looked at before the first line
+abbrev pub first_look : ℕ
+first_look = 65536
+
 -- where a search of some contents with these calls ends at the byte
 abbrev pub contents_point : ℕ → List ℕ → List Planned → Option BinaryPoint
-contents_point b bytes calls = point_unless b calls (position_of b (take 65536 bytes))
+contents_point b bytes calls = point_unless b calls (position_of b (take first_look bytes))
 
 -- ---- the bytes that are searched, and what came of them
 

@@ -49,10 +49,10 @@ module _ (k : Settings) (meaning : Meaning) (bytes : List ℕ) where
       (same : start ≡ low)
       (is_unit : IsUnit k meaning bytes low unit) where
     -- the line before it comes after the end of the last one
-    between : 0 < is_unit.first → i < is_unit.first
-    between above = comes-before is_unit.begins i (⊎_elim
-        (λ later. omega (arith, is_unit.apart later (omega arith)))
-        (λ none. omega (arith, starts-before is_unit.begins 0 above))
+    between : 0 < is_unit.range.first → i < is_unit.range.first
+    between above = comes-before is_unit.range.begins i (⊎_elim
+        (λ later. omega (arith, is_unit.range.apart later (omega arith)))
+        (λ none. omega (arith, starts-before is_unit.range.begins 0 above))
         (cases_lt 0 low))
 
     coming-next : IsComing k meaning bytes start unit
@@ -62,9 +62,9 @@ module _ (k : Settings) (meaning : Meaning) (bytes : List ℕ) where
       after = omega arith;
       before = omega arith;
       whole = λ plain. omega arith;
-      alone = λ above. is_unit.miss (is_unit.first - 1) (omega arith)
-          (omega (arith, starts-from at (is_unit.first - 1) (omega (arith, between above))))
-          (starts-before is_unit.begins (is_unit.first - 1) (omega arith));
+      alone = λ above. is_unit.miss (is_unit.range.first - 1) (omega arith)
+          (omega (arith, starts-from at (is_unit.range.first - 1) (omega (arith, between above))))
+          (starts-before is_unit.range.begins (is_unit.range.first - 1) (omega arith));
     }
 
   ready-next : (start : ℕ) (w : Walk) (unit : ℕ × ℕ) (old new : Blocks) → start < length bytes
@@ -74,8 +74,8 @@ module _ (k : Settings) (meaning : Meaning) (bytes : List ℕ) where
   ready-next start w unit old new some at same is_unit end left = record {
     left = left;
     end = end;
-    ordered = is_unit.ordered;
-    within = is_unit.within;
+    ordered = is_unit.range.ordered;
+    within = is_unit.range.within;
     before = λ goes. omega (arith, same goes);
     coming = λ goes less. coming-next start w.line old.end unit some at (same goes) is_unit;
   }
@@ -140,15 +140,15 @@ module _ {k : Settings} {meaning : Meaning} {bytes : List ℕ} {start : ℕ} {w 
           let here = come (grind (arith, is_b)) in
           let whole = here.whole is_b in
           record {
-            last = here.is_unit.first;
-            at = here.is_unit.begins;
-            low = comes-from at here.is_unit.first (omega arith);
+            last = here.is_unit.range.first;
+            at = here.is_unit.range.begins;
+            low = comes-from at here.is_unit.range.first (omega arith);
             from = whole;
             within = omega arith;
             missed = λ j low high.
                 selected-plain k meaning bytes is_b j
                 ∙ here.is_unit.miss j (omega arith) (omega (arith, starts-from at j low))
-                (starts-before here.is_unit.begins j high);
+                (starts-before here.is_unit.range.begins j high);
           }
       go true false d is_b is_c is_d =
           let free = is_free k meaning bytes in
@@ -177,15 +177,15 @@ module _ {k : Settings} {meaning : Meaning} {bytes : List ℕ} {start : ℕ} {w 
           let over = ltb-false start unit.0 is_d in
           let free = is_free k meaning bytes in
           record {
-            last = here.is_unit.last;
-            at = here.is_unit.ends;
-            low = comes-from at here.is_unit.last (omega arith);
+            last = here.is_unit.range.last;
+            at = here.is_unit.range.ends;
+            low = comes-from at here.is_unit.range.last (omega arith);
             from = here.before;
             within = ready.within;
             missed = λ j low high.
                 let inside : j < line_count k bytes = omega arith in
                 let hit = here.is_unit.hit j inside (omega (arith, starts-from at j low))
-                (starts-before here.is_unit.ends j high) in
+                (starts-before here.is_unit.range.ends j high) in
                 selected-inverted k meaning bytes is_b j
                 ∙ ap (λ b. b && has_room k (count_below free j))
                 (free-is k meaning bytes is_b (room-first k _ (room-is is_b is_c)) j inside ∙ ap not hit);
@@ -238,8 +238,8 @@ module _ {k : Settings} {meaning : Meaning} {bytes : List ℕ} {start : ℕ} {w 
         low = here.low;
         is_unit = here.is_unit;
         after = omega arith;
-        before = till here.is_unit.ends (ahead goes);
-        whole = λ yes. till here.is_unit.begins (plain yes);
+        before = till here.is_unit.range.ends (ahead goes);
+        whole = λ yes. till here.is_unit.range.begins (plain yes);
         alone = here.alone;
       }
     where
@@ -295,17 +295,17 @@ module _ {k : Settings} {meaning : Meaning} {bytes : List ℕ} {start : ℕ} {w 
           let less = ahead (grind (arith, is_b)) in
           let is_end = joined (ap not is_b) in
           let plain = selected-plain k meaning bytes is_b in
-          let low = comes-from at here.is_unit.first (omega arith) in
-          let high = comes-from here.is_unit.begins w.line (omega arith) in
-          let index : w.line ≡ here.is_unit.first = omega arith in
+          let low = comes-from at here.is_unit.range.first (omega arith) in
+          let high = comes-from here.is_unit.range.begins w.line (omega arith) in
+          let index : w.line ≡ here.is_unit.range.first = omega arith in
           record {
-            last = here.is_unit.last;
-            at = rw is_end here.is_unit.ends;
-            some = comes-before here.is_unit.ends w.line (omega arith);
+            last = here.is_unit.range.last;
+            at = rw is_end here.is_unit.range.ends;
+            some = comes-before here.is_unit.range.ends w.line (omega arith);
             hits = λ j low high.
                 plain j ∙ here.is_unit.hit j (omega arith) (omega (arith, starts-from at j low))
-                (starts-before here.is_unit.ends j high);
-            closed = λ _ inside. plain _ ∙ here.is_unit.past here.is_unit.last inside here.is_unit.ends.begins;
+                (starts-before here.is_unit.range.ends j high);
+            closed = λ _ inside. plain _ ∙ here.is_unit.past here.is_unit.range.last inside here.is_unit.range.ends.begins;
             single = λ inverted. absurd (clash inverted is_b);
             first = ⊎_elim
                 (λ above. grind (arith, plain (w.line - 1), index, here.alone (omega arith)))

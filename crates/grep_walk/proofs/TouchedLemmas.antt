@@ -225,15 +225,7 @@ module _ (k : Settings) (meaning : Meaning) (bytes : List ℕ) where
       → counted_matches k meaning bytes ≡ found ++ later → All (λ m. u.1 < block_start t bytes m) later
       → IsUnit k meaning bytes low u
   unit-of low position found later u touched all after = record {
-    first = touched.range.first;
-    begins = touched.range.begins;
-    last = touched.range.last;
-    ends = touched.range.ends;
-    ordered = touched.range.ordered;
-    within = touched.range.within;
-    after = touched.range.after;
-    apart = touched.range.apart;
-    some = touched.range.some;
+    range = touched.range;
     miss = λ j inside over before.
         hit-of found later all j inside
         ∙ or_from _ _ (touched.same j inside over ∙ not-in u (from j) (λ more _. omega arith))
@@ -259,15 +251,17 @@ module _ (k : Settings) (meaning : Meaning) (bytes : List ℕ) where
       → counted_matches k meaning bytes ≡ found → low ≤ length bytes
       → IsUnit k meaning bytes low (length bytes, length bytes)
   unit-none low position found touched all inside = record {
-    first = n;
-    begins = end-start t bytes;
-    last = n;
-    ends = end-start t bytes;
-    ordered = omega arith;
-    within = omega arith;
-    after = inside;
-    apart = λ some below. below;
-    some = λ below. absurd (omega arith);
+    range = record {
+      first = n;
+      begins = end-start t bytes;
+      last = n;
+      ends = end-start t bytes;
+      ordered = omega arith;
+      within = omega arith;
+      after = inside;
+      apart = λ some below. below;
+      some = λ below. absurd (omega arith);
+    };
     miss = λ j here over before.
         let none : is_counted k meaning bytes j ≡ (touched_of found j || false) = hit-of found []
         (all ∙ sym (append-nil found)) j here in

@@ -49,15 +49,7 @@ module _ (settings : Settings) (meaning : Meaning) (bytes : List ℕ) where
   -- the next longest run of lines that matches touch, if the lines before `low` were passed: such a
   -- range
   pub record IsUnit (low : ℕ) (unit : ℕ × ℕ) : Type 0 where
-    pub first : ℕ
-    pub begins : IsLineStart (byte_of settings.line_terminator) bytes unit.0 first
-    pub last : ℕ
-    pub ends : IsLineStart (byte_of settings.line_terminator) bytes unit.1 last
-    pub ordered : unit.0 ≤ unit.1
-    pub within : unit.1 ≤ length bytes
-    pub after : low ≤ unit.0
-    pub apart : 0 < low → low < length bytes → low < unit.0
-    pub some : unit.0 < length bytes → unit.0 < unit.1
+    pub range : IsRange low unit
     -- no line between is touched, each of its own is, and the one after it isn't
     pub miss : (j : ℕ) → j < line_count settings bytes
         → low ≤ start settings bytes j → start settings bytes j < unit.0
