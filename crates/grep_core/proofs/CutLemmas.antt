@@ -11,7 +11,7 @@ use Rattle.std.specs.Prelude.{◌&&◌}
 use Rattle.std.specs.declared.io.Error.{Error}
 use Rattle.grep_decode.specs.DecoderStates.{DecoderState, Decodes, started}
 use Rattle.grep_decode.specs.Source.{ReadResult}
-use Rattle.grep_line_buffer.specs.BufferStates.{BufferState, held_bytes, is_cut}
+use Rattle.grep_line_buffer.specs.BufferStates.{BufferState, held_bytes, has_quit}
 use Rattle.grep_line_buffer.specs.Detections.{detected_bytes, found_in, is_quit}
 use Rattle.grep_matcher.specs.Lines.{lines, byte_of}
 use Rattle.grep_matcher.specs.Meanings.{Meaning, MatcherFacts}
@@ -24,7 +24,7 @@ use Rattle.grep_definitions.proofs.SearchLawLemmas.{reports_end-le}
 use Rattle.grep_walk.specs.declared.walk.Walk.{Walk}
 use Rattle.grep_core.specs.BinaryCalls.{FailsAtBinary, PassesBinary, Noted}
 use Rattle.grep_core.specs.Rolls.{HasEnded, HasMovedOn, HasSeen, HasPassedByte, IsReadingOn}
-use Rattle.grep_core.specs.Rolls.{IsReady, IsRolling, IsStreamCounted, IsStartAt, start_in}
+use Rattle.grep_core.specs.Rolls.{IsInShown, IsRolling, IsStreamCounted, IsStartAt, start_in}
 use Rattle.grep_core.specs.Rolls.{not_passed, was_passed}
 use Rattle.grep_core.specs.SearchBuffers.{detection_of}
 use Rattle.grep_core.proofs.ReadingLemmas as reading
@@ -73,7 +73,7 @@ pub record GoesOn {S E : Type 0} (step : Steps S E) (k : Settings) (meaning : Me
   pub start : Origin S
   pub rolling : IsRolling step k meaning remaining read_step decoder reader start old d r w sink.sink
   pub passed : IsStartAt step k meaning (rolling.given ++ more) w.offset first start new.binary
-  pub uncut : is_cut new ≡ false
+  pub uncut : has_quit new ≡ false
   pub known : sink.binary ≡ new.binary
 
 module _ {R : Type 0} {remaining : R → Option (List ℕ)} {read_step : R → ReadResult → R → Type 0} {S E : Type 0}
@@ -404,7 +404,7 @@ module _ {R : Type 0} {remaining : R → Option (List ℕ)} {read_step : R → R
         now-known : sink'.binary ≡ new.binary
         now-known = noted-passed step k _ _ _ sink sink' fill.fills.found known passes
 
-        is-uncut : is_cut new ≡ false
+        is-uncut : has_quit new ≡ false
         is-uncut = uncut-passed step k old new sink sink' on.rolling.uncut fill.same.detection on.rolling.detects known
             passes
 
@@ -448,7 +448,7 @@ module _ {R : Type 0} {remaining : R → Option (List ℕ)} {read_step : R → R
       -- or it ended in an error
       pub fault-shown : {F : Type 0} {errors : ErrorMakers F E} (facts : MatcherFacts F) {has_buffers : Bool} {e : E}
           {last : S}
-          → ((gone : List ℕ) (start : Origin S) → IsReady step k meaning gone new.shown (start_in new w)
+          → ((gone : List ℕ) (start : Origin S) → IsInShown step k meaning gone new.shown (start_in new w)
           start w sink.sink
           → (after : List ℕ) → (0 < length after → IsClosed (byte_of k.line_terminator) new.shown)
           → IsWalkFault step errors (record facts { meaning = meaning }) k (gone ++ (new.shown ++ after)) start

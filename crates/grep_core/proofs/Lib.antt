@@ -1,5 +1,5 @@
 pub mod CutLemmas
-pub mod InputSearchLemmas
+pub mod ReaderSearchLemmas
 pub mod OrderLemmas
 pub mod QuittingLemmas
 pub mod ReadingLemmas

@@ -18,7 +18,7 @@ use Rattle.grep_definitions.specs.Searches.{before_quit, view_of, AreWaiting, Is
 use Rattle.grep_definitions.specs.Searches.{encoding_after, encoding_of, IsReadForLine}
 use Rattle.grep_definitions.specs.Searches.{searched_bytes, Taken, IsDecodedSoFar}
 use Rattle.grep_line_buffer.proofs.DetectionLemmas.{length-detected_bytes, uncut-none}
-use Rattle.grep_line_buffer.specs.BufferStates.{BufferState, empty_buffer, is_cut, held_bytes}
+use Rattle.grep_line_buffer.specs.BufferStates.{BufferState, empty_buffer, has_quit, held_bytes}
 use Rattle.grep_line_buffer.specs.BufferStates.{IsFilled, IsSameBuffer, IsWithin}
 use Rattle.grep_line_buffer.specs.Detections.{detected_bytes, found_in, is_quit}
 use Rattle.grep_line_buffer.specs.Fills.{HasWaitedForLine, Fills}
@@ -179,13 +179,13 @@ module _ {R : Type 0} {remaining : R → Option (List ℕ)} {step : R → ReadRe
 
   pub read-once : {lines : BufferState} {d : DecoderState} {r r' : R}
       → (lines ≡ buffer) × (d ≡ decoder) × (r ≡ reader)
-      → (lines.has_ended ≡ false → is_cut lines ≡ false → HasReadNothing d
+      → (lines.has_ended ≡ false → has_quit lines ≡ false → HasReadNothing d
       → HasWaitedForLine remaining step lines d r r')
       → IsReadForLine remaining step k reader r'
   read-once {lines} {d} {r} {r'} same filled = for-line
       (rw (sym same.0, sym same.1, sym same.2)
       (filled (ap (λ b. b.has_ended) same.0 ∙ ap (λ b. b.has_ended) empty)
-      (ap is_cut same.0 ∙ (ap is_cut empty ∙ and-false (is_quit (detection_of k.binary_detection))))
+      (ap has_quit same.0 ∙ (ap has_quit empty ∙ and-false (is_quit (detection_of k.binary_detection))))
       (subst HasReadNothing (sym (same.1 ∙ begun))
       (record { fresh = λ settled. settled; held = refl; unended = refl }))))
 
@@ -224,18 +224,18 @@ module _ {R : Type 0} (remaining : R → Option (List ℕ)) (step : R → ReadRe
     pub same : IsSameBuffer old new
     pub filled : IsFilled old new
     pub room : length (held_bytes new) ≤ new.size
-    pub tight : is_cut new ≡ true → length (held_bytes new) < new.size
+    pub tight : has_quit new ≡ true → length (held_bytes new) < new.size
     pub within : IsWithin new.limit new.size
-    pub done : (old.has_ended ≡ true → is_cut old ≡ false → IsDone d) → new.has_ended ≡ true → is_cut new ≡ false
+    pub done : (old.has_ended ≡ true → has_quit old ≡ false → IsDone d) → new.has_ended ≡ true → has_quit new ≡ false
         → IsDone d'
-    pub settled : old.has_ended ≡ false → is_cut old ≡ false → IsSettled d'.mode
-    pub passing : old.has_ended ≡ false → is_cut old ≡ false → d'.mode ≡ Passing
+    pub settled : old.has_ended ≡ false → has_quit old ≡ false → IsSettled d'.mode
+    pub passing : old.has_ended ≡ false → has_quit old ≡ false → d'.mode ≡ Passing
         → (length d'.ready ≤ 3) × (d'.held ≡ [])
 
 module _ {R : Type 0} {remaining : R → Option (List ℕ)} {step : R → ReadResult → R → Type 0} where
   -- what a buffer holds after a fill
   pub held-next : {old new : BufferState} {decoder d d' : DecoderState} {reader r r' : R} {gone given : List ℕ}
-      → old.offset ≡ length gone → is_cut old ≡ false
+      → old.offset ≡ length gone → has_quit old ≡ false
       → HoldsGiven remaining step gone old.detection old.terminator old decoder reader given d r
       → (fills : Fills remaining step old d r new d' r')
       → HoldsGiven remaining step gone old.detection old.terminator new decoder reader (given ++ fills.given) d' r'
@@ -283,7 +283,7 @@ module _ {R : Type 0} {remaining : R → Option (List ℕ)} {step : R → ReadRe
     unquit-held = ap (before_quit k.binary_detection) holds-is
         ∙ (as-unquit k.binary_detection _ ∙ (views.before-held _ (t k) given ∙ sym holds-is))
 
-    module _ (uncut : is_cut new ≡ false) where
+    module _ (uncut : has_quit new ≡ false) where
       pub view-there : view_of k given ≡ gone ++ held_bytes new
       view-there = sym (holds-is ∙ views.view-held _ (t k) given
           (λ quits. sym found-there

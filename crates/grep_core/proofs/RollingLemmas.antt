@@ -1,7 +1,7 @@
 -- A search of a reader, fill by fill, against the calls that are defined for every input that begins with what was
 -- read.
 use Rattle.grep_core.proofs.ReadingLemmas.{HasFilled, IsHeld, IsStream}
-use Rattle.grep_core.specs.Rolls.{IsBetween, IsCountedFor, IsLast, IsNext, IsReady, HasEnded}
+use Rattle.grep_core.specs.Rolls.{IsBetween, IsCountedFor, IsLast, IsNext, IsInShown, HasEnded}
 use Rattle.grep_core.specs.Rolls.{HasMovedOn, start_in, HasCounted, HasFailed, HasSeen, IsRolling}
 use Rattle.grep_core.specs.SearchBuffers.{IsFitting, detection_of}
 use Rattle.grep_decode.specs.DecoderStates.{DecoderState, Decodes, IsDone, started}
@@ -22,7 +22,7 @@ use Rattle.grep_line_buffer.proofs.BufferStateLemmas.{IsUncut, long-shown, uncut
 use Rattle.grep_line_buffer.proofs.BufferStateLemmas.{same-buffer, closed-filled, last-filled}
 use Rattle.grep_line_buffer.proofs.BufferStateLemmas.{unended-filled}
 use Rattle.grep_line_buffer.proofs.DetectionLemmas.{detected_bytes-nil, found-nil}
-use Rattle.grep_line_buffer.specs.BufferStates.{BufferState, held_bytes, is_cut, IsWithin}
+use Rattle.grep_line_buffer.specs.BufferStates.{BufferState, held_bytes, has_quit, IsWithin}
 use Rattle.grep_line_buffer.specs.BufferStates.{empty_buffer, GrowsIfFull, IsSameBuffer}
 use Rattle.grep_line_buffer.specs.Detections.{detected_bytes, found_in, is_quit}
 use Rattle.grep_matcher.proofs.LineLemmas.{lines-append}
@@ -144,7 +144,7 @@ module _ {S E : Type 0} {step : Steps S E} {k : Settings} {meaning : Meaning}
             (gone ++ (old.shown ++ (more ++ after)))
             (length old.shown - r) (with_counts w' line next_unreported))
             → (gone : List ℕ) (first : Origin S) → IsClosed (t_of k) gone
-            → IsReady step k meaning gone old.shown (start_in old w) first w now
+            → IsInShown step k meaning gone old.shown (start_in old w) first w now
             → IsClosed (t_of k) (gone ++ take r old.shown)
             × IsNext step k meaning (gone ++ take r old.shown) (drop r old.shown) first w' now'
         next-rolled r closed shuts keeps gone first opens ready = (
@@ -243,7 +243,7 @@ module _ {S E : Type 0} {step : Steps S E} {k : Settings} {meaning : Meaning}
       -- a fill comes after that
       module _ {R : Type 0} {remaining : R → Option (List ℕ)} {read_step : R → ReadResult → R → Type 0}
           {d d' : DecoderState} {r r' : R} {new : BufferState}
-          (fill : HasFilled remaining read_step k old d r new d' r') (uncut : is_cut new ≡ false) where
+          (fill : HasFilled remaining read_step k old d r new d' r') (uncut : has_quit new ≡ false) where
         abbrev given : List ℕ
         given = detected_bytes old.detection old.terminator fill.fills.given
 
@@ -255,13 +255,13 @@ module _ {S E : Type 0} {step : Steps S E} {k : Settings} {meaning : Meaning}
 
         -- what it shows is searched from the end of what was shown
         pub filled-ready : reports_nothing k ≡ false
-            → IsReady step k meaning gone new.shown (length old.shown) first w now
+            → IsInShown step k meaning gone new.shown (length old.shown) first w now
         filled-ready busy =
             let split : new.shown ≡ old.shown ++ drop (length old.shown) new.shown =
             longer-front _ _ _ _
             (sym (fill.fills.appended ∙ append_assoc old.shown old.rest given))
             (long-shown given fill.fills.appended way) in
-            subst (λ xs. IsReady step k meaning gone xs (length old.shown) first w now) (sym split)
+            subst (λ xs. IsInShown step k meaning gone xs (length old.shown) first w now) (sym split)
             (between.next busy (drop (length old.shown) new.shown))
 
         -- none of its lines is too long
@@ -423,7 +423,7 @@ module _ {R : Type 0} {remaining : R → Option (List ℕ)} {read_step : R → R
     abbrev Input : List ℕ → Type 0
     Input = IsInput k d'.has_ended reads-now.pieces
 
-    module _ (uncut : is_cut new ≡ false) (busy : reports_nothing k ≡ false) where
+    module _ (uncut : has_quit new ≡ false) (busy : reports_nothing k ≡ false) where
       abbrev shown : List ℕ
       shown = so_far.gone ++ new.shown
 
@@ -464,7 +464,7 @@ module _ {R : Type 0} {remaining : R → Option (List ℕ)} {read_step : R → R
       start-is : start_in new w ≡ length old.shown
       start-is = omega (arith, so_far.between.at, fill.same.offset, so_far.between.offset)
 
-      ready : IsReady step k meaning so_far.gone new.shown (start_in new w) first w now
+      ready : IsInShown step k meaning so_far.gone new.shown (start_in new w) first w now
       ready = rw start-is (filled-ready so_far.between fill uncut busy)
 
       -- what is shown was seen
@@ -490,7 +490,7 @@ module _ {R : Type 0} {remaining : R → Option (List ℕ)} {read_step : R → R
 
       -- a fault within what is shown
       pub faulted-filled : {F : Type 0} {errors : ErrorMakers F E} {matcher : MatcherFacts F} {e : E} {now' : S}
-          → ((gone : List ℕ) (first : Origin S) → IsReady step k meaning gone new.shown (start_in new w) first w now
+          → ((gone : List ℕ) (first : Origin S) → IsInShown step k meaning gone new.shown (start_in new w) first w now
           → (after : List ℕ) → (0 < length after → IsClosed (t_of k) new.shown)
           → IsWalkFault step errors matcher k (gone ++ (new.shown ++ after)) first e now')
           → HasFailed step k meaning remaining read_step errors matcher reader first raw new.binary w.offset e r' now'
@@ -571,7 +571,7 @@ module _ {R : Type 0} {remaining : R → Option (List ℕ)} {read_step : R → R
           decodes = held-now.holds.decodes;
         });
         detects = ap (λ b. b.detection) on.moved ∙ (fill.same.detection ∙ so_far.detects);
-        uncut = ap is_cut on.moved ∙ uncut;
+        uncut = ap has_quit on.moved ∙ uncut;
       }
 
 -- buffers that fit a configuration do so after a fill

@@ -2,7 +2,7 @@
 use Rattle.grep_core.proofs.ReadingLemmas.{IsStream}
 use Rattle.grep_core.specs.BinaryCalls.{Noted, PassesBinary}
 use Rattle.grep_core.specs.Rolls.{HasCounted, HasFailed, HasSeen, IsCountedFor, IsStartAt}
-use Rattle.grep_core.specs.Rolls.{IsStreamCounted, not_passed, was_passed, HasBegun}
+use Rattle.grep_core.specs.Rolls.{IsStreamCounted, not_passed, was_passed, HasStarted}
 use Rattle.grep_definitions.specs.SinkRuns.{IsEnding, after_binary}
 use Rattle.grep_core.specs.SearchBuffers.{detection_of}
 use Rattle.grep_decode.specs.DecoderStates.{DecoderState}
@@ -30,7 +30,7 @@ use Rattle.grep_definitions.specs.Searches.{EachAsked, ran, asked, IsStreamPoint
 use Rattle.grep_definitions.specs.Searches.{encoding_of}
 use Rattle.grep_core.proofs.StreamViewLemmas.{as-found}
 use Rattle.grep_line_buffer.proofs.DetectionLemmas.{first-none, found-nil}
-use Rattle.grep_line_buffer.specs.BufferStates.{BufferState, is_cut}
+use Rattle.grep_line_buffer.specs.BufferStates.{BufferState, has_quit}
 use Rattle.grep_line_buffer.specs.Detections.{first_of, is_quit}
 use Rattle.grep_matcher.specs.Lines.{byte_of}
 use Rattle.grep_matcher.specs.Meanings.{Meaning, MatcherFacts}
@@ -72,9 +72,9 @@ goes-false (Convert b) ends = cc
 
 module _ {S E : Type 0} (step : Steps S E) (k : Settings) where
   -- a search that goes on has a buffer that isn't cut
-  pub uncut-passed : (old new : BufferState) (sink sink' : Noted S) → is_cut old ≡ false → new.detection ≡ old.detection
+  pub uncut-passed : (old new : BufferState) (sink sink' : Noted S) → has_quit old ≡ false → new.detection ≡ old.detection
       → old.detection ≡ detection_of k.binary_detection → sink.binary ≡ old.binary
-      → PassesBinary step k new.binary sink true sink' → is_cut new ≡ false
+      → PassesBinary step k new.binary sink true sink' → has_quit new ≡ false
   uncut-passed old new sink sink' uncut same detects noted_there
       (inl (o, is, none, known, (returned, called, goes))) =
       ap (λ b. b && is_some new.binary) (ap is_quit (same ∙ detects) ∙ go k.binary_detection returned goes)
@@ -567,7 +567,7 @@ module _ {S E F : Type 0} (step : Steps S E) (errors : ErrorMakers F E) (matcher
   abbrev state : SearcherState
   state = record { settings = k; has_buffers = has_buffers }
 
-  ended : (result : Result (Unit {0}) E) {new : S} → HasBegun step k matcher.meaning remaining read_step reader old
+  ended : (result : Result (Unit {0}) E) {new : S} → HasStarted step k matcher.meaning remaining read_step reader old
       reader'
       → IsStreamCounted step k matcher.meaning remaining read_step reader old finish reader' last
       → step last k (finishes finish.count finish.binary) (finish_result result) new
@@ -612,7 +612,7 @@ module _ {S E F : Type 0} (step : Steps S E) (errors : ErrorMakers F E) (matcher
       }
 
   pub stream-finished : (result : Result (Unit {0}) E) {new : S}
-      → HasBegun step k matcher.meaning remaining read_step reader old reader'
+      → HasStarted step k matcher.meaning remaining read_step reader old reader'
       → IsStreamCounted step k matcher.meaning remaining read_step reader old finish reader' last
       → step last k (finishes finish.count finish.binary) (finish_result result) new
       → IsRead remaining read_step step errors matcher state on_stream reader old result reader' new

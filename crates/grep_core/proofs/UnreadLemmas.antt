@@ -10,7 +10,7 @@ use Rattle.grep_decode.specs.Source.{ReadResult}
 use Rattle.grep_line_buffer.specs.declared.fill_error.FillError.{FillError}
 use Rattle.grep_line_buffer.specs.declared.fill_error.FillError.TheVariants.{Read, HeapLimit}
 use Rattle.grep_line_buffer.specs.declared.fill_error.FillError.TheVariants.{Offset, Memory}
-use Rattle.grep_line_buffer.specs.BufferStates.{BufferState, held_bytes, is_cut, GrowsIfFull}
+use Rattle.grep_line_buffer.specs.BufferStates.{BufferState, held_bytes, has_quit, GrowsIfFull}
 use Rattle.grep_line_buffer.specs.BufferStates.{HasNoLine, IsSameBuffer, IsWithin}
 use Rattle.grep_line_buffer.specs.Detections.{detected_bytes}
 use Rattle.grep_line_buffer.specs.Fills.{FailsToFill, FillFails, Fills, IfRead, UnlessRead}
@@ -69,7 +69,7 @@ module _ {R : Type 0} (remaining : R → Option (List ℕ)) (read_step : R → R
     pub fails : FillFails old new error
     pub reads : UnlessRead {X = Bool} (Err error) (Fills remaining read_step old d r new d' r')
     pub read : IfRead {X = Bool} (Err error) (λ e. FailsToFill remaining read_step e old d r new d' r')
-    pub uncut : IfRead {X = Bool} (Err error) (λ _. is_cut new ≡ false)
+    pub uncut : IfRead {X = Bool} (Err error) (λ _. has_quit new ≡ false)
     pub empty : IfRead {X = Bool} (Err error) (λ _. d'.ready ≡ [])
     pub waits : IfRead {X = Bool} (Err error) (λ _. IsWaiting d'.mode d'.held)
 
@@ -192,7 +192,7 @@ module _ {R : Type 0} {remaining : R → Option (List ℕ)} {read_step : R → R
         (fills.given ++ text.0, text.1 ∙ append_assoc so_far.given fills.given text.0)
 
     -- the reader's own error
-    short-read : {e : Error} → is_cut new ≡ false → HasNoLine old new → length (held_bytes new) < new.size
+    short-read : {e : Error} → has_quit new ≡ false → HasNoLine old new → length (held_bytes new) < new.size
         → d'.has_ended ≡ false
         → read_step mid (Err e) r' → d'.ready ≡ [] → IsWaiting d'.mode d'.held → IsShortTo r' e
     short-read uncut no_line room unended failed ready waits =

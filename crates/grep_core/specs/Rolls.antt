@@ -5,7 +5,7 @@ use Rattle.std.specs.Prelude.{List, [], ◌++◌, length, take, drop, All, Optio
 use Rattle.std.specs.List.{concat}
 use Rattle.grep_decode.specs.DecoderStates.{DecoderState}
 use Rattle.grep_decode.specs.Source.{ReadResult}
-use Rattle.grep_line_buffer.specs.BufferStates.{BufferState, is_cut, Lacks}
+use Rattle.grep_line_buffer.specs.BufferStates.{BufferState, has_quit, Lacks}
 use Rattle.grep_core.specs.HeldViews.{HoldsGiven}
 use Rattle.grep_matcher.specs.Lines.{byte_of, lines}
 use Rattle.grep_matcher.specs.Meanings.{Meaning, MatcherFacts}
@@ -36,15 +36,15 @@ IsLast t shown start = (start ≡ length shown) ⊎ (IsClosed t shown → ⊥)
 
 module _ {S E : Type 0} (step : Steps S E) (settings : Settings) (meaning : Meaning) where
   -- a walk is at `start` of the bytes that are shown, whatever comes after them
-  abbrev pub IsReady : List ℕ → List ℕ → ℕ → Origin S → Walk → S → Type 0
-  IsReady gone shown start first w now =
+  abbrev pub IsInShown : List ℕ → List ℕ → ℕ → Origin S → Walk → S → Type 0
+  IsInShown gone shown start first w now =
       (after : List ℕ) → (0 < length after → IsClosed (byte_of settings.line_terminator) shown)
       → HasSearched step settings meaning gone shown (gone ++ (shown ++ after)) first start w now
 
   -- a walk has passed the bytes that are shown, whatever is shown with them next
   abbrev pub IsNext : List ℕ → List ℕ → Origin S → Walk → S → Type 0
   IsNext gone shown first w now =
-      (more : List ℕ) → IsReady gone (shown ++ more) (length shown) first w now
+      (more : List ℕ) → IsInShown gone (shown ++ more) (length shown) first w now
 
   -- the calls were counted for an input
   abbrev pub IsCountedFor : Origin S → List ℕ → ℕ → Outcome E → S → Type 0
@@ -94,7 +94,7 @@ module _ {S E : Type 0} (step : Steps S E) (settings : Settings) (meaning : Mean
     pub few : length (lines (byte_of settings.line_terminator) (drop count old.shown))
         ≤ min settings.before_context (w'.line - w'.next_unreported)
     pub next : (gone : List ℕ) (first : Origin S) → IsClosed (byte_of settings.line_terminator) gone
-        → IsReady gone old.shown (start_in old w) first w now
+        → IsInShown gone old.shown (start_in old w) first w now
         → IsClosed (byte_of settings.line_terminator) (gone ++ take count old.shown)
         × IsNext (gone ++ take count old.shown) (drop count old.shown) first w' now'
 
@@ -105,7 +105,7 @@ module _ {S E : Type 0} (step : Steps S E) (settings : Settings) (meaning : Mean
     pub high : w'.offset ≤ old.offset + length old.shown
     pub counted : (gone : List ℕ) (first : Origin S) → IsClosed (byte_of settings.line_terminator)
         gone
-        → IsReady gone old.shown (start_in old w) first w now
+        → IsInShown gone old.shown (start_in old w) first w now
         → (after : List ℕ) → (0 < length after
         → IsClosed (byte_of settings.line_terminator) old.shown)
         → (IsLast (byte_of settings.line_terminator) old.shown (start_in old w) → after ≡ [])
@@ -126,7 +126,7 @@ module _ {S E : Type 0} (step : Steps S E) (settings : Settings) (meaning : Mean
           decoder reader given
           decoder' reader'
       pub detects : buffer.detection ≡ detection_of settings.binary_detection
-      pub uncut : is_cut buffer ≡ false
+      pub uncut : has_quit buffer ≡ false
 
     -- A reader's input of which so much was taken, and these lines were seen, at least so many
     -- bytes. Each input begins with what was given; if no binary byte was found, the lines that
@@ -168,7 +168,7 @@ module _ {S E : Type 0} (step : Steps S E) (settings : Settings) (meaning : Mean
 
     -- a search of a reader begins. It reads nothing unless `begin` returned true and it reads
     -- lines, and fills the buffer once if it may report nothing
-    pub record HasBegun (reader : R) (old : S) (reader' : R) : Type 0 where
+    pub record HasStarted (reader : R) (old : S) (reader' : R) : Type 0 where
       pub begun : Bool
       pub first : S
       pub begin : step old settings begins (Ok begun) first

@@ -26,7 +26,7 @@ use std::alloc::Allocator;
 
 impl<'c, A: Allocator + Copy, T> Search<'c, A, T> {
     // Makes each call but `finish`, and returns the byte count.
-    pub(crate) fn match_by_line<M: Matcher, C: Calls<T>>(
+    pub(crate) fn byte_count_by_line<M: Matcher, C: Calls<T>>(
         &self,
         matcher: &M,
         bytes: &[u8],

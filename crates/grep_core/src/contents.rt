@@ -59,7 +59,7 @@ impl<'c, A: Allocator + Copy, T> Search<'c, A, T> {
         if let Some(byte) = self.quit_byte() {
             return self.search_until::<M, C>(matcher, contents, byte, true, sink);
         }
-        let count = self.match_across::<M, C>(matcher, contents, sink)?;
+        let count = self.byte_count_across::<M, C>(matcher, contents, sink)?;
         C::finish(self, sink, &SinkFinish::new(count, None))
     }
 }

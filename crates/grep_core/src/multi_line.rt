@@ -18,7 +18,7 @@ use std::alloc::Allocator;
 
 impl<'c, A: Allocator + Copy, T> Search<'c, A, T> {
     // Makes each call but `finish` of a search across lines, and returns the byte count.
-    pub(crate) fn match_across<M: Matcher, C: Calls<T>>(
+    pub(crate) fn byte_count_across<M: Matcher, C: Calls<T>>(
         &self,
         matcher: &M,
         bytes: &[u8],
@@ -45,11 +45,11 @@ impl<'c, A: Allocator + Copy, T> Search<'c, A, T> {
         if !C::begin(self, sink)? {
             return Ok(0);
         }
-        self.search_across::<M, C>(matcher, bytes, sink)
+        self.byte_count_of_units::<M, C>(matcher, bytes, sink)
     }
 
     // Makes the calls after `begin`, and returns the byte count.
-    fn search_across<M: Matcher, C: Calls<T>>(
+    fn byte_count_of_units<M: Matcher, C: Calls<T>>(
         &self,
         matcher: &M,
         bytes: &[u8],

@@ -13,7 +13,7 @@ ghost use Rattle.grep_definitions.specs.Searches.{IsClosed, IsReadForLine, IsUnr
 ghost use Rattle.grep_definitions.specs.Searches.{reports_nothing, IsInOrder, IsRead};
 ghost use Rattle.grep_definitions.specs.CallOrder.{GoesOnInOrder, HasBegunTo, ReadsInOrder};
 ghost use Rattle.grep_core.specs.BinaryCalls.{FailsAtBinary, PassesBinary};
-ghost use Rattle.grep_core.specs.Rolls.{IsReady, HasBegun, HasMovedOn, HasEnded, IsStreamCounted};
+ghost use Rattle.grep_core.specs.Rolls.{IsInShown, HasStarted, HasMovedOn, HasEnded, IsStreamCounted};
 ghost use Rattle.grep_core.specs.Rolls.{start_in};
 ghost use Rattle.grep_core.specs.SearchBuffers.{AreFitting, IsFitting, IsMadeOf, detection_of};
 ghost use Rattle.grep_walk.specs.LookAheads.{AreQuestions};
@@ -82,12 +82,12 @@ impl<'c, A: Allocator + Copy, T> Search<'c, A, T> {
             decoder.start(self.config.label(), self.config.bom_sniffing);
             return self.search_contents::<M, R, C>(matcher, decoder, contents, reader, sink);
         }
-        let finish = self.match_source::<M, R, C>(matcher, buffers, reader, sink)?;
+        let finish = self.finish_of_reader::<M, R, C>(matcher, buffers, reader, sink)?;
         C::finish(self, sink, &finish)
     }
 
     // Searches by line: makes each call but `finish`, and returns what that has.
-    fn match_source<M: Matcher, R: Source, C: Calls<T>>(
+    fn finish_of_reader<M: Matcher, R: Source, C: Calls<T>>(
         &self,
         matcher: &M,
         buffers: &mut Buffers<A>,
@@ -103,7 +103,7 @@ impl<'c, A: Allocator + Copy, T> Search<'c, A, T> {
         requires may_call { C.may_call sink.old }
         ensures fitting { AreFitting self.now.config buffers.new }
         ensures begun { IfOk result
-            (λ finish. HasBegun C.step self.now.config (M.facts matcher.now).meaning
+            (λ finish. HasStarted C.step self.now.config (M.facts matcher.now).meaning
             R.remaining R.step reader.old sink.old reader.new) }
         ensures counted { IfOk result (λ finish.
             IsLawful (M.facts matcher.now) self.now.config
@@ -302,7 +302,7 @@ impl<'c, A: Allocator + Copy, T> Search<'c, A, T> {
         ensures fault { IfErr result (λ e.
             IsLawful (M.facts matcher.now) self.now.config
             → (gone : List ℕ) (first : Origin C.Sink)
-            → IsReady C.step self.now.config (M.facts matcher.now).meaning gone lines.old.shown
+            → IsInShown C.step self.now.config (M.facts matcher.now).meaning gone lines.old.shown
             (start_in lines.old walk.old) first walk.old sink.old
             → (after : List ℕ)
             → (0 < length after → IsClosed

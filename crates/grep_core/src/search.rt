@@ -60,12 +60,12 @@ impl<'c, A: Allocator + Copy, T> Search<'c, A, T> {
         if let Some(byte) = self.quit_byte() {
             return self.search_until::<M, C>(matcher, bytes, byte, is_across, sink);
         }
-        let count = self.match_bytes::<M, C>(matcher, bytes, is_across, sink)?;
+        let count = self.byte_count_of::<M, C>(matcher, bytes, is_across, sink)?;
         C::finish(self, sink, &SinkFinish::new(count, None))
     }
 
     // Makes each call but `finish`, across lines or by line, and returns the byte count.
-    pub(crate) fn match_bytes<M: Matcher, C: Calls<T>>(
+    pub(crate) fn byte_count_of<M: Matcher, C: Calls<T>>(
         &self,
         matcher: &M,
         bytes: &[u8],
@@ -95,9 +95,9 @@ impl<'c, A: Allocator + Copy, T> Search<'c, A, T> {
         ensures may_call { C.may_call sink.new }
     {
         if is_across {
-            return self.match_across::<M, C>(matcher, bytes, sink);
+            return self.byte_count_across::<M, C>(matcher, bytes, sink);
         }
-        self.match_by_line::<M, C>(matcher, bytes, sink)
+        self.byte_count_by_line::<M, C>(matcher, bytes, sink)
     }
 
     // The byte that ends a line.

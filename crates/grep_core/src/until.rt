@@ -105,7 +105,7 @@ impl<'c, A: Allocator + Copy, T> Search<'c, A, T> {
         ensures same_sink { sink.new.sink.ghost_name ≡ sink.old.sink.ghost_name }
         ensures may_call { C.may_call sink.new.sink.now }
     {
-        let count = self.match_bytes::<M, QuittingCalls<'_, C>>(matcher, bytes, is_across, sink)?;
+        let count = self.byte_count_of::<M, QuittingCalls<'_, C>>(matcher, bytes, is_across, sink)?;
         QuittingCalls::<'_, C>::finish(self, sink, &SinkFinish::new(count, None))
     }
 }

@@ -6,7 +6,7 @@ pub mod AsByLineLemmas
 pub mod BelowLemmas
 pub mod BinaryExamples
 pub mod BinaryLawLemmas
-pub mod BlockLemmas
+pub mod MatchBlockLemmas
 pub mod BoolLemmas
 pub mod BreakLemmas
 pub mod CallOrderLemmas

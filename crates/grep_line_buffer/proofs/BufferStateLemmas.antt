@@ -8,7 +8,7 @@ use Rattle.std.proofs.lemmas.List.Elements.{All-append, All-get_or}
 use Rattle.grep_line_buffer.specs.declared.detection.Detection.{Detection}
 use Rattle.std.specs.Prelude.{slice_range}
 use Rattle.grep_line_buffer.specs.BufferStates.{BufferState, EndsAtEnd, EndsAtLine, EndsWith, GrowsIfFull, IsFilled}
-use Rattle.grep_line_buffer.specs.BufferStates.{HasNoLine, IsSameBuffer, Lacks, held_bytes, is_cut}
+use Rattle.grep_line_buffer.specs.BufferStates.{HasNoLine, IsSameBuffer, Lacks, held_bytes, has_quit}
 use Rattle.grep_line_buffer.proofs.SliceLemmas.{drop-slice, slice-join, length-slice, slice_index-slice}
 
 -- two windows that differ in what is shown, in what follows it, and in sizes
@@ -108,7 +108,7 @@ grown old new (inr (more, full, few)) low = omega (arith, more, low)
 abbrev pub IsUncut : BufferState → BufferState → Type 0
 IsUncut old new = EndsAtLine old new ⊎ EndsAtEnd old new
 
-pub uncut-filled : {old new : BufferState} → is_cut new ≡ false → IsFilled old new → IsUncut old new
+pub uncut-filled : {old new : BufferState} → has_quit new ≡ false → IsFilled old new → IsUncut old new
 uncut-filled uncut (inl line) = inl line
 uncut-filled uncut (inr (inl end)) = inr end
 uncut-filled uncut (inr (inr byte)) = absurd (false≢true (sym uncut ∙ byte.cut))

@@ -23,7 +23,7 @@ use Rattle.grep_line_buffer.specs.Detections.{detected_bytes, found_in, first_of
 use Rattle.grep_line_buffer.proofs.DetectionLemmas.{detected_bytes-append, detected_bytes-cut, detected_bytes-nil, found-next, found-nil}
 use Rattle.grep_line_buffer.proofs.DetectionLemmas.{first_of-none}
 use Rattle.grep_line_buffer.proofs.DetectionLemmas.{length-detected_bytes, length-uncut, uncut-none}
-use Rattle.grep_line_buffer.specs.BufferStates.{BufferState, coming_to, held_bytes, is_cut, stream, Lacks, IsWithin}
+use Rattle.grep_line_buffer.specs.BufferStates.{BufferState, coming_to, held_bytes, has_quit, stream, Lacks, IsWithin}
 use Rattle.grep_line_buffer.specs.BufferStates.{IsSameBuffer, GrowsIfFull, KeepsStream, EndsWith, ShowsLine, IsFilled}
 use Rattle.grep_line_buffer.specs.BufferStates.{HasNoLine}
 use Rattle.grep_line_buffer.specs.Fills.{IfRead, UnlessRead, Fills, FailsToFill, FillFails, PassesOffsets, IsAtLimit}
@@ -172,7 +172,7 @@ module _ {R : Type 0} (remaining : R → Option (List ℕ)) (step : R → ReadRe
     pub raw : List ℕ
     pub came : now.rest ≡ detected_bytes old.detection old.terminator raw
     pub found : now.binary ≡ found_after old raw
-    pub uncut : is_cut old ≡ false
+    pub uncut : has_quit old ≡ false
     pub shown : now.shown ≡ held_bytes old
     pub unended : now.has_ended ≡ false
     pub same : IsSameBuffer old now
@@ -188,7 +188,7 @@ module _ {R : Type 0} (remaining : R → Option (List ℕ)) (step : R → ReadRe
     pub filling : IsFilling old d r now d' r'
     pub none : Lacks old.terminator now.rest
     pub offset : now.offset + length (held_bytes now) < 2 ^ 64
-    pub going : is_cut now ≡ false
+    pub going : has_quit now ≡ false
     pub begun : HasReadNothing d → ((d' ≡ d) × (r' ≡ r)) ⊎ HasWaitedForLine remaining step old d r r'
     pub waited : (r' ≡ r) ⊎ HasWaitedForLine remaining step old d r r'
 
@@ -196,7 +196,7 @@ module _ {R : Type 0} (remaining : R → Option (List ℕ)) (step : R → ReadRe
   pub HasNone-first : (old now : BufferState) (d : DecoderState) (r : R) (free : ℕ) → Decodes remaining step d r [] d r
       → now ≡ record old { shown = held_bytes old; rest = []; free = free } → free + length (held_bytes old) ≡ old.size
       → old.has_ended ≡ false
-      → IsWithin old.limit old.size → old.offset + length (held_bytes old) < 2 ^ 64 → is_cut old ≡ false
+      → IsWithin old.limit old.size → old.offset + length (held_bytes old) < 2 ^ 64 → has_quit old ≡ false
       → HasNone old d r now d r
   HasNone-first old now d r free none is rolled unended within offset uncut =
       let all : held_bytes old ++ [] ≡ held_bytes old = append-nil (held_bytes old) in
@@ -278,7 +278,7 @@ module _ {R : Type 0} (remaining : R → Option (List ℕ)) (step : R → ReadRe
           inr (more.0, omega (arith, full), omega (arith, full, more.2))
 
   -- nothing that ends the input was among the bytes that came
-  going-none : (old now : BufferState) (d d1 : DecoderState) (r r1 : R) → (f : IsFilling old d r now d1 r1) → is_cut now
+  going-none : (old now : BufferState) (d d1 : DecoderState) (r r1 : R) → (f : IsFilling old d r now d1 r1) → has_quit now
       ≡ false
       → is_quit old.detection ≡ true → found_in old.detection old.terminator f.raw ≡ None
   going-none old now d d1 r r1 f going quits =
@@ -444,12 +444,12 @@ module _ {R : Type 0} (remaining : R → Option (List ℕ)) (step : R → ReadRe
     pub capacity : d'.capacity ≡ d.capacity
     pub reads : Fills remaining step old d r new d' r'
     pub stream : KeepsStream old new (yet d (remaining r)) (yet d' (remaining r'))
-    pub ahead : is_cut new ≡ false → d'.mode ≡ Passing
+    pub ahead : has_quit new ≡ false → d'.mode ≡ Passing
         → TakesAtMost (remaining r) (remaining r') (length (held_bytes new) - length (held_bytes old) + runs_ahead d.mode)
     pub stays : IsSettled d.mode → d'.mode ≡ d.mode
 
   -- a buffer is cut exactly if the byte was among those that came
-  cut-found : (old now : BufferState) (d d1 : DecoderState) (r r1 : R) → (f : IsFilling old d r now d1 r1) → is_cut now
+  cut-found : (old now : BufferState) (d d1 : DecoderState) (r r1 : R) → (f : IsFilling old d r now d1 r1) → has_quit now
       ≡ true
       → (is_quit old.detection ≡ true) × ((n : ℕ) × (found_in old.detection old.terminator f.raw ≡ Some n))
   cut-found old now d d1 r r1 f cut = by old.detection old.binary (found_in old.detection old.terminator f.raw) refl
@@ -468,7 +468,7 @@ module _ {R : Type 0} (remaining : R → Option (List ℕ)) (step : R → ReadRe
 
   stream-filled : (old now new : BufferState) (d d' : DecoderState) (r r' : R)
       → (f : IsFilling old d r now d' r') (after : Option (List ℕ))
-      → held_bytes new ≡ held_bytes old ++ detected_bytes old.detection old.terminator f.raw → is_cut new ≡ is_cut now → new.detection
+      → held_bytes new ≡ held_bytes old ++ detected_bytes old.detection old.terminator f.raw → has_quit new ≡ has_quit now → new.detection
       ≡ old.detection
       → new.terminator ≡ old.terminator → Consumes (yet d (remaining r)) after f.raw
       → KeepsStream old new (yet d (remaining r)) after
@@ -478,13 +478,13 @@ module _ {R : Type 0} (remaining : R → Option (List ℕ)) (step : R → ReadRe
       let before = yet d (remaining r) in
       let was : coming_to old before ≡ option_map (detected_bytes D t) before =
       ap (λ b. if b then Some [] else option_map (detected_bytes D t) before) f.uncut in
-      let will : coming_to new after ≡ (if is_cut new then Some [] else option_map (detected_bytes D t) after) =
-      ap (λ x. if is_cut new then Some [] else option_map (detected_bytes x new.terminator) after) same-d
-      ∙ ap (λ x. if is_cut new then Some [] else option_map (detected_bytes D x) after) same-t in
+      let will : coming_to new after ≡ (if has_quit new then Some [] else option_map (detected_bytes D t) after) =
+      ap (λ x. if has_quit new then Some [] else option_map (detected_bytes x new.terminator) after) same-d
+      ∙ ap (λ x. if has_quit new then Some [] else option_map (detected_bytes D x) after) same-t in
       subst (λ c. Keeps (prepend_known (held_bytes old) c) (stream new after)) (sym was)
       (subst (λ c. Keeps (prepend_known (held_bytes old) (option_map (detected_bytes D t) before)) (prepend_known (held_bytes new) c))
       (sym will)
-      (stream-moved D t before after (held_bytes old) f.raw (held_bytes new) (is_cut new) is
+      (stream-moved D t before after (held_bytes old) f.raw (held_bytes new) (has_quit new) is
       (λ going. going-none old now d d' r r' f (sym cut ∙ going))
       (λ ended. cut-found old now d d' r r' f (sym cut ∙ ended)) gives))
 
@@ -494,8 +494,8 @@ module _ {R : Type 0} (remaining : R → Option (List ℕ)) (step : R → ReadRe
   IsFilling-outcome old now new d d' r r' f whole same size binary =
       let is : held_bytes new ≡ held_bytes old ++ detected_bytes old.detection old.terminator f.raw =
       whole ∙ ap (λ l. l ++ now.rest) f.shown ∙ ap (λ l. held_bytes old ++ l) f.came in
-      let cut : is_cut new ≡ is_cut now = rw (same.detection, binary) refl in
-      let len : is_cut new ≡ false → length (held_bytes new) - length (held_bytes old) ≡ length f.raw =
+      let cut : has_quit new ≡ has_quit now = rw (same.detection, binary) refl in
+      let len : has_quit new ≡ false → length (held_bytes new) - length (held_bytes old) ≡ length f.raw =
       λ going.
       let full = length-uncut old.detection old.terminator f.raw (going-none old now d d' r r' f (sym cut ∙ going)) in
       rw (is, length-append) (omega (arith, full))
@@ -613,7 +613,7 @@ module _ {R : Type 0} (remaining : R → Option (List ℕ)) (step : R → ReadRe
     pub line : HasNoLine old new
     pub room : length (held_bytes new) < new.size
     pub unended : new.has_ended ≡ false
-    pub uncut : is_cut new ≡ false
+    pub uncut : has_quit new ≡ false
 
   pub HasNone-fault : (old now new : BufferState) (d d1 d2 : DecoderState) (r r1 r2 : R) (e : Error)
       → HasNone old d r now d1 r1 → FailsToRead remaining step d1 r1 e d2 r2 → 0 < now.free
@@ -707,7 +707,7 @@ module _ {R : Type 0} (remaining : R → Option (List ℕ)) (step : R → ReadRe
 
   -- what is shown once a byte ended the input
   pub IsFilling-byte : (old now new : BufferState) (d d' : DecoderState) (r r' : R) → IsFilling old d r now d' r'
-      → is_cut now ≡ true
+      → has_quit now ≡ true
       → length (held_bytes now) < now.size → new ≡ record now { shown = held_bytes now; rest = []; has_ended = true }
       → IsFilled old new
   IsFilling-byte old now new d d' r r' f cut room is =
@@ -715,7 +715,7 @@ module _ {R : Type 0} (remaining : R → Option (List ℕ)) (step : R → ReadRe
 
   -- if the input isn't cut, detection keeps the number of bytes
   pub Comes-counted : (old now made : BufferState) (d d1 d2 : DecoderState) (r r1 r2 : R) (count : ℕ) (given : List ℕ)
-      → HasNone old d r now d1 r1 → Comes count now given made → length given ≡ count → is_cut made ≡ false
+      → HasNone old d r now d1 r1 → Comes count now given made → length given ≡ count → has_quit made ≡ false
       → length (detected_bytes now.detection now.terminator given) ≡ count
   Comes-counted old now made d d1 d2 r r1 r2 count given before comes counted going =
       length-uncut now.detection now.terminator given
@@ -728,7 +728,7 @@ module _ {R : Type 0} (remaining : R → Option (List ℕ)) (step : R → ReadRe
   -- what is shown once a line ended
   pub IsFilling-line : (old now made new : BufferState) (d d1 d2 : DecoderState) (r r1 r2 : R) (count : ℕ)
       (given : List ℕ)
-      → HasNone old d r now d1 r1 → Comes count now given made → length given ≡ count → is_cut made ≡ false
+      → HasNone old d r now d1 r1 → Comes count now given made → length given ≡ count → has_quit made ≡ false
       → IsFilling old d r made d2 r2 → ShowsLine made new count → IsFilled old new
   IsFilling-line old now made new d d1 d2 r r1 r2 count given before comes counted going f shows =
       let kept = Comes-counted old now made d d1 d2 r r1 r2 count given before comes counted going in
@@ -747,7 +747,7 @@ module _ {R : Type 0} (remaining : R → Option (List ℕ)) (step : R → ReadRe
   -- it goes on if no line ended
   pub HasNone-more : (old now made new : BufferState) (d d1 d2 : DecoderState) (r r1 r2 : R) (count : ℕ)
       (given : List ℕ)
-      → HasNone old d r now d1 r1 → Comes count now given made → length given ≡ count → is_cut made ≡ false
+      → HasNone old d r now d1 r1 → Comes count now given made → length given ≡ count → has_quit made ≡ false
       → IsFilling old d r made d2 r2
       → Lacks made.terminator (drop (length made.rest - count) made.rest) → made.offset + length (held_bytes made) < 2 ^ 64
       → new ≡ made → (HasReadNothing d → HasWaitedForLine remaining step old d r r2)

@@ -7,7 +7,7 @@ use Rattle.grep_decode.specs.DecoderStates.{DecoderState, Decodes}
 use Rattle.grep_decode.specs.Source.{ReadResult}
 use Rattle.grep_line_buffer.specs.declared.detection.Detection.{Detection}
 use Rattle.grep_line_buffer.specs.Detections.{detected_bytes, found_in, first_of, is_quit}
-use Rattle.grep_line_buffer.specs.BufferStates.{BufferState, held_bytes, is_cut}
+use Rattle.grep_line_buffer.specs.BufferStates.{BufferState, held_bytes, has_quit}
 use Rattle.grep_line_buffer.specs.Fills.{Fills}
 use Rattle.grep_line_buffer.proofs.DetectionLemmas.{detected_bytes-append, found-append, length-detected_bytes, uncut-none}
 
@@ -49,7 +49,7 @@ module _ {R : Type 0} (remaining : R → Option (List ℕ)) (step : R → ReadRe
   -- so a fill continues what was held before
   pub fills-continue : (old new : BufferState) (d d1 d2 : DecoderState) (r r1 r2 : R) (gone given : List ℕ)
       → Decodes remaining step d r given d1 r1 → gone ++ held_bytes old ≡ detected_bytes old.detection old.terminator given
-      → old.offset ≡ length gone → old.binary ≡ found_in old.detection old.terminator given → is_cut old ≡ false
+      → old.offset ≡ length gone → old.binary ≡ found_in old.detection old.terminator given → has_quit old ≡ false
       → (fill : Fills remaining step old d1 r1 new d2 r2)
       → Decodes remaining step d r (given ++ fill.given) d2 r2
       × (gone ++ held_bytes new ≡ detected_bytes old.detection old.terminator (given ++ fill.given))

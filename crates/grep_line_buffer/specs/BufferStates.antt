@@ -44,8 +44,8 @@ abbrev pub held_bytes : BufferState → List ℕ
 held_bytes w = w.shown ++ w.rest
 
 -- the input ended at a binary byte
-abbrev pub is_cut : BufferState → Bool
-is_cut w = is_quit w.detection && is_some w.binary
+abbrev pub has_quit : BufferState → Bool
+has_quit w = is_quit w.detection && is_some w.binary
 
 -- no byte is t
 abbrev pub Lacks : ℕ → List ℕ → Type 0
@@ -65,7 +65,7 @@ IsWithin (Some most) n = n ≤ most
 -- input was cut
 abbrev pub coming_to : BufferState → Option (List ℕ) → Option (List ℕ)
 coming_to w coming =
-    if is_cut w then Some [] else option_map (detected_bytes w.detection w.terminator) coming
+    if has_quit w then Some [] else option_map (detected_bytes w.detection w.terminator) coming
 
 -- the bytes that a buffer holds, and then those
 abbrev pub stream : BufferState → Option (List ℕ) → Option (List ℕ)
@@ -114,7 +114,7 @@ pub record EndsAtEnd (old new : BufferState) : Type 0 where
 
 -- a binary byte ended the input, and all bytes before it are shown
 pub record EndsAtByte (new : BufferState) : Type 0 where
-  pub cut : is_cut new ≡ true
+  pub cut : has_quit new ≡ true
   pub all : new.rest ≡ []
   pub room : length new.shown < new.size
   pub ended : new.has_ended ≡ true

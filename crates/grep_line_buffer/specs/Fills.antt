@@ -8,7 +8,7 @@ use Rattle.grep_decode.specs.Source.{ReadResult}
 use Rattle.grep_line_buffer.specs.declared.fill_error.FillError.{FillError}
 use Rattle.grep_line_buffer.specs.declared.fill_error.FillError.TheVariants.{Read, HeapLimit}
 use Rattle.grep_line_buffer.specs.declared.fill_error.FillError.TheVariants.{Offset, Memory}
-use Rattle.grep_line_buffer.specs.BufferStates.{BufferState, held_bytes, is_cut, HasNoLine, Lacks}
+use Rattle.grep_line_buffer.specs.BufferStates.{BufferState, held_bytes, has_quit, HasNoLine, Lacks}
 use Rattle.grep_line_buffer.specs.Detections.{detected_bytes, found_in, first_of, is_quit}
 
 -- the fact holds of the reader's error, if the result is one
@@ -65,7 +65,7 @@ module _ {R : Type 0} (remaining : R → Option (List ℕ)) (step : R → ReadRe
     pub found : new.binary ≡ first_of old.binary
         (option_map (λ i. old.offset + length (held_bytes old) + i)
         (found_in old.detection old.terminator given))
-    pub uncut : is_cut old ≡ true → given ≡ []
+    pub uncut : has_quit old ≡ true → given ≡ []
     pub fits : 0 < length given → length (held_bytes old) + length given ≤ new.size
     pub decodes : Decodes remaining step decoder reader given decoder' reader'
 

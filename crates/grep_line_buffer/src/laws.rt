@@ -3,7 +3,7 @@ ghost use Rattle.std.specs.Prelude.{◌≡◌, ◌++◌, ℕ, List, length, take
 ghost use Rattle.std.specs.declared.io.Error.{Error};
 ghost use Rattle.grep_decode.specs.DecoderStates.{DecoderState, Decodes};
 ghost use Rattle.grep_decode.specs.Reading.{FailsWith};
-ghost use Rattle.grep_line_buffer.specs.BufferStates.{BufferState, held_bytes, is_cut};
+ghost use Rattle.grep_line_buffer.specs.BufferStates.{BufferState, held_bytes, has_quit};
 ghost use Rattle.grep_line_buffer.specs.Detections.{detected_bytes, found_in};
 ghost use Rattle.grep_line_buffer.specs.Fills.{Fills, FailsToFill};
 
@@ -20,7 +20,7 @@ pub fn fills_continue<R: Source>()
         → Decodes R.remaining R.step d r given d1 r1
         → gone ++ held_bytes old ≡ detected_bytes old.detection old.terminator given
         → old.offset ≡ length gone → old.binary ≡ found_in old.detection old.terminator given
-        → is_cut old ≡ false → (fill : Fills R.remaining R.step old d1 r1 new d2 r2)
+        → has_quit old ≡ false → (fill : Fills R.remaining R.step old d1 r1 new d2 r2)
         → Decodes R.remaining R.step d r (given ++ fill.given) d2 r2
         × (gone ++ held_bytes new
         ≡ detected_bytes old.detection old.terminator (given ++ fill.given))

@@ -14,7 +14,7 @@ ghost use Rattle.grep_decode.specs.DecoderStates.{TakesAtMost, runs_ahead, yet};
 ghost use Rattle.grep_line_buffer.specs.BufferStates.{BufferState, empty_buffer, held_bytes, Lacks};
 ghost use Rattle.grep_line_buffer.specs.BufferStates.{IsWithin, IsSameBuffer, GrowsIfFull};
 ghost use Rattle.grep_line_buffer.specs.BufferStates.{ShowsLine, IsFilled, HasNoLine, KeepsStream};
-ghost use Rattle.grep_line_buffer.specs.BufferStates.{is_cut};
+ghost use Rattle.grep_line_buffer.specs.BufferStates.{has_quit};
 ghost use Rattle.grep_line_buffer.specs.Widening.{Widens};
 ghost use Rattle.grep_line_buffer.specs.Detections.{byte_offset, first_of, is_quit};
 ghost use Rattle.grep_line_buffer.specs.Fills.{IfRead, UnlessRead, IsAtLimit, FillFails, Fills};
@@ -163,7 +163,7 @@ impl<A: Allocator> LineBuffer<A> {
         ensures exact { self.now.offset + length (held_bytes self.now) < 2 ^ 64
             → result ≡ self.now.binary }
         ensures room { length (held_bytes self.now) ≤ self.now.size }
-        ensures cut { is_cut self.now ≡ true → length (held_bytes self.now) < self.now.size }
+        ensures cut { has_quit self.now ≡ true → length (held_bytes self.now) < self.now.size }
     {
         match self.binary {
             Some((offset, index)) => Some(offset.saturating_add(index as u64)),
@@ -247,11 +247,11 @@ impl<A: Allocator> LineBuffer<A> {
         ensures limit { HasNoLine self.old self.new → IsAtLimit self.new
             → self.new.offset + length (held_bytes self.new) < 2 ^ 64 → result ≡ Err HeapLimit }
         ensures fault { IfRead result (λ e. FailsWith R.step reader.old e reader.new) }
-        ensures uncut { IfRead result (λ _. is_cut self.new ≡ false) }
+        ensures uncut { IfRead result (λ _. has_quit self.new ≡ false) }
         ensures fits { OnOk result (self.new.offset + length (held_bytes self.new) < 2 ^ 64) }
 
         // the reader is called at first, and again only as long as no line has come
-        ensures begins { self.old.has_ended ≡ false → is_cut self.old ≡ false
+        ensures begins { self.old.has_ended ≡ false → has_quit self.old ≡ false
             → HasReadNothing decoder.old → OnOk result
             (HasWaitedForLine R.remaining R.step self.old decoder.old reader.old reader.new) }
         ensures last { OnOk result ((reader.new ≡ reader.old)
@@ -259,25 +259,25 @@ impl<A: Allocator> LineBuffer<A> {
 
         // Nothing is left once the end was seen, unless a byte ended the input, and nothing is read
         // then.
-        ensures done { (self.old.has_ended ≡ true → is_cut self.old ≡ false → IsDone decoder.old)
-            → self.new.has_ended ≡ true → is_cut self.new ≡ false → IsDone decoder.new }
-        ensures end { (self.old.has_ended ≡ true → is_cut self.old ≡ false
+        ensures done { (self.old.has_ended ≡ true → has_quit self.old ≡ false → IsDone decoder.old)
+            → self.new.has_ended ≡ true → has_quit self.new ≡ false → IsDone decoder.new }
+        ensures end { (self.old.has_ended ≡ true → has_quit self.old ≡ false
             → IsAtEnd (yet decoder.old (R.remaining reader.old)))
-            → self.new.has_ended ≡ true → is_cut self.new ≡ false
+            → self.new.has_ended ≡ true → has_quit self.new ≡ false
             → IsAtEnd (yet decoder.new (R.remaining reader.new)) }
         ensures ended { self.old.has_ended ≡ true → IsOk result × (self.new ≡ self.old)
             × (decoder.new ≡ decoder.old) × (reader.new ≡ reader.old) }
 
         // how far the reader is ahead of what was appended, and what the decoder holds, if the
         // bytes pass unchanged
-        ensures ahead { OnOk result (is_cut self.new ≡ false → decoder.new.mode ≡ Passing
+        ensures ahead { OnOk result (has_quit self.new ≡ false → decoder.new.mode ≡ Passing
             → TakesAtMost (R.remaining reader.old) (R.remaining reader.new)
             (length (held_bytes self.new) - length (held_bytes self.old)
             + runs_ahead decoder.old.mode)) }
-        ensures passing { OnOk result (self.old.has_ended ≡ false → is_cut self.old ≡ false
+        ensures passing { OnOk result (self.old.has_ended ≡ false → has_quit self.old ≡ false
             → decoder.new.mode ≡ Passing
             → (length decoder.new.ready ≤ 3) × (decoder.new.held ≡ [])) }
-        ensures settled { OnOk result (self.old.has_ended ≡ false → is_cut self.old ≡ false
+        ensures settled { OnOk result (self.old.has_ended ≡ false → has_quit self.old ≡ false
             → IsSettled decoder.new.mode) }
         ensures stays { IsSettled decoder.old.mode → decoder.new.mode ≡ decoder.old.mode }
         ensures empty { IfRead result (λ _. decoder.new.ready ≡ []) }
@@ -290,7 +290,7 @@ impl<A: Allocator> LineBuffer<A> {
             return Err(FillError::Offset);
         }
         self.roll();
-        if self.is_cut() {
+        if self.has_quit() {
             return Ok(self.end());
         }
         'reads: loop {
@@ -306,7 +306,7 @@ impl<A: Allocator> LineBuffer<A> {
             if !self.has_offsets() {
                 return Err(FillError::Offset);
             }
-            if self.is_cut() {
+            if self.has_quit() {
                 return Ok(self.end());
             }
             if self.show_lines(count) {
@@ -326,8 +326,8 @@ impl<A: Allocator> LineBuffer<A> {
     }
 
     // Whether a binary byte ended the input.
-    fn is_cut(&self) -> bool
-        ensures value { result ≡ is_cut self.now }
+    fn has_quit(&self) -> bool
+        ensures value { result ≡ has_quit self.now }
         ensures room { result ≡ true → length (held_bytes self.now) < self.now.size }
     {
         matches!(self.detection, Detection::Quit(_)) && self.binary.is_some()
@@ -383,7 +383,7 @@ impl<A: Allocator> LineBuffer<A> {
         reader: &mut R,
     ) -> io::Result<usize>
         requires ended { self.old.has_ended ≡ false }
-        requires uncut { is_cut self.old ≡ false }
+        requires uncut { has_quit self.old ≡ false }
         requires free { 0 < self.old.free }
         ensures capacity { decoder.new.capacity ≡ decoder.old.capacity }
         ensures reads { IfOk result
@@ -403,7 +403,7 @@ impl<A: Allocator> LineBuffer<A> {
     fn detect(&mut self, count: usize)
         requires ended { self.old.has_ended ≡ false }
         requires count { count ≤ length self.old.rest }
-        requires uncut { is_cut self.old ≡ false }
+        requires uncut { has_quit self.old ≡ false }
         ensures detects { Detects count self.old self.new }
     {
         let from = self.end - count;

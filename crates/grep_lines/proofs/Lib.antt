@@ -1,7 +1,7 @@
 pub mod LaneLemmas
 pub mod LawLemmas
 pub mod LineStepLemmas
-pub mod MarkLemmas
+pub mod MaskLemmas
 pub mod LinePositionLemmas
 pub mod ReplaceLemmas
 pub mod LineRangeLemmas

@@ -12,7 +12,7 @@ use Rattle.grep_lines.proofs.LineStepLemmas.{IsAt-start}
 use Rattle.grep_definitions.specs.Plans.{Settings, touched_lines, calls_before}
 use Rattle.grep_walk.specs.declared.blocks.Blocks.{Blocks}
 use Rattle.grep_walk.specs.declared.walk.Walk.{Walk}
-use Rattle.grep_walk.specs.AcrossWalks.{IsAcross, IsReady, is_done, is_joined, next_chosen}
+use Rattle.grep_walk.specs.AcrossWalks.{IsAcross, IsAtUnit, is_done, is_joined, next_chosen}
 use Rattle.grep_walk.specs.AcrossWalks.{after_lines}
 use Rattle.grep_walk.specs.Walks.{IsOrdered, line_end, line_calls}
 use Rattle.grep_walk.specs.Windows.{IsInWindow}
@@ -54,13 +54,13 @@ module _ (k : Settings) (meaning : Meaning) (bytes : List ℕ) where
     pub across : IsAcross k meaning bytes (after_lines k w (slice_range bytes start end) chosen)
     pub front : calls_before k bytes (touched_lines k meaning bytes) (after_lines k w (slice_range bytes start end) chosen).next_unreported
         ≡ calls_before k bytes (touched_lines k meaning bytes) w.next_unreported ++ line_calls k bytes w (slice_range bytes start end) chosen false
-    pub ready : IsReady k meaning bytes end (after_lines k w (slice_range bytes start end) chosen) unit blocks
+    pub ready : IsAtUnit k meaning bytes end (after_lines k w (slice_range bytes start end) chosen) unit blocks
     pub offset : (after_lines k w (slice_range bytes start end) chosen).offset ≡ end
     pub end_is : line_end w (slice_range bytes start end) ≡ end
 
 module _ {k : Settings} {meaning : Meaning} {bytes : List ℕ} {start end next : ℕ} {w : Walk} {unit : ℕ × ℕ}
     {blocks : Blocks} (bare : Bare k meaning bytes) (across : IsAcross k meaning bytes w) (same : w.offset ≡ start)
-    (ready : IsReady k meaning bytes start w unit blocks) (ahead : is_done k w ≡ false → start < unit.1)
+    (ready : IsAtUnit k meaning bytes start w unit blocks) (ahead : is_done k w ≡ false → start < unit.1)
     (is_next : next ≡ next_chosen k bytes start unit w) (below : start < end) (within : end ≤ length bytes) where
   at : IsLineStart (byte_of k.line_terminator) bytes start w.line
   at = subst (λ o. IsLineStart (byte_of k.line_terminator) bytes o w.line) same across.placed.at

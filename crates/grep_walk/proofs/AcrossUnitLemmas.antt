@@ -14,7 +14,7 @@ use Rattle.grep_definitions.proofs.BelowLemmas.{count_below-le, room-le, room-fi
 use Rattle.grep_definitions.proofs.BoolLemmas.{clash}
 use Rattle.grep_walk.specs.declared.blocks.Blocks.{Blocks}
 use Rattle.grep_walk.specs.declared.walk.Walk.{Walk}
-use Rattle.grep_walk.specs.AcrossWalks.{IsAcross, IsComing, IsReady, is_done, is_joined}
+use Rattle.grep_walk.specs.AcrossWalks.{IsAcross, IsComing, IsAtUnit, is_done, is_joined}
 use Rattle.grep_walk.specs.AcrossWalks.{next_chosen}
 use Rattle.grep_walk.specs.TouchedUnits.{AreLeft, IsUnit, is_counted}
 use Rattle.grep_lines.proofs.LineRangeLemmas.{starts-before, starts-from, starts-until}
@@ -70,7 +70,7 @@ module _ (k : Settings) (meaning : Meaning) (bytes : List ℕ) where
   ready-next : (start : ℕ) (w : Walk) (unit : ℕ × ℕ) (old new : Blocks) → start < length bytes
       → IsLineStart t bytes start w.line
       → (is_done k w ≡ false → start ≡ old.end) → IsUnit k meaning bytes old.end unit → new.end ≡ unit.1
-      → AreLeft k meaning bytes new → IsReady k meaning bytes start w unit new
+      → AreLeft k meaning bytes new → IsAtUnit k meaning bytes start w unit new
   ready-next start w unit old new some at same is_unit end left = record {
     left = left;
     end = end;
@@ -85,7 +85,7 @@ module _ (k : Settings) (meaning : Meaning) (bytes : List ℕ) where
       → IsLineStart t bytes start w.line → (is_done k w ≡ false → start ≡ old.end)
       → IfOk found (IsUnit k meaning bytes old.end)
       → IfOk found (λ unit. new.end ≡ unit.1) → IfOk found (λ unit. AreLeft k meaning bytes new)
-      → IfOk found (λ unit. IsReady k meaning bytes start w unit new)
+      → IfOk found (λ unit. IsAtUnit k meaning bytes start w unit new)
   ready-found start w old new (Ok unit) some at same is_unit end left = ready-next start w unit old new some at same
       is_unit end left
   ready-found start w old new (Err e) some at same is_unit end left = tt
@@ -113,7 +113,7 @@ module _ (k : Settings) (meaning : Meaning) (bytes : List ℕ) where
 -- a walk that has come to a unit or is in it
 module _ {k : Settings} {meaning : Meaning} {bytes : List ℕ} {start : ℕ} {w : Walk} {unit : ℕ × ℕ} {blocks : Blocks}
     (across : IsAcross k meaning bytes w) (at : IsLineStart (byte_of k.line_terminator) bytes start w.line)
-    (ready : IsReady k meaning bytes start w unit blocks) (some : start < length bytes)
+    (ready : IsAtUnit k meaning bytes start w unit blocks) (some : start < length bytes)
     (ahead : is_done k w ≡ false → start < unit.1) where
   abbrev Chosen : Bool → Bool → Bool → ℕ
   Chosen b c d = if not b then unit.0 else (if not c then length bytes else (if d then start else unit.1))
@@ -215,7 +215,7 @@ module _ {k : Settings} {meaning : Meaning} {bytes : List ℕ} {start : ℕ} {w 
       go true true false is_b is_c = (omega arith, λ less. absurd (omega arith))
 
   pub ready-past : (new : Walk) (p : ℕ) → p ≡ next → new.match_count ≡ w.match_count
-      → IsReady k meaning bytes p new unit blocks
+      → IsAtUnit k meaning bytes p new unit blocks
   ready-past new p is same = record {
     left = ready.left;
     end = ready.end;
@@ -253,7 +253,7 @@ module _ {k : Settings} {meaning : Meaning} {bytes : List ℕ} {start : ℕ} {w 
       (single : is_joined k chosen ≡ false → (i : ℕ) → IsLineStart (byte_of k.line_terminator) bytes start i
       → IsLine (byte_of k.line_terminator) bytes i start end) where
     pub ready-after : (new : Walk) → (is_done k new ≡ false → is_done k w ≡ false) → chosen ≡ (start == next)
-        → IsReady k meaning bytes end new unit blocks
+        → IsAtUnit k meaning bytes end new unit blocks
     ready-after new back is = record {
       left = ready.left;
       end = ready.end;

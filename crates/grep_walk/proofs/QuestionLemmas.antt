@@ -11,7 +11,7 @@ use Rattle.grep_matcher.specs.Meanings.{Meaning}
 use Rattle.grep_matcher.specs.Lines.{byte_of}
 use Rattle.grep_definitions.specs.Plans.{line_count, start, is_touched, IsAskedAfter, IsAskedAt}
 use Rattle.grep_definitions.specs.Plans.{Settings}
-use Rattle.grep_definitions.proofs.BlockLemmas.{block_start-low}
+use Rattle.grep_definitions.proofs.MatchBlockLemmas.{block_start-low}
 use Rattle.grep_definitions.proofs.BoolLemmas.{clash}
 use Rattle.grep_walk.specs.TouchedUnits.{is_in, AreTouched}
 use Rattle.grep_lines.proofs.LineRangeLemmas.{starts-before, starts-from, comes-before, comes-from}

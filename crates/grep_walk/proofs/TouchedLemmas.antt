@@ -16,9 +16,9 @@ use Rattle.grep_lines.specs.Blocks.{block_start, block_end}
 use Rattle.grep_lines.specs.Positions.{IsLineStart}
 use Rattle.grep_definitions.specs.Plans.{line_count, start, touches, position_after, Settings}
 use Rattle.grep_definitions.specs.SuccessiveMatches.{counted_matches}
-use Rattle.grep_definitions.proofs.BlockLemmas.{within-block, block_start-edge, block_end-edge}
-use Rattle.grep_definitions.proofs.BlockLemmas.{block_start-le, block_start-low, block_end-within}
-use Rattle.grep_definitions.proofs.BlockLemmas.{block-some, block_start-part, block_end-part}
+use Rattle.grep_definitions.proofs.MatchBlockLemmas.{within-block, block_start-edge, block_end-edge}
+use Rattle.grep_definitions.proofs.MatchBlockLemmas.{block_start-le, block_start-low, block_end-within}
+use Rattle.grep_definitions.proofs.MatchBlockLemmas.{block-some, block_start-part, block_end-part}
 use Rattle.grep_lines.proofs.LineRangeLemmas.{comes-before, end-start, starts-before, starts-until}
 use Rattle.grep_definitions.proofs.TouchLemmas.{rises}
 use Rattle.grep_definitions.proofs.SuccessiveMatchLemmas.{position_after-start}

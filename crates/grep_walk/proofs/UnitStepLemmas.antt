@@ -9,7 +9,7 @@ use Rattle.grep_matcher.specs.Lines.{byte_of, lines}
 use Rattle.grep_lines.specs.Blocks.{block_start, block_end}
 use Rattle.grep_definitions.specs.Plans.{match_limit, Settings, position_after}
 use Rattle.grep_definitions.specs.SuccessiveMatches.{matches_left}
-use Rattle.grep_definitions.proofs.BlockLemmas.{block_start-le}
+use Rattle.grep_definitions.proofs.MatchBlockLemmas.{block_start-le}
 use Rattle.grep_matcher.proofs.LineStartLemmas.{line_start-within}
 use Rattle.grep_definitions.proofs.SuccessiveMatchLemmas.{matches_left-after, position_after-start}
 use Rattle.grep_walk.specs.declared.blocks.Blocks.{Blocks}

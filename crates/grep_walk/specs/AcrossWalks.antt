@@ -69,7 +69,7 @@ module _ (settings : Settings) (meaning : Meaning) (bytes : List ℕ) where
 
   -- a walk at `start` has come to a unit or is in it, or is at its end. Nothing is known of it if
   -- no more lines are chosen
-  pub record IsReady (start : ℕ) (w : Walk) (unit : ℕ × ℕ) (blocks : Blocks) : Type 0 where
+  pub record IsAtUnit (start : ℕ) (w : Walk) (unit : ℕ × ℕ) (blocks : Blocks) : Type 0 where
     pub left : AreLeft settings meaning bytes blocks
     pub end : blocks.end ≡ unit.1
     pub ordered : unit.0 ≤ unit.1

@@ -13,7 +13,7 @@ use Rattle.grep_definitions.specs.LineCalls.{matches_line, pending_calls, select
 use Rattle.grep_definitions.specs.LineCalls.{after_calls, context_calls}
 use Rattle.grep_definitions.specs.SearchLaws.{number_of}
 use Rattle.grep_walk.specs.declared.walk.Verdict.{Verdict}
-use Rattle.grep_walk.specs.declared.walk.Verdict.TheVariants.{Chosen, Trailing, Missed}
+use Rattle.grep_walk.specs.declared.walk.Verdict.TheVariants.{Chosen, Trailing, Neither}
 use Rattle.grep_walk.specs.declared.walk.Walk.{Walk}
 use Rattle.grep_walk.specs.Origins.{AreMadeFrom, Origin}
 
@@ -21,12 +21,12 @@ use Rattle.grep_walk.specs.Origins.{AreMadeFrom, Origin}
 abbrev pub chooses : Verdict → Bool
 chooses Chosen = true
 chooses Trailing = false
-chooses Missed = false
+chooses Neither = false
 
 abbrev pub trails : Verdict → Bool
 trails Chosen = false
 trails Trailing = true
-trails Missed = false
+trails Neither = false
 
 -- whether the line that a walk is at may be a match: the limit has room, or lines are left in the
 -- context after a match

@@ -5,7 +5,7 @@ ghost use Rattle.grep_matcher.specs.Lines.{byte_of};
 ghost use Rattle.grep_lines.specs.Positions.{IsLine, IsLineStart};
 ghost use Rattle.grep_definitions.specs.Plans.{IsAskedAt};
 ghost use Rattle.grep_walk.specs.AcrossWalks.{is_done, is_joined, next_chosen, after_lines};
-ghost use Rattle.grep_walk.specs.AcrossWalks.{IsReady};
+ghost use Rattle.grep_walk.specs.AcrossWalks.{IsAtUnit};
 ghost use Rattle.grep_walk.specs.Walks.{IsOrdered};
 
 use crate::blocks::Blocks;
@@ -31,10 +31,10 @@ impl Config {
         requires some { start < length bytes.now }
         requires at { IsLineStart (byte_of self.now.line_terminator) bytes.now start
             walk.now.line }
-        requires ready { IsReady self.now (M.facts matcher.now).meaning bytes.now start
+        requires ready { IsAtUnit self.now (M.facts matcher.now).meaning bytes.now start
             walk.now unit blocks.old }
         ensures ready { IfOk result (λ next.
-            IsReady self.now (M.facts matcher.now).meaning bytes.now start
+            IsAtUnit self.now (M.facts matcher.now).meaning bytes.now start
             walk.now next blocks.new) }
         ensures ahead { IfOk result (λ next.
             is_done self.now walk.now ≡ false → start < next.1) }

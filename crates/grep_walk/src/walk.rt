@@ -49,9 +49,9 @@ pub enum Verdict {
     Chosen,
     /// It hits past the limit, in the context after a match.
     Trailing,
-    /// It doesn't hit; or it is past both the limit and that context, where the matcher isn't
-    /// asked.
-    Missed,
+    /// It is neither: it doesn't hit, or it is past both the limit and that context, where the
+    /// matcher isn't asked.
+    Neither,
 }
 
 impl Verdict {
@@ -63,7 +63,7 @@ impl Verdict {
         if chosen {
             Verdict::Chosen
         } else {
-            Verdict::Missed
+            Verdict::Neither
         }
     }
 
@@ -175,7 +175,7 @@ impl Config {
             ((M.facts matcher.now).fails (strip self.now.line_terminator line.now)) }
     {
         if !self.can_hit(walk) {
-            return Ok(Verdict::Missed);
+            return Ok(Verdict::Neither);
         }
         if let Some(matches) = known {
             return Ok(self.verdict(walk, matches));
@@ -202,7 +202,7 @@ impl Config {
             && hits_if self.now matches) }
     {
         if !self.hits_if(matches) {
-            Verdict::Missed
+            Verdict::Neither
         } else if self.is_full(walk) {
             Verdict::Trailing
         } else {

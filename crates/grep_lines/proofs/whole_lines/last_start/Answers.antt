@@ -1,5 +1,5 @@
 use Rattle.std.proofs.Common.{arith}
-use Rattle.grep_lines.proofs.MarkLemmas.{start-before, start-marked}
+use Rattle.grep_lines.proofs.MaskLemmas.{start-before, start-marked}
 use Rattle.grep_lines.proofs.whole_lines.last_start.Goals as goal
 
 pub returns-then-near-eq0 : goal.returns-then-near-eq0

@@ -57,5 +57,5 @@ returns-in_err-count-clause-searched g c = λ lawful.
     rw (p.1, p.2)
     (search-at g.C.Calls.step (errors-of g) (g.M.Matcher.facts c.args.matcher.now) c.args.self.now.config c.args.bytes.now
     c.args.sink.now (look-plain _ (λ b is. c.in_default.not-Some b (c.quit_byte.ensures ∙ is)))
-    (sym c.is_across-is_across.ensures) (Err c.in_err-count.field-0.0) c.match_bytes.new.sink
+    (sym c.is_across-is_across.ensures) (Err c.in_err-count.field-0.0) c.byte_count_of.new.sink
     (c.in_err-count.ensures.fault (λ _. lawful)))

@@ -5,7 +5,7 @@ use Rattle.std.proofs.lemmas.Result.{err_from_is_err_and}
 use Rattle.std.specs.Prelude.{vec_capacity}
 use Rattle.grep_line_buffer.specs.Contents.{FailsAfter, IsBelow, ContentsFail}
 use Rattle.grep_line_buffer.specs.Fills.{IfRead}
-use Rattle.grep_core.proofs.InputSearchLemmas as whole
+use Rattle.grep_core.proofs.ReaderSearchLemmas as whole
 use Rattle.grep_definitions.proofs.ContentsSearchLemmas.{search-at}
 use Rattle.grep_definitions.specs.Plans.{is_across}
 use Rattle.grep_walk.proofs.FinishLemmas.{searched-finish}
@@ -72,10 +72,10 @@ returns-in_err-count-clause-searched g c = λ across has_buffers.
     (whole.contents-read-all c.args.self.now.config c.requires.started
     c.in_default.ensures.reads c.in_default.ensures.done
     (below g (goal.at.returns-in_err-count-clause-searched g c).After-quit_byte) g.C.Calls.step (errors-of g) facts
-    has_buffers c.args.sink.now across (Err c.in_err-count.field-0.0) c.match_across.new.sink
+    has_buffers c.args.sink.now across (Err c.in_err-count.field-0.0) c.byte_count_across.new.sink
     (search-at g.C.Calls.step (errors-of g) facts c.args.self.now.config given c.args.sink.now
     (look-plain _ (λ b is. c.in_default-quit_byte.not-Some b (c.quit_byte.ensures ∙ is))) across _
-    c.match_across.new.sink
+    c.byte_count_across.new.sink
     (rw c.deref-2.ensures.value at c.in_err-count.ensures.fault)))
 
 pub returns-clause-searched : goal.returns-clause-searched

@@ -24,14 +24,14 @@ returns-in_err-count-clause-searched g c = λ lawful.
     _
     (subst (λ e. IsContentsSearch (Quits g.C.Calls.step g.C.Calls.may_call) (errors-of g)
     (g.M.Matcher.facts c.args.matcher.now) c.args.self.now.config nowhere c.args.is_across c.args.bytes.now
-    c.args.sink.now (Err e) c.match_bytes.new.sink) (sym error.2) (c.in_err-count.ensures.fault lawful)))
+    c.args.sink.now (Err e) c.byte_count_of.new.sink) (sym error.2) (c.in_err-count.ensures.fault lawful)))
 
 pub returns-in_err-count-clause-same_sink : goal.returns-in_err-count-clause-same_sink
 returns-in_err-count-clause-same_sink g c =
     order.begun-keeps _ _ _
     _
     (λ quitting. quitting.sink.ghost_name) (λ old call result new step. step.0) _ _
-    _ c.match_bytes.ensures.in_order
+    _ c.byte_count_of.ensures.in_order
 
 pub returns-clause-searched : goal.returns-clause-searched
 returns-clause-searched g c = λ lawful.
@@ -48,7 +48,7 @@ returns-clause-same_sink g c =
     ∙ (order.begun-keeps _ _ _
     _
     (λ quitting. quitting.sink.ghost_name) (λ old call result new step. step.0) _ _
-    _ c.match_bytes.ensures.in_order)
+    _ c.byte_count_of.ensures.in_order)
 
 pub returns-in_err-count-clause-in_order : goal.returns-in_err-count-clause-in_order
 returns-in_err-count-clause-in_order g c =
@@ -76,7 +76,7 @@ returns-clause-in_order g c =
     order.order-finished _ k _ _ _ (omega arith)
     _
     _
-    _ c.match_bytes.new.sink.found _
+    _ c.byte_count_of.new.sink.found _
     _
     (λ none. absurd (false≢true (sym none ∙ look-detects _ _ c.requires.detecting)))
     (order.passed-begun-to _ _ k (λ q. q.sink.now)

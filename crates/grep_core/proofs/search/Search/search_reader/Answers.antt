@@ -1,6 +1,6 @@
 use Rattle.std.proofs.Common.{sym, ◌∙◌, arith}
 use Rattle.std.proofs.lemmas.Result.{err_from_is_err_and}
-use Rattle.grep_core.proofs.InputSearchLemmas.{read-across, read-by_line}
+use Rattle.grep_core.proofs.ReaderSearchLemmas.{read-across, read-by_line}
 use Rattle.grep_core.proofs.StreamSearchLemmas.{stream-finished}
 use Rattle.grep_definitions.proofs.CallOrderLemmas.{order-finished}
 use Rattle.grep_core.proofs.search.Search.search_reader.Goals as goal

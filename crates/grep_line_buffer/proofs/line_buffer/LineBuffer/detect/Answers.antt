@@ -6,7 +6,7 @@ use Rattle.std.proofs.lemmas.List.{length-map, with_items_is}
 use Rattle.std.specs.Prelude.{slice_range}
 use Rattle.grep_lines.proofs.ReplaceLemmas.{position-found}
 use Rattle.grep_line_buffer.specs.declared.detection.Detection.TheVariants.{Convert}
-use Rattle.grep_line_buffer.specs.BufferStates.{BufferState, is_cut}
+use Rattle.grep_line_buffer.specs.BufferStates.{BufferState, has_quit}
 use Rattle.grep_line_buffer.specs.Detections.{detected_bytes, found_in, first_of, byte_offset, is_quit}
 use Rattle.grep_line_buffer.proofs.BufferStateLemmas.{window-same}
 use Rattle.grep_line_buffer.proofs.DetectLemmas.{Detects-made, found-at, found-first, length-cut, nothing-found}
@@ -35,7 +35,7 @@ returns-in-Some g c =
     let made : take at last ≡ detected_bytes b.detection b.terminator last =
     rw c.in-Quit.is (quit-at c.in-Quit.byte b.terminator last at here) in
     let part : at ≤ n = omega (arith, counted, (rw c.deref.ensures.value at c.in-Some.ensures).0.high) in
-    let U : BufferState → Type 0 = λ w. is_cut w ≡ false in
+    let U : BufferState → Type 0 = λ w. has_quit w ≡ false in
     let uncut = subst U (sym c.self.view_is) c.requires.uncut in
     let first : option_map byte_offset b.binary ≡ None =
     found-first _ (subst (λ D. (is_quit D && is_some (option_map byte_offset b.binary)) ≡ false) c.in-Quit.is uncut) in

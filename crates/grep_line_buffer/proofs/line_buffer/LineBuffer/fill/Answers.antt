@@ -3,7 +3,7 @@ use Rattle.std.proofs.lemmas.Bool.{false≢true}
 use Rattle.std.proofs.lemmas.List.{nil_from_length}
 use Rattle.std.proofs.lemmas.Result.{err_from_is_err_and}
 use Rattle.grep_decode.proofs.DecoderLemmas.{Decodes-none, reads-fail}
-use Rattle.grep_line_buffer.specs.BufferStates.{held_bytes, is_cut, HasNoLine}
+use Rattle.grep_line_buffer.specs.BufferStates.{held_bytes, has_quit, HasNoLine}
 use Rattle.grep_line_buffer.specs.Fills.{PassesOffsets}
 use Rattle.grep_line_buffer.proofs.FillLemmas.{Fills-none, only-limit, Outcome-none, IsFilling-stopped, IsFilling-shown}
 use Rattle.grep_line_buffer.proofs.FillLemmas.{Comes-detected, IsFilling-byte, IsFilling-ended, IsFilling-line}
@@ -257,7 +257,7 @@ returns-then-show_lines g c =
     let comes = Comes-detected _ _ _ _ _ _ _ _ _ _ came c.detect.ensures.detects in
     let next = IsFilling-more _ _ _ _ _ _ _ _ _ _ _ _ _ room came comes
     c.read.ensures.capacity in
-    let going = sym c.is_cut-in-reads.ensures.value ∙ c.if-is_cut-2.false in
+    let going = sym c.has_quit-in-reads.ensures.value ∙ c.if-has_quit-2.false in
     let shows = c.if-show_lines.ensures in
     let out = IsFilling-shown _ _ _ _ _ _ _ _ _ _ next shows in
     let unended = ap ended_of shows.others ∙ next.unended in
@@ -297,7 +297,7 @@ reads-init g c = HasNone-first g.R.Source.remaining g.R.Source.step _ _ _ _ _ (D
     c.roll.ensures.same
     (c.roll.ensures.free ∙ ap size_of c.roll.ensures.same) (sym c.has_ended.ensures.value ∙ c.if-has_ended.false)
     c.has_ended.ensures.within c.if-not-has_offsets.ensures
-    (ap is_cut (sym c.roll.ensures.same) ∙ (sym c.is_cut.ensures.value ∙ c.if-is_cut.false))
+    (ap has_quit (sym c.roll.ensures.same) ∙ (sym c.has_quit.ensures.value ∙ c.if-has_quit.false))
 
 pub reads-preserved : goal.reads-preserved
 reads-preserved g c =
@@ -307,7 +307,7 @@ reads-preserved g c =
     let comes = Comes-detected _ _ _ _ _ _ _ _ _ _ came c.detect.ensures.detects in
     let next = IsFilling-more _ _ _ _ _ _ _ _ _ _ _ _ _ room came comes
     c.read.ensures.capacity in
-    let going = sym c.is_cut-in-reads.ensures.value ∙ c.if-is_cut-2.false in
+    let going = sym c.has_quit-in-reads.ensures.value ∙ c.if-has_quit-2.false in
     let shows = c.if-show_lines.ensures in
     HasNone-more _ _ _ _ _ _ _ _ _ _ _ _ _ _ room comes came.counted going next shows.1 c.if-not-has_offsets-2.ensures
     shows.0
@@ -315,8 +315,8 @@ reads-preserved g c =
     came.reads.last)
     (HasNone-waited g.R.Source.remaining g.R.Source.step _ _ _ _ _ _ _ room c.in_ok-make_room.ensures.ok came.reads.last)
 
-pub returns-then-is_cut-2 : goal.returns-then-is_cut-2
-returns-then-is_cut-2 g c =
+pub returns-then-has_quit-2 : goal.returns-then-has_quit-2
+returns-then-has_quit-2 g c =
     let was : c.args.self.now.has_ended ≡ false = sym c.has_ended.ensures.value ∙ c.if-has_ended.false in
     let made = c.make_room.ensures in
     let room = HasNone-room _ _ _ _ _ _ _ _ _ _ _ c.reads.invariant made.same made.free made.within made.grows in
@@ -324,11 +324,11 @@ returns-then-is_cut-2 g c =
     let comes = Comes-detected _ _ _ _ _ _ _ _ _ _ came c.detect.ensures.detects in
     let next = IsFilling-more _ _ _ _ _ _ _ _ _ _ _ _ _ room came comes
     c.read.ensures.capacity in
-    let cut = sym c.is_cut-in-reads.ensures.value ∙ c.if-is_cut-2.true in
-    let still = ap is_cut c.end-then-is_cut-2.ensures.same ∙ cut in
-    let out = IsFilling-ended _ _ _ _ _ _ _ _ _ next c.end-then-is_cut-2.ensures.same in
-    let filled = IsFilling-byte _ _ _ _ _ _ _ _ _ next cut (c.is_cut-in-reads.ensures.room c.if-is_cut-2.true)
-    c.end-then-is_cut-2.ensures.same in
+    let cut = sym c.has_quit-in-reads.ensures.value ∙ c.if-has_quit-2.true in
+    let still = ap has_quit c.end-then-has_quit-2.ensures.same ∙ cut in
+    let out = IsFilling-ended _ _ _ _ _ _ _ _ _ next c.end-then-has_quit-2.ensures.same in
+    let filled = IsFilling-byte _ _ _ _ _ _ _ _ _ next cut (c.has_quit-in-reads.ensures.room c.if-has_quit-2.true)
+    c.end-then-has_quit-2.ensures.same in
     record {
       same = out.same;
       within = out.within;
@@ -337,7 +337,7 @@ returns-then-is_cut-2 g c =
       reads = out.reads;
       read = tt;
       stream = out.stream;
-      some = rw c.end-then-is_cut-2.ensures.same c.end-then-is_cut-2.ensures.some;
+      some = rw c.end-then-has_quit-2.ensures.same c.end-then-has_quit-2.ensures.some;
       filled = filled;
       error = tt;
       limit = only-limit _ _ _ tt filled;
@@ -359,7 +359,7 @@ returns-then-is_cut-2 g c =
       waits = tt;
     }
 
-pub returns-then-is_cut-clause-reads : goal.returns-then-is_cut-clause-reads
-returns-then-is_cut-clause-reads g c =
+pub returns-then-has_quit-clause-reads : goal.returns-then-has_quit-clause-reads
+returns-then-has_quit-clause-reads g c =
     Fills-none g.R.Source.remaining g.R.Source.step c.args.self.now _ _ _ _ _ (Decodes-none g.R.Source.remaining g.R.Source.step _ _)
     c.roll.ensures.same c.end.ensures.same

@@ -7,7 +7,7 @@ use Rattle.grep_walk.proofs.WindowSearchLemmas as search
 use Rattle.grep_definitions.proofs.CallOrderLemmas as order
 use Rattle.grep_walk.specs.Origins.{fresh}
 use Rattle.grep_report.specs.ErrorMakers.{makers_of}
-use Rattle.grep_core.proofs.search.Search.match_by_line.Goals as goal
+use Rattle.grep_core.proofs.search.Search.byte_count_by_line.Goals as goal
 
 pub returns-in_err-begin-clause-fault : goal.returns-in_err-begin-clause-fault
 returns-in_err-begin-clause-fault g c =

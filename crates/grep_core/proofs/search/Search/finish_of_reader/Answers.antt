@@ -4,7 +4,7 @@ use Rattle.std.proofs.lemmas.Result.{err_from_is_err_and}
 use Rattle.grep_core.proofs.StreamSearchLemmas as streams
 use Rattle.grep_core.proofs.StreamSearchLemmas.{idle-unread}
 use Rattle.grep_definitions.proofs.CallOrderLemmas as order
-use Rattle.grep_core.proofs.search.Search.match_source.Goals as goal
+use Rattle.grep_core.proofs.search.Search.finish_of_reader.Goals as goal
 
 pub returns-in_err-begin-clause-fault : goal.returns-in_err-begin-clause-fault
 returns-in_err-begin-clause-fault g c =

@@ -2,16 +2,16 @@ use Rattle.std.proofs.Common.{◌≡◌, ◌≤◌, ◌-◌, true, length}
 use Rattle.std.specs.Prelude.{Ok}
 use Rattle.grep_definitions.specs.CallOrder.{HasCalled}
 use Rattle.grep_definitions.specs.Plans.{begins, calls_before, touched_lines, AreMade, all_true}
-use Rattle.grep_walk.specs.AcrossWalks.{IsAcross, IsReady}
+use Rattle.grep_walk.specs.AcrossWalks.{IsAcross, IsAtUnit}
 use Rattle.grep_walk.specs.Walks.{IsOrdered}
-use Rattle.grep_core.proofs.search.Search.search_across.Given as goal
+use Rattle.grep_core.proofs.search.Search.byte_count_of_units.Given as goal
 
 abbrev pub invariant-lines : goal.invariant-lines
 invariant-lines g l = record {
   within : l.start ≤ length l.bytes;
   same : l.walk.offset ≡ l.start;
   ordered : IsOrdered l.walk;
-  ready : IsReady l.self.config (g.M.Matcher.facts l.matcher).meaning l.bytes l.start l.walk l.unit l.blocks;
+  ready : IsAtUnit l.self.config (g.M.Matcher.facts l.matcher).meaning l.bytes l.start l.walk l.unit l.blocks;
   walk : IsAcross l.self.config (g.M.Matcher.facts l.matcher).meaning l.bytes l.walk;
   reported : (first : g.row.C-Sink.Denot) → g.C.Calls.step first l.self.config begins (Ok true) l.fn.sink
       → AreMade g.C.Calls.step l.self.config first

@@ -12,7 +12,7 @@ use Rattle.grep_walk.proofs.AcrossLoopLemmas as calls
 use Rattle.grep_walk.proofs.AcrossUnitLemmas as units
 use Rattle.grep_definitions.specs.CallOrder.{of_call, of_question}
 use Rattle.grep_definitions.proofs.CallOrderLemmas.{called-none, called-then}
-use Rattle.grep_core.proofs.search.Search.search_across.Goals as goal
+use Rattle.grep_core.proofs.search.Search.byte_count_of_units.Goals as goal
 
 pub returns-in-Err-clause-fault : goal.returns-in-Err-clause-fault
 returns-in-Err-clause-fault g c =

@@ -3,7 +3,7 @@ use Rattle.std.proofs.lemmas.Result.{err_from_is_err_and}
 use Rattle.grep_definitions.specs.Plans.{stopped, counted}
 use Rattle.grep_walk.proofs.AcrossEndLemmas as ends
 use Rattle.grep_definitions.proofs.CallOrderLemmas as order
-use Rattle.grep_core.proofs.search.Search.match_across.Goals as goal
+use Rattle.grep_core.proofs.search.Search.byte_count_across.Goals as goal
 
 pub returns-in_err-begin-clause-fault : goal.returns-in_err-begin-clause-fault
 returns-in_err-begin-clause-fault g c =
@@ -37,4 +37,4 @@ returns-clause-in_order g c =
     _
     _
     _ _ _ _
-    (rw goes at c.in_ok-begin.ensures.step) c.search_across.ensures.in_order
+    (rw goes at c.in_ok-begin.ensures.step) c.byte_count_of_units.ensures.in_order
