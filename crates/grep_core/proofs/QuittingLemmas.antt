@@ -1,5 +1,5 @@
--- A search of whole contents that ends at a byte, by a sink that looks for it in each report: the calls that it makes of
--- the sink that it has.
+-- A search of whole contents that ends at a byte, by a sink that looks for it in each report: the
+-- calls that it makes of the sink that it has.
 use Rattle.grep_core.specs.QuittingSinks.{Watch, IsQuittingStep, end_result, IsLookedAt}
 use Rattle.grep_core.specs.QuittingSinks.{IsMadeAfter, count_to, Quits, watch_of, first_quit}
 use Rattle.grep_core.specs.declared.quitting.Quitting.{Quitting}
@@ -60,12 +60,14 @@ IsPlain (failed e) = Unit {0}
 module _ (b : ℕ) where
   -- no break of a report that holds the byte
   abbrev IsApart : Planned → List Planned → Type 0
-  IsApart call later = (is_break call.call ≡ false) ⊎ ((n : ℕ) → position (holds_byte b) later ≡ Some n → 0 < n)
+  IsApart call later = (is_break call.call ≡ false) ⊎ ((n : ℕ) → position (holds_byte b) later
+      ≡ Some n → 0 < n)
 
   -- the calls before a later report that holds the byte, with one more call before them
-  before-more : (call : Planned) (later : List Planned) (n : ℕ) → (is_break call.call ≡ false) ⊎ (0 < n)
-      → calls_before b (call ∷ later) (suc n) ≡ call ∷ calls_before b later n
-  before-more call later zero (inl plain) = rw plain (ap (λ l. call ∷ l) (go (is_break (call_at b later 0).call)))
+  before-more : (call : Planned) (later : List Planned) (n : ℕ) → (is_break call.call ≡ false)
+      ⊎ (0 < n) → calls_before b (call ∷ later) (suc n) ≡ call ∷ calls_before b later n
+  before-more call later zero (inl plain) =
+      rw plain (ap (λ l. call ∷ l) (go (is_break (call_at b later 0).call)))
     where
       go : (c : Bool) → [] ≡ take (if c then 0 else 0) later
       go true = refl
@@ -81,9 +83,8 @@ module _ (b : ℕ) where
       go true = refl
       go false = refl
 
-  apart-at : (call : Planned) (later : List Planned) (n : ℕ) → IsApart call later → position (holds_byte b) later ≡ Some
-      n
-      → (is_break call.call ≡ false) ⊎ (0 < n)
+  apart-at : (call : Planned) (later : List Planned) (n : ℕ) → IsApart call later
+      → position (holds_byte b) later ≡ Some n → (is_break call.call ≡ false) ⊎ (0 < n)
   apart-at call later n (inl plain) is = inl plain
   apart-at call later n (inr far) is = inr (far n is)
 
@@ -93,44 +94,55 @@ module _ {S E : Type 0} (step : Steps S E) (may_call : S → Type 0) (k : Settin
   IsEnd outcome (Ok goes_on) = (finish : Finish) × (outcome ≡ stopped finish)
   IsEnd outcome (Err e) = outcome ≡ failed e
 
-  -- what the sink had of some calls: no report holds the byte; or the search ended before the first one that does, or
-  -- at it
-  pub data HasQuit (calls : List Planned) (old : S) (outcome : Outcome E) (new : Watch S) : Type 0 where
-    unheld : position (holds_byte b) calls ≡ None → new.found ≡ None → AreMade step k old calls outcome new.sink
-        → HasQuit calls old outcome new
-    ended_before : (n : ℕ) → position (holds_byte b) calls ≡ Some n → new.found ≡ None → (outcome ≡ all_true → ⊥)
-        → AreMade step k old (calls_before b calls n) outcome new.sink → HasQuit calls old outcome new
-    ended_at : (n : ℕ) → position (holds_byte b) calls ≡ Some n → new.found ≡ Some (offset_at b calls n) → (mid : S)
-        → AreMade step k old (calls_before b calls n) all_true mid → (returned : Result Bool E)
-        → step mid k (binary_data (offset_at b calls n)) returned new.sink → IsEnd outcome returned
-        → HasQuit calls old outcome new
+  -- what the sink had of some calls: no report holds the byte; or the search ended before the first
+  -- one that does, or at it
+  pub data HasQuit (calls : List Planned) (old : S) (outcome : Outcome E) (new : Watch S) : Type 0
+    where
+      unheld : position (holds_byte b) calls ≡ None → new.found ≡ None
+          → AreMade step k old calls outcome new.sink → HasQuit calls old outcome new
+      ended_before : (n : ℕ) → position (holds_byte b) calls ≡ Some n → new.found ≡ None
+          → (outcome ≡ all_true → ⊥) → AreMade step k old (calls_before b calls n) outcome new.sink
+          → HasQuit calls old outcome new
+      ended_at : (n : ℕ) → position (holds_byte b) calls ≡ Some n → new.found
+          ≡ Some (offset_at b calls n) → (mid : S)
+          → AreMade step k old (calls_before b calls n) all_true mid → (returned : Result Bool E)
+          → step mid k (binary_data (offset_at b calls n)) returned new.sink
+          → IsEnd outcome returned → HasQuit calls old outcome new
 
   -- one more call before them, that doesn't hold the byte
-  quits-more : (call : Planned) {later : List Planned} {old mid : S} {outcome : Outcome E} {new : Watch S}
+  quits-more : (call : Planned) {later : List Planned} {old mid : S} {outcome : Outcome E}
+      {new : Watch S}
       → holds_byte b call ≡ false → IsApart b call later → step old k call.call (Ok true) mid
       → HasQuit later mid outcome new → HasQuit (call ∷ later) old outcome new
   quits-more call {later} {mid} free apart made (unheld none clear reported) =
-      unheld (first.position-never (holds_byte b) call later free none) clear (inl (mid, made, reported))
-  quits-more call {later} {old} {mid} {outcome} {new} free apart made (ended_before n is clear some reported) =
+      unheld (first.position-never (holds_byte b) call later free none) clear
+      (inl (mid, made, reported))
+  quits-more call {later} {old} {mid} {outcome} {new} free apart made
+      (ended_before n is clear some reported) =
       ended_before (suc n) (first.position-later (holds_byte b) call later n free is) clear some
       (rw (before-more b call later n (apart-at b call later n apart is))
       (inl (mid, made, reported)))
-  quits-more call {later} {old} {mid} free apart made (ended_at n is found last reported returned called end) =
+  quits-more call {later} {old} {mid} free apart made
+      (ended_at n is found last reported returned called end) =
       ended_at (suc n) (first.position-later (holds_byte b) call later n free is) found last
       (rw (before-more b call later n (apart-at b call later n apart is))
       (inl (mid, made, reported))) returned called end
 
   -- or it ended at that call
-  quits-none : (call : Planned) (later : List Planned) (old : S) (outcome : Outcome E) (new : Watch S)
-      → holds_byte b call ≡ false → IsApart b call later → new.found ≡ None → (outcome ≡ all_true → ⊥)
+  quits-none : (call : Planned) (later : List Planned) (old : S) (outcome : Outcome E)
+      (new : Watch S) → holds_byte b call ≡ false → IsApart b call later → new.found ≡ None
+      → (outcome ≡ all_true → ⊥)
       → ((rest : List Planned) → AreMade step k old (call ∷ rest) outcome new.sink)
       → HasQuit (call ∷ later) old outcome new
-  quits-none call later old outcome new free apart clear some reported = go (position (holds_byte b) later) refl
+  quits-none call later old outcome new free apart clear some reported =
+      go (position (holds_byte b) later) refl
     where
-      go : (found : Option ℕ) → position (holds_byte b) later ≡ found → HasQuit (call ∷ later) old outcome new
-      go None is = unheld (first.position-never (holds_byte b) call later free is) clear (reported later)
-      go (Some n) is = ended_before (suc n) (first.position-later (holds_byte b) call later n free is) clear some
-          (rw (before-more b call later n (apart-at b call later n apart is))
+      go : (found : Option ℕ) → position (holds_byte b) later ≡ found
+          → HasQuit (call ∷ later) old outcome new
+      go None is = unheld (first.position-never (holds_byte b) call later free is) clear
+          (reported later)
+      go (Some n) is = ended_before (suc n) (first.position-later (holds_byte b) call later n free
+          is) clear some (rw (before-more b call later n (apart-at b call later n apart is))
           (reported (calls_before b later n)))
 
   abbrev Q : Steps (Watch S) E
@@ -142,8 +154,8 @@ module _ {S E : Type 0} (step : Steps S E) (may_call : S → Type 0) (k : Settin
   Went call (Ok false) mid later outcome new = (outcome ≡ stopped call.if_false) × (new ≡ mid)
   Went call (Err e) mid later outcome new = (outcome ≡ failed e) × (new ≡ mid)
 
-  first-call : (call : Planned) (later : List Planned) (old : Watch S) (outcome : Outcome E) (new : Watch S)
-      → AreMade Q k old (call ∷ later) outcome new
+  first-call : (call : Planned) (later : List Planned) (old : Watch S) (outcome : Outcome E)
+      (new : Watch S) → AreMade Q k old (call ∷ later) outcome new
       → (result : Result Bool E) × (mid : Watch S) × Q old k call.call result mid
       × Went call result mid later outcome new
   first-call call later old outcome new (inl (mid, made, rest)) = (Ok true, mid, made, rest)
@@ -151,27 +163,38 @@ module _ {S E : Type 0} (step : Steps S E) (may_call : S → Type 0) (k : Settin
   first-call call later old outcome new (inr (inr (e, is, made))) = (Err e, new, made, (is, refl))
 
   -- a call that didn't return true ended the search; a break has the count of the report after it
-  halts : (gap call : Planned) (later more : List Planned) (old : S) (mid : Watch S) {outcome : Outcome E} {new : Watch S}
-      (result : Result Bool E) → (result ≡ Ok true → ⊥) → gap.if_false ≡ call.if_false → holds_byte b gap ≡ false
+  halts : (gap call : Planned) (later more : List Planned) (old : S) (mid : Watch S)
+      {outcome : Outcome E} {new : Watch S}
+      (result : Result Bool E) → (result ≡ Ok true → ⊥) → gap.if_false ≡ call.if_false
+      → holds_byte b gap ≡ false
       → IsApart b gap later → step old k gap.call result mid.sink → mid.found ≡ None
       → Went call result mid more outcome new → HasQuit (gap ∷ later) old outcome new
-  halts gap call later more old mid (Ok true) some same_end free apart made clear went = absurd (some refl)
-  halts gap call later more old mid {outcome} {new} (Ok false) some same_end free apart made clear (stops, same) =
+  halts gap call later more old mid (Ok true) some same_end free apart made clear went =
+      absurd (some refl)
+  halts gap call later more old mid {outcome} {new} (Ok false) some same_end free apart made clear
+      (stops, same) =
       quits-none gap later old _ new free apart (ap (λ (w : Watch S). w.found) same ∙ clear)
       (λ all. let never = sym all ∙ stops in cc)
       (λ rest. inr (inl (
         stops ∙ ap (λ f. stopped f) (sym same_end),
         subst (λ (w : Watch S). step old k gap.call (Ok false) w.sink) (sym same) made,
       )))
-  halts gap call later more old mid {outcome} {new} (Err e) some same_end free apart made clear (fails, same) =
+  halts gap call later more old mid {outcome} {new} (Err e) some same_end free apart made clear
+      (fails, same) =
       quits-none gap later old _ new free apart (ap (λ (w : Watch S). w.found) same ∙ clear)
       (λ all. let never = sym all ∙ fails in cc)
-      (λ rest. inr (inr (e, fails, subst (λ (w : Watch S). step old k gap.call (Err e) w.sink) (sym same) made)))
+      (λ rest. inr (inr (
+        e,
+        fails,
+        subst (λ (w : Watch S). step old k gap.call (Err e) w.sink) (sym same) made,
+      )))
 
   -- a report that is made
-  quits-report : (call : Planned) {later : List Planned} {old : S} (mid : Watch S) {outcome : Outcome E} {new : Watch S}
+  quits-report : (call : Planned) {later : List Planned} {old : S} (mid : Watch S)
+      {outcome : Outcome E} {new : Watch S}
       → (result : Result Bool E) → is_break call.call ≡ false → holds_byte b call ≡ false
-      → step old k call.call result mid.sink → mid.found ≡ None → Went call result mid later outcome new
+      → step old k call.call result mid.sink → mid.found ≡ None
+      → Went call result mid later outcome new
       → (AreMade Q k mid later outcome new → HasQuit later mid.sink outcome new)
       → HasQuit (call ∷ later) old outcome new
   quits-report call {later} {old} mid {outcome} {new} (Ok true) is free made clear went rest =
@@ -190,33 +213,36 @@ module _ {S E : Type 0} (step : Steps S E) (may_call : S → Type 0) (k : Settin
       go false = refl
 
   -- the search ended at a report
-  end-of : (call : Planned) (later : List Planned) (mid : Watch S) (outcome : Outcome E) (new : Watch S)
-      (returned : Result Bool E)
+  end-of : (call : Planned) (later : List Planned) (mid : Watch S) (outcome : Outcome E)
+      (new : Watch S) (returned : Result Bool E)
       → Went call (end_result returned) mid later outcome new → (new ≡ mid) × IsEnd outcome returned
   end-of call later mid outcome new (Ok goes_on) (stops, same) = (same, (call.if_false, stops))
   end-of call later mid outcome new (Err e) (fails, same) = (same, fails)
 
   -- its first report that holds the byte is call n, and nothing was made before it
-  at-byte : (calls : List Planned) (n : ℕ) (call : Planned) (later : List Planned) (old : S) (mid : Watch S)
-      {outcome : Outcome E} {new : Watch S} (index : ℕ) {result : Result Bool E}
-      → position_of b (reported_bytes call.call) ≡ Some index → position (holds_byte b) calls ≡ Some n
-      → call_at b calls n ≡ call → calls_before b calls n ≡ []
-      → mid.found ≡ Some (reported_from call.call + index) → (returned : Result Bool E) → result ≡ end_result returned
+  at-byte : (calls : List Planned) (n : ℕ) (call : Planned) (later : List Planned) (old : S)
+      (mid : Watch S) {outcome : Outcome E} {new : Watch S} (index : ℕ) {result : Result Bool E}
+      → position_of b (reported_bytes call.call) ≡ Some index → position (holds_byte b) calls
+      ≡ Some n → call_at b calls n ≡ call → calls_before b calls n ≡ []
+      → mid.found ≡ Some (reported_from call.call + index) → (returned : Result Bool E) → result
+      ≡ end_result returned
       → step old k (binary_data (reported_from call.call + index)) returned mid.sink
       → Went call result mid later outcome new → HasQuit calls old outcome new
-  at-byte calls n call later old mid {outcome} {new} index holds is there none found returned ends called went =
-      let end = end-of call later mid _ new _ (subst (λ r. Went call r mid later outcome new) ends went) in
+  at-byte calls n call later old mid {outcome} {new} index holds is there none found returned ends
+      called went =
+      let end = end-of call later mid _ new _ (subst (λ r. Went call r mid later outcome new) ends
+      went) in
       let offset : offset_at b calls n ≡ reported_from call.call + index =
-      ap (λ (p : Planned). reported_from p.call + position_or_len (λ x. x == b) (reported_bytes p.call)) there
+      ap (λ (p : Planned). reported_from p.call + position_or_len (λ x. x == b)
+      (reported_bytes p.call)) there
       ∙ ap (λ i. reported_from call.call + i) (first.position-is (λ x. x == b) _ index holds) in
-      ended_at n is (ap (λ (w : Watch S). w.found) end.0 ∙ found ∙ ap (λ n. Some n) (sym offset)) old
-      (rw none (refl, refl)) returned
-      (rw (offset, end.0) called)
-      end.1
+      ended_at n is (ap (λ (w : Watch S). w.found) end.0 ∙ found ∙ ap (λ n. Some n) (sym offset))
+      old (rw none (refl, refl)) returned (rw (offset, end.0) called) end.1
 
-  looked : (call : Call) (old : Watch S) (result : Result Bool E) (mid : Watch S) → is_report call ≡ true
-      → Q old k call result mid
-      → IsLookedAt step may_call (position_of b (reported_bytes call)) (reported_from call) old k call result mid
+  looked : (call : Call) (old : Watch S) (result : Result Bool E) (mid : Watch S) → is_report call
+      ≡ true → Q old k call result mid
+      → IsLookedAt step may_call (position_of b (reported_bytes call)) (reported_from call) old k
+      call result mid
   looked begins old result mid is made = cc
   looked (matches number from bytes) old result mid is made = made
   looked (context kind number from bytes) old result mid is made = made
@@ -230,11 +256,12 @@ module _ {S E : Type 0} (step : Steps S E) (may_call : S → Type 0) (k : Settin
       (mid : Watch S) → mid.has_break ≡ false → mid.found ≡ None → AreMade Q k mid calls outcome new
       → HasQuit calls mid.sink outcome new
 
-  pub quits : (calls : List Planned) → AreReports calls → (old : Watch S) (outcome : Outcome E) (new : Watch S)
-      → old.has_break ≡ false → old.found ≡ None → AreMade Q k old calls outcome new
+  pub quits : (calls : List Planned) → AreReports calls → (old : Watch S) (outcome : Outcome E)
+      (new : Watch S) → old.has_break ≡ false → old.found ≡ None → AreMade Q k old calls outcome new
       → HasQuit calls old.sink outcome new
   quits [] no_reports old outcome new whole clear (all, same) =
-      unheld refl (ap (λ (w : Watch S). w.found) same ∙ clear) (all, ap (λ (w : Watch S). w.sink) same)
+      unheld refl (ap (λ (w : Watch S). w.found) same ∙ clear)
+      (all, ap (λ (w : Watch S). w.sink) same)
   quits (call ∷ later) (plain_report is plain joined) old outcome new whole clear reported =
       let made = first-call call later old _ new reported in
       go (λ mid none empty. quits _ joined mid _ new none empty)
@@ -242,20 +269,22 @@ module _ {S E : Type 0} (step : Steps S E) (may_call : S → Type 0) (k : Settin
       made.3
     where
       go : QuitsFrom later outcome new
-          → (at : Option ℕ) → position_of b (reported_bytes call.call) ≡ at → (result : Result Bool E) (mid : Watch S)
+          → (at : Option ℕ) → position_of b (reported_bytes call.call) ≡ at
+          → (result : Result Bool E) (mid : Watch S)
           → IsLookedAt step may_call at (reported_from call.call) old k call.call result mid
-          → Went call result mid later outcome new
-          → HasQuit (call ∷ later) old.sink outcome new
+          → Went call result mid later outcome new → HasQuit (call ∷ later) old.sink outcome new
       go quits_later None free result mid (same, none, made) went =
-          let alone = subst (λ c. IsMadeAfter step may_call c old.sink k call.call result mid.sink) whole made in
-          quits-report call mid _ (report-no-break _ is) (ap is_some free) alone
-          (same ∙ clear) went
+          let alone = subst (λ c. IsMadeAfter step may_call c old.sink k call.call result mid.sink)
+          whole made in
+          quits-report call mid _ (report-no-break _ is) (ap is_some free) alone (same ∙ clear) went
           (quits_later mid none (same ∙ clear))
-      go quits_later (Some index) holds result mid (found, whole_now, (returned, ends, called)) went =
+      go quits_later (Some index) holds result mid (found, whole_now, (returned, ends, called))
+          went =
           at-byte (call ∷ later) 0 call later _ mid index holds
-          (first.position-first (holds_byte b) call later (ap is_some holds)) refl (none-before call later) found
-          returned ends called went
-  quits (gap ∷ call ∷ later) (broken_report off is plain same_end joined) old outcome new whole clear reported =
+          (first.position-first (holds_byte b) call later (ap is_some holds)) refl
+          (none-before call later) found returned ends called went
+  quits (gap ∷ call ∷ later) (broken_report off is plain same_end joined) old outcome new whole
+      clear reported =
       let made = first-call gap _ old _ new reported in
       let held : (made.1 ≡ record old { has_break = true }) × (made.0 ≡ Ok true) =
       subst (λ call. Q old k call made.0 made.1) off made.2 in
@@ -271,20 +300,21 @@ module _ {S E : Type 0} (step : Steps S E) (may_call : S → Type 0) (k : Settin
       gap-free = rw off refl
 
       apart : holds_byte b call ≡ false → IsApart b gap (call ∷ later)
-      apart free = inr (λ n at. let some = rw free at (first.position-is (holds_byte b) (call ∷ later) n at) in
+      apart free = inr (λ n at. let some = rw free at
+          (first.position-is (holds_byte b) (call ∷ later) n at) in
           omega (arith, some))
 
       nothing : calls_before b (gap ∷ call ∷ later) 1 ≡ []
       nothing = rw off refl
 
       after : QuitsFrom later outcome new
-          → (result : Result Bool E) (mid : Watch S) → holds_byte b call ≡ false → mid.found ≡ None → mid.has_break
-          ≡ false
-          → IsMadeAfter step may_call true old.sink k call.call result mid.sink → Went call result mid later outcome new
+          → (result : Result Bool E) (mid : Watch S) → holds_byte b call ≡ false → mid.found ≡ None
+          → mid.has_break ≡ false
+          → IsMadeAfter step may_call true old.sink k call.call result mid.sink
+          → Went call result mid later outcome new
           → HasQuit (gap ∷ call ∷ later) old.sink outcome new
       after quits_later result mid free none whole (inl (m, may, broken, made)) went =
-          quits-more gap gap-free (apart free)
-          (rw off broken)
+          quits-more gap gap-free (apart free) (rw off broken)
           (quits-report call mid _ (report-no-break _ is) free made none went
           (quits_later mid whole none))
       after quits_later result mid free none whole (inr (never, broken)) went =
@@ -292,17 +322,21 @@ module _ {S E : Type 0} (step : Steps S E) (may_call : S → Type 0) (k : Settin
           (rw off broken) none went
 
       go : QuitsFrom later outcome new
-          → (at : Option ℕ) → position_of b (reported_bytes call.call) ≡ at → (result : Result Bool E) (mid : Watch S)
-          → IsLookedAt step may_call at (reported_from call.call) (record old { has_break = true }) k call.call result
-          mid
-          → Went call result mid later outcome new → HasQuit (gap ∷ call ∷ later) old.sink outcome new
+          → (at : Option ℕ) → position_of b (reported_bytes call.call) ≡ at
+          → (result : Result Bool E) (mid : Watch S)
+          → IsLookedAt step may_call at (reported_from call.call) (record old {
+            has_break = true;
+          }) k call.call result mid
+          → Went call result mid later outcome new → HasQuit (gap ∷ call ∷ later) old.sink outcome
+          new
       go quits_later None free result mid (same, whole, made) went =
           after quits_later result mid (ap is_some free) (same ∙ clear) whole made went
-      go quits_later (Some index) holds result mid (found, whole_now, (returned, ends, called)) went =
+      go quits_later (Some index) holds result mid (found, whole_now, (returned, ends, called))
+          went =
           at-byte (gap ∷ call ∷ later) 1 call later _ mid index holds
           (first.position-later (holds_byte b) gap (call ∷ later) 0 gap-free
-          (first.position-first (holds_byte b) call later (ap is_some holds))) refl nothing found returned ends called
-          went
+          (first.position-first (holds_byte b) call later (ap is_some holds))) refl nothing found
+          returned ends called went
 
   -- and of `begin` and some calls
   pub quits-begun : (end : ℕ) {calls : List Planned} → AreReports calls
@@ -317,24 +351,27 @@ module _ {S E : Type 0} (step : Steps S E) (may_call : S → Type 0) (k : Settin
       (quits _ joined _ _ new (made.2.1 ∙ whole) (made.2.0 ∙ clear))
 
   -- `finish` after them
-  finish-passed : (outcome : Outcome E) (mid : Watch S) (count : ℕ) (finish : Finish) (result : Result (Unit {0}) E)
-      (new : Watch S) → IsPlain outcome → mid.found ≡ None → (outcome ≡ all_true → finish ≡ counted count)
+  finish-passed : (outcome : Outcome E) (mid : Watch S) (count : ℕ) (finish : Finish)
+      (result : Result (Unit {0}) E) (new : Watch S) → IsPlain outcome → mid.found ≡ None
+      → (outcome ≡ all_true → finish ≡ counted count)
       → IsFinished Q k outcome mid (counted count) result new
       → IsFinished step k outcome mid.sink finish result new.sink
   finish-passed all_true mid count finish result new plain clear is (same, broken, made) =
-      rw (is refl) (subst (λ f. step mid.sink k (finishes (count_to f count) f) (finish_result result) new.sink) clear
-      made)
+      rw (is refl) (subst (λ f. step mid.sink k (finishes (count_to f count) f)
+      (finish_result result) new.sink) clear made)
   finish-passed (stopped if_false) mid count finish result new plain clear is (same, broken, made) =
-      subst (λ f. step mid.sink k (finishes if_false.count f) (finish_result result) new.sink) (sym plain)
-      (subst (λ f. step mid.sink k (finishes (count_to f if_false.count) f) (finish_result result) new.sink) clear
-      made)
+      subst (λ f. step mid.sink k (finishes if_false.count f) (finish_result result) new.sink)
+      (sym plain)
+      (subst (λ f. step mid.sink k (finishes (count_to f if_false.count) f) (finish_result result)
+      new.sink) clear made)
   finish-passed (failed e) mid count finish result new plain clear is (fails, same) =
       (fails, ap (λ (w : Watch S). w.sink) same)
 
   pub quits-run : {calls : List Planned} {old : S} (count : ℕ) {outcome : Outcome E} {mid : Watch S}
-      {result : Result (Unit {0}) E} (new : Watch S) → IsPlain outcome → HasQuit calls old outcome mid
-      → IsFinished Q k outcome mid (counted count) result new
-      → IsRun step k old (plan_with (Quit b) (point_unless b calls None) (plan_of calls count)) result new.sink
+      {result : Result (Unit {0}) E} (new : Watch S) → IsPlain outcome
+      → HasQuit calls old outcome mid → IsFinished Q k outcome mid (counted count) result new
+      → IsRun step k old (plan_with (Quit b) (point_unless b calls None) (plan_of calls count))
+      result new.sink
   quits-run count {outcome} {mid} {result} new plain (unheld none clear reported) finished =
       rw none (record {
         outcome = outcome;
@@ -342,12 +379,12 @@ module _ {S E : Type 0} (step : Steps S E) (may_call : S → Type 0) (k : Settin
         made = reported;
         finished = finish-passed _ mid count _ _ new plain clear (λ is. refl) finished;
       })
-  quits-run {calls} {old} count {outcome} {mid} {result} new plain (ended_before n is clear some reported) finished =
+  quits-run {calls} {old} count {outcome} {mid} {result} new plain
+      (ended_before n is clear some reported) finished =
       rw is (record {
         outcome = outcome;
         mid = mid.sink;
-        made = AreMade-ended step k _ _ old _ _ some
-            reported;
+        made = AreMade-ended step k _ _ old _ _ some reported;
         finished = finish-passed _ mid count _ _ new plain clear (λ is. absurd (some is)) finished;
       })
   quits-run {calls} {old} count {outcome} {mid} {result} new plain
@@ -357,21 +394,25 @@ module _ {S E : Type 0} (step : Steps S E) (may_call : S → Type 0) (k : Settin
       offset : ℕ
       offset = offset_at b calls n
 
-      closed : (end : Finish) → outcome ≡ stopped end → IsFinished Q k outcome mid (counted count) result new
+      closed : (end : Finish) → outcome ≡ stopped end → IsFinished Q k outcome mid (counted count)
+          result new
           → step mid.sink k (finishes offset (Some offset)) (finish_result result) new.sink
       closed end stops finished =
           let made = subst (λ o. IsFinished Q k o mid (counted count) result new) stops finished in
-          subst (λ f. step mid.sink k (finishes (count_to f end.count) f) (finish_result result) new.sink) found made.2
+          subst (λ f. step mid.sink k (finishes (count_to f end.count) f) (finish_result result)
+          new.sink) found made.2
 
-      with-binary : (o : Outcome E) → AreMade step k last (planned_binary (point_at b calls n) ∷ []) o mid.sink
-          → AreMade step k old (calls_before b calls n ++ planned_binary (point_at b calls n) ∷ []) o mid.sink
+      with-binary : (o : Outcome E) → AreMade step k last (planned_binary (point_at b calls n) ∷ [])
+          o mid.sink
+          → AreMade step k old (calls_before b calls n ++ planned_binary (point_at b calls n) ∷ [])
+          o mid.sink
       with-binary o made =
-          AreMade-append step k _ _ old last o _ reported
-          made
+          AreMade-append step k _ _ old last o _ reported made
 
-      at : (returned : Result Bool E) → step last k (binary_data offset) returned mid.sink → IsEnd outcome returned
-          → IsFinished Q k outcome mid (counted count) result new
-          → IsRun step k old (plan_with (Quit b) (Some (point_at b calls n)) (plan_of calls count)) result new.sink
+      at : (returned : Result Bool E) → step last k (binary_data offset) returned mid.sink
+          → IsEnd outcome returned → IsFinished Q k outcome mid (counted count) result new
+          → IsRun step k old (plan_with (Quit b) (Some (point_at b calls n)) (plan_of calls count))
+          result new.sink
       at (Ok true) called (end, stops) finished = record {
         outcome = all_true;
         mid = mid.sink;
@@ -385,7 +426,8 @@ module _ {S E : Type 0} (step : Steps S E) (may_call : S → Type 0) (k : Settin
         finished = closed end stops finished;
       }
       at (Err e) called fails finished =
-          let made = subst (λ o. IsFinished Q k o mid (counted count) result new) fails finished in record {
+          let made = subst (λ o. IsFinished Q k o mid (counted count) result new) fails
+          finished in record {
             outcome = failed e;
             mid = mid.sink;
             made = with-binary (failed e) (inr (inr (e, refl, called)));
@@ -402,25 +444,33 @@ module _ {S E : Type 0} (step : Steps S E) (may_call : S → Type 0) (k : Settin
   quits-all (ended_at n is found last reported (Err e) called fails) = cc
 
 -- a call of a search that returned false leaves it without
-made-plain : {S E : Type 0} (step : Steps S E) (k : Settings) (calls : List Planned) → AreReports calls → (old : S)
+made-plain : {S E : Type 0} (step : Steps S E) (k : Settings) (calls : List Planned)
+    → AreReports calls → (old : S)
     (outcome : Outcome E) (new : S) → AreMade step k old calls outcome new → IsPlain outcome
 made-plain step k [] no_reports old outcome new (is, same) = subst IsPlain (sym is) tt
-made-plain step k (call ∷ later) (plain_report report plain rest) old outcome new (inl (mid, made, more)) =
+made-plain step k (call ∷ later) (plain_report report plain rest) old outcome new
+    (inl (mid, made, more)) =
     made-plain step k later rest mid _ new more
-made-plain step k (gap ∷ call ∷ later) (broken_report off report plain same rest) old outcome new (inl (mid, made, more)) =
+made-plain step k (gap ∷ call ∷ later) (broken_report off report plain same rest) old outcome new
+    (inl (mid, made, more)) =
     made-plain step k (call ∷ later) (plain_report report plain rest) mid _ new more
-made-plain step k (call ∷ later) (plain_report report plain rest) old outcome new (inr (inl (is, made))) =
+made-plain step k (call ∷ later) (plain_report report plain rest) old outcome new
+    (inr (inl (is, made))) =
     subst IsPlain (sym is) plain
-made-plain step k (gap ∷ call ∷ later) (broken_report off report plain same rest) old outcome new (inr (inl (is, made))) =
+made-plain step k (gap ∷ call ∷ later) (broken_report off report plain same rest) old outcome new
+    (inr (inl (is, made))) =
     subst IsPlain (sym (is ∙ ap (λ f. stopped f) same)) plain
-made-plain step k (call ∷ later) are old outcome new (inr (inr (e, is, made))) = subst IsPlain (sym is) tt
+made-plain step k (call ∷ later) are old outcome new (inr (inr (e, is, made))) =
+    subst IsPlain (sym is) tt
 
 module _ {S E : Type 0} (step : Steps S E) (may_call : S → Type 0) (k : Settings) (b : ℕ) where
   -- the same calls, without the reference
-  watched : (calls : List Planned) (old : Quitting S) (outcome : Outcome E) (new : Quitting S) → old.byte ≡ b
-      → AreMade (Quits step may_call) k old calls outcome new
-      → (new.byte ≡ b) × AreMade (IsQuittingStep step may_call b) k (watch_of old) calls outcome (watch_of new)
-  watched [] old outcome new is (all, same) = (ap (λ (q : Quitting S). q.byte) same ∙ is, (all, ap watch_of same))
+  watched : (calls : List Planned) (old : Quitting S) (outcome : Outcome E) (new : Quitting S)
+      → old.byte ≡ b → AreMade (Quits step may_call) k old calls outcome new
+      → (new.byte ≡ b) × AreMade (IsQuittingStep step may_call b) k (watch_of old) calls outcome
+      (watch_of new)
+  watched [] old outcome new is (all, same) =
+      (ap (λ (q : Quitting S). q.byte) same ∙ is, (all, ap watch_of same))
   watched (call ∷ later) old outcome new is (inl (mid, made, rest)) =
       let next = watched later mid _ new (made.1 ∙ is) rest in (
         next.0,
@@ -451,24 +501,26 @@ module _ {S E : Type 0} (step : Steps S E) (may_call : S → Type 0) (k : Settin
       → old.byte ≡ b → old.has_break ≡ false
       → old.found ≡ None → {result : Result (Unit {0}) E} {new : Quitting S}
       → IsRun (Quits step may_call) k old (plan_of (planned begins 0 ∷ calls) count) result new
-      → IsRun step k old.sink.now (plan_with (Quit b) (point_unless b (planned begins 0 ∷ calls) None)
+      → IsRun step k old.sink.now
+      (plan_with (Quit b) (point_unless b (planned begins 0 ∷ calls) None)
       (plan_of (planned begins 0 ∷ calls) count)) result new.sink.now
   until-run {calls} are count {old} is whole clear {result} {new} run =
       let all : List Planned = planned begins 0 ∷ calls in
       let made = watched all old _ _ is run.made in
       quits-run step may_call k b count _ (plain run.made)
-      (quits-begun step may_call k b 0 are _ whole clear
-      made.1)
+      (quits-begun step may_call k b 0 are _ whole clear made.1)
       (closed run.outcome made.0 run.finished)
     where
-      plain : AreMade (Quits step may_call) k old (planned begins 0 ∷ calls) run.outcome run.mid → IsPlain run.outcome
+      plain : AreMade (Quits step may_call) k old (planned begins 0 ∷ calls) run.outcome run.mid
+          → IsPlain run.outcome
       plain (inl (mid, made, rest)) = made-plain (Quits step may_call) k calls are mid _ _ rest
       plain (inr (inl (is, made))) = subst IsPlain (sym is) refl
       plain (inr (inr (e, is, made))) = subst IsPlain (sym is) tt
 
       closed : (outcome : Outcome E) → run.mid.byte ≡ b
           → IsFinished (Quits step may_call) k outcome run.mid (counted count) result new
-          → IsFinished (IsQuittingStep step may_call b) k outcome (watch_of run.mid) (counted count) result (watch_of new)
+          → IsFinished (IsQuittingStep step may_call b) k outcome (watch_of run.mid) (counted count)
+          result (watch_of new)
       closed all_true same finished =
           finished.2
       closed (stopped finish) same finished =
@@ -479,22 +531,24 @@ module _ (k : Settings) (meaning : Meaning) (bytes : List ℕ) where
   -- the calls after `begin`
   abbrev after : Bool → List Planned
   after true = joined_from (calls_at k bytes (touched_lines k meaning bytes)) 0 (line_count k bytes)
-  after false = joined_from (calls_at k bytes (selected_lines k meaning bytes)) 0 (reports_end k meaning bytes)
+  after false = joined_from (calls_at k bytes (selected_lines k meaning bytes)) 0
+      (reports_end k meaning bytes)
 
   are-reports : (across : Bool) → AreReports (after across)
   are-reports true = pairs.calls-across k meaning bytes
   are-reports false = pairs.calls-by_line k meaning bytes
 
 -- where the byte is in the bytes that are looked at first
-pub first-found : (b : ℕ) (bytes : List ℕ) {n : ℕ} {found : Option ℕ} → n ≡ min (length bytes) first_look
+pub first-found : (b : ℕ) (bytes : List ℕ) {n : ℕ} {found : Option ℕ} → n
+    ≡ min (length bytes) first_look
     → IsFirstByte (is_byte b) (take n bytes) found → position_of b (take first_look bytes) ≡ found
 first-found b bytes {n} {found} is first =
     ap (position_of b) (sym (ap (λ m. take m bytes) (is ∙ min_comm (length bytes) first_look)
-    ∙ take_min first_look bytes))
-    ∙ position-found b _ found first
+    ∙ take_min first_look bytes)) ∙ position-found b _ found first
 
 -- `begin`, `binary_data` and `finish`, whatever the second returned
-pub first-quit : {S E : Type 0} {step : Steps S E} {k : Settings} (offset : ℕ) {old : S} (first mid : S) {new : S} (goes_on : Bool)
+pub first-quit : {S E : Type 0} {step : Steps S E} {k : Settings} (offset : ℕ) {old : S}
+    (first mid : S) {new : S} (goes_on : Bool)
     {result : Result (Unit {0}) E} → step old k begins (Ok true) first
     → step first k (binary_data offset) (Ok goes_on) mid
     → step mid k (finishes 0 (Some offset)) (finish_result result) new
@@ -513,10 +567,12 @@ first-quit offset first mid false begun called finish = record {
 }
 
 -- a search that ended before its first line
-pub quit-searched : {S E F : Type 0} {step : Steps S E} (errors : ErrorMakers F E) (matcher : MatcherFacts F)
-    {k : Settings} (b : ℕ) → k.binary_detection ≡ Quit b → (bytes : List ℕ) (across : Bool) (offset : ℕ)
-    → position_of b (take first_look bytes) ≡ Some offset → {old : S} {result : Result (Unit {0}) E} {new : S}
-    → IsRun step k old (first_quit offset) result new
+pub quit-searched : {S E F : Type 0} {step : Steps S E} (errors : ErrorMakers F E)
+    (matcher : MatcherFacts F)
+    {k : Settings} (b : ℕ) → k.binary_detection ≡ Quit b → (bytes : List ℕ) (across : Bool)
+    (offset : ℕ)
+    → position_of b (take first_look bytes) ≡ Some offset → {old : S} {result : Result (Unit {0}) E}
+    {new : S} → IsRun step k old (first_quit offset) result new
     → IsContentsSearch step errors matcher k (in_contents b) across bytes old result new
 quit-searched {step} errors matcher {k} b detects bytes across offset is {old} {result} {new} run =
     quit-ran step errors matcher k bytes old b detects (run-until across)
@@ -527,42 +583,52 @@ quit-searched {step} errors matcher {k} b detects bytes across offset is {old} {
     run-until true = rw is run
     run-until false = rw is run
 
-module _ {S E F : Type 0} (step : Steps S E) (may_call : S → Type 0) (errors : ErrorMakers F E) (matcher : MatcherFacts F)
+module _ {S E F : Type 0} (step : Steps S E) (may_call : S → Type 0) (errors : ErrorMakers F E)
+    (matcher : MatcherFacts F)
     (k : Settings) (b : ℕ) (detects : k.binary_detection ≡ Quit b) (bytes : List ℕ)
     (none : position_of b (take first_look bytes) ≡ None) (old : Quitting S) (is : old.byte ≡ b)
     (whole : old.has_break ≡ false) (clear : old.found ≡ None) (across : Bool) where
   abbrev IsSearched : Result (Unit {0}) E → Quitting S → Type 0
   IsSearched result new =
-      IsContentsSearch step errors matcher k (in_contents b) across bytes old.sink.now result new.sink.now
+      IsContentsSearch step errors matcher k (in_contents b) across bytes old.sink.now result
+      new.sink.now
 
   -- a search that ended in `finish`
   searched-until : {result : Result (Unit {0}) E} {new : Quitting S}
-      → IsRun (Quits step may_call) k old (plan_in k matcher.meaning bytes across) result new → IsSearched result new
+      → IsRun (Quits step may_call) k old (plan_in k matcher.meaning bytes across) result new
+      → IsSearched result new
   searched-until {result} {new} run =
       quit-ran step errors matcher k bytes old.sink.now b detects (run-until across run)
     where
-      run-until : (across : Bool) → IsRun (Quits step may_call) k old (plan_in k matcher.meaning bytes across) result new
-          → IsRun step k old.sink.now
-          (plan_with (Quit b) (contents_point b bytes (plan_in k matcher.meaning bytes across).calls)
+      run-until : (across : Bool) → IsRun (Quits step may_call) k old
+          (plan_in k matcher.meaning bytes across) result new → IsRun step k old.sink.now
+          (plan_with (Quit b) (contents_point b bytes
+          (plan_in k matcher.meaning bytes across).calls)
           (plan_in k matcher.meaning bytes across)) result new.sink.now
-      run-until true run = rw none (until-run _ may_call k b (are-reports k matcher.meaning bytes true)
+      run-until true run =
+          rw none (until-run _ may_call k b (are-reports k matcher.meaning bytes true)
           _ is whole clear run)
-      run-until false run = rw none (until-run _ may_call k b (are-reports k matcher.meaning bytes false)
+      run-until false run =
+          rw none (until-run _ may_call k b (are-reports k matcher.meaning bytes false)
           _ is whole clear run)
 
-  -- the matcher's error came after calls that were all made: those whose count is at most some offset
-  asked-until : {calls : List Planned} → AreReports calls → (offset : ℕ) (haystack : List ℕ) (error : F)
-      {made : List Planned} {e : E} (new : Quitting S) → made ≡ through offset (planned begins 0 ∷ calls)
+  -- the matcher's error came after calls that were all made: those whose count is at most some
+  -- offset
+  asked-until : {calls : List Planned} → AreReports calls → (offset : ℕ) (haystack : List ℕ)
+      (error : F) {made : List Planned} {e : E} (new : Quitting S) → made
+      ≡ through offset (planned begins 0 ∷ calls)
       → IsAskedIn k matcher.meaning bytes across haystack made → matcher.fails haystack error
-      → errors.is_message error e → AreMade (Quits step may_call) k old made all_true new → IsSearched (Err e) new
+      → errors.is_message error e → AreMade (Quits step may_call) k old made all_true new
+      → IsSearched (Err e) new
   asked-until {calls} all offset haystack error {made} new before asks fails message reported =
       let later : List Planned = through offset calls in
-      let begun : made ≡ planned begins 0 ∷ later = before ∙ (rw (le-leb 0 offset (omega arith)) refl) in
+      let begun : made ≡ planned begins 0 ∷ later = before
+      ∙ (rw (le-leb 0 offset (omega arith)) refl) in
       let seen = watched step may_call k b made old _ new is reported in
       let calls = quits-all step may_call k b (quits-begun step may_call k b 0
-      (pairs.calls-through _ calls all) _
-      whole clear
-      (subst (λ l. AreMade (IsQuittingStep step may_call b) k (watch_of old) l all_true (watch_of new)) begun seen.1)) in
+      (pairs.calls-through _ calls all) _ whole clear
+      (subst (λ l. AreMade (IsQuittingStep step may_call b) k (watch_of old) l all_true
+      (watch_of new)) begun seen.1)) in
       asked haystack error made asks fails message (
         None,
         sym (rw none (subst (λ l. point_unless b l None ≡ None) (sym begun) (rw calls.0 refl))),
@@ -576,21 +642,26 @@ module _ {S E F : Type 0} (step : Steps S E) (may_call : S → Type 0) (errors :
       → IsSearched (Err e) new
   fault-until {e} {new} (ran point never run read) = searched-until (subst
       (λ o. IsRun (Quits step may_call) k old
-      (plan_with k.binary_detection o (plan_in k matcher.meaning bytes across)) (Err e) new) never run)
+      (plan_with k.binary_detection o (plan_in k matcher.meaning bytes across)) (Err e) new) never
+      run)
   fault-until {e} {new} (asked haystack error made asks fails message goes) =
-      asked-until (are-reports k matcher.meaning bytes across) (start k bytes asks.index) haystack error new
-      (listed across asks) asks fails message
-      (subst (λ o. AreMade (Quits step may_call) k old (calls_with o made) all_true new) goes.1 goes.3)
+      asked-until (are-reports k matcher.meaning bytes across) (start k bytes asks.index) haystack
+      error new (listed across asks) asks fails message
+      (subst (λ o. AreMade (Quits step may_call) k old (calls_with o made) all_true new) goes.1
+      goes.3)
     where
       listed : (across : Bool) (asks : IsAskedIn k matcher.meaning bytes across haystack made)
-          → made ≡ through (start k bytes asks.index) (planned begins 0 ∷ after k matcher.meaning bytes across)
+          → made ≡ through (start k bytes asks.index) (planned begins 0
+          ∷ after k matcher.meaning bytes across)
       listed true asks = asks.before
       listed false asks = asks.before
 
   -- `finish` ends what was counted
-  pub until-finished : {count : ℕ} {outcome : Outcome E} {mid : Quitting S} (result : Result (Unit {0}) E)
-      (new : Quitting S)
-      → IsMadeTo (Quits step may_call) k old (plan_in k matcher.meaning bytes across) outcome (counted count) mid
-      → Quits step may_call mid k (finishes count None) (finish_result result) new → IsSearched result new
+  pub until-finished : {count : ℕ} {outcome : Outcome E} {mid : Quitting S}
+      (result : Result (Unit {0}) E) (new : Quitting S)
+      → IsMadeTo (Quits step may_call) k old (plan_in k matcher.meaning bytes across) outcome
+      (counted count) mid
+      → Quits step may_call mid k (finishes count None) (finish_result result) new
+      → IsSearched result new
   until-finished {count} {outcome} {mid} result new counted finish =
       searched-until (run-finish _ k old _ _ _ mid _ new counted finish)

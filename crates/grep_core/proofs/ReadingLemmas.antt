@@ -33,10 +33,12 @@ use Rattle.std.specs.Prelude.{All}
 use Rattle.grep_line_buffer.proofs.InputViewLemmas as views
 
 view-length : (k : Settings) (bytes : List ℕ) → length (view_of k bytes) ≡ length bytes
-view-length k bytes = ap length (as-viewed k.binary_detection _ _) ∙ views.view-length _ (byte_of k.line_terminator) bytes
+view-length k bytes = ap length (as-viewed k.binary_detection _ _)
+    ∙ views.view-length _ (byte_of k.line_terminator) bytes
 
 -- without a label and a mark the bytes pass, and after the mark of UTF-8
-mode-passing : (label mark : Option Label) → encoding_after mark label ≡ None → mode_of mark label ≡ Passing
+mode-passing : (label mark : Option Label) → encoding_after mark label ≡ None → mode_of mark label
+    ≡ Passing
 mode-passing label (Some Utf8) unchanged = refl
 mode-passing label (Some Utf16Le) unchanged = cc
 mode-passing label (Some Utf16Be) unchanged = cc
@@ -60,26 +62,33 @@ mode-waits label (Some Utf16Be) held waits = waits
 mode-waits None None held waits = waits
 mode-waits (Some label) None held waits = waits
 
-module _ {R : Type 0} {remaining : R → Option (List ℕ)} {step : R → ReadResult → R → Type 0} (settings : Settings)
-    {capacity : ℕ} {reader reader' : R} {given : List ℕ} {d : DecoderState}
-    (reads : Decodes remaining step (started capacity settings.encoding settings.bom_sniffing) reader given d reader')
+module _ {R : Type 0} {remaining : R → Option (List ℕ)} {step : R → ReadResult → R → Type 0}
+    (settings : Settings) {capacity : ℕ} {reader reader' : R} {given : List ℕ} {d : DecoderState}
+    (reads : Decodes remaining step (started capacity settings.encoding settings.bom_sniffing)
+    reader given d reader')
   where
     -- what was taken of the reader
     abbrev pub taken : Taken remaining step reader reader'
-    taken = record { ended = d.has_ended; pieces = reads.pieces; calls = reads.calls; takes = reads.takes }
+    taken = record {
+      ended = d.has_ended;
+      pieces = reads.pieces;
+      calls = reads.calls;
+      takes = reads.takes;
+    }
 
     -- what it gave is the front of the bytes that are searched, and all of them once it is done
     pub input-is : (bytes : List ℕ)
-        → IsInput settings d.has_ended reads.pieces bytes → (later : List ℕ) × (bytes ≡ given ++ later)
-        × (IsDone d → later ≡ [])
+        → IsInput settings d.has_ended reads.pieces bytes → (later : List ℕ)
+        × (bytes ≡ given ++ later) × (IsDone d → later ≡ [])
     unfolding searched_bytes
-    input-is bytes (more, end, is) = (still_to_give d more, is ∙ reads.gives more end, done-gives d more)
+    input-is bytes (more, end, is) =
+        (still_to_give d more, is ∙ reads.gives more end, done-gives d more)
 
     -- what is made of it begins with what was made of that
-    pub front-is : (made : List ℕ → List ℕ)
-        (shown : List ℕ) → ((later : List ℕ) → (back : List ℕ) × (made (given ++ later) ≡ shown ++ back))
-        → (bytes : List ℕ)
-        → IsInput settings d.has_ended reads.pieces bytes → (back : List ℕ) × (made bytes ≡ shown ++ back)
+    pub front-is : (made : List ℕ → List ℕ) (shown : List ℕ) → ((later : List ℕ) → (back : List ℕ)
+        × (made (given ++ later) ≡ shown ++ back)) → (bytes : List ℕ)
+        → IsInput settings d.has_ended reads.pieces bytes → (back : List ℕ)
+        × (made bytes ≡ shown ++ back)
     front-is made shown fronts bytes input =
         let text = input-is bytes input in
         let front = fronts text.0 in
@@ -87,21 +96,23 @@ module _ {R : Type 0} {remaining : R → Option (List ℕ)} {step : R → ReadRe
 
     -- and its view is all of it once it is done, if no byte cut it
     pub view-is : (shown : List ℕ)
-        → ((later : List ℕ) → view_of settings (given ++ later) ≡ shown ++ view_of settings later) → (bytes : List ℕ)
-        → IsInput settings d.has_ended reads.pieces bytes
+        → ((later : List ℕ) → view_of settings (given ++ later) ≡ shown ++ view_of settings later)
+        → (bytes : List ℕ) → IsInput settings d.has_ended reads.pieces bytes
         → (later : List ℕ) × (view_of settings bytes ≡ shown ++ later) × (IsDone d → later ≡ [])
     view-is shown shows bytes input =
         let text = input-is bytes input in (
           view_of settings text.0,
           ap (view_of settings) text.1 ∙ shows text.0,
-          λ done. ap (view_of settings) (text.2 done) ∙ (as-viewed settings.binary_detection _ _ ∙ views.view-none _ _),
+          λ done. ap (view_of settings) (text.2 done) ∙ (as-viewed settings.binary_detection _ _
+              ∙ views.view-none _ _),
         )
 
     -- the mark in what was taken
     abbrev mark : Option Label
     mark = found_mark settings.encoding settings.bom_sniffing (concat reads.pieces)
 
-    module _ (unchanged : encoding_of settings (concat reads.pieces) ≡ None) (settled : IsSettled d.mode) where
+    module _ (unchanged : encoding_of settings (concat reads.pieces) ≡ None)
+        (settled : IsSettled d.mode) where
       passes : d.mode ≡ Passing
       unfolding encoding_of
       passes = starts.mode-is _ _ reads settled ∙ mode-passing _ mark unchanged
@@ -122,7 +133,8 @@ module _ {R : Type 0} {remaining : R → Option (List ℕ)} {step : R → ReadRe
             reads.last.0,
             d.held,
             reads.last.1,
-            mode-waits _ mark _ (subst (λ m. IsWaiting m d.held) (starts.mode-is _ _ reads settled) waits),
+            mode-waits _ mark _ (subst (λ m. IsWaiting m d.held) (starts.mode-is _ _ reads settled)
+                waits),
             λ more. starts.waiting-text _ _ reads unended ready settled more
                 ∙ ap (λ xs. given ++ xs) (mode-decodes _ mark _),
           );
@@ -132,10 +144,11 @@ module _ {R : Type 0} {remaining : R → Option (List ℕ)} {step : R → ReadRe
         few = waits-few d.mode d.held waits
 
 -- what the first fill of a buffer had read before the reader's last call
-module _ {R : Type 0} {remaining : R → Option (List ℕ)} {step : R → ReadResult → R → Type 0} {k : Settings}
-    {buffer : BufferState} {decoder : DecoderState} {reader : R}
+module _ {R : Type 0} {remaining : R → Option (List ℕ)} {step : R → ReadResult → R → Type 0}
+    {k : Settings} {buffer : BufferState} {decoder : DecoderState} {reader : R}
     (fitting : IsFitting k.heap_limit (byte_of k.line_terminator) buffer)
-    (empty : buffer ≡ empty_buffer buffer.size buffer.limit buffer.terminator (detection_of k.binary_detection))
+    (empty : buffer ≡ empty_buffer buffer.size buffer.limit buffer.terminator
+    (detection_of k.binary_detection))
     (begun : decoder ≡ started decoder.capacity k.encoding k.bom_sniffing) where
   for-line : {reader' : R} → HasWaitedForLine remaining step buffer decoder reader reader'
       → IsReadForLine remaining step k reader reader'
@@ -145,7 +158,8 @@ module _ {R : Type 0} {remaining : R → Option (List ℕ)} {step : R → ReadRe
       let bd = k.binary_detection in
       let t = byte_of k.line_terminator in
       let detects : buffer.detection ≡ detection_of bd = ap (λ b. b.detection) empty in
-      let reads = subst (λ xs. Decodes remaining step (started decoder.capacity k.encoding k.bom_sniffing) reader xs
+      let reads = subst (λ xs. Decodes remaining step
+      (started decoder.capacity k.encoding k.bom_sniffing) reader xs
       last.waiting last.mid) (append-nil given)
       (subst (λ d. Decodes remaining step d reader (given ++ []) last.waiting last.mid) begun
       (Decodes-append remaining step _ _ _ _ _ _ given [] waited.decodes last.decodes)) in
@@ -170,22 +184,26 @@ module _ {R : Type 0} {remaining : R → Option (List ℕ)} {step : R → ReadRe
           rest = view_of k given;
           whole = refl;
           unended = subst (All (λ b. b ≢ t)) shown
-              (subst (λ c. All (λ b. b ≢ c) (detected_bytes buffer.detection buffer.terminator given)) fitting.terminator
-              waited.unended);
-          room = λ limit is. omega (arith, waited.room limit (fitting.limit ∙ is), view-length k given);
-          unquit = ap (before_quit bd) (sym held) ∙ (as-unquit bd _ ∙ (views.before-held _ t given ∙ held));
+              (subst (λ c. All (λ b. b ≢ c) (detected_bytes buffer.detection buffer.terminator
+              given)) fitting.terminator waited.unended);
+          room = λ limit is. omega (
+            arith,
+            waited.room limit (fitting.limit ∙ is),
+            view-length k given,
+          );
+          unquit = ap (before_quit bd) (sym held)
+              ∙ (as-unquit bd _ ∙ (views.before-held _ t given ∙ held));
         };
       }
 
   pub read-once : {lines : BufferState} {d : DecoderState} {r r' : R}
       → (lines ≡ buffer) × (d ≡ decoder) × (r ≡ reader)
       → (lines.has_ended ≡ false → has_quit lines ≡ false → HasReadNothing d
-      → HasWaitedForLine remaining step lines d r r')
-      → IsReadForLine remaining step k reader r'
-  read-once {lines} {d} {r} {r'} same filled = for-line
-      (rw (sym same.0, sym same.1, sym same.2)
+      → HasWaitedForLine remaining step lines d r r') → IsReadForLine remaining step k reader r'
+  read-once {lines} {d} {r} {r'} same filled = for-line (rw (sym same.0, sym same.1, sym same.2)
       (filled (ap (λ b. b.has_ended) same.0 ∙ ap (λ b. b.has_ended) empty)
-      (ap has_quit same.0 ∙ (ap has_quit empty ∙ and-false (is_quit (detection_of k.binary_detection))))
+      (ap has_quit same.0 ∙ (ap has_quit empty
+      ∙ and-false (is_quit (detection_of k.binary_detection))))
       (subst HasReadNothing (sym (same.1 ∙ begun))
       (record { fresh = λ settled. settled; held = refl; unended = refl }))))
 
@@ -209,15 +227,18 @@ module _ {R : Type 0} (remaining : R → Option (List ℕ)) (step : R → ReadRe
     pub begun : decoder ≡ started decoder.capacity k.encoding k.bom_sniffing
 
   -- what was given is what is gone and what a buffer holds, which is like one of the search
-  pub record IsHeld (k : Settings) (gone given : List ℕ) (like buffer : BufferState) (decoder d : DecoderState)
+  pub record IsHeld (k : Settings) (gone given : List ℕ) (like buffer : BufferState)
+      (decoder d : DecoderState)
       (reader r : R) : Type 0 where
-    pub holds : HoldsGiven remaining step gone like.detection like.terminator buffer decoder reader given d r
+    pub holds : HoldsGiven remaining step gone like.detection like.terminator buffer decoder reader
+        given d r
     pub detects : like.detection ≡ detection_of k.binary_detection
     pub ends_at : like.terminator ≡ byte_of k.line_terminator
     pub same : IsSameBuffer like buffer
 
   -- a fill of a buffer succeeded
-  pub record HasFilled (k : Settings) (old : BufferState) (d : DecoderState) (r : R) (new : BufferState)
+  pub record HasFilled (k : Settings) (old : BufferState) (d : DecoderState) (r : R)
+      (new : BufferState)
       (d' : DecoderState) (r' : R) : Type 0 where
     pub fills : Fills remaining step old d r new d' r'
     pub fitting : IsFitting k.heap_limit (byte_of k.line_terminator) old
@@ -226,35 +247,39 @@ module _ {R : Type 0} (remaining : R → Option (List ℕ)) (step : R → ReadRe
     pub room : length (held_bytes new) ≤ new.size
     pub tight : has_quit new ≡ true → length (held_bytes new) < new.size
     pub within : IsWithin new.limit new.size
-    pub done : (old.has_ended ≡ true → has_quit old ≡ false → IsDone d) → new.has_ended ≡ true → has_quit new ≡ false
-        → IsDone d'
+    pub done : (old.has_ended ≡ true → has_quit old ≡ false → IsDone d) → new.has_ended ≡ true
+        → has_quit new ≡ false → IsDone d'
     pub settled : old.has_ended ≡ false → has_quit old ≡ false → IsSettled d'.mode
     pub passing : old.has_ended ≡ false → has_quit old ≡ false → d'.mode ≡ Passing
         → (length d'.ready ≤ 3) × (d'.held ≡ [])
 
 module _ {R : Type 0} {remaining : R → Option (List ℕ)} {step : R → ReadResult → R → Type 0} where
   -- what a buffer holds after a fill
-  pub held-next : {old new : BufferState} {decoder d d' : DecoderState} {reader r r' : R} {gone given : List ℕ}
-      → old.offset ≡ length gone → has_quit old ≡ false
+  pub held-next : {old new : BufferState} {decoder d d' : DecoderState} {reader r r' : R}
+      {gone given : List ℕ} → old.offset ≡ length gone → has_quit old ≡ false
       → HoldsGiven remaining step gone old.detection old.terminator old decoder reader given d r
       → (fills : Fills remaining step old d r new d' r')
-      → HoldsGiven remaining step gone old.detection old.terminator new decoder reader (given ++ fills.given) d' r'
+      → HoldsGiven remaining step gone old.detection old.terminator new decoder reader
+      (given ++ fills.given) d' r'
   held-next at uncut holds fills =
-      let next = fills-continue remaining step _ _ _ _ _ _ _ _ _ _ holds.decodes holds.whole at holds.found uncut fills in
+      let next = fills-continue remaining step _ _ _ _ _ _ _ _ _ _ holds.decodes holds.whole at
+      holds.found uncut fills in
       record { whole = next.1; found = next.2; decodes = next.0 }
 
   -- the bytes that were given, read by the decoder of the search
-  abbrev pub reads : {k : Settings} {meaning : Meaning} {decoder d : DecoderState} {reader r : R} {gone given : List ℕ}
-      {like buffer : BufferState} → IsStream remaining step k meaning decoder
+  abbrev pub reads : {k : Settings} {meaning : Meaning} {decoder d : DecoderState} {reader r : R}
+      {gone given : List ℕ} {like buffer : BufferState} → IsStream remaining step k meaning decoder
       → IsHeld remaining step k gone given like buffer decoder d reader r
       → Decodes remaining step (started decoder.capacity k.encoding k.bom_sniffing) reader given d r
   reads {decoder} {d} {reader} {r} {given} stream is =
       subst (λ x. Decodes remaining step x reader given d r) stream.begun is.holds.decodes
 
   -- what the view of an input is, by what a buffer holds of it
-  module _ {k : Settings} {gone given : List ℕ} {old new : BufferState} {decoder d : DecoderState} {reader r : R}
+  module _ {k : Settings} {gone given : List ℕ} {old new : BufferState} {decoder d : DecoderState}
+      {reader r : R}
       (is : IsHeld remaining step k gone given old new decoder d reader r) where
-    pub holds-is : gone ++ held_bytes new ≡ detected_bytes (detection_of k.binary_detection) (t k) given
+    pub holds-is : gone ++ held_bytes new ≡ detected_bytes (detection_of k.binary_detection)
+        (t k) given
     holds-is = is.holds.whole ∙ (ap (λ d. detected_bytes d old.terminator given) is.detects
         ∙ ap (λ c. detected_bytes (detection_of k.binary_detection) c given) is.ends_at)
 
@@ -263,14 +288,18 @@ module _ {R : Type 0} {remaining : R → Option (List ℕ)} {step : R → ReadRe
         ∙ ap (λ c. found_in (detection_of k.binary_detection) c given) is.ends_at)
 
     -- the view of every input begins with what is gone and what is held
-    pub fronts-there : (later : List ℕ) → (back : List ℕ) × (view_of k (given ++ later) ≡ (gone ++ held_bytes new) ++ back)
+    pub fronts-there : (later : List ℕ) → (back : List ℕ)
+        × (view_of k (given ++ later) ≡ (gone ++ held_bytes new) ++ back)
     fronts-there later =
-        let front = views.view-front _ (t k) given later in
-        (front.0, as-viewed k.binary_detection _ _ ∙ (front.1 ∙ ap (λ xs. xs ++ front.0) (sym holds-is)))
+        let front = views.view-front _ (t k) given later in (
+          front.0,
+          as-viewed k.binary_detection _ _ ∙ (front.1 ∙ ap (λ xs. xs ++ front.0) (sym holds-is)),
+        )
 
     -- also of what comes before a byte that ends the search
     pub before-there : (later : List ℕ)
-        → (back : List ℕ) × (before_quit k.binary_detection (view_of k (given ++ later)) ≡ (gone ++ held_bytes new) ++ back)
+        → (back : List ℕ) × (before_quit k.binary_detection (view_of k (given ++ later))
+        ≡ (gone ++ held_bytes new) ++ back)
     before-there later =
         let front = views.before-front _ (t k) given later in (
           front.0,
@@ -279,19 +308,22 @@ module _ {R : Type 0} {remaining : R → Option (List ℕ)} {step : R → ReadRe
         )
 
     -- which is none of the bytes that are gone or held
-    pub unquit-held : before_quit k.binary_detection (gone ++ held_bytes new) ≡ gone ++ held_bytes new
+    pub unquit-held : before_quit k.binary_detection (gone ++ held_bytes new) ≡ gone
+        ++ held_bytes new
     unquit-held = ap (before_quit k.binary_detection) holds-is
         ∙ (as-unquit k.binary_detection _ ∙ (views.before-held _ (t k) given ∙ sym holds-is))
 
     module _ (uncut : has_quit new ≡ false) where
       pub view-there : view_of k given ≡ gone ++ held_bytes new
-      view-there = sym (holds-is ∙ views.view-held _ (t k) given
-          (λ quits. sym found-there
-          ∙ uncut-none _ _ uncut (ap is_quit (is.same.detection ∙ is.detects) ∙ quits)) ∙ sym (as-viewed k.binary_detection _ _))
+      view-there = sym (holds-is ∙ views.view-held _ (t k) given (λ quits. sym found-there
+          ∙ uncut-none _ _ uncut (ap is_quit (is.same.detection ∙ is.detects) ∙ quits))
+          ∙ sym (as-viewed k.binary_detection _ _))
 
-      pub shows-there : (later : List ℕ) → view_of k (given ++ later) ≡ (gone ++ held_bytes new) ++ view_of k later
+      pub shows-there : (later : List ℕ) → view_of k (given ++ later) ≡ (gone ++ held_bytes new)
+          ++ view_of k later
       shows-there later = as-viewed k.binary_detection _ _ ∙ (views.view-append _ (t k) given later
-          ∙ ap₂ (λ xs ys. xs ++ ys) (sym (as-viewed k.binary_detection _ _) ∙ view-there) (sym (as-viewed k.binary_detection _ _)))
+          ∙ ap₂ (λ xs ys. xs ++ ys) (sym (as-viewed k.binary_detection _ _) ∙ view-there)
+          (sym (as-viewed k.binary_detection _ _)))
 
       -- as much is gone and held as was given
       pub length-there : length given ≡ length gone + length (held_bytes new)
@@ -303,16 +335,16 @@ module _ {R : Type 0} {remaining : R → Option (List ℕ)} {step : R → ReadRe
       )
 
   -- a byte that wasn't found before is after all that was held then
-  pub found-past : {k : Settings} {gone given : List ℕ} (more : List ℕ) {old new : BufferState} {decoder d d' : DecoderState}
+  pub found-past : {k : Settings} {gone given : List ℕ} (more : List ℕ) {old new : BufferState}
+      {decoder d d' : DecoderState}
       {reader r r' : R} → IsHeld remaining step k gone given old old decoder d reader r
-      → IsHeld remaining step k gone (given ++ more) old new decoder d' reader r' → old.binary ≡ None
-      → (o : ℕ) → new.binary ≡ Some o → length gone + length (held_bytes old) ≤ o
+      → IsHeld remaining step k gone (given ++ more) old new decoder d' reader r' → old.binary
+      ≡ None → (o : ℕ) → new.binary ≡ Some o → length gone + length (held_bytes old) ≤ o
   found-past {k} {gone} {given} more {old} before after none o is =
       let absent = sym (found-there before) ∙ none in
       omega (
         arith,
-        views.found-after _ (t k) given more o absent
-            (sym (found-there after) ∙ is),
+        views.found-after _ (t k) given more o absent (sym (found-there after) ∙ is),
         length-detected_bytes _ (t k) given absent,
         ap length (holds-is before),
         length-append gone (held_bytes old),

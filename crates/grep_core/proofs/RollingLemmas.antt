@@ -1,5 +1,5 @@
--- A search of a reader, fill by fill, against the calls that are defined for every input that begins with what was
--- read.
+-- A search of a reader, fill by fill, against the calls that are defined for every input that
+-- begins with what was read.
 use Rattle.grep_core.proofs.ReadingLemmas.{HasFilled, IsHeld, IsStream}
 use Rattle.grep_core.specs.Rolls.{IsBetween, IsCountedFor, IsLast, IsNext, IsInShown, HasEnded}
 use Rattle.grep_core.specs.Rolls.{HasMovedOn, start_in, HasCounted, HasFailed, HasSeen, IsRolling}
@@ -60,8 +60,9 @@ pub nothing : {X : Type 0} → 0 < length {A = ℕ} [] → X
 nothing none = absurd (omega (arith, none))
 
 -- a buffer is never larger than its limit
-pub limit-within : {R : Type 0} {remaining : R → Option (List ℕ)} {read_step : R → ReadResult → R → Type 0} {k : Settings}
-    {old new : BufferState} {d d' : DecoderState} {r r' : R} → HasFilled remaining read_step k old d r new d' r'
+pub limit-within : {R : Type 0} {remaining : R → Option (List ℕ)} {read_step : R → ReadResult → R
+    → Type 0} {k : Settings} {old new : BufferState} {d d' : DecoderState} {r r' : R}
+    → HasFilled remaining read_step k old d r new d' r'
     → (limit : ℕ) → k.heap_limit ≡ Some limit → new.size ≤ limit
 limit-within {new} fill limit is =
     subst (λ m. IsWithin m new.size) (fill.same.limit ∙ (fill.fitting.limit ∙ is)) fill.within
@@ -71,14 +72,14 @@ t_of k = byte_of k.line_terminator
 
 module _ {S E : Type 0} {step : Steps S E} {k : Settings} {meaning : Meaning}
   where
-    counted-end : {gone shown : List ℕ} {first : Origin S} {w : Walk} {now : S} → IsClosed (t_of k) gone
+    counted-end : {gone shown : List ℕ} {first : Origin S} {w : Walk} {now : S}
+        → IsClosed (t_of k) gone
         → HasPassed step k meaning gone shown (gone ++ (shown ++ [])) first w now
         → IsCountedFor step k meaning first (gone ++ (shown ++ [])) w.offset all_true now
     counted-end {gone} {shown} {first} {w} {now} opens passed =
-        walks.counted-end k _ _ step first
-        _ now passed.searched.walked.reported
-        (passed.all ∙ (ap (λ xs. length (lines (t_of k) gone) + length (lines (t_of k) xs)) (sym (append-nil shown))
-        ∙ sym (count-after _ gone _ opens)))
+        walks.counted-end k _ _ step first _ now passed.searched.walked.reported
+        (passed.all ∙ (ap (λ xs. length (lines (t_of k) gone) + length (lines (t_of k) xs))
+        (sym (append-nil shown)) ∙ sym (count-after _ gone _ opens)))
 
     -- what came of a walk over what a buffer shows: nothing new is shown
     pub ended-nothing : {old : BufferState} {w : Walk} {now : S} → start_in old w ≡ length old.shown
@@ -99,10 +100,10 @@ module _ {S E : Type 0} {step : Steps S E} {k : Settings} {meaning : Meaning}
       searched-there searched = rw (shown, at) searched
 
       -- the search ended within it
-      pub ended-within : {w' : Walk} {now' : S} → w.offset ≤ w'.offset → w'.offset ≤ old.offset + length old.shown
-          → (outcome : Outcome E)
-          → ((gone input : List ℕ) (first : Origin S) → HasSearched step k meaning gone window input first start w now
-          → IsCountedFor step k meaning first input w'.offset outcome now')
+      pub ended-within : {w' : Walk} {now' : S} → w.offset ≤ w'.offset → w'.offset ≤ old.offset
+          + length old.shown → (outcome : Outcome E)
+          → ((gone input : List ℕ) (first : Origin S) → HasSearched step k meaning gone window input
+          first start w now → IsCountedFor step k meaning first input w'.offset outcome now')
           → HasEnded step k meaning old w now w' now'
       ended-within low high outcome counted = record {
         outcome = outcome;
@@ -134,12 +135,13 @@ module _ {S E : Type 0} {step : Steps S E} {k : Settings} {meaning : Meaning}
 
         -- some of its lines are kept for the next one
         pub next-rolled : (r : ℕ) → IsClosed (t_of k) old.shown
-            → ((gone : List ℕ) → IsClosed (t_of k) gone → IsClosed (t_of k) (gone ++ take r old.shown))
+            → ((gone : List ℕ) → IsClosed (t_of k) gone
+            → IsClosed (t_of k) (gone ++ take r old.shown))
             → ((gone more after : List ℕ) → IsClosed (t_of k) gone
             → (0 < length after → IsClosed (t_of k) (drop r old.shown ++ more))
             → (line next_unreported : ℕ) → AreCounts k w' line next_unreported
-            → IsInWindow k gone old.shown (gone ++ (old.shown ++ (more ++ after))) (length old.shown)
-            (with_counts w' line next_unreported)
+            → IsInWindow k gone old.shown (gone ++ (old.shown ++ (more ++ after)))
+            (length old.shown) (with_counts w' line next_unreported)
             → IsInWindow k (gone ++ take r old.shown) (drop r old.shown ++ more)
             (gone ++ (old.shown ++ (more ++ after)))
             (length old.shown - r) (with_counts w' line next_unreported))
@@ -152,9 +154,9 @@ module _ {S E : Type 0} {step : Steps S E} {k : Settings} {meaning : Meaning}
           λ more after closes.
               let passed = passed-there (ready (more ++ after) (λ _. closed)) in
               rw (sym (roll-input gone old.shown more after r), length-drop r old.shown)
-              (searched-rolled step k _ _ _ _ _ _ _ passed _
-              _ _
-              (keeps gone more after opens closes _ _ passed.searched.counts passed.searched.walked.inside)),
+              (searched-rolled step k _ _ _ _ _ _ _ passed _ _ _
+              (keeps gone more after opens closes _ _ passed.searched.counts
+              passed.searched.walked.inside)),
         )
 
     module _ {gone : List ℕ} {old : BufferState} {first : Origin S} {w : Walk} {now : S}
@@ -165,10 +167,11 @@ module _ {S E : Type 0} {step : Steps S E} {k : Settings} {meaning : Meaning}
       abbrev seen : List ℕ
       seen = gone ++ old.shown
 
-      here : reports_nothing k ≡ false → HasPassed step k meaning gone old.shown (gone ++ (old.shown ++ [])) first w now
+      here : reports_nothing k ≡ false → HasPassed step k meaning gone old.shown
+          (gone ++ (old.shown ++ [])) first w now
       here busy = passed-end
-          (subst (λ xs. HasSearched step k meaning gone xs (gone ++ (xs ++ [])) first (length old.shown) w now)
-          (append-nil old.shown) (between.next busy [] [] nothing)) refl
+          (subst (λ xs. HasSearched step k meaning gone xs (gone ++ (xs ++ [])) first
+          (length old.shown) w now) (append-nil old.shown) (between.next busy [] [] nothing)) refl
 
       -- the calls so far are those over the lines that were seen
       pub counted-seen : IsCountedFor step k meaning first seen w.offset all_true now
@@ -176,13 +179,19 @@ module _ {S E : Type 0} {step : Steps S E} {k : Settings} {meaning : Meaning}
         where
           by-cases : (idle : Bool) → reports_nothing k ≡ idle
               → IsCountedFor step k meaning first seen w.offset all_true now
-          by-cases false busy = subst (λ xs. IsCountedFor step k meaning first (gone ++ xs) w.offset all_true now)
-              (append-nil old.shown)
-              (counted-end between.opens (here busy))
+          by-cases false busy =
+              subst (λ xs. IsCountedFor step k meaning first (gone ++ xs) w.offset all_true now)
+              (append-nil old.shown) (counted-end between.opens (here busy))
           by-cases true idle =
               let unread = between.idle idle in
-              let zero : w.offset ≡ 0 = omega (arith, between.at, ap length unread.none, length-append gone old.shown) in
-              rw (zero, unread.none) (walks.counted-idle k meaning [] step first now idle unread.begun)
+              let zero : w.offset ≡ 0 = omega (
+                arith,
+                between.at,
+                ap length unread.none,
+                length-append gone old.shown,
+              ) in
+              rw (zero, unread.none) (walks.counted-idle k meaning [] step first now idle
+              unread.begun)
 
       -- none of the lines that are shown still was reported
       pub unreported-shown : (i : ℕ) → length (lines t gone) ≤ i → i < length (lines t seen)
@@ -200,16 +209,18 @@ module _ {S E : Type 0} {step : Steps S E} {k : Settings} {meaning : Meaning}
               let passed = here busy in
               let line = passed.searched.line in
               let v = passed.searched.next_unreported in
-              let walk = subst (λ xs. IsWalk k meaning (gone ++ xs) (with_counts w line v)) (append-nil old.shown)
-              passed.searched.walked.reported.walk in
+              let walk = subst (λ xs. IsWalk k meaning (gone ++ xs) (with_counts w line v))
+              (append-nil old.shown) passed.searched.walked.reported.walk in
               let all : line ≡ line_count k seen = omega (arith, passed.all, more) in
               let kept = near-same k w line v passed.searched.counts in
               unreported-passed k meaning seen v w.after_context_left
-              (subst (λ n. IsNear k seen (selected_lines k meaning seen) v n w.after_context_left) all walk.near)
+              (subst (λ n. IsNear k seen (selected_lines k meaning seen) v n w.after_context_left)
+              all walk.near)
               i (omega (arith, low, below, more, between.few, kept, passed.all)) below
 
       -- and the search goes on after them, whatever follows
-      pub goes-on : {bytes : List ℕ} (back : List ℕ) → bytes ≡ seen ++ back → GoesOnAfter k meaning bytes seen
+      pub goes-on : {bytes : List ℕ} (back : List ℕ) → bytes ≡ seen ++ back
+          → GoesOnAfter k meaning bytes seen
       goes-on {bytes} back is = record {
         front = record { after = back; whole = is; closed = λ _. shut; held = between.fits };
         closed = shut;
@@ -225,7 +236,8 @@ module _ {S E : Type 0} {step : Steps S E} {k : Settings} {meaning : Meaning}
               → length (lines t seen) < reports_end k meaning bytes
           by-cases true idle more less =
               let unread = between.idle idle in
-              absurd (false≢true (sym more ∙ (ap (λ d. d && length (lines t seen) == 0) unread.detecting
+              absurd (false≢true (sym more
+              ∙ (ap (λ d. d && length (lines t seen) == 0) unread.detecting
               ∙ ap (λ xs. length (lines t xs) == 0) unread.none)))
           by-cases false busy more less =
               let searched = between.next busy back [] nothing in
@@ -235,123 +247,131 @@ module _ {S E : Type 0} {step : Steps S E} {k : Settings} {meaning : Meaning}
               let input : gone ++ ((old.shown ++ back) ++ []) ≡ bytes =
               ap (λ xs. gone ++ xs) (append-nil (old.shown ++ back))
               ∙ (sym (append_assoc gone old.shown back) ∙ sym is) in
-              subst (λ i. i < reports_end k meaning bytes) line
-              (reportable-above k meaning bytes
-              (subst (λ xs. IsOpen k meaning xs count w.after_context_left w.match_count) input walk.opened)
-              (subst (λ i. i < length (lines t bytes)) (sym line) less))
+              subst (λ i. i < reports_end k meaning bytes) line (reportable-above k meaning bytes
+              (subst (λ xs. IsOpen k meaning xs count w.after_context_left w.match_count) input
+              walk.opened) (subst (λ i. i < length (lines t bytes)) (sym line) less))
 
       -- a fill comes after that
-      module _ {R : Type 0} {remaining : R → Option (List ℕ)} {read_step : R → ReadResult → R → Type 0}
-          {d d' : DecoderState} {r r' : R} {new : BufferState}
-          (fill : HasFilled remaining read_step k old d r new d' r') (uncut : has_quit new ≡ false) where
-        abbrev given : List ℕ
-        given = detected_bytes old.detection old.terminator fill.fills.given
+      module _ {R : Type 0} {remaining : R → Option (List ℕ)} {read_step : R → ReadResult → R
+          → Type 0} {d d' : DecoderState} {r r' : R} {new : BufferState}
+          (fill : HasFilled remaining read_step k old d r new d' r') (uncut : has_quit new ≡ false)
+        where
+          abbrev given : List ℕ
+          given = detected_bytes old.detection old.terminator fill.fills.given
 
-        way : IsUncut old new
-        way = uncut-filled uncut fill.filled
+          way : IsUncut old new
+          way = uncut-filled uncut fill.filled
 
-        shown-room : length new.shown ≤ new.size
-        shown-room = omega (arith, fill.room, length-append new.shown new.rest)
+          shown-room : length new.shown ≤ new.size
+          shown-room = omega (arith, fill.room, length-append new.shown new.rest)
 
-        -- what it shows is searched from the end of what was shown
-        pub filled-ready : reports_nothing k ≡ false
-            → IsInShown step k meaning gone new.shown (length old.shown) first w now
-        filled-ready busy =
-            let split : new.shown ≡ old.shown ++ drop (length old.shown) new.shown =
-            longer-front _ _ _ _
-            (sym (fill.fills.appended ∙ append_assoc old.shown old.rest given))
-            (long-shown given fill.fills.appended way) in
-            subst (λ xs. IsInShown step k meaning gone xs (length old.shown) first w now) (sym split)
-            (between.next busy (drop (length old.shown) new.shown))
+          -- what it shows is searched from the end of what was shown
+          pub filled-ready : reports_nothing k ≡ false
+              → IsInShown step k meaning gone new.shown (length old.shown) first w now
+          filled-ready busy =
+              let split : new.shown ≡ old.shown ++ drop (length old.shown) new.shown =
+              longer-front _ _ _ _
+              (sym (fill.fills.appended ∙ append_assoc old.shown old.rest given))
+              (long-shown given fill.fills.appended way) in
+              subst (λ xs. IsInShown step k meaning gone xs (length old.shown) first w now)
+              (sym split) (between.next busy (drop (length old.shown) new.shown))
 
-        -- none of its lines is too long
-        pub fits-filled : (limit : ℕ) → k.heap_limit ≡ Some limit
-            → All (λ line. IsTooLong t limit line → ⊥) (lines t (gone ++ new.shown))
-        fits-filled limit is =
-            subst (All Fits) (sym (lines-append t gone new.shown between.opens))
-            (All-append Fits (lines t gone) (lines t new.shown) left right)
-          where
-            Fits : List ℕ → Type 0
-            Fits line = IsTooLong t limit line → ⊥
+          -- none of its lines is too long
+          pub fits-filled : (limit : ℕ) → k.heap_limit ≡ Some limit
+              → All (λ line. IsTooLong t limit line → ⊥) (lines t (gone ++ new.shown))
+          fits-filled limit is =
+              subst (All Fits) (sym (lines-append t gone new.shown between.opens))
+              (All-append Fits (lines t gone) (lines t new.shown) left right)
+            where
+              Fits : List ℕ → Type 0
+              Fits line = IsTooLong t limit line → ⊥
 
-            before : All Fits (lines t gone ++ lines t old.shown)
-            before = subst (All Fits) (lines-append t gone old.shown between.opens) (between.fits limit is)
+              before : All Fits (lines t gone ++ lines t old.shown)
+              before = subst (All Fits) (lines-append t gone old.shown between.opens)
+                  (between.fits limit is)
 
-            left : All Fits (lines t gone)
-            left = λ i x below. subst Fits (get_or_append_left (lines t gone) (lines t old.shown) x i below)
-                (before i x (omega (arith, below, length-append (lines t gone) (lines t old.shown))))
+              left : All Fits (lines t gone)
+              left = λ i x below. subst Fits (get_or_append_left (lines t gone) (lines t old.shown)
+                  x i below)
+                  (before i x (omega (
+                    arith,
+                    below,
+                    length-append (lines t gone) (lines t old.shown),
+                  )))
 
-            below-limit : new.size ≤ limit
-            below-limit = limit-within fill limit is
+              below-limit : new.size ≤ limit
+              below-limit = limit-within fill limit is
 
-            full : IsUncut old new → length new.shown ≡ limit → IsClosed t new.shown
-            full (inl line) same = λ _. line.ends.last ∙ fill.fitting.terminator
-            full (inr end) same = absurd (omega (arith, same, end.room, below-limit))
+              full : IsUncut old new → length new.shown ≡ limit → IsClosed t new.shown
+              full (inl line) same = λ _. line.ends.last ∙ fill.fitting.terminator
+              full (inr end) same = absurd (omega (arith, same, end.room, below-limit))
 
-            right : All Fits (lines t new.shown)
-            right = lines-fit t limit _ (omega (arith, shown-room, below-limit)) (full way)
+              right : All Fits (lines t new.shown)
+              right = lines-fit t limit _ (omega (arith, shown-room, below-limit)) (full way)
 
-        -- the next fill, after the walk passed what is shown
-        pub between-next : reports_nothing k ≡ false → {moved : BufferState} {w' : Walk} {now' : S}
-            → (on : HasMovedOn step k meaning new w now moved w' now')
-            → IsBetween step k meaning (gone ++ take on.count new.shown) moved first w' now'
-        between-next busy {moved} {w'} {now'} on =
-            let start : start_in new w ≡ length old.shown = omega (
-              arith,
-              between.at,
-              fill.same.offset,
-              between.offset,
-            ) in
-            let next = on.next gone first between.opens
-            (rw start (filled-ready busy)) in
-            let rest = unended-filled fill.fitting.terminator given fill.fills.appended between.unfinished way
-            (omega (arith, on.some, start)) on.closed in
-            rw on.moved (record {
-              opens = next.0;
-              shut = closed-drop t _ _ on.closed;
-              unfinished = rest.1;
-              offset = omega (
+          -- the next fill, after the walk passed what is shown
+          pub between-next : reports_nothing k ≡ false
+              → {moved : BufferState} {w' : Walk} {now' : S}
+              → (on : HasMovedOn step k meaning new w now moved w' now')
+              → IsBetween step k meaning (gone ++ take on.count new.shown) moved first w' now'
+          between-next busy {moved} {w'} {now'} on =
+              let start : start_in new w ≡ length old.shown = omega (
                 arith,
+                between.at,
                 fill.same.offset,
                 between.offset,
-                length-append gone (take on.count new.shown),
-                length-take-le on.count new.shown on.within,
-              );
-              unended = rest.0;
-              few = on.few;
-              fits = λ limit is. subst (λ xs. All (λ line. IsTooLong t limit line → ⊥) (lines t xs))
-                  (ap (λ xs. gone ++ xs) (sym (take-append-drop on.count new.shown))
-                  ∙ sym (append_assoc gone (take on.count new.shown) (drop on.count new.shown)))
-                  (fits-filled limit is);
-              at = omega (
-                arith,
-                on.at,
-                fill.same.offset,
-                between.offset,
-                length-append gone (take on.count new.shown),
-                length-take-le on.count new.shown on.within,
-                length-drop on.count new.shown,
-              );
-              next = λ _. next.1;
-              idle = λ idle. absurd (clash idle busy);
-            })
+              ) in
+              let next = on.next gone first between.opens
+              (rw start (filled-ready busy)) in
+              let rest = unended-filled fill.fitting.terminator given fill.fills.appended
+              between.unfinished way (omega (arith, on.some, start)) on.closed in
+              rw on.moved (record {
+                opens = next.0;
+                shut = closed-drop t _ _ on.closed;
+                unfinished = rest.1;
+                offset = omega (
+                  arith,
+                  fill.same.offset,
+                  between.offset,
+                  length-append gone (take on.count new.shown),
+                  length-take-le on.count new.shown on.within,
+                );
+                unended = rest.0;
+                few = on.few;
+                fits = λ limit is. subst (λ xs. All (λ line. IsTooLong t limit line → ⊥)
+                    (lines t xs)) (ap (λ xs. gone ++ xs) (sym (take-append-drop on.count new.shown))
+                    ∙ sym (append_assoc gone (take on.count new.shown) (drop on.count new.shown)))
+                    (fits-filled limit is);
+                at = omega (
+                  arith,
+                  on.at,
+                  fill.same.offset,
+                  between.offset,
+                  length-append gone (take on.count new.shown),
+                  length-take-le on.count new.shown on.within,
+                  length-drop on.count new.shown,
+                );
+                next = λ _. next.1;
+                idle = λ idle. absurd (clash idle busy);
+              })
 
 -- a search that reads though no line may be reported looks for a binary byte
-idle-detects : (idle detecting : Bool) → idle ≡ true → (not idle || detecting) ≡ true → detecting ≡ true
+idle-detects : (idle detecting : Bool) → idle ≡ true → (not idle || detecting) ≡ true → detecting
+    ≡ true
 idle-detects true detecting is reads = reads
 idle-detects false detecting is reads = cc
 
-module _ {R : Type 0} {remaining : R → Option (List ℕ)} {read_step : R → ReadResult → R → Type 0} {S E : Type 0}
+module _ {R : Type 0} {remaining : R → Option (List ℕ)} {read_step : R → ReadResult → R → Type 0}
+    {S E : Type 0}
     {step : Steps S E} {k : Settings} {meaning : Meaning} where
   -- a search begins with an empty buffer, once `begin` returned true
-  pub rolling-start : {decoder : DecoderState} {reader : R}
-      {first now : S} {buffer : BufferState}
-      → buffer ≡ empty_buffer buffer.size buffer.limit buffer.terminator (detection_of k.binary_detection)
-      → buffer.terminator ≡ byte_of k.line_terminator
+  pub rolling-start : {decoder : DecoderState} {reader : R} {first now : S} {buffer : BufferState}
+      → buffer ≡ empty_buffer buffer.size buffer.limit buffer.terminator
+      (detection_of k.binary_detection) → buffer.terminator ≡ byte_of k.line_terminator
       → Decodes remaining read_step decoder reader [] decoder reader → reads_lines k ≡ true
       → step first k begins (Ok true) now
-      → IsRolling step k meaning remaining read_step decoder reader (fresh first) buffer decoder reader
-      (start_walk k meaning []) now
+      → IsRolling step k meaning remaining read_step decoder reader (fresh first) buffer decoder
+      reader (start_walk k meaning []) now
   rolling-start {first} {now} {buffer} empty ends_at reads busy begun = record {
     gone = [];
     between = record {
@@ -361,15 +381,14 @@ module _ {R : Type 0} {remaining : R → Option (List ℕ)} {read_step : R → R
       offset = ap (λ b. b.offset) empty;
       unended = ap (λ b. b.has_ended) empty;
       few = omega (arith, ap (λ xs. length (lines t xs)) shown);
-      fits = λ limit is i x below. absurd (omega (arith, below, ap (λ xs. length (lines t xs)) shown));
+      fits = λ limit is i x below. absurd
+          (omega (arith, below, ap (λ xs. length (lines t xs)) shown));
       at = omega (arith, ap length shown);
-      next = λ some. rw shown
-          (λ more after closes. searched-start step k _ more _ first now
+      next = λ some. rw shown (λ more after closes. searched-start step k _ more _ first now
           (windows.shown t [] more after (λ none. nothing none) closes) some begun);
       idle = λ idle. record {
         none = shown;
-        detecting = idle-detects _
-            _ idle busy;
+        detecting = idle-detects _ _ idle busy;
         begun = reported-begin k meaning [] step first now begun;
       };
     };
@@ -380,7 +399,8 @@ module _ {R : Type 0} {remaining : R → Option (List ℕ)} {read_step : R → R
       decodes = reads;
     };
     detects = ap (λ b. b.detection) empty;
-    uncut = ap (λ b. is_quit buffer.detection && is_some b.binary) empty ∙ and-false (is_quit buffer.detection);
+    uncut = ap (λ b. is_quit buffer.detection && is_some b.binary) empty
+        ∙ and-false (is_quit buffer.detection);
   }
     where
       t : ℕ
@@ -393,15 +413,21 @@ module _ {R : Type 0} {remaining : R → Option (List ℕ)} {read_step : R → R
       rest = ap (λ b. b.rest) empty
 
   -- what is held while a search reads on
-  pub held-then : {decoder d : DecoderState} {reader r : R} {first : Origin S} {old : BufferState} {w : Walk} {now : S}
-      → old.terminator ≡ byte_of k.line_terminator
+  pub held-then : {decoder d : DecoderState} {reader r : R} {first : Origin S} {old : BufferState}
+      {w : Walk} {now : S} → old.terminator ≡ byte_of k.line_terminator
       → (so_far : IsRolling step k meaning remaining read_step decoder reader first old d r w now)
       → IsHeld remaining read_step k so_far.gone so_far.given old old decoder d reader r
   held-then ends_at so_far =
-      record { holds = so_far.holds; detects = so_far.detects; ends_at = ends_at; same = same-buffer }
+      record {
+        holds = so_far.holds;
+        detects = so_far.detects;
+        ends_at = ends_at;
+        same = same-buffer;
+      }
 
   -- what comes after a fill that succeeded
-  module _ {decoder d d' : DecoderState} {reader r r' : R} {first : Origin S} {old new : BufferState} {w : Walk} {now : S}
+  module _ {decoder d d' : DecoderState} {reader r r' : R} {first : Origin S}
+      {old new : BufferState} {w : Walk} {now : S}
       (stream : IsStream remaining read_step k meaning decoder)
       (so_far : IsRolling step k meaning remaining read_step decoder reader first old d r w now)
       (fill : HasFilled remaining read_step k old d r new d' r') where
@@ -416,8 +442,8 @@ module _ {R : Type 0} {remaining : R → Option (List ℕ)} {read_step : R → R
       same = fill.same;
     }
 
-    abbrev pub reads-now : Decodes remaining read_step (started decoder.capacity k.encoding k.bom_sniffing) reader raw d'
-        r'
+    abbrev pub reads-now : Decodes remaining read_step
+        (started decoder.capacity k.encoding k.bom_sniffing) reader raw d' r'
     reads-now = reading.reads stream held-now
 
     abbrev Input : List ℕ → Type 0
@@ -429,34 +455,39 @@ module _ {R : Type 0} {remaining : R → Option (List ℕ)} {read_step : R → R
 
       -- what follows what is gone and held
       abbrev view : (bytes : List ℕ) → Input bytes
-          → (later : List ℕ) × (view_of k bytes ≡ (so_far.gone ++ held_bytes new) ++ later) × (IsDone d' → later ≡ [])
+          → (later : List ℕ) × (view_of k bytes ≡ (so_far.gone ++ held_bytes new) ++ later)
+          × (IsDone d' → later ≡ [])
       view = reading.view-is k reads-now _ (reading.shows-there held-now uncut)
 
       -- and what is shown
       abbrev after : (bytes : List ℕ) → Input bytes → List ℕ
       after bytes input = new.rest ++ (view bytes input).0
 
-      after-is : (bytes : List ℕ) (input : Input bytes) → so_far.gone ++ (new.shown ++ after bytes input)
-          ≡ view_of k bytes
+      after-is : (bytes : List ℕ) (input : Input bytes) → so_far.gone
+          ++ (new.shown ++ after bytes input) ≡ view_of k bytes
       after-is bytes input =
           let text = view bytes input in
           sym (text.1 ∙ (append_assoc so_far.gone (held_bytes new) text.0
           ∙ ap (λ xs. so_far.gone ++ xs) (append_assoc new.shown new.rest text.0)))
 
-      last : (bytes : List ℕ) (input : Input bytes) → new.has_ended ≡ true → (view bytes input).0 ≡ []
+      last : (bytes : List ℕ) (input : Input bytes) → new.has_ended ≡ true → (view bytes input).0
+          ≡ []
       last bytes input ended = (view bytes input).2
-          (fill.done (λ was whole. absurd (false≢true (sym so_far.between.unended ∙ was))) ended uncut)
+          (fill.done (λ was whole. absurd (false≢true (sym so_far.between.unended ∙ was))) ended
+          uncut)
 
       uncut_way : IsUncut old new
       uncut_way = uncut-filled uncut fill.filled
 
-      closes : (bytes : List ℕ) (input : Input bytes) → 0 < length (after bytes input) → IsClosed (t_of k) new.shown
+      closes : (bytes : List ℕ) (input : Input bytes) → 0 < length (after bytes input)
+          → IsClosed (t_of k) new.shown
       closes bytes input = closed-filled fill.fitting.terminator _ uncut_way (last bytes input)
 
       abbrev front : (bytes : List ℕ) (input : Input bytes) → IsFront k (view_of k bytes) shown
       front bytes input = record {
         after = after bytes input;
-        whole = sym (after-is bytes input) ∙ sym (append_assoc so_far.gone new.shown (after bytes input));
+        whole = sym (after-is bytes input)
+            ∙ sym (append_assoc so_far.gone new.shown (after bytes input));
         closed = λ some. closed-append (t_of k) _ _ so_far.between.opens (closes bytes input some);
         held = fits-filled so_far.between fill uncut;
       }
@@ -474,7 +505,10 @@ module _ {R : Type 0} {remaining : R → Option (List ℕ)} {read_step : R → R
         taken = reading.taken k reads-now;
         seen = shown;
         within = within_shown;
-        begins = λ bytes input. let text = reading.input-is k reads-now bytes input in (text.0, text.1);
+        begins = λ bytes input. let text = reading.input-is k reads-now bytes input in (
+          text.0,
+          text.1,
+        );
         front = front;
         clear = λ unfound bytes input.
             let text = reading.input-is k reads-now bytes input in
@@ -489,11 +523,14 @@ module _ {R : Type 0} {remaining : R → Option (List ℕ)} {read_step : R → R
       }
 
       -- a fault within what is shown
-      pub faulted-filled : {F : Type 0} {errors : ErrorMakers F E} {matcher : MatcherFacts F} {e : E} {now' : S}
-          → ((gone : List ℕ) (first : Origin S) → IsInShown step k meaning gone new.shown (start_in new w) first w now
+      pub faulted-filled : {F : Type 0} {errors : ErrorMakers F E} {matcher : MatcherFacts F}
+          {e : E} {now' : S}
+          → ((gone : List ℕ) (first : Origin S) → IsInShown step k meaning gone new.shown
+          (start_in new w) first w now
           → (after : List ℕ) → (0 < length after → IsClosed (t_of k) new.shown)
           → IsWalkFault step errors matcher k (gone ++ (new.shown ++ after)) first e now')
-          → HasFailed step k meaning remaining read_step errors matcher reader first raw new.binary w.offset e r' now'
+          → HasFailed step k meaning remaining read_step errors matcher reader first raw new.binary
+          w.offset e r' now'
       faulted-filled {errors} {matcher} {e} {now'} fault = record {
         input = seen-to _ (omega (
           arith,
@@ -507,23 +544,26 @@ module _ {R : Type 0} {remaining : R → Option (List ℕ)} {read_step : R → R
 
       -- the search ended within what is shown, or with it
       pub counted-filled : {w' : Walk} {now' : S} → HasEnded step k meaning new w now w' now'
-          → HasCounted step k meaning remaining read_step reader first raw new.binary w'.offset r' now'
+          → HasCounted step k meaning remaining read_step reader first raw new.binary w'.offset r'
+          now'
       counted-filled {w'} {now'} ended = record {
         input = seen-to _ high;
         outcome = ended.outcome;
-        over_seen = subst (λ xs. IsCountedFor step k meaning first (so_far.gone ++ xs) w'.offset ended.outcome now')
-            (append-nil new.shown)
+        over_seen = subst (λ xs. IsCountedFor step k meaning first (so_far.gone ++ xs) w'.offset
+            ended.outcome now') (append-nil new.shown)
             (ended.counted so_far.gone first so_far.between.opens ready [] nothing (λ _. refl));
         all = λ bytes input all.
             let count = ap (λ (f : Finish). f.count)
-            (subst (λ o. IsEnding o (line_plan k meaning (view_of k bytes)).finish (counted w'.offset)) all
-            (over bytes input).ending) in
+            (subst (λ o. IsEnding o (line_plan k meaning (view_of k bytes)).finish
+            (counted w'.offset)) all (over bytes input).ending) in
             let text : view_of k bytes ≡ shown ++ after bytes input = (front bytes input).whole in
             subst (λ xs. reports_end k meaning xs ≤ length (lines (t_of k) shown)) (sym text)
             (calls-within k meaning shown _ (front bytes input).closed
-            (subst (λ xs. (line_plan k meaning xs).finish.count ≤ length shown) text (omega (arith, count, high))));
+            (subst (λ xs. (line_plan k meaning xs).finish.count ≤ length shown) text
+            (omega (arith, count, high))));
         ahead = λ limit is passes.
-            let few = reading.taken-few k reads-now passes (fill.settled so_far.between.unended so_far.uncut)
+            let few = reading.taken-few k reads-now passes
+            (fill.settled so_far.between.unended so_far.uncut)
             (fill.passing so_far.between.unended so_far.uncut) in
             omega (
               arith,
@@ -539,9 +579,10 @@ module _ {R : Type 0} {remaining : R → Option (List ℕ)} {read_step : R → R
           over : (bytes : List ℕ) (input : Input bytes)
               → IsCountedFor step k meaning first (view_of k bytes) w'.offset ended.outcome now'
           over bytes input = rw (sym (after-is bytes input))
-              (ended.counted so_far.gone first so_far.between.opens ready (after bytes input) (closes bytes input)
-              (λ nothing_new. last-filled fill.fitting.terminator (view bytes input).0 uncut_way (last bytes input)
-              (subst (IsLast (t_of k) new.shown) start-is nothing_new)))
+              (ended.counted so_far.gone first so_far.between.opens ready (after bytes input)
+              (closes bytes input)
+              (λ nothing_new. last-filled fill.fitting.terminator (view bytes input).0 uncut_way
+              (last bytes input) (subst (IsLast (t_of k) new.shown) start-is nothing_new)))
 
           high : w'.offset ≤ length shown
           high = omega (
@@ -566,7 +607,8 @@ module _ {R : Type 0} {remaining : R → Option (List ℕ)} {read_step : R → R
           whole = sym (consumed on.count) ∙ (held-now.holds.whole
               ∙ (ap (λ x. detected_bytes x old.terminator raw) (sym fill.same.detection)
               ∙ ap (λ c. detected_bytes new.detection c raw) (sym fill.same.terminator)));
-          found = held-now.holds.found ∙ (ap (λ x. found_in x old.terminator raw) (sym fill.same.detection)
+          found = held-now.holds.found
+              ∙ (ap (λ x. found_in x old.terminator raw) (sym fill.same.detection)
               ∙ ap (λ c. found_in new.detection c raw) (sym fill.same.terminator));
           decodes = held-now.holds.decodes;
         });
@@ -575,7 +617,8 @@ module _ {R : Type 0} {remaining : R → Option (List ℕ)} {read_step : R → R
       }
 
 -- buffers that fit a configuration do so after a fill
-pub fitting-filled : {most : Option ℕ} {t : ℕ} {old new : BufferState} → IsFitting most t old → IsSameBuffer old new
+pub fitting-filled : {most : Option ℕ} {t : ℕ} {old new : BufferState} → IsFitting most t old
+    → IsSameBuffer old new
     → GrowsIfFull old new → IsWithin new.limit new.size → IsFitting most t new
 fitting-filled {most} {old} {new} fitting same grows within = record {
   limit = same.limit ∙ fitting.limit;

@@ -1,4 +1,5 @@
--- What a search of a stream comes to: before its first line, at `binary_data` and after it, and at `finish`.
+-- What a search of a stream comes to: before its first line, at `binary_data` and after it, and at
+-- `finish`.
 use Rattle.grep_core.proofs.ReadingLemmas.{IsStream}
 use Rattle.grep_core.specs.BinaryCalls.{Noted, PassesBinary}
 use Rattle.grep_core.specs.Rolls.{HasCounted, HasFailed, HasSeen, IsCountedFor, IsStartAt}
@@ -55,8 +56,8 @@ use Rattle.std.specs.Prelude.{is_none, is_some, ◌&&◌, ◌||◌, not}
 use Rattle.grep_walk.proofs.WalkLemmas as walks
 
 -- what returned true and goes on doesn't end the search
-pub goes-true : (d : BinaryDetection) (returned : Bool) → true ≡ (returned && is_none (quit_byte_of d))
-    → (returned ≡ true) × (quits d ≡ false)
+pub goes-true : (d : BinaryDetection) (returned : Bool) → true
+    ≡ (returned && is_none (quit_byte_of d)) → (returned ≡ true) × (quits d ≡ false)
 goes-true no_detection true goes = (refl, refl)
 goes-true no_detection false goes = cc
 goes-true (Quit b) true goes = cc
@@ -72,12 +73,14 @@ goes-false (Convert b) ends = cc
 
 module _ {S E : Type 0} (step : Steps S E) (k : Settings) where
   -- a search that goes on has a buffer that isn't cut
-  pub uncut-passed : (old new : BufferState) (sink sink' : Noted S) → has_quit old ≡ false → new.detection ≡ old.detection
+  pub uncut-passed : (old new : BufferState) (sink sink' : Noted S) → has_quit old ≡ false
+      → new.detection ≡ old.detection
       → old.detection ≡ detection_of k.binary_detection → sink.binary ≡ old.binary
       → PassesBinary step k new.binary sink true sink' → has_quit new ≡ false
   uncut-passed old new sink sink' uncut same detects noted_there
       (inl (o, is, none, known, (returned, called, goes))) =
-      ap (λ b. b && is_some new.binary) (ap is_quit (same ∙ detects) ∙ go k.binary_detection returned goes)
+      ap (λ b. b && is_some new.binary) (ap is_quit (same ∙ detects)
+      ∙ go k.binary_detection returned goes)
     where
       go : (d : BinaryDetection) (returned : Bool) → true ≡ (returned && is_none (quit_byte_of d))
           → is_quit (detection_of d) ≡ false
@@ -100,27 +103,31 @@ module _ {S E : Type 0} (step : Steps S E) (k : Settings) where
       go false never = refl
 
   -- what is noted is what the buffer found
-  pub noted-passed : (old new other : Option ℕ) (sink sink' : Noted S) → new ≡ first_of old other → sink.binary ≡ old
-      → PassesBinary step k new sink true sink' → sink'.binary ≡ new
-  noted-passed old new other sink sink' found there (inl (o, is, none, known, called)) = known ∙ sym is
+  pub noted-passed : (old new other : Option ℕ) (sink sink' : Noted S) → new ≡ first_of old other
+      → sink.binary ≡ old → PassesBinary step k new sink true sink' → sink'.binary ≡ new
+  noted-passed old new other sink sink' found there (inl (o, is, none, known, called)) = known
+      ∙ sym is
   noted-passed old new other sink sink' found there (inr (inl none, goes, kept)) =
-      ap (λ (n : Noted S). n.binary) kept ∙ (there ∙ (first-none old other (sym found ∙ none) ∙ sym none))
+      ap (λ (n : Noted S). n.binary) kept
+      ∙ (there ∙ (first-none old other (sym found ∙ none) ∙ sym none))
   noted-passed None new other sink sink' found there (inr (inr some, goes, kept)) =
       absurd (false≢true (sym (ap is_some there) ∙ some))
   noted-passed (Some o) new other sink sink' found there (inr (inr some, goes, kept)) =
       ap (λ (n : Noted S). n.binary) kept ∙ (there ∙ sym found)
 
-made-in : {S E : Type 0} (step : Steps S E) (k : Settings) (point : BinaryPoint) (calls : List Planned) {front back later : List Planned}
-    → take point.position calls ≡ front → drop point.position calls ≡ back → map (after_binary point) back ≡ later
-    → (old : S) (outcome : Outcome E) (last : S)
+made-in : {S E : Type 0} (step : Steps S E) (k : Settings) (point : BinaryPoint)
+    (calls : List Planned) {front back later : List Planned}
+    → take point.position calls ≡ front → drop point.position calls ≡ back
+    → map (after_binary point) back ≡ later → (old : S) (outcome : Outcome E) (last : S)
     → AreMade step k old (front ++ planned_binary point ∷ later) outcome last
     → AreMade step k old (calls_with (Some point) calls) outcome last
 made-in step k point calls taken dropped same old outcome last made = rw (taken, dropped, same) made
 
 -- where `binary_data` came
-abbrev pub point_of : {S E : Type 0} {step : Steps S E} {k : Settings} {meaning : Meaning} {given : List ℕ} {at : ℕ}
-    {old : S} {next : Origin S} {found : Option ℕ} → IsStartAt step k meaning given at old next found
-    → Option BinaryPoint
+abbrev pub point_of : {S E : Type 0} {step : Steps S E} {k : Settings} {meaning : Meaning}
+    {given : List ℕ} {at : ℕ}
+    {old : S} {next : Origin S} {found : Option ℕ} → IsStartAt step k meaning given at old next
+    found → Option BinaryPoint
 point_of (not_passed same) = None
 point_of {k} {meaning} (was_passed offset start) = Some (record {
   position = length (search_plan k meaning start.seen).calls;
@@ -128,15 +135,16 @@ point_of {k} {meaning} (was_passed offset start) = Some (record {
   count = length start.seen;
 })
 
-module _ {S E : Type 0} {step : Steps S E} {k : Settings} {meaning : Meaning} (by_line : is_across k meaning ≡ false)
+module _ {S E : Type 0} {step : Steps S E} {k : Settings} {meaning : Meaning}
+    (by_line : is_across k meaning ≡ false)
     {given : List ℕ} {at : ℕ} {old : S} {next : Origin S} where
   -- the calls that a walk made from the state after it are those of a search with it
-  made-with : {found : Option ℕ} (start : IsStartAt step k meaning given at old next found) {made : List Planned}
+  made-with : {found : Option ℕ} (start : IsStartAt step k meaning given at old next found)
+      {made : List Planned}
       {outcome : Outcome E} {last : S} → AreMadeFrom step k next made outcome last
       → AreMade step k old (calls_with (point_of start) made) (outcome_by found outcome) last
   made-with (not_passed same) {made} {outcome} {last} so_far =
-      subst (λ o. AreMade step k old made o last) (by-none _)
-      (fresh-made step k old made _ last
+      subst (λ o. AreMade step k old made o last) (by-none _) (fresh-made step k old made _ last
       (subst (λ (origin : Origin S). AreMadeFrom step k origin made outcome last) same so_far))
   made-with (was_passed offset start) {made} {outcome} {last} so_far =
       let front : List Planned = (line_plan k meaning start.seen).calls in
@@ -149,10 +157,10 @@ module _ {S E : Type 0} {step : Steps S E} {k : Settings} {meaning : Meaning} (b
       } in
       let position : point.position ≡ length front = ap length (calls-are k meaning by_line _) in
       made-in step k point made
-      (ap (λ n. take n made) position ∙ ap (λ cs. take (length front) cs) is ∙ take-append_seam front later)
-      (ap (λ n. drop n made) position ∙ ap (λ cs. drop (length front) cs) is ∙ drop-append_seam front later)
-      refl old _ last
-      (AreMade-append step k front _ old _
+      (ap (λ n. take n made) position ∙ ap (λ cs. take (length front) cs) is
+      ∙ take-append_seam front later)
+      (ap (λ n. drop n made) position ∙ ap (λ cs. drop (length front) cs) is
+      ∙ drop-append_seam front later) refl old _ last (AreMade-append step k front _ old _
       _ last start.before
       (inl (
         next.state,
@@ -162,24 +170,28 @@ module _ {S E : Type 0} {step : Steps S E} {k : Settings} {meaning : Meaning} (b
       )))
 
   -- so are all calls of an input
-  made-along : {found : Option ℕ} (start : IsStartAt step k meaning given at old next found) (bytes : List ℕ)
-      {outcome : Outcome E} {last : S} → AreMadeFrom step k next (line_plan k meaning bytes).calls outcome last
-      → AreMade step k old (plan_with k.binary_detection (point_of start) (search_plan k meaning bytes)).calls
-      (outcome_by found outcome) last
+  made-along : {found : Option ℕ} (start : IsStartAt step k meaning given at old next found)
+      (bytes : List ℕ)
+      {outcome : Outcome E} {last : S} → AreMadeFrom step k next (line_plan k meaning bytes).calls
+      outcome last → AreMade step k old (plan_with k.binary_detection (point_of start)
+      (search_plan k meaning bytes)).calls (outcome_by found outcome) last
   made-along {found} start bytes {outcome} {last} so_far =
-      subst (λ cs. AreMade step k old cs (outcome_by found outcome) last) (sym (go start)) (made-with start so_far)
+      subst (λ cs. AreMade step k old cs (outcome_by found outcome) last) (sym (go start))
+      (made-with start so_far)
     where
       go : {found : Option ℕ} (start : IsStartAt step k meaning given at old next found)
           → (plan_with k.binary_detection (point_of start) (search_plan k meaning bytes)).calls
           ≡ calls_with (point_of start) (line_plan k meaning bytes).calls
       go (not_passed same) = calls-are k meaning by_line bytes
       go (was_passed offset start) =
-          with-calls _ start.goes_on (point_of (was_passed offset start)) (search_plan k meaning bytes)
+          with-calls _ start.goes_on (point_of (was_passed offset start))
+          (search_plan k meaning bytes)
           ∙ ap (calls_with (point_of (was_passed offset start))) (calls-are k meaning by_line bytes)
 
-  ending-along : {found : Option ℕ} (start : IsStartAt step k meaning given at old next found) (bytes : List ℕ)
-      (count : ℕ) (outcome : Outcome E) → IsEnding outcome (line_plan k meaning bytes).finish (counted count)
-      → IsEnding (outcome_by found outcome)
+  ending-along : {found : Option ℕ} (start : IsStartAt step k meaning given at old next found)
+      (bytes : List ℕ)
+      (count : ℕ) (outcome : Outcome E) → IsEnding outcome (line_plan k meaning bytes).finish
+      (counted count) → IsEnding (outcome_by found outcome)
       (plan_with k.binary_detection (point_of start) (search_plan k meaning bytes)).finish
       (record { count = count; binary = found })
   ending-along {found} start bytes count all_true same =
@@ -197,11 +209,13 @@ module _ {S E : Type 0} {step : Steps S E} {k : Settings} {meaning : Meaning} (b
           }) (search_plan k meaning bytes)
           ∙ ap (with_offset offset) (finish-is k meaning by_line bytes)
   ending-along (not_passed begun) bytes count (stopped finish) same = same
-  ending-along (was_passed offset start) bytes count (stopped finish) same = ap (with_offset offset) same
+  ending-along (was_passed offset start) bytes count (stopped finish) same =
+      ap (with_offset offset) same
   ending-along start bytes count (failed e) never = absurd never
 
   -- `binary_data` comes where these calls have begun
-  is-point : {found : Option ℕ} (start : IsStartAt step k meaning given at old next found) {made : List Planned}
+  is-point : {found : Option ℕ} (start : IsStartAt step k meaning given at old next found)
+      {made : List Planned}
       {outcome : Outcome E} {last : S} → AreMadeFrom step k next made outcome last
       → {bytes : List ℕ} (later : List ℕ) → bytes ≡ given ++ later → (n : ℕ)
       → (found ≡ None → binary_of k (take n bytes) ≡ None)
@@ -229,7 +243,8 @@ module _ {S E : Type 0} {step : Steps S E} {k : Settings} {meaning : Meaning} (b
   goes-on (was_passed offset start) ends = absurd (clash ends start.goes_on)
 
   -- what was seen of an input that is read
-  module _ {R : Type 0} {remaining : R → Option (List ℕ)} {read_step : R → ReadResult → R → Type 0} {reader reader' : R}
+  module _ {R : Type 0} {remaining : R → Option (List ℕ)} {read_step : R → ReadResult → R → Type 0}
+      {reader reader' : R}
       {found : Option ℕ} (start : IsStartAt step k meaning given at old next found)
       (input : HasSeen step k meaning remaining read_step reader given found at reader') where
     abbrev One : List ℕ → Type 0
@@ -244,17 +259,21 @@ module _ {S E : Type 0} {step : Steps S E} {k : Settings} {meaning : Meaning} (b
 
     -- among the calls over some bytes
     plan-point : (over : List ℕ) {outcome : Outcome E} {last : S}
-        → AreMadeFrom step k next (line_plan k meaning over).calls outcome last → (bytes : List ℕ) → One bytes
-        → IsPoint k meaning bytes on_stream (length input.seen) (search_plan k meaning over).calls (point_of start)
+        → AreMadeFrom step k next (line_plan k meaning over).calls outcome last → (bytes : List ℕ)
+        → One bytes
+        → IsPoint k meaning bytes on_stream (length input.seen) (search_plan k meaning over).calls
+        (point_of start)
     plan-point over so_far bytes is =
         rw (calls-are k meaning by_line over) (point-at so_far bytes is)
 
     -- the calls for the lines that were seen
-    pub seen-made : {last : S} → AreMadeFrom step k next (line_plan k meaning input.seen).calls all_true last
-        → (point : Option BinaryPoint) × ((bytes : List ℕ) → One bytes → IsPoint k meaning bytes on_stream
+    pub seen-made : {last : S} → AreMadeFrom step k next (line_plan k meaning input.seen).calls
+        all_true last → (point : Option BinaryPoint)
+        × ((bytes : List ℕ) → One bytes → IsPoint k meaning bytes on_stream
         (length input.seen) (search_plan k meaning input.seen).calls point)
         × (quits k.binary_detection ≡ true → point ≡ None)
-        × AreMade step k old (calls_with point (search_plan k meaning input.seen).calls) all_true last
+        × AreMade step k old (calls_with point (search_plan k meaning input.seen).calls) all_true
+        last
     seen-made {last} so_far = (
       point_of start,
       plan-point _ so_far,
@@ -263,12 +282,15 @@ module _ {S E : Type 0} {step : Steps S E} {k : Settings} {meaning : Meaning} (b
     )
 
   -- a walk over it came to its end
-  pub counted-planned : {R : Type 0} {remaining : R → Option (List ℕ)} {read_step : R → ReadResult → R → Type 0}
-      {reader reader' : R} {last : S} {found : Option ℕ} → (k.passthru ≡ true → k.before_context ≡ 0)
+  pub counted-planned : {R : Type 0} {remaining : R → Option (List ℕ)} {read_step : R → ReadResult
+      → R → Type 0} {reader reader' : R} {last : S} {found : Option ℕ}
+      → (k.passthru ≡ true → k.before_context ≡ 0)
       → (start : IsStartAt step k meaning given at old next found)
       → HasCounted step k meaning remaining read_step reader next given found at reader' last
-      → IsStreamCounted step k meaning remaining read_step reader old (record { count = at; binary = found }) reader'
-      last
+      → IsStreamCounted step k meaning remaining read_step reader old (record {
+        count = at;
+        binary = found;
+      }) reader' last
   counted-planned {last} {found} built start ended = record {
     taken = ended.input.taken;
     seen = ended.input.seen;
@@ -287,16 +309,23 @@ module _ {S E : Type 0} {step : Steps S E} {k : Settings} {meaning : Meaning} (b
   }
 
 -- such a walk, by what is known of the matcher
-module _ {S E F : Type 0} {step : Steps S E} {errors : ErrorMakers F E} (matcher : MatcherFacts F) {k : Settings}
-    (by_line : is_across k matcher.meaning ≡ false) {given : List ℕ} {at : ℕ} {old : S} {next : Origin S}
+module _ {S E F : Type 0} {step : Steps S E} {errors : ErrorMakers F E} (matcher : MatcherFacts F)
+    {k : Settings}
+    (by_line : is_across k matcher.meaning ≡ false) {given : List ℕ} {at : ℕ} {old : S}
+    {next : Origin S}
     {found : Option ℕ} (begun : IsStartAt step k matcher.meaning given at old next found) where
   -- it ended in an error
-  pub failed-planned : {R : Type 0} {remaining : R → Option (List ℕ)} {read_step : R → ReadResult → R → Type 0}
-      {has_buffers : Bool} {reader reader' : R} {e : E} {last : S} → (k.passthru ≡ true → k.before_context ≡ 0)
-      → HasFailed step k matcher.meaning remaining read_step errors matcher reader next given found at e reader' last
-      → IsReaderSearch remaining read_step step errors matcher (record { settings = k; has_buffers = has_buffers })
-      on_stream reader old (Err e) reader' last
-  failed-planned {remaining = remaining} {read_step = read_step} {has_buffers = has_buffers} {e = e} {last = last} built
+  pub failed-planned : {R : Type 0} {remaining : R → Option (List ℕ)} {read_step : R → ReadResult
+      → R → Type 0} {has_buffers : Bool} {reader reader' : R} {e : E} {last : S}
+      → (k.passthru ≡ true → k.before_context ≡ 0)
+      → HasFailed step k matcher.meaning remaining read_step errors matcher reader next given found
+      at e reader' last
+      → IsReaderSearch remaining read_step step errors matcher (record {
+        settings = k;
+        has_buffers = has_buffers;
+      }) on_stream reader old (Err e) reader' last
+  failed-planned {remaining = remaining} {read_step = read_step} {has_buffers = has_buffers} {e = e}
+      {last = last} built
       ended = record {
         taken = ended.input.taken;
         seen = seen;
@@ -316,17 +345,21 @@ module _ {S E F : Type 0} {step : Steps S E} {errors : ErrorMakers F E} (matcher
       One : List ℕ → Type 0
       One = IsInput k ended.input.taken.ended ended.input.taken.pieces
 
-      go : {HasRead : Plan → Outcome E → Result (Unit {0}) E → Type 0} → ((plan : Plan) → HasRead plan (failed e) (Err e))
-          → IsWalkFault step errors matcher k seen next e last
-          → IsSearchOf step errors matcher k
+      go : {HasRead : Plan → Outcome E → Result (Unit {0}) E → Type 0}
+          → ((plan : Plan) → HasRead plan (failed e) (Err e))
+          → IsWalkFault step errors matcher k seen next e last → IsSearchOf step errors matcher k
           (EachPoint remaining read_step step errors matcher state on_stream One (length seen))
           (EachAsked remaining read_step step errors matcher state on_stream One seen) HasRead
           (search_plan k matcher.meaning seen) old (Err e) last
       go far (at_call so_far) =
-          ran (point_of begun)
-          (rw (calls-are k matcher.meaning by_line seen) (point-at by_line begun ended.input so_far))
-          (record { outcome = failed e; mid = last; made = made-along by_line begun seen so_far; finished = (refl, refl) })
-          (far _)
+          ran (point_of begun) (rw (calls-are k matcher.meaning by_line seen)
+          (point-at by_line begun ended.input so_far))
+          (record {
+            outcome = failed e;
+            mid = last;
+            made = made-along by_line begun seen so_far;
+            finished = (refl, refl);
+          }) (far _)
       go far (at_question haystack error made later asks first fails message so_far) =
           asked haystack error made (
             asked-with k _ by_line asks,
@@ -344,8 +377,8 @@ module _ {R : Type 0} {remaining : R → Option (List ℕ)} {read_step : R → R
     {S E : Type 0} (step : Steps S E) {k : Settings} {meaning : Meaning} {decoder : DecoderState}
     (stream : IsStream remaining read_step k meaning decoder) {reader reader' : R} (old : S)
     (taken : Taken remaining read_step reader reader') (seen : List ℕ)
-    (offset : ℕ) (cut : (bytes : List ℕ) → IsInput k taken.ended taken.pieces bytes → IsCutAt k meaning bytes seen
-    offset)
+    (offset : ℕ) (cut : (bytes : List ℕ) → IsInput k taken.ended taken.pieces bytes
+    → IsCutAt k meaning bytes seen offset)
     (mid : S) (before : AreMade step k old (line_plan k meaning seen).calls all_true mid) where
   abbrev plan : List ℕ → Plan
   plan bytes = search_plan k meaning bytes
@@ -375,21 +408,22 @@ module _ {R : Type 0} {remaining : R → Option (List ℕ)} {read_step : R → R
   made-front = subst (λ cs. AreMade step k old cs all_true mid) (sym (plan-calls seen)) before
 
   abbrev at-seen : (bytes : List ℕ) → IsOne bytes → IsStreamPoint k meaning bytes front point
-  at-seen bytes one = stream-point k _ bytes seen _ (cut bytes one) front [] (sym (append-nil front))
+  at-seen bytes one = stream-point k _ bytes seen _ (cut bytes one) front []
+      (sym (append-nil front))
 
   -- the calls for the lines that were seen come first
-  calls-begun : (bytes : List ℕ) → IsOne bytes → (later : List Planned) × ((plan (view_of k bytes)).calls ≡ front ++
-      later)
+  calls-begun : (bytes : List ℕ) → IsOne bytes → (later : List Planned)
+      × ((plan (view_of k bytes)).calls ≡ front ++ later)
   calls-begun bytes one =
       let there = (cut bytes one).front in
       let begun = front_calls-begin k meaning seen _ there.closed stream.built in (
         begun.0,
-        plan-calls _
-            ∙ (ap (λ xs. (line_plan k meaning xs).calls) there.front.whole ∙ begun.1
+        plan-calls _ ∙ (ap (λ xs. (line_plan k meaning xs).calls) there.front.whole ∙ begun.1
             ∙ ap (λ cs. cs ++ begun.0) (sym (plan-calls seen))),
       )
 
-  module _ (outcome : Outcome E) (last : S) (called : AreMade step k mid (planned_binary point ∷ []) outcome last)
+  module _ (outcome : Outcome E) (last : S) (called : AreMade step k mid (planned_binary point ∷ [])
+      outcome last)
       (ends : outcome ≡ all_true → quits k.binary_detection ≡ true) where
     made-quit : (p : Plan) → take point.position p.calls ≡ front
         → AreMade step k old (plan_with k.binary_detection (Some point) p).calls outcome last
@@ -397,10 +431,13 @@ module _ {R : Type 0} {remaining : R → Option (List ℕ)} {read_step : R → R
         _ last made-front called ends
 
     -- in an error of `binary_data`
-    pub failed-there : {F : Type 0} {errors : ErrorMakers F E} (facts : MatcherFacts F) {has_buffers : Bool} {e : E}
-        → outcome ≡ failed e
+    pub failed-there : {F : Type 0} {errors : ErrorMakers F E} (facts : MatcherFacts F)
+        {has_buffers : Bool} {e : E} → outcome ≡ failed e
         → IsReaderSearch remaining read_step step errors (record facts { meaning = meaning })
-        (record { settings = k; has_buffers = has_buffers }) on_stream reader old (Err e) reader' last
+        (record {
+          settings = k;
+          has_buffers = has_buffers;
+        }) on_stream reader old (Err e) reader' last
     failed-there facts {e} fails =
         let along : (p : Plan) → take point.position p.calls ≡ front
         → IsRun step k old (plan_with k.binary_detection (Some point) p) (Err e) last =
@@ -416,7 +453,8 @@ module _ {R : Type 0} {remaining : R → Option (List ℕ)} {read_step : R → R
           each = λ bytes one.
               let begins = calls-begun bytes one in
               record { front = (cut bytes one).front.front; later = begins.0; calls = begins.1 };
-          over_seen = ran (Some point) at-seen (along (plan seen) (at-seen some is-one).before) ((λ all. cc), tt);
+          over_seen = ran (Some point) at-seen (along (plan seen) (at-seen some is-one).before)
+              ((λ all. cc), tt);
           whole = λ across. absurd (clash across stream.by_line);
         }
 
@@ -464,118 +502,148 @@ idle-unread true detecting unread = refl
 idle-unread false detecting unread = absurd (false≢true (sym unread))
 
 -- the whole count is 0 if it is that of calls that all returned true
-pub none-counted : {E : Type 0} {outcome : Outcome E} (whole : ℕ) → IsEnding outcome (counted whole) (counted 0)
-    → outcome ≡ all_true → whole ≡ 0
+pub none-counted : {E : Type 0} {outcome : Outcome E} (whole : ℕ) → IsEnding outcome (counted whole)
+    (counted 0) → outcome ≡ all_true → whole ≡ 0
 none-counted whole same all =
-    sym (ap (λ (f : Finish). f.count) (subst (λ o. IsEnding o (counted whole) (counted 0)) all same))
+    sym (ap (λ (f : Finish). f.count) (subst (λ o. IsEnding o (counted whole) (counted 0)) all
+    same))
 
-module _ {R : Type 0} (remaining : R → Option (List ℕ)) (read_step : R → ReadResult → R → Type 0) where
-  -- nothing was taken
-  abbrev nothing-taken : (reader : R) → Taken remaining read_step reader reader
-  nothing-taken reader = record { ended = false; pieces = []; calls = refl; takes = Consumes-nil (remaining reader) }
+module _ {R : Type 0} (remaining : R → Option (List ℕ)) (read_step : R → ReadResult → R → Type 0)
+  where
+    -- nothing was taken
+    abbrev nothing-taken : (reader : R) → Taken remaining read_step reader reader
+    nothing-taken reader = record {
+      ended = false;
+      pieces = [];
+      calls = refl;
+      takes = Consumes-nil (remaining reader);
+    }
 
-  module _ {S E : Type 0} (step : Steps S E) (k : Settings) (meaning : Meaning) where
-    -- no line was seen of what was taken
-    module _ {reader reader' : R} {given : List ℕ} {found : Option ℕ} (taken : Taken remaining read_step reader reader')
-        (begins : (bytes : List ℕ) → IsInput k taken.ended taken.pieces bytes → (later : List ℕ) × (bytes ≡ given ++ later))
-      where
-        abbrev seen-none : HasSeen step k meaning remaining read_step reader given found 0 reader'
-        seen-none = record {
-          taken = taken;
-          seen = [];
-          within = omega arith;
-          begins = begins;
-          front = λ bytes input. front-none;
-          clear = λ none bytes input. as-found k.binary_detection _ [] ∙ found-nil _ (byte_of k.line_terminator);
-        }
+    module _ {S E : Type 0} (step : Steps S E) (k : Settings) (meaning : Meaning) where
+      -- no line was seen of what was taken
+      module _ {reader reader' : R} {given : List ℕ} {found : Option ℕ}
+          (taken : Taken remaining read_step reader reader')
+          (begins : (bytes : List ℕ) → IsInput k taken.ended taken.pieces bytes → (later : List ℕ)
+          × (bytes ≡ given ++ later))
+        where
+          abbrev seen-none : HasSeen step k meaning remaining read_step reader given found 0 reader'
+          seen-none = record {
+            taken = taken;
+            seen = [];
+            within = omega arith;
+            begins = begins;
+            front = λ bytes input. front-none;
+            clear = λ none bytes input. as-found k.binary_detection _ []
+                ∙ found-nil _ (byte_of k.line_terminator);
+          }
 
-        -- nor was any reported
-        pub counted-unseen : is_across k meaning ≡ false → (k.passthru ≡ true → k.before_context ≡ 0) → {old new : S} {next : Origin S}
-            → IsStartAt step k meaning given 0 old next found → (outcome : Outcome E)
-            → ((bytes : List ℕ) → IsCountedFor step k meaning next bytes 0 outcome new)
-            → ((limit : ℕ) → k.heap_limit ≡ Some limit → encoding_of k (concat taken.pieces) ≡ None
-            → length (concat taken.pieces) ≤ 0 + limit + 3)
-            → IsStreamCounted step k meaning remaining read_step reader old (record { count = 0; binary = found }) reader'
-            new
-        counted-unseen by_line built begun outcome over ahead = counted-planned by_line built begun (record {
-          input = seen-none;
-          outcome = outcome;
-          over_seen = over [];
-          all = λ bytes input all. calls-within k meaning [] (view_of k bytes)
-              (λ more some. absurd (omega (arith, some)))
-              (omega (
-                arith,
-                none-counted (line_plan k meaning (view_of k bytes)).finish.count (over (view_of k bytes)).ending
-                    all,
-              ));
-          ahead = ahead;
+          -- nor was any reported
+          pub counted-unseen : is_across k meaning ≡ false
+              → (k.passthru ≡ true → k.before_context ≡ 0) → {old new : S} {next : Origin S}
+              → IsStartAt step k meaning given 0 old next found → (outcome : Outcome E)
+              → ((bytes : List ℕ) → IsCountedFor step k meaning next bytes 0 outcome new)
+              → ((limit : ℕ) → k.heap_limit ≡ Some limit → encoding_of k (concat taken.pieces)
+              ≡ None → length (concat taken.pieces) ≤ 0 + limit + 3)
+              → IsStreamCounted step k meaning remaining read_step reader old (record {
+                count = 0;
+                binary = found;
+              }) reader' new
+          counted-unseen by_line built begun outcome over ahead =
+              counted-planned by_line built begun
+              (record {
+                input = seen-none;
+                outcome = outcome;
+                over_seen = over [];
+                all = λ bytes input all. calls-within k meaning [] (view_of k bytes)
+                    (λ more some. absurd (omega (arith, some)))
+                    (omega (
+                      arith,
+                      none-counted (line_plan k meaning (view_of k bytes)).finish.count
+                          (over (view_of k bytes)).ending all,
+                    ));
+                ahead = ahead;
+              })
+
+      abbrev IsUnread : R → S → S → Type 0
+      IsUnread reader old new =
+          IsStreamCounted step k meaning remaining read_step reader old (record {
+            count = 0;
+            binary = None;
+          }) reader new
+
+      module _ (by_line : is_across k meaning ≡ false) (built : k.passthru ≡ true → k.before_context
+          ≡ 0) {reader : R}
+          {old new : S} where
+        counted-unread : (outcome : Outcome E)
+            → ((bytes : List ℕ) → IsCountedFor step k meaning (fresh old) bytes 0 outcome new)
+            → IsUnread reader old new
+        counted-unread outcome over = counted-unseen {given = []} (nothing-taken reader)
+            (λ bytes input. (bytes, refl)) by_line
+            built (not_passed refl) outcome over (λ limit is same. omega arith)
+
+        -- `begin` returned false
+        pub counted-unbegun : step old k begins (Ok false) new → IsUnread reader old new
+        counted-unbegun stops = counted-unread _
+            (λ bytes. walks.counted-unbegun k meaning bytes step old new stops)
+
+        -- no line may be reported
+        pub counted-idle : reports_nothing k ≡ true → step old k begins (Ok true) new
+            → IsUnread reader old new
+        counted-idle idle goes =
+            counted-unread _ (λ bytes. walks.counted-idle k meaning bytes step _ new
+            idle (walks.reported-begin k meaning bytes step old new goes))
+
+    -- `begin` failed
+    pub fault-begin : {S E F : Type 0} (step : Steps S E) (errors : ErrorMakers F E)
+        (matcher : MatcherFacts F)
+        {state : SearcherState} → is_across state.settings matcher.meaning ≡ false
+        → (state.settings.passthru ≡ true → state.settings.before_context ≡ 0)
+        → {reader : R} {old : S} (e : E) (new : S) → step old state.settings begins (Err e) new
+        → IsReaderSearch remaining read_step step errors matcher state on_stream reader old
+        (Err e) reader new
+    fault-begin step errors matcher {state} by_line built {reader} {old} e new fails =
+        let made : (bytes : List ℕ) → IsWalkFault step errors matcher state.settings bytes
+        (fresh old)
+        e new =
+        λ bytes. at_call (record {
+          later = (line_plan state.settings matcher.meaning bytes).calls;
+          all = refl;
+          made = inr (inr (
+            e,
+            refl,
+            fails,
+          ));
+        }) in
+        failed-planned _ by_line {given = []} (not_passed refl) built (record {
+          input = seen-none step _ _ (nothing-taken _) (λ bytes input. (bytes, refl));
+          over_seen = made [];
         })
 
-    abbrev IsUnread : R → S → S → Type 0
-    IsUnread reader old new =
-        IsStreamCounted step k meaning remaining read_step reader old (record { count = 0; binary = None }) reader new
-
-    module _ (by_line : is_across k meaning ≡ false) (built : k.passthru ≡ true → k.before_context ≡ 0) {reader : R}
-        {old new : S} where
-      counted-unread : (outcome : Outcome E)
-          → ((bytes : List ℕ) → IsCountedFor step k meaning (fresh old) bytes 0 outcome new) → IsUnread reader old new
-      counted-unread outcome over = counted-unseen {given = []} (nothing-taken reader) (λ bytes input. (bytes, refl)) by_line
-          built (not_passed refl) outcome over (λ limit is same. omega arith)
-
-      -- `begin` returned false
-      pub counted-unbegun : step old k begins (Ok false) new → IsUnread reader old new
-      counted-unbegun stops = counted-unread _
-          (λ bytes. walks.counted-unbegun k meaning bytes step old new stops)
-
-      -- no line may be reported
-      pub counted-idle : reports_nothing k ≡ true → step old k begins (Ok true) new → IsUnread reader old new
-      counted-idle idle goes = counted-unread _ (λ bytes. walks.counted-idle k meaning bytes step _ new
-          idle (walks.reported-begin k meaning bytes step old new goes))
-
-  -- `begin` failed
-  pub fault-begin : {S E F : Type 0} (step : Steps S E) (errors : ErrorMakers F E) (matcher : MatcherFacts F)
-      {state : SearcherState} → is_across state.settings matcher.meaning ≡ false
-      → (state.settings.passthru ≡ true → state.settings.before_context ≡ 0) → {reader : R} {old : S} (e : E) (new : S) → step old state.settings begins (Err e) new
-      → IsReaderSearch remaining read_step step errors matcher state on_stream reader old (Err e) reader new
-  fault-begin step errors matcher {state} by_line built {reader} {old} e new fails =
-      let made : (bytes : List ℕ) → IsWalkFault step errors matcher state.settings bytes (fresh old) e new =
-      λ bytes. at_call (record {
-        later = (line_plan state.settings matcher.meaning bytes).calls;
-        all = refl;
-        made = inr (inr (
-          e,
-          refl,
-          fails,
-        ));
-      }) in
-      failed-planned _ by_line {given = []} (not_passed refl) built (record {
-        input = seen-none step _ _ (nothing-taken _) (λ bytes input. (bytes, refl));
-        over_seen = made [];
-      })
-
 -- what `finish` has
-after-is : {E : Type 0} (outcome : Outcome E) (whole finish : Finish) → IsEnding outcome whole finish
-    → finish_after outcome whole ≡ finish
+after-is : {E : Type 0} (outcome : Outcome E) (whole finish : Finish)
+    → IsEnding outcome whole finish → finish_after outcome whole ≡ finish
 after-is all_true whole finish is = sym is
 after-is (stopped if_false) whole finish is = sym is
 after-is (failed e) whole finish never = absurd never
 
 module _ {S E F : Type 0} (step : Steps S E) (errors : ErrorMakers F E) (matcher : MatcherFacts F)
-    {R : Type 0} (remaining : R → Option (List ℕ)) (read_step : R → ReadResult → R → Type 0) (k : Settings)
-    (has_buffers : Bool) (by_line : is_across k matcher.meaning ≡ false)
+    {R : Type 0} (remaining : R → Option (List ℕ)) (read_step : R → ReadResult → R → Type 0)
+    (k : Settings) (has_buffers : Bool) (by_line : is_across k matcher.meaning ≡ false)
     (reader : R) (old : S) (reader' : R) (finish : Finish) (last : S) where
   abbrev state : SearcherState
   state = record { settings = k; has_buffers = has_buffers }
 
-  ended : (result : Result (Unit {0}) E) {new : S} → HasStarted step k matcher.meaning remaining read_step reader old
-      reader'
+  ended : (result : Result (Unit {0}) E) {new : S} → HasStarted step k matcher.meaning remaining
+      read_step reader old reader'
       → IsStreamCounted step k matcher.meaning remaining read_step reader old finish reader' last
       → step last k (finishes finish.count finish.binary) (finish_result result) new
-      → IsReaderSearch remaining read_step step errors matcher state on_stream reader old result reader' new
+      → IsReaderSearch remaining read_step step errors matcher state on_stream reader old result
+      reader' new
   unfolding run-finish
   ended result {new} begun counted made =
       let meaning = matcher.meaning in
-      let plan : Plan = plan_with k.binary_detection counted.point (search_plan k meaning counted.seen) in
+      let plan : Plan = plan_with k.binary_detection counted.point
+      (search_plan k meaning counted.seen) in
       record {
         taken = counted.taken;
         seen = counted.seen;
@@ -587,11 +655,11 @@ module _ {S E F : Type 0} (step : Steps S E) (errors : ErrorMakers F E) (matcher
               (λ all goes_on bytes input.
                   let few = counted.all all
                   (λ ends. ap (λ (f : Finish). f.binary)
-                  (subst (λ o. IsEnding o plan.finish finish) all counted.over_seen.ending) ∙ goes_on ends)
-                  bytes input in
+                  (subst (λ o. IsEnding o plan.finish finish) all counted.over_seen.ending)
+                  ∙ goes_on ends) bytes input in
                   record {
-                    few = subst (λ m. (selection_in k meaning (view_of k bytes) m).end ≤ line_count k counted.seen)
-                        (sym by_line) few;
+                    few = subst (λ m. (selection_in k meaning (view_of k bytes) m).end
+                        ≤ line_count k counted.seen) (sym by_line) few;
                     plan = plan-same meaning by_line (counted.front bytes input) few;
                   }),
               on-ok result (λ by_lines. record {
@@ -603,8 +671,8 @@ module _ {S E F : Type 0} (step : Steps S E) (errors : ErrorMakers F E) (matcher
                 counted = subst (λ (f : Finish). f.count ≤ length counted.seen)
                     (sym (after-is _ _ _ counted.over_seen.ending)) counted.within;
                 ahead = λ limit limited passes.
-                    subst (λ (f : Finish). length (concat counted.taken.pieces) ≤ f.count + limit + 3)
-                    (sym (after-is _ _ _ counted.over_seen.ending))
+                    subst (λ (f : Finish). length (concat counted.taken.pieces) ≤ f.count + limit
+                    + 3) (sym (after-is _ _ _ counted.over_seen.ending))
                     (counted.ahead limit limited passes);
               }),
             );

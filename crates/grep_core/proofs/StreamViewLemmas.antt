@@ -9,17 +9,20 @@ use Rattle.grep_report.specs.declared.binary_detection.BinaryDetection.{BinaryDe
 use Rattle.grep_report.specs.declared.binary_detection.BinaryDetection.TheVariants.{None as no_detection}
 use Rattle.grep_report.specs.declared.binary_detection.BinaryDetection.TheVariants.{Quit, Convert}
 
-pub as-viewed : (d : BinaryDetection) (t : ℕ) (bytes : List ℕ) → stream_view d t bytes ≡ viewed (detection_of d) t bytes
+pub as-viewed : (d : BinaryDetection) (t : ℕ) (bytes : List ℕ) → stream_view d t bytes
+    ≡ viewed (detection_of d) t bytes
 as-viewed no_detection t bytes = refl
 as-viewed (Quit b) t bytes = refl
 as-viewed (Convert b) t bytes = refl
 
-pub as-unquit : (d : BinaryDetection) (bytes : List ℕ) → before_quit d bytes ≡ unquit (detection_of d) bytes
+pub as-unquit : (d : BinaryDetection) (bytes : List ℕ) → before_quit d bytes
+    ≡ unquit (detection_of d) bytes
 as-unquit no_detection bytes = refl
 as-unquit (Quit b) bytes = refl
 as-unquit (Convert b) bytes = refl
 
-pub as-found : (d : BinaryDetection) (t : ℕ) (bytes : List ℕ) → binary_position d t bytes ≡ found_in (detection_of d) t bytes
+pub as-found : (d : BinaryDetection) (t : ℕ) (bytes : List ℕ) → binary_position d t bytes
+    ≡ found_in (detection_of d) t bytes
 as-found no_detection t bytes = refl
 as-found (Quit b) t bytes = refl
 as-found (Convert b) t bytes = refl

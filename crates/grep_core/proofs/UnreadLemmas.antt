@@ -36,44 +36,48 @@ use Rattle.grep_line_buffer.proofs.InputViewLemmas.{before-kept}
 limit-above : (limit : Option ℕ) (size : ℕ) → is_at 0 limit ≡ false → limit ≡ Some size → 0 < size
 limit-above limit size allowed is = ⊎_elim (λ some. some)
     (λ none. let zero : size ≡ 0 = omega (arith, none) in
-    absurd (false≢true (sym allowed ∙ (ap (is_at 0) (is ∙ ap Some zero)))))
-    (cases_lt 0 size)
+    absurd (false≢true (sym allowed ∙ (ap (is_at 0) (is ∙ ap Some zero))))) (cases_lt 0 size)
 
 -- a buffer that may grow is as large as it was made, and its limit is above that
-may-grow : (limit : Option ℕ) (size : ℕ) → least_size limit ≤ size → IsWithin limit size → (limit ≡ Some size → ⊥)
-    → IfSome limit (λ most. 65536 < most) × (65536 ≤ size)
+may-grow : (limit : Option ℕ) (size : ℕ) → least_size limit ≤ size → IsWithin limit size
+    → (limit ≡ Some size → ⊥) → IfSome limit (λ most. 65536 < most) × (65536 ≤ size)
 may-grow None size least within below = (tt, least)
 may-grow (Some most) size least within below = ⊎_elim
     (λ above. (above, omega (arith, least, above)))
-    (λ low. let same : most ≡ size = omega (arith, low, least, within) in absurd (below (ap Some same)))
-    (cases_lt 65536 most)
+    (λ low. let same : most ≡ size = omega (arith, low, least, within) in absurd
+    (below (ap Some same))) (cases_lt 65536 most)
 
-module _ {R : Type 0} (remaining : R → Option (List ℕ)) (read_step : R → ReadResult → R → Type 0) where
-  -- why an input wasn't searched to its end, and what was taken then
-  pub record IsShort (state : SearcherState) (meaning : Meaning) (reader : R) (given seen : List ℕ) (reader' : R)
-      (io : Error) : Type 0 where
-    pub mid : R
-    pub taken : Taken remaining read_step reader mid
-    pub begins : (bytes : List ℕ) → IsInput state.settings taken.ended taken.pieces bytes
-        → (later : List ℕ) × (bytes ≡ given ++ later)
-    pub cause : IsCut remaining read_step state meaning reader mid reader' taken seen true io
+module _ {R : Type 0} (remaining : R → Option (List ℕ)) (read_step : R → ReadResult → R → Type 0)
+  where
+    -- why an input wasn't searched to its end, and what was taken then
+    pub record IsShort (state : SearcherState) (meaning : Meaning) (reader : R)
+        (given seen : List ℕ) (reader' : R)
+        (io : Error) : Type 0 where
+      pub mid : R
+      pub taken : Taken remaining read_step reader mid
+      pub begins : (bytes : List ℕ) → IsInput state.settings taken.ended taken.pieces bytes
+          → (later : List ℕ) × (bytes ≡ given ++ later)
+      pub cause : IsCut remaining read_step state meaning reader mid reader' taken seen true io
 
-  -- a fill of a buffer failed
-  pub record HasNotFilled (k : Settings) (old : BufferState) (d : DecoderState) (r : R) (new : BufferState)
-      (d' : DecoderState) (r' : R) (error : FillError) : Type 0 where
-    pub fitting : IsFitting k.heap_limit (byte_of k.line_terminator) old
-    pub allowed : is_at 0 k.heap_limit ≡ false
-    pub same : IsSameBuffer old new
-    pub grows : GrowsIfFull old new
-    pub within : IsWithin new.limit new.size
-    pub fails : FillFails old new error
-    pub reads : UnlessRead {X = Bool} (Err error) (Fills remaining read_step old d r new d' r')
-    pub read : IfRead {X = Bool} (Err error) (λ e. FailsToFill remaining read_step e old d r new d' r')
-    pub uncut : IfRead {X = Bool} (Err error) (λ _. has_quit new ≡ false)
-    pub empty : IfRead {X = Bool} (Err error) (λ _. d'.ready ≡ [])
-    pub waits : IfRead {X = Bool} (Err error) (λ _. IsWaiting d'.mode d'.held)
+    -- a fill of a buffer failed
+    pub record HasNotFilled (k : Settings) (old : BufferState) (d : DecoderState) (r : R)
+        (new : BufferState)
+        (d' : DecoderState) (r' : R) (error : FillError) : Type 0 where
+      pub fitting : IsFitting k.heap_limit (byte_of k.line_terminator) old
+      pub allowed : is_at 0 k.heap_limit ≡ false
+      pub same : IsSameBuffer old new
+      pub grows : GrowsIfFull old new
+      pub within : IsWithin new.limit new.size
+      pub fails : FillFails old new error
+      pub reads : UnlessRead {X = Bool} (Err error) (Fills remaining read_step old d r new d' r')
+      pub read : IfRead {X = Bool} (Err error) (λ e. FailsToFill remaining read_step e old d r new
+          d' r')
+      pub uncut : IfRead {X = Bool} (Err error) (λ _. has_quit new ≡ false)
+      pub empty : IfRead {X = Bool} (Err error) (λ _. d'.ready ≡ [])
+      pub waits : IfRead {X = Bool} (Err error) (λ _. IsWaiting d'.mode d'.held)
 
-module _ {R : Type 0} {remaining : R → Option (List ℕ)} {read_step : R → ReadResult → R → Type 0} {S E : Type 0}
+module _ {R : Type 0} {remaining : R → Option (List ℕ)} {read_step : R → ReadResult → R → Type 0}
+    {S E : Type 0}
     {step : Steps S E} {k : Settings} {meaning : Meaning} {decoder d : DecoderState} {reader r : R}
     {first : Origin S} {old : BufferState} {w : Walk} {now : S} (has_buffers : Bool)
     (stream : IsStream remaining read_step k meaning decoder)
@@ -85,8 +89,10 @@ module _ {R : Type 0} {remaining : R → Option (List ℕ)} {read_step : R → R
   seen = so_far.gone ++ old.shown
 
   abbrev IsShortTo : R → Error → Type 0
-  IsShortTo reader' io = IsShort remaining read_step (record { settings = k; has_buffers = has_buffers }) meaning reader
-      so_far.given seen reader' io
+  IsShortTo reader' io = IsShort remaining read_step (record {
+    settings = k;
+    has_buffers = has_buffers;
+  }) meaning reader so_far.given seen reader' io
 
   -- a fill that failed, after these bytes were given since the one before
   module _ {new : BufferState} {d' : DecoderState} {r' mid : R} {error : FillError}
@@ -106,7 +112,8 @@ module _ {R : Type 0} {remaining : R → Option (List ℕ)} {read_step : R → R
       same = fill.same;
     }
 
-    abbrev reads-now : Decodes remaining read_step (started decoder.capacity k.encoding k.bom_sniffing) reader raw d' mid
+    abbrev reads-now : Decodes remaining read_step
+        (started decoder.capacity k.encoding k.bom_sniffing) reader raw d' mid
     reads-now = reading.reads stream held-now
 
     -- what is gone and held is what was seen, and the bytes after it
@@ -116,7 +123,8 @@ module _ {R : Type 0} {remaining : R → Option (List ℕ)} {read_step : R → R
 
     text-is : {bytes : List ℕ} (later : List ℕ) → bytes ≡ (so_far.gone ++ held_bytes new) ++ later
         → bytes ≡ seen ++ ((old.rest ++ given) ++ later)
-    text-is later is = is ∙ (ap (λ xs. xs ++ later) seen-is ∙ append_assoc seen (old.rest ++ given) later)
+    text-is later is = is
+        ∙ (ap (λ xs. xs ++ later) seen-is ∙ append_assoc seen (old.rest ++ given) later)
 
     room-is : length (held_bytes new) ≡ length old.shown + length (old.rest ++ given)
     room-is = omega (
@@ -137,12 +145,11 @@ module _ {R : Type 0} {remaining : R → Option (List ℕ)} {read_step : R → R
     -- a buffer that is full cuts an input short that goes on with what was given
     crowded-there : {bytes : List ℕ} (later : List ℕ) (least : ℕ) → HasNoLine old new
         → bytes ≡ (so_far.gone ++ held_bytes new) ++ later
-        → length (held_bytes new) ≡ new.size → 0 < least → least ≤ new.size → IsCrowded k meaning bytes seen least
+        → length (held_bytes new) ≡ new.size → 0 < least → least ≤ new.size
+        → IsCrowded k meaning bytes seen least
     crowded-there later least no_line is full some enough = rw (text-is later is)
-        (crowded k _ _ _ _ later least
-        so_far.between.opens so_far.between.shut
-        (rolls.unreported-shown so_far.between)
-        (unended-is no_line)
+        (crowded k _ _ _ _ later least so_far.between.opens so_far.between.shut
+        (rolls.unreported-shown so_far.between) (unended-is no_line)
         (omega (arith, so_far.between.few)) some (omega (arith, enough, full, room-is)))
 
     -- the buffer's error does
@@ -170,19 +177,21 @@ module _ {R : Type 0} {remaining : R → Option (List ℕ)} {read_step : R → R
         (subst (λ m. IsWithin m new.size) limit-is fill.within) (λ is. may.limit (limit-is ∙ is)) in
         of_memory made large.0 (crowded-there later 65536 no_line is may.full (omega arith) large.1)
 
-    -- what is gone and held is the front of the view of every input that begins with what was given so far, also before
-    -- a byte that ends the search. It holds none
-    stops : StopsInLines remaining read_step (record { settings = k; has_buffers = has_buffers }) meaning reader mid r'
-        (reading.taken k reads-now) seen
+    -- what is gone and held is the front of the view of every input that begins with what was given
+    -- so far, also before a byte that ends the search. It holds none
+    stops : StopsInLines remaining read_step (record {
+      settings = k;
+      has_buffers = has_buffers;
+    }) meaning reader mid r' (reading.taken k reads-now) seen
     stops = (
       stream.by_line,
       as-unquit k.binary_detection _ ∙ before-kept _ seen _ (sym (as-unquit k.binary_detection _)
-          ∙ (ap (before_quit k.binary_detection) (sym seen-is) ∙ (reading.unquit-held held-now ∙ seen-is))),
+          ∙ (ap (before_quit k.binary_detection) (sym seen-is)
+          ∙ (reading.unquit-held held-now ∙ seen-is))),
       λ bytes input.
           let text = reading.front-is k reads-now (view_of k) _
           (reading.fronts-there held-now) bytes input in
-          rolls.goes-on so_far.between _
-          (text-is _ text.1),
+          rolls.goes-on so_far.between _ (text-is _ text.1),
     )
 
     begins-to : (bytes : List ℕ) → IsInput k d'.has_ended reads-now.pieces bytes
@@ -192,8 +201,8 @@ module _ {R : Type 0} {remaining : R → Option (List ℕ)} {read_step : R → R
         (fills.given ++ text.0, text.1 ∙ append_assoc so_far.given fills.given text.0)
 
     -- the reader's own error
-    short-read : {e : Error} → has_quit new ≡ false → HasNoLine old new → length (held_bytes new) < new.size
-        → d'.has_ended ≡ false
+    short-read : {e : Error} → has_quit new ≡ false → HasNoLine old new → length (held_bytes new)
+        < new.size → d'.has_ended ≡ false
         → read_step mid (Err e) r' → d'.ready ≡ [] → IsWaiting d'.mode d'.held → IsShortTo r' e
     short-read uncut no_line room unended failed ready waits =
         let decoded = reading.decoded-so_far k reads-now unended ready waits in
@@ -203,7 +212,10 @@ module _ {R : Type 0} {remaining : R → Option (List ℕ)} {read_step : R → R
           mid = mid;
           taken = reading.taken k reads-now;
           begins = begins-to;
-          cause = of_reader stops (unended, failed) raw (record { none = decoded.none; all = decoded.all })
+          cause = of_reader stops (unended, failed) raw (record {
+            none = decoded.none;
+            all = decoded.all;
+          })
               (record {
                 rest = old.rest ++ given;
                 whole = shows ∙ seen-is;
@@ -219,25 +231,27 @@ module _ {R : Type 0} {remaining : R → Option (List ℕ)} {read_step : R → R
         }
 
   -- the buffer's own error
-  short-by : (error : FillError) {io : Error} {new : BufferState} {d' : DecoderState} {r' : R} → IsMadeOf error io
-      → ((e : Error) → error ≡ Read e → ⊥)
-      → HasNotFilled remaining read_step k old d r new d' r' error → Fills remaining read_step old d r new d' r'
-      → IsShortTo r' io
+  short-by : (error : FillError) {io : Error} {new : BufferState} {d' : DecoderState} {r' : R}
+      → IsMadeOf error io → ((e : Error) → error ≡ Read e → ⊥)
+      → HasNotFilled remaining read_step k old d r new d' r' error
+      → Fills remaining read_step old d r new d' r' → IsShortTo r' io
   short-by error {new} {r'} made other fill fills = record {
     mid = r';
     taken = reading.taken k (reads-now fill fills);
     begins = begins-to fill fills;
     cause = of_lines (stops fill fills) refl (λ bytes input.
-        let before = reading.front-is k (reads-now fill fills) (λ xs. before_quit k.binary_detection (view_of k xs))
+        let before = reading.front-is k (reads-now fill fills)
+        (λ xs. before_quit k.binary_detection (view_of k xs))
         _ (reading.before-there (held-now fill fills)) bytes input in
         cuts-short fill fills error made fill.fails other _ before.1);
   }
 
-  pub short-filled : (error : FillError) {io : Error} {new : BufferState} {d' : DecoderState} {r' : R}
-      → IsMadeOf error io → HasNotFilled remaining read_step k old d r new d' r' error → IsShortTo r' io
+  pub short-filled : (error : FillError) {io : Error} {new : BufferState} {d' : DecoderState}
+      {r' : R} → IsMadeOf error io → HasNotFilled remaining read_step k old d r new d' r' error
+      → IsShortTo r' io
   short-filled (Read e) {r'} made fill = subst (IsShortTo r') (sym made)
-      (short-read fill fill.read.fills fill.uncut fill.fails.0 fill.fails.1 fill.read.unended fill.read.failed fill.empty
-      fill.waits)
+      (short-read fill fill.read.fills fill.uncut fill.fails.0 fill.fails.1 fill.read.unended
+      fill.read.failed fill.empty fill.waits)
   short-filled HeapLimit made fill = short-by _ made (λ e is. cc) fill fill.reads
   short-filled Offset made fill = short-by _ made (λ e is. cc) fill fill.reads
   short-filled Memory made fill = short-by _ made (λ e is. cc) fill fill.reads

@@ -49,7 +49,8 @@ module _ {S E : Type 0} (step : Steps S E) (settings : Settings) (meaning : Mean
   -- the calls were counted for an input
   abbrev pub IsCountedFor : Origin S → List ℕ → ℕ → Outcome E → S → Type 0
   IsCountedFor first input count outcome new =
-      IsMadeToFrom step settings first (line_plan settings meaning input) outcome (counted count) new
+      IsMadeToFrom step settings first (line_plan settings meaning input) outcome
+      (counted count) new
 
   -- a search in which no line may be reported has read nothing yet, and looks for a binary byte
   pub record IsIdle (gone : List ℕ) (buffer : BufferState) (first : Origin S) (now : S) : Type 0

@@ -13,7 +13,8 @@ ghost use Rattle.grep_definitions.specs.Searches.{IsClosed, IsReadForLine, IsUnr
 ghost use Rattle.grep_definitions.specs.Searches.{reports_nothing, IsInOrder, IsRead};
 ghost use Rattle.grep_definitions.specs.CallOrder.{GoesOnInOrder, HasBegunTo, ReadsInOrder};
 ghost use Rattle.grep_core.specs.BinaryCalls.{FailsAtBinary, PassesBinary};
-ghost use Rattle.grep_core.specs.Rolls.{IsInShown, HasStarted, HasMovedOn, HasEnded, IsStreamCounted};
+ghost use Rattle.grep_core.specs.Rolls.{IsInShown, HasStarted, HasMovedOn, HasEnded};
+ghost use Rattle.grep_core.specs.Rolls.{IsStreamCounted};
 ghost use Rattle.grep_core.specs.Rolls.{start_in};
 ghost use Rattle.grep_core.specs.SearchBuffers.{AreFitting, IsFitting, IsMadeOf, detection_of};
 ghost use Rattle.grep_walk.specs.LookAheads.{AreQuestions};

@@ -1,14 +1,13 @@
 -- What reads of a decoder do, one after the other.
-use Rattle.std.proofs.Common.{◌≡◌, ℕ, suc, ◌-◌, ◌<◌, ◌≤◌, ◌==◌, Bool, true, false, List, [], ◌∷◌, ◌++◌, Option, Some}
-use Rattle.std.proofs.Common.{None, Result, Ok, Err, IfSome, IfOk, IfErr, OnErr, OnOk, take, ◌+◌, refl, sym, subst, ap, ◌∙◌}
-use Rattle.std.proofs.Common.{append-nil, append_assoc, arith, length, length-append, length-take, min, ◌⊎◌, ⊎_elim}
-use Rattle.std.proofs.Common.{inl, inr, is_some, ◌||◌}
+use Rattle.std.proofs.Common.{◌≡◌, ℕ, suc, ◌-◌, ◌<◌, ◌≤◌, ◌==◌, Bool, true, false, List, [], ◌∷◌}
+use Rattle.std.proofs.Common.{◌++◌, Option, Some, None, Ok, Err, IfSome, ◌+◌, refl, sym, subst, ap}
+use Rattle.std.proofs.Common.{◌∙◌, append-nil, append_assoc, arith, length, length-append, ◌⊎◌}
+use Rattle.std.proofs.Common.{⊎_elim, inl, inr}
 use Rattle.std.proofs.lemmas.Bool.{false≢true}
 use Rattle.std.proofs.lemmas.Bool.Decides.{nat_tests}
 use Rattle.std.proofs.lemmas.List.Folds.{concat-append}
 use Rattle.std.proofs.KnownBytes.{Consumes-nil, Consumes-trans}
 use Rattle.std.specs.List.{concat}
-use Rattle.std.specs.Io.{ReadsAtMost}
 use Rattle.std.specs.Io.KnownBytes.{Consumes, Keeps, IsAtEnd}
 use Rattle.std.specs.declared.io.Error.{Error}
 use Rattle.std.specs.Str.Lossy.{utf8_lossy}
@@ -16,14 +15,16 @@ use Rattle.grep_decode.specs.declared.label.Label.{Label}
 use Rattle.grep_decode.specs.declared.label.Label.TheVariants.{Utf8, Utf16Le, Utf16Be}
 use Rattle.grep_decode.specs.declared.mode.Mode.{Mode}
 use Rattle.grep_decode.specs.declared.mode.Mode.TheVariants.{Fresh, Passing, Decoding}
-use Rattle.grep_decode.specs.Decoded.{decoded, found_mark, units_of, has_odd_byte, scalars_of, utf16_text}
+use Rattle.grep_decode.specs.Decoded.{decoded, units_of, has_odd_byte, scalars_of, utf16_text}
 use Rattle.grep_decode.specs.UndecodedBytes.{UndecodedBytes, Grows, holding}
 use Rattle.grep_decode.specs.Source.{ReadResult, Pulls}
 use Rattle.grep_decode.specs.Reading.{FailsWith}
-use Rattle.grep_decode.specs.DecoderStates.{DecoderState, Calls, Decodes, FailsToDecode, FitsMode, IsDecoded, IsDone}
-use Rattle.grep_decode.specs.DecoderStates.{IsSettled, LooksForMark, TakesAtMost, decode_by, mode_after, still_to_give}
-use Rattle.grep_decode.specs.DecoderStates.{HasWaited, IsWaiting, next_mode, started, unread, yet}
-use Rattle.grep_decode.proofs.SourceRunLemmas.{Calls-none, Calls-append, Calls-ended, Calls-nothing, FailsWith-after}
+use Rattle.grep_decode.specs.DecoderStates.{DecoderState, Calls, Decodes, FailsToDecode, IsDecoded}
+use Rattle.grep_decode.specs.DecoderStates.{IsDone, IsSettled, LooksForMark, decode_by, mode_after}
+use Rattle.grep_decode.specs.DecoderStates.{still_to_give, HasWaited, IsWaiting, next_mode, started}
+use Rattle.grep_decode.specs.DecoderStates.{unread, yet}
+use Rattle.grep_decode.proofs.SourceRunLemmas.{Calls-none, Calls-append, Calls-ended, Calls-nothing}
+use Rattle.grep_decode.proofs.SourceRunLemmas.{FailsWith-after}
 
 -- at most so many calls are left, until the reader has ended
 abbrev pub calls_left : Bool → ℕ → ℕ
@@ -64,7 +65,8 @@ looks-unsettled Passing looks settled = looks
 looks-unsettled (Decoding label) looks settled = looks
 
 -- what waits in a mode that isn't settled are few bytes in which a mark is looked for
-pub waits-few : (mode : Mode) (held : List ℕ) → IsWaiting mode held → IsSettled mode ⊎ LooksForMark mode × (length held ≤ 2)
+pub waits-few : (mode : Mode) (held : List ℕ) → IsWaiting mode held → IsSettled mode
+    ⊎ LooksForMark mode × (length held ≤ 2)
 waits-few (Fresh label sniff) held waits = inr (waits.0, omega (arith, waits.1))
 waits-few Passing held waits = inl tt
 waits-few (Decoding label) held waits = inl tt
@@ -93,8 +95,8 @@ module _ {R : Type 0} (remaining : R → Option (List ℕ)) (step : R → ReadRe
     ahead = λ passing. omega arith;
   }
 
-  joined : (first second : List (List ℕ)) (more : List ℕ) → concat (first ++ second) ++ more ≡ concat first
-      ++ (concat second ++ more)
+  joined : (first second : List (List ℕ)) (more : List ℕ) → concat (first ++ second) ++ more
+      ≡ concat first ++ (concat second ++ more)
   joined first second more = ap (λ l. l ++ more) (concat-append first second)
       ∙ append_assoc (concat first) (concat second) more
 
@@ -103,50 +105,55 @@ module _ {R : Type 0} (remaining : R → Option (List ℕ)) (step : R → ReadRe
       → Decodes remaining step d1 r1 later d2 r2 → Decodes remaining step d r (given ++ later) d2 r2
   Decodes-append d d1 d2 r r1 r2 given later first second = record {
     pieces = first.pieces ++ second.pieces;
-    calls = Calls-append remaining step d.has_ended d1.has_ended d2.has_ended r r1 r2 first.pieces second.pieces
-        first.calls second.calls;
+    calls = Calls-append remaining step d.has_ended d1.has_ended d2.has_ended r r1 r2 first.pieces
+        second.pieces first.calls second.calls;
     last = (
       first.last.0 ++ second.last.0,
       ap (λ xs. d.held ++ xs) (concat-append first.pieces second.pieces)
           ∙ (sym (append_assoc d.held (concat first.pieces) (concat second.pieces))
           ∙ (ap (λ xs. xs ++ concat second.pieces) first.last.1
           ∙ (append_assoc first.last.0 d1.held (concat second.pieces)
-          ∙ (ap (λ xs. first.last.0 ++ xs) second.last.1 ∙ sym (append_assoc first.last.0 second.last.0 d2.held))))),
+          ∙ (ap (λ xs. first.last.0 ++ xs) second.last.1
+          ∙ sym (append_assoc first.last.0 second.last.0 d2.held))))),
     );
     takes = subst (λ bytes. Consumes (remaining r) (remaining r2) bytes)
         (sym (concat-append first.pieces second.pieces))
-        (Consumes-trans (remaining r) (remaining r1) (remaining r2) (concat first.pieces) (concat second.pieces)
-        first.takes second.takes);
+        (Consumes-trans (remaining r) (remaining r1) (remaining r2) (concat first.pieces)
+        (concat second.pieces) first.takes second.takes);
     gives = λ more end. ap (still_to_give d) (joined first.pieces second.pieces more)
         ∙ (first.gives (concat second.pieces ++ more)
-        (Calls-nothing remaining step d1.has_ended d2.has_ended r1 r2 second.pieces more second.calls end)
-        ∙ (ap (λ l. given ++ l) (second.gives more end) ∙ sym (append_assoc given later (still_to_give d2 more))));
+        (Calls-nothing remaining step d1.has_ended d2.has_ended r1 r2 second.pieces more
+        second.calls end) ∙ (ap (λ l. given ++ l) (second.gives more end)
+        ∙ sym (append_assoc given later (still_to_give d2 more))));
     settles = λ more end. ap (next_mode d) (joined first.pieces second.pieces more)
         ∙ (first.settles (concat second.pieces ++ more)
-        (Calls-nothing remaining step d1.has_ended d2.has_ended r1 r2 second.pieces more second.calls end)
-        ∙ second.settles more end);
-    stays = λ settled. second.stays (subst IsSettled (sym (first.stays settled)) settled) ∙ first.stays settled;
+        (Calls-nothing remaining step d1.has_ended d2.has_ended r1 r2 second.pieces more
+        second.calls end) ∙ second.settles more end);
+    stays = λ settled. second.stays (subst IsSettled (sym (first.stays settled)) settled)
+        ∙ first.stays settled;
     unsettled = λ fresh.
         let later_held = second.unsettled fresh in
-        let first_held = first.unsettled (λ settled. fresh (subst IsSettled (sym (second.stays settled)) settled)) in (
+        let first_held = first.unsettled
+        (λ settled. fresh (subst IsSettled (sym (second.stays settled)) settled)) in (
           later_held.0 ∙ first_held.0,
           ap (λ xs. xs ++ later) first_held.1 ∙ later_held.1,
           later_held.2 ∙ (ap (λ xs. xs ++ concat second.pieces) first_held.2
               ∙ (append_assoc d.held (concat first.pieces) (concat second.pieces)
               ∙ ap (λ xs. d.held ++ xs) (sym (concat-append first.pieces second.pieces)))),
         );
-    enough = λ looks settled. ⊎_elim
-        (λ was. ⊎_elim
-        (λ long. inl (omega (arith, long, taken)))
+    enough = λ looks settled. ⊎_elim (λ was. ⊎_elim (λ long. inl (omega (arith, long, taken)))
         (λ ended. inr (Calls-ended remaining step d2.has_ended r1 r2 second.pieces
         (subst (λ b. Calls remaining step b d2.has_ended r1 second.pieces r2) ended second.calls)))
-        (first.enough looks was))
-        (λ fresh.
+        (first.enough looks was)) (λ fresh.
         let waits = first.unsettled fresh in
         ⊎_elim
-        (λ long. inl (omega (arith, long, taken, ap length waits.2, length-append d.held (concat first.pieces))))
-        (λ ended. inr ended)
-        (second.enough (subst LooksForMark (sym waits.0) looks) settled))
+        (λ long. inl (omega (
+          arith,
+          long,
+          taken,
+          ap length waits.2,
+          length-append d.held (concat first.pieces),
+        ))) (λ ended. inr ended) (second.enough (subst LooksForMark (sym waits.0) looks) settled))
         (settled-or d1.mode);
     passes = λ passing.
         let mid : d1.mode ≡ Passing = first.stays (subst IsSettled (sym passing) tt) ∙ passing in
@@ -166,8 +173,7 @@ module _ {R : Type 0} (remaining : R → Option (List ℕ)) (step : R → ReadRe
           second.ahead passing,
           taken,
           length-append given later,
-        ))
-        (settled-or d1.mode);
+        )) (settled-or d1.mode);
   }
     where
       taken : length (concat (first.pieces ++ second.pieces))
@@ -179,11 +185,11 @@ module _ {R : Type 0} (remaining : R → Option (List ℕ)) (step : R → ReadRe
   pub Decodes-within : (d d1 : DecoderState) (r : R) (given : List ℕ) → d1.has_ended ≡ d.has_ended
       → ((rest : List ℕ) → still_to_give d rest ≡ given ++ still_to_give d1 rest)
       → ((rest : List ℕ) → next_mode d rest ≡ next_mode d1 rest)
-      → IsSettled d1.mode → (IsSettled d.mode → (d1.mode ≡ d.mode) × (length d.held ≤ length given + length d1.held))
+      → IsSettled d1.mode → (IsSettled d.mode → (d1.mode ≡ d.mode)
+      × (length d.held ≤ length given + length d1.held))
       → (d1.mode ≡ Passing → length d.held ≤ length given + length d1.held + 3)
       → (LooksForMark d.mode → (3 ≤ length d.held) ⊎ (d1.has_ended ≡ true))
-      → (front : List ℕ) × (d.held ≡ front ++ d1.held)
-      → Decodes remaining step d r given d1 r
+      → (front : List ℕ) × (d.held ≡ front ++ d1.held) → Decodes remaining step d r given d1 r
   Decodes-within d d1 r given ended same next settled kept few enough last = record {
     pieces = [];
     calls = subst (λ b. Calls remaining step d.has_ended b r [] r) (sym ended)
@@ -194,7 +200,8 @@ module _ {R : Type 0} (remaining : R → Option (List ℕ)) (step : R → ReadRe
     settles = λ more end. next more;
     stays = λ was. (kept was).0;
     unsettled = λ fresh. absurd (fresh settled);
-    enough = λ looks now. ⊎_elim (λ long. inl (omega (arith, long))) (λ all. inr all) (enough looks);
+    enough = λ looks now. ⊎_elim (λ long. inl (omega (arith, long))) (λ all. inr all)
+        (enough looks);
     passes = λ passing. omega (arith, (kept (subst IsSettled (sym passing) tt)).1);
     ahead = λ passing. omega (arith, few passing);
   }
@@ -203,18 +210,20 @@ module _ {R : Type 0} (remaining : R → Option (List ℕ)) (step : R → ReadRe
   same-unread true more end = sym (end refl)
   same-unread false more end = refl
 
-  call-by : (d d1 : DecoderState) (r r1 : R) (given piece : List ℕ) (is : Bool) → d1.has_ended ≡ is → d.has_ended
-      ≡ false
-      → (is ≡ true → (piece ≡ []) × IsAtEnd (remaining r1)) → (is ≡ false → 0 < length piece) → step r (Ok piece) r1
-      → Consumes (remaining r) (remaining r1) piece
-      → ((more : List ℕ) → (d1.has_ended ≡ true → more ≡ []) → still_to_give d (piece ++ more) ≡ given
-      ++ still_to_give d1 more)
-      → ((more : List ℕ) → (d1.has_ended ≡ true → more ≡ []) → next_mode d (piece ++ more) ≡ next_mode d1 more)
+  call-by : (d d1 : DecoderState) (r r1 : R) (given piece : List ℕ) (is : Bool) → d1.has_ended ≡ is
+      → d.has_ended ≡ false
+      → (is ≡ true → (piece ≡ []) × IsAtEnd (remaining r1)) → (is ≡ false → 0 < length piece)
+      → step r (Ok piece) r1 → Consumes (remaining r) (remaining r1) piece
+      → ((more : List ℕ) → (d1.has_ended ≡ true → more ≡ []) → still_to_give d (piece ++ more)
+      ≡ given ++ still_to_give d1 more)
+      → ((more : List ℕ) → (d1.has_ended ≡ true → more ≡ []) → next_mode d (piece ++ more)
+      ≡ next_mode d1 more)
       → d1.mode ≡ d.mode → ((IsSettled d1.mode → ⊥) → (given ≡ []) × (d1.held ≡ d.held ++ piece))
       → length d.held + length piece ≤ length given + length d1.held
       → (front : List ℕ) × (d.held ++ piece ≡ front ++ d1.held)
       → Decodes remaining step d r given d1 r1
-  call-by d d1 r r1 given piece true ended was last some called takes gives settles stays fresh few holds =
+  call-by d d1 r r1 given piece true ended was last some called takes gives settles stays fresh few
+      holds =
       let none : piece ≡ [] = (last refl).0 in
       record {
         pieces = [];
@@ -225,23 +234,32 @@ module _ {R : Type 0} (remaining : R → Option (List ℕ)) (step : R → ReadRe
         settles = λ more end. ap (λ p. next_mode d (p ++ more)) (sym none) ∙ settles more end;
         stays = λ settled. stays;
         unsettled = λ is. (stays, (fresh is).0, (fresh is).1 ∙ ap (λ p. d.held ++ p) none);
-        enough = λ looks settled. absurd (looks-unsettled d.mode looks (subst IsSettled stays settled));
+        enough = λ looks settled. absurd
+            (looks-unsettled d.mode looks (subst IsSettled stays settled));
         passes = λ passing. omega (arith, few, ap length none);
         ahead = λ passing. omega (arith, few, ap length none);
       }
-  call-by d d1 r r1 given piece false ended was last some called takes gives settles stays fresh few holds = record {
-    pieces = piece ∷ [];
-    calls = rw (was, ended) (some refl, (r1, called, refl));
-    last = (holds.0, ap (λ p. d.held ++ p) (append-nil piece) ∙ holds.1);
-    takes = subst (λ p. Consumes (remaining r) (remaining r1) p) (sym (append-nil piece)) takes;
-    gives = λ more end. ap (λ p. still_to_give d (p ++ more)) (append-nil piece) ∙ gives more end;
-    settles = λ more end. ap (λ p. next_mode d (p ++ more)) (append-nil piece) ∙ settles more end;
-    stays = λ settled. stays;
-    unsettled = λ is. (stays, (fresh is).0, (fresh is).1 ∙ ap (λ p. d.held ++ p) (sym (append-nil piece)));
-    enough = λ looks settled. absurd (looks-unsettled d.mode looks (subst IsSettled stays settled));
-    passes = λ passing. omega (arith, few, ap length (append-nil piece));
-    ahead = λ passing. omega (arith, few, ap length (append-nil piece));
-  }
+  call-by d d1 r r1 given piece false ended was last some called takes gives settles stays fresh few
+      holds = record {
+        pieces = piece ∷ [];
+        calls = rw (was, ended) (some refl, (r1, called, refl));
+        last = (holds.0, ap (λ p. d.held ++ p) (append-nil piece) ∙ holds.1);
+        takes = subst (λ p. Consumes (remaining r) (remaining r1) p) (sym (append-nil piece)) takes;
+        gives = λ more end. ap (λ p. still_to_give d (p ++ more)) (append-nil piece)
+            ∙ gives more end;
+        settles = λ more end. ap (λ p. next_mode d (p ++ more)) (append-nil piece)
+            ∙ settles more end;
+        stays = λ settled. stays;
+        unsettled = λ is. (
+          stays,
+          (fresh is).0,
+          (fresh is).1 ∙ ap (λ p. d.held ++ p) (sym (append-nil piece)),
+        );
+        enough = λ looks settled. absurd
+            (looks-unsettled d.mode looks (subst IsSettled stays settled));
+        passes = λ passing. omega (arith, few, ap length (append-nil piece));
+        ahead = λ passing. omega (arith, few, ap length (append-nil piece));
+      }
 
   is-zero : (count : ℕ) → (count == 0) ≡ true → count ≡ 0
   is-zero count none = grind (arith, nat_tests)
@@ -250,12 +268,15 @@ module _ {R : Type 0} (remaining : R → Option (List ℕ)) (step : R → ReadRe
   is-none count [] counted none = refl
   is-none count (x ∷ piece) counted none = absurd (omega (arith, counted, is-zero count none))
 
-  is-some : (count : ℕ) (piece : List ℕ) → length piece ≡ count → (count == 0) ≡ false → 0 < length piece
+  is-some : (count : ℕ) (piece : List ℕ) → length piece ≡ count → (count == 0) ≡ false → 0
+      < length piece
   is-some count piece counted some = grind (arith, nat_tests)
 
   -- a call of the reader, whose bytes are held
-  pub Decodes-hold : (mode : Mode) (old new : UndecodedBytes) (r r1 : R) (count : ℕ) → old.has_ended ≡ false
-      → Grows remaining step old r count new r1 → Decodes remaining step (holding mode old) r [] (holding mode new) r1
+  pub Decodes-hold : (mode : Mode) (old new : UndecodedBytes) (r r1 : R) (count : ℕ) → old.has_ended
+      ≡ false
+      → Grows remaining step old r count new r1 → Decodes remaining step (holding mode old) r []
+      (holding mode new) r1
   Decodes-hold mode old new r r1 count was grows =
       let input : (more : List ℕ) → (new.has_ended ≡ true → more ≡ []) → old.bytes
       ++ unread old.has_ended (grows.piece ++ more)
@@ -264,37 +285,40 @@ module _ {R : Type 0} (remaining : R → Option (List ℕ)) (step : R → ReadRe
       ∙ (sym (append_assoc old.bytes grows.piece more)
       ∙ (ap (λ l. l ++ more) (sym grows.appended) ∙ ap (λ l. new.bytes ++ l)
       (sym (same-unread new.has_ended more end)))) in
-      call-by (holding mode old) (holding mode new) r r1 [] grows.piece (count == 0) grows.has_ended was
-      (λ none. (is-none count grows.piece grows.counted none, grows.ended (is-zero count none)))
+      call-by (holding mode old) (holding mode new) r r1 [] grows.piece (count == 0) grows.has_ended
+      was (λ none. (is-none count grows.piece grows.counted none, grows.ended (is-zero count none)))
       (λ some. is-some count grows.piece grows.counted some) grows.called grows.takes
-      (λ more end. ap (decode_by mode) (input more end)) (λ more end. ap (mode_after mode) (input more end))
+      (λ more end. ap (decode_by mode) (input more end))
+      (λ more end. ap (mode_after mode) (input more end))
       refl (λ fresh. (refl, grows.appended)) (omega (
         arith,
         ap length grows.appended,
-        length-append old.bytes
-            grows.piece,
-      ))
-      ([], sym grows.appended)
+        length-append old.bytes grows.piece,
+      )) ([], sym grows.appended)
 
   grown : (b : Bool) (old new : UndecodedBytes) (r r1 : R) (count most : ℕ) → new.has_ended ≡ b
       → length old.bytes < most
-      → Grows remaining step old r count new r1 → calls_left b (most - length new.bytes) < suc (most - length old.bytes)
+      → Grows remaining step old r count new r1 → calls_left b (most - length new.bytes)
+      < suc (most - length old.bytes)
   grown true old new r r1 count most ended few grows = omega arith
   grown false old new r r1 count most ended few grows =
-      let some : 0 < length grows.piece = is-some count grows.piece grows.counted (sym grows.has_ended ∙ ended) in
+      let some : 0 < length grows.piece = is-some count grows.piece grows.counted
+      (sym grows.has_ended ∙ ended) in
       omega (arith, some, few, ap length grows.appended ∙ length-append old.bytes grows.piece)
 
   -- each call brings bytes, or is the last
   pub Grows-smaller : (old new : UndecodedBytes) (r r1 : R) (count most : ℕ) → old.has_ended ≡ false
-      → length old.bytes < most
-      → Grows remaining step old r count new r1
-      → calls_left new.has_ended (most - length new.bytes) < calls_left old.has_ended (most - length old.bytes)
+      → length old.bytes < most → Grows remaining step old r count new r1
+      → calls_left new.has_ended (most - length new.bytes)
+      < calls_left old.has_ended (most - length old.bytes)
   Grows-smaller old new r r1 count most was few grows =
-      subst (λ b. calls_left new.has_ended (most - length new.bytes) < calls_left b (most - length old.bytes)) (sym was)
+      subst (λ b. calls_left new.has_ended (most - length new.bytes)
+      < calls_left b (most - length old.bytes)) (sym was)
       (grown new.has_ended old new r r1 count most refl few grows)
 
   -- one call more, after others
-  pub hold-more : (mode : Mode) (first old new : UndecodedBytes) (r r1 r2 : R) (count : ℕ) → old.has_ended ≡ false
+  pub hold-more : (mode : Mode) (first old new : UndecodedBytes) (r r1 r2 : R) (count : ℕ)
+      → old.has_ended ≡ false
       → Decodes remaining step (holding mode first) r [] (holding mode old) r1
       → Grows remaining step old r1 count new r2
       → Decodes remaining step (holding mode first) r [] (holding mode new) r2
@@ -303,11 +327,13 @@ module _ {R : Type 0} (remaining : R → Option (List ℕ)) (step : R → ReadRe
       (Decodes-hold mode old new r1 r2 count was grows)
 
   -- bytes that are held are decoded, without a call of the reader
-  pub Decodes-text : (label : Label) (old new : UndecodedBytes) (r : R) (given : List ℕ) → new.has_ended ≡ old.has_ended
+  pub Decodes-text : (label : Label) (old new : UndecodedBytes) (r : R) (given : List ℕ)
+      → new.has_ended ≡ old.has_ended
       → ((rest : List ℕ) → still_to_give (holding (Decoding label) old) rest ≡ given
       ++ still_to_give (holding (Decoding label) new) rest)
       → (front : List ℕ) × (old.bytes ≡ front ++ new.bytes)
-      → Decodes remaining step (holding (Decoding label) old) r given (holding (Decoding label) new) r
+      → Decodes remaining step (holding (Decoding label) old) r given (holding (Decoding label) new)
+      r
   Decodes-text label old new r given ended same last = record {
     pieces = [];
     calls = subst (λ b. Calls remaining step old.has_ended b r [] r) (sym ended)
@@ -324,33 +350,45 @@ module _ {R : Type 0} (remaining : R → Option (List ℕ)) (step : R → ReadRe
   }
 
   -- a call of the reader, whose bytes pass unchanged
-  pub Decodes-pass : (old new : UndecodedBytes) (r r1 : R) (count : ℕ) (piece : List ℕ) → old.bytes ≡ [] → new.bytes
-      ≡ []
-      → old.has_ended ≡ false → new.has_ended ≡ (count == 0) → length piece ≡ count → step r (Ok piece) r1
+  pub Decodes-pass : (old new : UndecodedBytes) (r r1 : R) (count : ℕ) (piece : List ℕ) → old.bytes
+      ≡ [] → new.bytes ≡ []
+      → old.has_ended ≡ false → new.has_ended ≡ (count == 0) → length piece ≡ count
+      → step r (Ok piece) r1
       → Consumes (remaining r) (remaining r1) piece → (count ≡ 0 → IsAtEnd (remaining r1))
       → Decodes remaining step (holding Passing old) r piece (holding Passing new) r1
   Decodes-pass old new r r1 count piece empty none was ended counted called takes last =
-      let before : (rest : List ℕ) → still_to_give (holding Passing old) rest ≡ rest = λ rest. rw (empty, was) refl in
+      let before : (rest : List ℕ) → still_to_give (holding Passing old) rest ≡ rest =
+      λ rest. rw (empty, was) refl in
       let after : (rest : List ℕ) → still_to_give (holding Passing new) rest
       ≡ unread new.has_ended rest = λ rest. rw none refl in
       call-by (holding Passing old) (holding Passing new) r r1 piece piece (count == 0) ended was
-      (λ zero. (is-none count piece counted zero, last (is-zero count zero))) (λ some. is-some count piece counted some)
-      called takes
+      (λ zero. (is-none count piece counted zero, last (is-zero count zero)))
+      (λ some. is-some count piece counted some) called takes
       (λ more end. before (piece ++ more) ∙ ap (λ l. piece ++ l)
       (sym (after more ∙ same-unread new.has_ended more end)))
       (λ more end. refl) refl (λ fresh. absurd (fresh tt)) (omega (arith, ap length empty))
       (piece, ap (λ l. l ++ piece) empty ∙ sym (ap (λ l. piece ++ l) none ∙ append-nil piece))
 
   -- a call of the reader failed
-  pub FailsToDecode-now : (d : DecoderState) (r r1 : R) (e : Error) → d.has_ended ≡ false → step r (Err e) r1
-      → FailsToDecode remaining step d r e d r1
-  FailsToDecode-now d r r1 e was failed = record { mid = r; decodes = Decodes-none d r; unended = was; failed = failed }
+  pub FailsToDecode-now : (d : DecoderState) (r r1 : R) (e : Error) → d.has_ended ≡ false
+      → step r (Err e) r1 → FailsToDecode remaining step d r e d r1
+  FailsToDecode-now d r r1 e was failed = record {
+    mid = r;
+    decodes = Decodes-none d r;
+    unended = was;
+    failed = failed;
+  }
 
   -- bytes that were ready are given
-  pub Decodes-ready : (ready given later held : List ℕ) (mode : Mode) (ended : Bool) (capacity : ℕ) (r : R)
-      → IsSettled mode
-      → ready ≡ given ++ later → Decodes remaining step
-      (record { ready = ready; held = held; mode = mode; has_ended = ended; capacity = capacity }) r given
+  pub Decodes-ready : (ready given later held : List ℕ) (mode : Mode) (ended : Bool) (capacity : ℕ)
+      (r : R) → IsSettled mode → ready ≡ given ++ later → Decodes remaining step
+      (record {
+        ready = ready;
+        held = held;
+        mode = mode;
+        has_ended = ended;
+        capacity = capacity;
+      }) r given
       (record { ready = later; held = held; mode = mode; has_ended = ended; capacity = capacity }) r
   Decodes-ready ready given later held mode ended capacity r settled same =
       let before : DecoderState = record {
@@ -373,24 +411,47 @@ module _ {R : Type 0} (remaining : R → Option (List ℕ)) (step : R → ReadRe
       (λ rest. let text = decode_by mode (held ++ unread ended rest) in ap (λ l. l ++ text) same
       ∙ append_assoc given later text)
       (λ rest. refl) settled (λ was. (refl, omega arith)) (λ passing. omega arith)
-      (λ looks. absurd (looks-unsettled mode looks settled))
-      ([], refl)
+      (λ looks. absurd (looks-unsettled mode looks settled)) ([], refl)
 
   -- a decoder that has nothing ready decodes as it does with no bytes ready
-  pub Decodes-held : (ready : List ℕ) (mode : Mode) (old new : UndecodedBytes) (r r1 : R) (given : List ℕ) → ready ≡ []
+  pub Decodes-held : (ready : List ℕ) (mode : Mode) (old new : UndecodedBytes) (r r1 : R)
+      (given : List ℕ) → ready ≡ []
       → Decodes remaining step (holding mode old) r given (holding mode new) r1
       → Decodes remaining step
-      (record { ready = ready; held = old.bytes; mode = mode; has_ended = old.has_ended; capacity = old.capacity }) r
-      given
-      (record { ready = ready; held = new.bytes; mode = mode; has_ended = new.has_ended; capacity = new.capacity }) r1
+      (record {
+        ready = ready;
+        held = old.bytes;
+        mode = mode;
+        has_ended = old.has_ended;
+        capacity = old.capacity;
+      }) r given
+      (record {
+        ready = ready;
+        held = new.bytes;
+        mode = mode;
+        has_ended = new.has_ended;
+        capacity = new.capacity;
+      }) r1
   Decodes-held ready mode old new r r1 given none run =
       subst (λ l. Decodes remaining step
-      (record { ready = l; held = old.bytes; mode = mode; has_ended = old.has_ended; capacity = old.capacity }) r given
-      (record { ready = l; held = new.bytes; mode = mode; has_ended = new.has_ended; capacity = new.capacity }) r1)
-      (sym none) run
+      (record {
+        ready = l;
+        held = old.bytes;
+        mode = mode;
+        has_ended = old.has_ended;
+        capacity = old.capacity;
+      }) r given
+      (record {
+        ready = l;
+        held = new.bytes;
+        mode = mode;
+        has_ended = new.has_ended;
+        capacity = new.capacity;
+      }) r1) (sym none) run
 
   -- a read that failed, after others
-  pub FailsToDecode-after : (d d1 d2 : DecoderState) (r r1 r2 : R) (e : Error) → Decodes remaining step d r [] d1 r1
+  pub FailsToDecode-after : (d d1 d2 : DecoderState) (r r1 r2 : R) (e : Error)
+      → Decodes remaining step d r [] d1 r1
       → FailsToDecode remaining step d1 r1 e d2 r2 → FailsToDecode remaining step d r e d2 r2
   FailsToDecode-after d d1 d2 r r1 r2 e first later = record {
     mid = later.mid;
@@ -416,35 +477,36 @@ module _ {R : Type 0} (remaining : R → Option (List ℕ)) (step : R → ReadRe
   pub waited-some : (d d1 : DecoderState) (r r1 r2 : R) → Decodes remaining step d r [] d1 r1
       → HasWaited remaining step d r r1 → (r2 ≡ r1) ⊎ HasWaited remaining step d1 r1 r2
       → HasWaited remaining step d r r2
-  waited-some d d1 r r1 r2 first waited (inl kept) = subst (HasWaited remaining step d r) (sym kept) waited
+  waited-some d d1 r r1 r2 first waited (inl kept) = subst (HasWaited remaining step d r) (sym kept)
+      waited
   waited-some d d1 r r1 r2 first waited (inr last) = waited-then d d1 r r1 r2 first last
 
   pub waited-after : (d d1 : DecoderState) (r r1 r2 : R) → Decodes remaining step d r [] d1 r1
       → (r1 ≡ r) ⊎ HasWaited remaining step d r r1 → (r2 ≡ r1) ⊎ HasWaited remaining step d1 r1 r2
       → (r2 ≡ r) ⊎ HasWaited remaining step d r r2
   waited-after d d1 r r1 r2 first (inl same) (inl kept) = inl (kept ∙ same)
-  waited-after d d1 r r1 r2 first (inr waited) later = inr (waited-some d d1 r r1 r2 first waited later)
+  waited-after d d1 r r1 r2 first (inr waited) later =
+      inr (waited-some d d1 r r1 r2 first waited later)
   waited-after d d1 r r1 r2 first before (inr waited) = inr (waited-then d d1 r r1 r2 first waited)
 
-  Calls-pulls : (was is : Bool) (old new : R) (pieces : List (List ℕ)) → Calls remaining step was is old pieces new → is
-      ≡ false
-      → Pulls step old pieces new
+  Calls-pulls : (was is : Bool) (old new : R) (pieces : List (List ℕ))
+      → Calls remaining step was is old pieces new → is ≡ false → Pulls step old pieces new
   Calls-pulls false false old new pieces calls unended = calls
   Calls-pulls false true old new pieces calls unended = absurd (false≢true (sym unended))
   Calls-pulls true is old new pieces calls unended = absurd (false≢true (sym unended ∙ calls.0))
 
-  pub FailsToDecode-reader : (d d1 : DecoderState) (r r1 : R) (e : Error) → FailsToDecode remaining step d r e d1 r1
-      → FailsWith step r e r1
+  pub FailsToDecode-reader : (d d1 : DecoderState) (r r1 : R) (e : Error)
+      → FailsToDecode remaining step d r e d1 r1 → FailsWith step r e r1
   FailsToDecode-reader d d1 r r1 e fails = (
     fails.decodes.pieces,
     fails.mid,
-    Calls-pulls d.has_ended d1.has_ended r fails.mid fails.decodes.pieces fails.decodes.calls fails.unended,
+    Calls-pulls d.has_ended d1.has_ended r fails.mid fails.decodes.pieces fails.decodes.calls
+        fails.unended,
     fails.failed,
   )
 
-  Calls-unended : (was is : Bool) (old new : R) (pieces : List (List ℕ)) → Calls remaining step was is old pieces new
-      → is ≡ false
-      → was ≡ false
+  Calls-unended : (was is : Bool) (old new : R) (pieces : List (List ℕ))
+      → Calls remaining step was is old pieces new → is ≡ false → was ≡ false
   Calls-unended false is old new pieces calls unended = refl
   Calls-unended true is old new pieces calls unended = absurd (false≢true (sym unended ∙ calls.0))
 
@@ -453,41 +515,46 @@ module _ {R : Type 0} (remaining : R → Option (List ℕ)) (step : R → ReadRe
       → FailsToDecode remaining step d1 r1 e d2 r2 → FailsWith step r e r2
   reads-fail d d1 d2 r r1 r2 given e first fails =
       let unended : d1.has_ended ≡ false =
-      Calls-unended d1.has_ended d2.has_ended r1 fails.mid fails.decodes.pieces fails.decodes.calls fails.unended in
-      FailsWith-after step first.pieces r r1 r2 e (Calls-pulls d.has_ended d1.has_ended r r1 first.pieces first.calls
-      unended)
+      Calls-unended d1.has_ended d2.has_ended r1 fails.mid fails.decodes.pieces fails.decodes.calls
+      fails.unended in
+      FailsWith-after step first.pieces r r1 r2 e
+      (Calls-pulls d.has_ended d1.has_ended r r1 first.pieces first.calls unended)
       (FailsToDecode-reader d1 d2 r1 r2 e fails)
 
   -- ---- a reader that says which bytes remain
 
-  ended-gives : (d : DecoderState) (xs ys : List ℕ) → d.has_ended ≡ true → still_to_give d xs ≡ still_to_give d ys
+  ended-gives : (d : DecoderState) (xs ys : List ℕ) → d.has_ended ≡ true → still_to_give d xs
+      ≡ still_to_give d ys
   ended-gives d xs ys ended = rw ended refl
 
   yet-from : (d d1 : DecoderState) (was is : Bool) (old new : R) (before after : Option (List ℕ))
-      (pieces : List (List ℕ)) (given : List ℕ)
-      → d.has_ended ≡ was → d1.has_ended ≡ is
+      (pieces : List (List ℕ)) (given : List ℕ) → d.has_ended ≡ was → d1.has_ended ≡ is
       → Calls remaining step was is old pieces new → before ≡ remaining old → after ≡ remaining new
-      → Consumes before after (concat pieces)
-      → ((more : List ℕ) → (d1.has_ended ≡ true → more ≡ []) → still_to_give d (concat pieces ++ more) ≡ given
-      ++ still_to_give d1 more)
+      → Consumes before after (concat pieces) → ((more : List ℕ) → (d1.has_ended ≡ true → more ≡ [])
+      → still_to_give d (concat pieces ++ more) ≡ given ++ still_to_give d1 more)
       → Consumes (yet d before) (yet d1 after) given
-  yet-from d d1 was is old new None after pieces given wasn't isn't calls first last takes gives = tt
-  yet-from d d1 was is old new (Some xs) None pieces given wasn't isn't calls first last takes gives = absurd takes
-  yet-from d d1 false false old new (Some xs) (Some ys) pieces given wasn't isn't calls first last takes gives =
+  yet-from d d1 was is old new None after pieces given wasn't isn't calls first last takes gives =
+      tt
+  yet-from d d1 was is old new (Some xs) None pieces given wasn't isn't calls first last takes
+      gives = absurd takes
+  yet-from d d1 false false old new (Some xs) (Some ys) pieces given wasn't isn't calls first last
+      takes gives =
       ap (still_to_give d) takes ∙ gives ys (λ ended. absurd (false≢true (sym isn't ∙ ended)))
-  yet-from d d1 false true old new (Some xs) (Some ys) pieces given wasn't isn't calls first last takes gives =
+  yet-from d d1 false true old new (Some xs) (Some ys) pieces given wasn't isn't calls first last
+      takes gives =
       let end : IsAtEnd (Some ys) = subst IsAtEnd (sym last) calls.3 in
       ap (still_to_give d) takes ∙ gives ys (λ ended. end)
-  yet-from d d1 true is old new (Some xs) (Some ys) pieces given wasn't isn't calls first last takes gives =
+  yet-from d d1 true is old new (Some xs) (Some ys) pieces given wasn't isn't calls first last takes
+      gives =
       ended-gives d xs (concat pieces ++ []) wasn't ∙ (gives [] (λ ended. refl)
       ∙ ap (λ l. given ++ l) (ended-gives d1 [] ys (isn't ∙ calls.0)))
 
-  pub Decodes-yet : (d d1 : DecoderState) (r r1 : R) (given : List ℕ) → Decodes remaining step d r given d1 r1
+  pub Decodes-yet : (d d1 : DecoderState) (r r1 : R) (given : List ℕ)
+      → Decodes remaining step d r given d1 r1
       → Consumes (yet d (remaining r)) (yet d1 (remaining r1)) given
   Decodes-yet d d1 r r1 given run =
-      yet-from d d1 d.has_ended d1.has_ended r r1 (remaining r) (remaining r1) run.pieces given refl refl run.calls refl
-      refl
-      run.takes run.gives
+      yet-from d d1 d.has_ended d1.has_ended r r1 (remaining r) (remaining r1) run.pieces given refl
+      refl run.calls refl refl run.takes run.gives
 
   yet-kept : (d : DecoderState) (a b : Option (List ℕ)) → Keeps a b → Keeps (yet d a) (yet d b)
   yet-kept d None b keeps = tt
@@ -500,9 +567,10 @@ module _ {R : Type 0} (remaining : R → Option (List ℕ)) (step : R → ReadRe
   keeps-then (Some xs) (Some ys) None takes keeps = absurd keeps
   keeps-then (Some xs) (Some ys) (Some zs) takes keeps = keeps ∙ sym takes
 
-  pub FailsToDecode-yet : (d d1 : DecoderState) (r r1 : R) (e : Error) → FailsToDecode remaining step d r e d1 r1
-      → ((old new : R) (error : Error) → step old (Err error) new → Keeps (remaining old) (remaining new))
-      → Keeps (yet d (remaining r)) (yet d1 (remaining r1))
+  pub FailsToDecode-yet : (d d1 : DecoderState) (r r1 : R) (e : Error)
+      → FailsToDecode remaining step d r e d1 r1
+      → ((old new : R) (error : Error) → step old (Err error) new
+      → Keeps (remaining old) (remaining new)) → Keeps (yet d (remaining r)) (yet d1 (remaining r1))
   FailsToDecode-yet d d1 r r1 e fails keeps =
       keeps-then (yet d (remaining r)) (yet d1 (remaining fails.mid)) (yet d1 (remaining r1))
       (Decodes-yet d d1 r fails.mid [] fails.decodes)
@@ -514,203 +582,36 @@ module _ {R : Type 0} (remaining : R → Option (List ℕ)) (step : R → ReadRe
   IsDone-yet d None done = tt
   IsDone-yet d (Some rest) done = done-gives d rest done
 
-  whole : (a b : Option (List ℕ)) (bytes : List ℕ) → Consumes a b bytes → IsAtEnd b → IfSome a (λ all. all ≡ bytes)
+  whole : (a b : Option (List ℕ)) (bytes : List ℕ) → Consumes a b bytes → IsAtEnd b
+      → IfSome a (λ all. all ≡ bytes)
   whole None b bytes takes ended = tt
   whole (Some all) None bytes takes ended = absurd takes
-  whole (Some all) (Some rest) bytes takes ended = takes ∙ (ap (λ xs. bytes ++ xs) ended ∙ append-nil bytes)
+  whole (Some all) (Some rest) bytes takes ended = takes
+      ∙ (ap (λ xs. bytes ++ xs) ended ∙ append-nil bytes)
 
-  all-given : (label : Option Label) (sniff : Bool) (capacity : ℕ) (d : DecoderState) (is : Bool) (r r1 : R)
-      (given : List ℕ)
+  all-given : (label : Option Label) (sniff : Bool) (capacity : ℕ) (d : DecoderState) (is : Bool)
+      (r r1 : R) (given : List ℕ)
       (pieces : List (List ℕ)) → is ≡ true → Calls remaining step false is r pieces r1
       → Consumes (remaining r) (remaining r1) (concat pieces)
-      → still_to_give (started capacity label sniff) (concat pieces ++ []) ≡ given ++ still_to_give d [] → IsDone d
-      → IsDecoded remaining step label sniff r given r1
-  all-given label sniff capacity d false r r1 given pieces ended calls takes gives done = absurd (false≢true ended)
-  all-given label sniff capacity d true r r1 given pieces ended (last, pulled, called, end) takes gives done = record {
-    pieces = pieces;
-    mid = last;
-    pulled = pulled;
-    ended = called;
-    text = sym (append-nil given) ∙ (ap (λ l. given ++ l) (sym (done-gives d [] done)) ∙ (sym gives
-        ∙ ap (decoded label sniff) (append-nil (concat pieces))));
-    whole = whole (remaining r) (remaining r1) (concat pieces) takes end;
-  }
+      → still_to_give (started capacity label sniff) (concat pieces ++ []) ≡ given
+      ++ still_to_give d [] → IsDone d → IsDecoded remaining step label sniff r given r1
+  all-given label sniff capacity d false r r1 given pieces ended calls takes gives done =
+      absurd (false≢true ended)
+  all-given label sniff capacity d true r r1 given pieces ended (last, pulled, called, end) takes
+      gives done = record {
+        pieces = pieces;
+        mid = last;
+        pulled = pulled;
+        ended = called;
+        text = sym (append-nil given) ∙ (ap (λ l. given ++ l) (sym (done-gives d [] done))
+            ∙ (sym gives ∙ ap (decoded label sniff) (append-nil (concat pieces))));
+        whole = whole (remaining r) (remaining r1) (concat pieces) takes end;
+      }
 
-  pub reads-give-all : (capacity : ℕ) (label : Option Label) (sniff : Bool) (d : DecoderState) (r r1 : R)
-      (given : List ℕ)
+  pub reads-give-all : (capacity : ℕ) (label : Option Label) (sniff : Bool) (d : DecoderState)
+      (r r1 : R) (given : List ℕ)
       → Decodes remaining step (started capacity label sniff) r given d r1 → IsDone d
       → IsDecoded remaining step label sniff r given r1
   reads-give-all capacity label sniff d r r1 given run done =
-      all-given label sniff capacity d d.has_ended r r1 given run.pieces done.ended run.calls run.takes
-      (run.gives [] (λ ended. refl)) done
-
--- what is held while a mark is looked for
-pub fits-fresh : (mode : Mode) (ready held : List ℕ) (label : Option Label) (sniff : Bool) → FitsMode mode ready held
-    → mode ≡ Fresh label sniff
-    → (ready ≡ []) × (length held ≤ 3)
-fits-fresh mode ready held label sniff fits fresh = subst (λ m. FitsMode m ready held) fresh fits
-
-module _ {R : Type 0} (remaining : R → Option (List ℕ)) (step : R → ReadResult → R → Type 0) where
-  -- ---- a read that returned a result, whichever
-
-  pub result-decodes : (d d1 d2 : DecoderState) (r r1 r2 : R) (result : Result ℕ Error) (buffer : List ℕ)
-      → Decodes remaining step d r [] d1 r1 → IfOk result (λ n. Decodes remaining step d1 r1 (take n buffer) d2 r2)
-      → IfOk result (λ n. Decodes remaining step d r (take n buffer) d2 r2)
-  result-decodes d d1 d2 r r1 r2 (Ok n) buffer first later = Decodes-append remaining step d d1 d2 r r1 r2 []
-      (take n buffer) first later
-  result-decodes d d1 d2 r r1 r2 (Err e) buffer first later = tt
-
-  pub result-fails : (d d1 d2 : DecoderState) (r r1 r2 : R) (result : Result ℕ Error)
-      → Decodes remaining step d r [] d1 r1
-      → IfErr result (λ e. FailsToDecode remaining step d1 r1 e d2 r2)
-      → IfErr result (λ e. FailsToDecode remaining step d r e d2 r2)
-  result-fails d d1 d2 r r1 r2 (Ok n) first later = tt
-  result-fails d d1 d2 r r1 r2 (Err e) first later = FailsToDecode-after remaining step d d1 d2 r r1 r2 e first later
-
-  pub result-waited : (d d1 : DecoderState) (r r1 r2 : R) (result : Result ℕ Error)
-      → Decodes remaining step d r [] d1 r1 → (r1 ≡ r) ⊎ HasWaited remaining step d r r1
-      → OnOk result ((r2 ≡ r1) ⊎ HasWaited remaining step d1 r1 r2)
-      → OnOk result ((r2 ≡ r) ⊎ HasWaited remaining step d r r2)
-  result-waited d d1 r r1 r2 (Ok n) first before later = waited-after remaining step d d1 r r1 r2 first before later
-  result-waited d d1 r r1 r2 (Err e) first before later = tt
-
-  pub result-begins : (d d1 : DecoderState) (r r1 r2 : R) (result : Result ℕ Error)
-      → Decodes remaining step d r [] d1 r1
-      → HasWaited remaining step d r r1 ⊎ OnOk result (HasWaited remaining step d1 r1 r2)
-      → OnOk result ((r2 ≡ r1) ⊎ HasWaited remaining step d1 r1 r2)
-      → OnOk result (HasWaited remaining step d r r2)
-  result-begins d d1 r r1 r2 (Ok n) first (inl waited) later = waited-some remaining step d d1 r r1 r2 first waited
-      later
-  result-begins d d1 r r1 r2 (Ok n) first (inr waited) later = waited-then remaining step d d1 r r1 r2 first waited
-  result-begins d d1 r r1 r2 (Err e) first before later = tt
-
-  pub result-gives : (d d1 : DecoderState) (r r1 : R) (result : Result ℕ Error) (buffer : List ℕ)
-      → IfOk result (λ n. Decodes remaining step d r (take n buffer) d1 r1)
-      → IfOk result (λ n. Consumes (yet d (remaining r)) (yet d1 (remaining r1)) (take n buffer))
-  result-gives d d1 r r1 (Ok n) buffer run = Decodes-yet remaining step d d1 r r1 (take n buffer) run
-  result-gives d d1 r r1 (Err e) buffer run = tt
-
-  pub result-ends : (d : DecoderState) (r : R) (result : Result ℕ Error) (buffer : List ℕ)
-      → IfOk result (λ n. n ≡ 0 → 0 < length buffer → IsDone d)
-      → IfOk result (λ n. n ≡ 0 → 0 < length buffer → IsAtEnd (yet d (remaining r)))
-  result-ends d r (Ok n) buffer done = λ none room. IsDone-yet remaining step d (remaining r) (done none room)
-  result-ends d r (Err e) buffer done = tt
-
-  pub result-fault : (d d1 : DecoderState) (r r1 : R) (result : Result ℕ Error)
-      → IfErr result (λ e. FailsToDecode remaining step d r e d1 r1)
-      → IfErr result (λ e. FailsWith step r e r1)
-  result-fault d d1 r r1 (Ok n) fails = tt
-  result-fault d d1 r r1 (Err e) fails = FailsToDecode-reader remaining step d d1 r r1 e fails
-
-  pub result-keeps : (d d1 : DecoderState) (r r1 : R) (result : Result ℕ Error)
-      → ((old new : R) (error : Error) → step old (Err error) new → Keeps (remaining old) (remaining new))
-      → IfErr result (λ e. FailsToDecode remaining step d r e d1 r1)
-      → OnErr result (Keeps (yet d (remaining r)) (yet d1 (remaining r1)))
-  result-keeps d d1 r r1 (Ok n) keeps fails = tt
-  result-keeps d d1 r r1 (Err e) keeps fails = FailsToDecode-yet remaining step d d1 r r1 e fails keeps
-
-  none-given : (d d1 : DecoderState) (known after : Option (List ℕ)) (given : List ℕ) → d.ready ≡ [] → d.held ≡ []
-      → known ≡ Some []
-      → Consumes (yet d known) (yet d1 after) given → length given ≡ 0
-  none-given d d1 known None given ready held none takes =
-      absurd (subst (λ k. Consumes (yet d k) (yet d1 None) given) none takes)
-  none-given d d1 known (Some rest) given ready held none takes =
-      let all : still_to_give d [] ≡ given ++ still_to_give d1 rest =
-      subst (λ k. Consumes (yet d k) (yet d1 (Some rest)) given) none takes in
-      let nothing : still_to_give d [] ≡ [] = nothing-left d ready held in
-      let long : length (given ++ still_to_give d1 rest) ≡ 0 = ap length (sym all ∙ nothing) in
-      omega (arith, long, length-append given (still_to_give d1 rest))
-
-  first-count : (d d1 : DecoderState) (r r1 : R) (n : ℕ) (buffer ready : List ℕ) (known : Option (List ℕ))
-      (M : List ℕ → Type 0) (P S : Type 0)
-      → known ≡ remaining r → d.ready ≡ [] → d.held ≡ [] → (n ≤ length buffer) × (n ≡ length (take n buffer))
-      → Consumes (yet d known) (yet d1 (remaining r1)) (take n buffer)
-      → (0 < length ready → (n ≡ min (length ready) (length buffer)) × S)
-      → IfSome known (λ input. M input → P → ready ≡ take 3 input)
-      → IfSome known (λ input. M input → P → n ≡ min (length buffer) (min 3 (length input)))
-  first-count d d1 r r1 n buffer ready None M P S is none empty bound takes given made = tt
-  first-count d d1 r r1 n buffer ready (Some []) M P S is none empty bound takes given made = λ m p.
-      let zero : n ≡ 0 = bound.1 ∙ none-given d d1 (Some []) (remaining r1) (take n buffer) none empty refl takes in
-      omega (arith, zero)
-  first-count d d1 r r1 n buffer ready (Some (x ∷ input)) M P S is none empty bound takes given made = λ m p.
-      let long : length ready ≡ min 3 (length (x ∷ input)) = ap length (made m p) ∙ length-take 3 (x ∷ input) in
-      let count : n ≡ min (length ready) (length buffer) = (given (omega (arith, long))).0 in
-      omega (arith, long, count)
-
-  pub result-first : (d d1 : DecoderState) (r r1 : R) (result : Result ℕ Error) (buffer ready : List ℕ)
-      (M : List ℕ → Type 0) (P S : Type 0)
-      → d.ready ≡ [] → d.held ≡ [] → ReadsAtMost result buffer
-      → IfOk result (λ n. Decodes remaining step d r (take n buffer) d1 r1)
-      → (0 < length ready → IfOk result (λ n. (n ≡ min (length ready) (length buffer)) × S))
-      → IfSome (remaining r) (λ input. M input → P → ready ≡ take 3 input)
-      → IfOk result (λ n. IfSome (remaining r) (λ input. M input → P → n ≡ min (length buffer) (min 3 (length input))))
-  result-first d d1 r r1 (Ok n) buffer ready M P S none empty bound run given made =
-      first-count d d1 r r1 n buffer ready (remaining r) M P S refl none empty bound
-      (Decodes-yet remaining step d d1 r r1 (take n buffer) run) given made
-  result-first d d1 r r1 (Err e) buffer ready M P S none empty bound run given made = tt
-
--- what was taken at first, and then what was taken
-pub result-ahead : (P : Type 0) (before mid after : Option (List ℕ)) (most : ℕ) (result : Result ℕ Error)
-    → TakesAtMost before mid most
-    → IfOk result (λ n. P → TakesAtMost mid after n) → IfOk result (λ n. P → TakesAtMost before after (n + most))
-result-ahead P before mid after most (Ok n) first later = λ p.
-    let more = later p in (
-      first.0 ++ more.0,
-      omega (arith, first.1, more.1, length-append first.0 more.0),
-      Consumes-trans before mid after first.0 more.0 first.2 more.2,
-    )
-result-ahead P before mid after most (Err e) first later = tt
-
-pub takes-none : (known : Option (List ℕ)) (most : ℕ) → TakesAtMost known known most
-takes-none known most = ([], omega arith, Consumes-nil known)
-
--- what is first ready, in another state that has the same bytes ready
-pub first-passes : (M : List ℕ → Type 0) (P Q : Type 0) (known : Option (List ℕ)) (ready same : List ℕ) → (P → Q) → same
-    ≡ ready
-    → IfSome known (λ input. M input → Q → ready ≡ take 3 input)
-    → IfSome known (λ input. M input → P → same ≡ take 3 input)
-first-passes M P Q None ready same given is made = tt
-first-passes M P Q (Some input) ready same given is made = λ m p. is ∙ made m (given p)
-
--- few bytes wait while a mark is looked for
-pub few-wait : (mode : Mode) (held : List ℕ) → LooksForMark mode → length held < 3 → IsWaiting mode held
-few-wait (Fresh label sniff) held looks few = (looks, few)
-few-wait Passing held looks few = absurd looks
-few-wait (Decoding label) held looks few = absurd looks
-
--- whether a mark is looked for
-pub looks-or : (mode : Mode) → LooksForMark mode ⊎ (LooksForMark mode → ⊥)
-looks-or (Fresh label sniff) = true-or (sniff || is_some label)
-  where
-    true-or : (b : Bool) → (b ≡ true) ⊎ (b ≡ true → ⊥)
-    true-or true = inl refl
-    true-or false = inr (λ is. false≢true is)
-looks-or Passing = inr (λ looks. looks)
-looks-or (Decoding label) = inr (λ looks. looks)
-
--- without a mark that is looked for the bytes pass
-pub mode-unlooked : (label : Option Label) (sniff : Bool) (input : List ℕ) → (LooksForMark (Fresh label sniff) → ⊥)
-    → (found_mark label sniff input ≡ None) × (mode_after (Fresh label sniff) input ≡ Passing)
-mode-unlooked None false input unlooked = (refl, refl)
-mode-unlooked None true input unlooked = absurd (unlooked refl)
-mode-unlooked (Some label) true input unlooked = absurd (unlooked refl)
-mode-unlooked (Some label) false input unlooked = absurd (unlooked refl)
-
-pub mode-settled : (mode : Mode) (input : List ℕ) → IsSettled mode → mode_after mode input ≡ mode
-mode-settled (Fresh label sniff) input settled = absurd settled
-mode-settled Passing input settled = refl
-mode-settled (Decoding label) input settled = refl
-
--- a decoder that hasn't settled was started
-pub unsettled-fresh : (mode : Mode) → (IsSettled mode → ⊥) → (label : Option Label) × (sniff : Bool)
-    × (mode ≡ Fresh label sniff)
-unsettled-fresh (Fresh label sniff) fresh = (label, sniff, refl)
-unsettled-fresh Passing fresh = absurd (fresh tt)
-unsettled-fresh (Decoding label) fresh = absurd (fresh tt)
-
--- only a decoder that has read nothing looks for a mark
-pub looks-fresh : (mode : Mode) → LooksForMark mode → (label : Option Label) × (sniff : Bool)
-    × (mode ≡ Fresh label sniff)
-looks-fresh (Fresh label sniff) looks = (label, sniff, refl)
-looks-fresh Passing looks = absurd looks
-looks-fresh (Decoding label) looks = absurd looks
+      all-given label sniff capacity d d.has_ended r r1 given run.pieces done.ended run.calls
+      run.takes (run.gives [] (λ ended. refl)) done

@@ -2,6 +2,7 @@ pub mod AsciiBlockLemmas
 pub mod BlockLemmas
 pub mod DecodedTextLemmas
 pub mod DecoderLemmas
+pub mod ReadResultLemmas
 pub mod EncodeLemmas
 pub mod LabelLemmas
 pub mod LossyLemmas

@@ -1,15 +1,16 @@
 -- Lists that are read and written in pieces.
-use Rattle.std.proofs.Common.{◌≡◌, ℕ, ◌+◌, ◌-◌, ◌≤◌, List, ◌++◌, length, take, drop, sym, ap, ◌∙◌, append_assoc, arith}
+use Rattle.std.proofs.Common.{◌≡◌, ℕ, ◌+◌, ◌-◌, ◌≤◌, List, ◌++◌, length, take, drop, sym, ap, ◌∙◌}
+use Rattle.std.proofs.Common.{append_assoc, arith}
 use Rattle.std.proofs.Math.Seq.{take-append-add, take-add}
-use Rattle.std.proofs.lemmas.List.{take-append-drop, take-append-le, length-take-le, length-drop, take_at, drop-drop}
-use Rattle.std.proofs.lemmas.List.{drop-append-le, drop-take}
+use Rattle.std.proofs.lemmas.List.{take-append-drop, take-append-le, length-take-le, length-drop}
+use Rattle.std.proofs.lemmas.List.{take_at, drop-drop, drop-append-le, drop-take}
 use Rattle.std.proofs.lemmas.List.Edits.{take-paste, length-paste}
 use Rattle.std.specs.List.{copy_within}
 use borrow.Rule.Slice.PartMut.{put_mid}
 
 -- a prefix that goes some elements into a part that was written
-pub take-put_mid_into : {X : Type 0} (from size more : ℕ) (xs ys : List X) → from ≤ length xs → more ≤ length ys
-    → take (from + more) (put_mid from size xs ys) ≡ take from xs ++ take more ys
+pub take-put_mid_into : {X : Type 0} (from size more : ℕ) (xs ys : List X) → from ≤ length xs → more
+    ≤ length ys → take (from + more) (put_mid from size xs ys) ≡ take from xs ++ take more ys
 take-put_mid_into from size more xs ys within part =
     let rest = put_mid from size xs ys in
     let here : length (take from xs) ≡ from = length-take-le from xs within in
@@ -17,9 +18,8 @@ take-put_mid_into from size more xs ys within part =
     ∙ ap (λ l. take from xs ++ l) (take-append-le more ys _ part)
 
 -- the first elements of a window, copied out, and the rest of the window
-pub window-given : {X : Type 0} (start end count size : ℕ) (xs front zs : List X) → count ≤ end - start
-    → end ≤ length xs → size ≡ count
-    → front ≡ take size (drop start xs)
+pub window-given : {X : Type 0} (start end count size : ℕ) (xs front zs : List X) → count ≤ end
+    - start → end ≤ length xs → size ≡ count → front ≡ take size (drop start xs)
     → take (end - start) (drop start xs) ≡ take count (front ++ zs)
     ++ take (end - (start + count)) (drop (start + count) xs)
 window-given start end count size xs front zs fits within same copied =
@@ -29,23 +29,26 @@ window-given start end count size xs front zs fits within same copied =
     let len : length front ≡ count = ap length is ∙ length-take-le count window long in
     let sum : end - start ≡ count + (end - (start + count)) = omega arith in
     ap (λ k. take k window) sum ∙ take-add count (end - (start + count)) window
-    ∙ ap (λ l. l ++ take (end - (start + count)) (drop count window)) (sym is ∙ sym (take_at front zs count len))
-    ∙ ap (λ l. take count (front ++ zs) ++ take (end - (start + count)) l) (drop-drop count start xs)
+    ∙ ap (λ l. l ++ take (end - (start + count)) (drop count window))
+    (sym is ∙ sym (take_at front zs count len))
+    ∙ ap (λ l. take count (front ++ zs) ++ take (end - (start + count)) l)
+    (drop-drop count start xs)
 
 -- a window without its first elements
 pub window-skipped : {X : Type 0} (start end count : ℕ) (xs : List X) → count ≤ end - start
-    → take (end - (start + count)) (drop (start + count) xs) ≡ drop count (take (end - start) (drop start xs))
+    → take (end - (start + count)) (drop (start + count) xs)
+    ≡ drop count (take (end - start) (drop start xs))
 window-skipped start end count xs fits =
     let sum : end - start ≡ count + (end - (start + count)) = omega arith in
-    sym (ap (λ k. drop count (take k (drop start xs))) sum ∙ drop-take count (end - (start + count)) (drop start xs)
-    ∙ ap (take (end - (start + count))) (drop-drop count start xs))
+    sym (ap (λ k. drop count (take k (drop start xs))) sum ∙ drop-take count (end - (start + count))
+    (drop start xs) ∙ ap (take (end - (start + count))) (drop-drop count start xs))
 
 zero-add : (n : ℕ) → n ≡ 0 + n
 zero-add n = omega arith
 
 -- a window that was moved to the front, and then elements that were written after it
-pub window-appended : {X : Type 0} (start end size count : ℕ) (xs moved values ys : List X) → start ≤ end
-    → end ≤ length xs
+pub window-appended : {X : Type 0} (start end size count : ℕ) (xs moved values ys : List X) → start
+    ≤ end → end ≤ length xs
     → moved ≡ copy_within xs start end 0 → values ≡ moved → count ≤ length ys
     → take (((end - start) + count) - 0) (drop 0 (put_mid (end - start) size values ys))
     ≡ take (end - start) (drop start xs) ++ take count ys
@@ -63,10 +66,11 @@ window-appended start end size count xs moved values ys ordered within is same p
     ∙ ap (λ l. l ++ take count ys) front
 
 -- a text whose first part was written, and then the next part
-pub text-more : (text : List ℕ → List ℕ) (input output buffer more : List ℕ) (taken written next count size : ℕ)
-    → written ≤ length output
-    → count ≤ length buffer → text (input ++ more) ≡ take written output ++ text (drop taken input ++ more)
-    → text (drop taken input ++ more) ≡ take count buffer ++ text (drop next (drop taken input) ++ more)
+pub text-more : (text : List ℕ → List ℕ) (input output buffer more : List ℕ)
+    (taken written next count size : ℕ) → written ≤ length output
+    → count ≤ length buffer → text (input ++ more) ≡ take written output
+    ++ text (drop taken input ++ more) → text (drop taken input ++ more) ≡ take count buffer
+    ++ text (drop next (drop taken input) ++ more)
     → text (input ++ more) ≡ take (written + count) (put_mid written size output buffer)
     ++ text (drop (taken + next) input ++ more)
 text-more text input output buffer more taken written next count size within part before now =
@@ -86,18 +90,22 @@ text-front text input output after more block size count few within written =
     let front = take block input in
     let back = drop block input in
     let split : front ++ back ≡ input = take-append-drop block input in
-    let whole : front ++ (back ++ more) ≡ input ++ more = sym (append_assoc front back more) ∙ ap (λ l. l ++ more) split in
+    let whole : front ++ (back ++ more) ≡ input ++ more = sym (append_assoc front back more)
+    ∙ ap (λ l. l ++ more) split in
     let left : drop size front ++ back ≡ drop size input =
     sym (drop-append-le size front back within) ∙ ap (drop size) split in
     let rest : drop size front ++ (back ++ more) ≡ drop size input ++ more =
     sym (append_assoc (drop size front) back more) ∙ ap (λ l. l ++ more) left in
-    ap text (sym whole) ∙ (written (back ++ more)
-    ∙ (ap (λ l. take count output ++ text l) rest
+    ap text (sym whole) ∙ (written (back ++ more) ∙ (ap (λ l. take count output ++ text l) rest
     ∙ ap (λ l. l ++ text (drop size input ++ more)) (sym (take-append-le count output after few))))
 
 -- what is left of some bytes once the first are dropped, and then some more
-pub dropped : (head rest : List ℕ) (n : ℕ) → rest ≡ drop n head → (front : List ℕ) × (head ≡ front ++ rest)
-dropped head rest n is = (take n head, sym (take-append-drop n head) ∙ ap (λ l. take n head ++ l) (sym is))
+pub dropped : (head rest : List ℕ) (n : ℕ) → rest ≡ drop n head → (front : List ℕ)
+    × (head ≡ front ++ rest)
+dropped head rest n is = (
+  take n head,
+  sym (take-append-drop n head) ∙ ap (λ l. take n head ++ l) (sym is),
+)
 
 pub dropped-twice : (head rest last : List ℕ) (n m : ℕ) → rest ≡ drop n head → last ≡ drop m rest
     → (front : List ℕ) × (head ≡ front ++ last)

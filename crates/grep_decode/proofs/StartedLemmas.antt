@@ -4,14 +4,16 @@ use Rattle.std.proofs.Common.{Option, ◌||◌, is_some, inl, inr, ⊎_elim, ref
 use Rattle.std.proofs.Common.{arith, append-nil}
 use Rattle.std.proofs.lemmas.Bool.{false≢true}
 use Rattle.std.specs.List.{concat}
-use Rattle.grep_decode.proofs.DecoderLemmas.{looks-unsettled, mode-settled}
+use Rattle.grep_decode.proofs.DecoderLemmas.{looks-unsettled}
+use Rattle.grep_decode.proofs.ReadResultLemmas.{mode-settled}
 use Rattle.grep_decode.specs.Decoded.{decoded, found_mark}
 use Rattle.grep_decode.specs.DecoderStates.{DecoderState, Decodes, IsSettled, LooksForMark}
 use Rattle.grep_decode.specs.DecoderStates.{decode_by, mode_of, started, unread}
 use Rattle.grep_decode.specs.Source.{ReadResult}
 use Rattle.grep_decode.specs.declared.label.Label.{Label}
 
-module _ {R : Type 0} {remaining : R → Option (List ℕ)} {step : R → ReadResult → R → Type 0} (label : Option Label)
+module _ {R : Type 0} {remaining : R → Option (List ℕ)} {step : R → ReadResult → R → Type 0}
+    (label : Option Label)
     (sniff : Bool) {capacity : ℕ} {reader reader' : R} {given : List ℕ} {d : DecoderState}
     (reads : Decodes remaining step (started capacity label sniff) reader given d reader') where
   -- the mark in what was taken
@@ -21,12 +23,12 @@ module _ {R : Type 0} {remaining : R → Option (List ℕ)} {step : R → ReadRe
   pub mode-is : IsSettled d.mode → d.mode ≡ mode_of mark label
   mode-is settled =
       sym (mode-settled _ _ settled) ∙ (sym (reads.settles [] (λ _. refl))
-      ∙ ap (λ xs. mode_of (found_mark label sniff xs) label)
-      (append-nil (concat reads.pieces)))
+      ∙ ap (λ xs. mode_of (found_mark label sniff xs) label) (append-nil (concat reads.pieces)))
 
   -- a decoder that looks for a mark has given nothing, and holds all that was taken
   unsettled : IsSettled d.mode ⊎ LooksForMark d.mode × (length d.held ≤ 2)
-      → IsSettled d.mode ⊎ ((sniff || is_some label) ≡ true) × (given ≡ []) × (length (concat reads.pieces) < 3)
+      → IsSettled d.mode ⊎ ((sniff || is_some label) ≡ true) × (given ≡ [])
+      × (length (concat reads.pieces) < 3)
   unsettled (inl settled) = inl settled
   unsettled (inr (looks, few)) =
       let waits = reads.unsettled (looks-unsettled _ looks) in
@@ -34,20 +36,20 @@ module _ {R : Type 0} {remaining : R → Option (List ℕ)} {step : R → ReadRe
 
   pub settled-enough : IsSettled d.mode ⊎ LooksForMark d.mode × (length d.held ≤ 2)
       → ((sniff || is_some label) ≡ true → 3 ≤ length (concat reads.pieces)) → IsSettled d.mode
-  settled-enough few enough = ⊎_elim (λ settled. settled) (λ waits. absurd (omega (arith, enough waits.0, waits.2)))
-      (unsettled few)
+  settled-enough few enough = ⊎_elim (λ settled. settled)
+      (λ waits. absurd (omega (arith, enough waits.0, waits.2))) (unsettled few)
 
-  pub given-none : IsSettled d.mode ⊎ LooksForMark d.mode × (length d.held ≤ 2) → d.has_ended ≡ false
-      → (sniff || is_some label) ≡ true → length (concat reads.pieces) < 3 → given ≡ []
+  pub given-none : IsSettled d.mode ⊎ LooksForMark d.mode × (length d.held ≤ 2) → d.has_ended
+      ≡ false → (sniff || is_some label) ≡ true → length (concat reads.pieces) < 3 → given ≡ []
   given-none few unended looks short = ⊎_elim
       (λ settled. ⊎_elim (λ long. absurd (omega (arith, long, short)))
-      (λ ended. absurd (false≢true (sym unended ∙ ended)))
-      (reads.enough looks settled))
+      (λ ended. absurd (false≢true (sym unended ∙ ended))) (reads.enough looks settled))
       (λ waits. waits.1) (unsettled few)
 
   -- the last bytes that came are held, and the rest of the text is theirs and of what comes
   pub waiting-text : d.has_ended ≡ false → d.ready ≡ [] → IsSettled d.mode → (more : List ℕ)
-      → decoded label sniff (concat reads.pieces ++ more) ≡ given ++ decode_by (mode_of mark label) (d.held ++ more)
+      → decoded label sniff (concat reads.pieces ++ more) ≡ given ++ decode_by (mode_of mark label)
+      (d.held ++ more)
   waiting-text unended ready settled more =
       reads.gives more (λ ended. absurd (false≢true (sym unended ∙ ended)))
       ∙ (ap (λ xs. given ++ (xs ++ decode_by d.mode (d.held ++ unread d.has_ended more))) ready

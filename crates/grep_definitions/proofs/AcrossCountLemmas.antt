@@ -45,7 +45,8 @@ module _ (k : Settings) (meaning : Meaning) (bytes : List ℕ) where
   abbrev SelectsFrom : ℕ → ℕ → Type 0
   SelectsFrom i j = (q : ℕ) → j < q → q < count → selected q ≡ true → i ≤ q
 
-  -- the next unit after line j ends after line i, if line j isn't before that, or if there is such a unit
+  -- the next unit after line j ends after line i, if line j isn't before that, or if there is such
+  -- a unit
   next-late : (i j : ℕ) → SelectsFrom i j → (i ≤ j) ⊎ (precedes_selected k bytes selection j ≡ true)
       → i < next_report_end k bytes selection j
   next-late i j from some = go (first_below later count) refl
@@ -65,13 +66,10 @@ module _ (k : Settings) (meaning : Meaning) (bytes : List ℕ) where
 
       go : (o : Option ℕ) → first_below later count ≡ o
           → i < unwrap_or (option_map (report_end k bytes selection) o) (j + 1)
-      go None is = ⊎_elim
-          (λ low. omega arith)
-          (λ precedes.
+      go None is = ⊎_elim (λ low. omega arith) (λ precedes.
           let found = some_below-find nearer count precedes in
           absurd (clash (some_below-some later count found.0 found.1 (weaker found.0 found.2))
-          (first_below-none later count is)))
-          some
+          (first_below-none later count is))) some
       go (Some q) is =
           let found = first_below-of later count q is in
           let both = and_parts (nat_lt j q) (selected q) found.1 in
@@ -82,8 +80,7 @@ module _ (k : Settings) (meaning : Meaning) (bytes : List ℕ) where
           )
 
   -- if the count of a line is after some offset, so is that of each of its calls
-  ends-calls_at : (bound j : ℕ)
-      → ((kind : Kind) → Plans.kind k bytes selection j ≡ Some kind
+  ends-calls_at : (bound j : ℕ) → ((kind : Kind) → Plans.kind k bytes selection j ≡ Some kind
       → bound ≤ count_at k bytes selection j (Some kind))
       → All (λ call. bound ≤ call.if_false.count) (calls_at k bytes selection j)
   ends-calls_at bound j late = go (Plans.kind k bytes selection j) refl
@@ -105,22 +102,24 @@ module _ (k : Settings) (meaning : Meaning) (bytes : List ℕ) where
       report matched low = skip _ _ low
       report (in_context c) low = All-cons P _ [] low (All-nil P)
 
-      go : (kind : Option Kind) → Plans.kind k bytes selection j ≡ kind → All P (calls_at k bytes selection j)
+      go : (kind : Option Kind) → Plans.kind k bytes selection j ≡ kind
+          → All P (calls_at k bytes selection j)
       go None is = rw (is, and-false (nat_lt 0 (k.after_context + k.before_context))) (All-nil P)
       go (Some kind) is =
           let low = late kind is in
           rw is (choose _ (planned breaks (count_at k bytes selection j (Some kind)))
           (Plans.report k bytes selection j (Some kind)) low (report kind low))
 
-  -- a line that a walk at line i passed unreported, or has still to come to, has a count after line i
+  -- a line that a walk at line i passed unreported, or has still to come to, has a count after line
+  -- i
   module _ {v i left : ℕ} (near : Near k meaning bytes v i left) where
     from-here : (j : ℕ) → v ≤ j → SelectsFrom i j
     from-here j low q less inside hit = ⊎_elim
-        (λ early. absurd (clash hit (near.passed q (omega arith) early).0))
-        (λ over. over)
+        (λ early. absurd (clash hit (near.passed q (omega arith) early).0)) (λ over. over)
         (cases_lt q i)
 
-    ends-late : (j : ℕ) → v ≤ j → j < count → All (λ call. at (i + 1) ≤ call.if_false.count) (T k meaning bytes j)
+    ends-late : (j : ℕ) → v ≤ j → j < count → All (λ call. at (i + 1) ≤ call.if_false.count)
+        (T k meaning bytes j)
     ends-late j low inside = ends-calls_at (at (i + 1)) j (λ kind is. go kind is (cases_lt j i))
       where
         after : i ≤ j → at (i + 1) ≤ at (j + 1)
@@ -138,23 +137,24 @@ module _ (k : Settings) (meaning : Meaning) (bytes : List ℕ) where
         go matched is (inr over) =
             let here = kind-selected (selected j) (follows_selected k bytes selection j)
             (precedes_selected k bytes selection j) k.passthru is in
-            higher (i + 1) (report_end k bytes selection j) (omega (arith, (unit-lines k meaning bytes j inside here).later))
+            higher (i + 1) (report_end k bytes selection j)
+            (omega (arith, (unit-lines k meaning bytes j inside here).later))
         go (in_context After) is (inr over) = after over
         go (in_context Other) is (inr over) = after over
         go (in_context Before) is (inr over) = next (inl over)
         go (in_context c) is (inl less) =
             let misses : selected j ≡ false = (near.passed j low less).0 in
             let alone : follows_selected k bytes selection j ≡ false = (near.passed j low less).1 in
-            ⊎_elim
-            (λ (precedes : precedes_selected k bytes selection j ≡ true).
+            ⊎_elim (λ (precedes : precedes_selected k bytes selection j ≡ true).
             let before : Plans.kind k bytes selection j
             ≡ Some (in_context Before) = rw (misses, alone, precedes) refl in
             let same : in_context c ≡ in_context Before = let e = sym is ∙ before in cc in
-            subst (λ o. at (i + 1) ≤ count_at k bytes selection j (Some o)) (sym same) (next (inr precedes)))
-            (λ (last : precedes_selected k bytes selection j ≡ false).
-            let plain : k.passthru ≡ false = ⊎_elim (λ yes. absurd (omega (arith, near.bare yes))) (λ no. no)
-            (cases_Bool k.passthru) in
-            let none : Plans.kind k bytes selection j ≡ None = rw (misses, alone, last, plain) refl in
+            subst (λ o. at (i + 1) ≤ count_at k bytes selection j (Some o)) (sym same)
+            (next (inr precedes))) (λ (last : precedes_selected k bytes selection j ≡ false).
+            let plain : k.passthru ≡ false = ⊎_elim (λ yes. absurd (omega (arith, near.bare yes)))
+            (λ no. no) (cases_Bool k.passthru) in
+            let none : Plans.kind k bytes selection j ≡ None =
+            rw (misses, alone, last, plain) refl in
             absurd (let e = sym none ∙ is in cc))
             (cases_Bool (precedes_selected k bytes selection j))
 
@@ -163,7 +163,8 @@ module _ (k : Settings) (meaning : Meaning) (bytes : List ℕ) where
         → through (at i) (across_plan k meaning bytes).calls ≡ front k meaning bytes v
     through-is inside ended =
         ap (through (at i)) (front-through k meaning bytes v count (omega arith))
-        ∙ ended-by (at i) (front k meaning bytes v) (T k meaning bytes) v (count - v) ended (λ j low high.
+        ∙ ended-by (at i) (front k meaning bytes v) (T k meaning bytes) v (count - v) ended
+        (λ j low high.
         All-weaker (λ call. at (i + 1) ≤ call.if_false.count) (λ call. at i < call.if_false.count)
         (λ call low. omega (arith, line_start-ascends (byte_of k.line_terminator) bytes i inside))
         (T k meaning bytes j) (ends-late j low (omega arith)))

@@ -27,7 +27,8 @@ wide = record default_settings { multi_line = true }
 abbrev occurrence_from : List ℕ → ℕ → List ℕ → Option (ℕ × ℕ)
 occurrence_from bytes position [] = if length bytes == 0 then Some (position, position) else None
 occurrence_from bytes position (b ∷ hay) =
-    if starts_with nat_eq (b ∷ hay) bytes then Some (position, position + length bytes) else occurrence_from bytes
+    if starts_with nat_eq (b ∷ hay) bytes then Some (position, position + length bytes)
+    else occurrence_from bytes
     (position + 1) hay
 
 -- a matcher of a literal, which doesn't say which bytes no match contains
@@ -57,23 +58,29 @@ inverted_input : search_plan (record wide { invert_match = true }) two_lines inp
 inverted_input = refl
 
 -- there the limit is one of lines, and each byte counts also past it
-inverted_to_limit : search_plan (record wide { invert_match = true; max_matches = Some 1 }) two_lines input
-    ≡ plan_of (begun ∷ match_call 1 0 (codes "xxx\n") 4 ∷ []) 28
+inverted_to_limit : search_plan (record wide {
+  invert_match = true;
+  max_matches = Some 1;
+}) two_lines input ≡ plan_of (begun ∷ match_call 1 0 (codes "xxx\n") 4 ∷ []) 28
 inverted_to_limit = refl
 
 -- a line before a report of many lines has the report's count
 around_report : search_plan (record wide { before_context = 1; after_context = 1 }) two_lines input
     ≡ plan_of
-    (begun ∷ context_call Before 1 0 (codes "xxx\n") 25 ∷ match_call 2 4 (codes "abc\ndefxxxabc\ndefxxx\n") 25
+    (begun ∷ context_call Before 1 0 (codes "xxx\n") 25
+    ∷ match_call 2 4 (codes "abc\ndefxxxabc\ndefxxx\n") 25
     ∷ context_call After 5 25 (codes "xxx") 28 ∷ []) 28
 around_report = refl
 
--- the limit is one of matches: the second touches a line that the first touches too, and its own line is a line after;
--- neither it nor a line that doesn't match ends the search
-limit_of_matches : search_plan (record wide { max_matches = Some 1; after_context = 1; stop_on_nonmatch = true })
-    two_lines input
-    ≡ plan_of
-    (begun ∷ match_call 2 4 (codes "abc\ndefxxxabc\n") 18 ∷ context_call After 4 18 (codes "defxxx\n") 25 ∷ []) 28
+-- the limit is one of matches: the second touches a line that the first touches too, and its own
+-- line is a line after; neither it nor a line that doesn't match ends the search
+limit_of_matches : search_plan (record wide {
+  max_matches = Some 1;
+  after_context = 1;
+  stop_on_nonmatch = true;
+}) two_lines input ≡ plan_of
+    (begun ∷ match_call 2 4 (codes "abc\ndefxxxabc\n") 18
+    ∷ context_call After 4 18 (codes "defxxx\n") 25 ∷ []) 28
 limit_of_matches = refl
 
 -- the empty literal matches before each byte, in each line
@@ -82,26 +89,32 @@ empty_literal : search_plan wide (literal []) (codes "a\nb\n")
 empty_literal = refl
 
 -- a match before each byte, and none at the end
-empty_literal_matches : all_matches (literal []) (codes "a\nb\n") ≡ (0, 0) ∷ (1, 1) ∷ (2, 2) ∷ (3, 3) ∷ []
+empty_literal_matches : all_matches (literal []) (codes "a\nb\n") ≡ (0, 0) ∷ (1, 1) ∷ (2, 2)
+    ∷ (3, 3) ∷ []
 empty_literal_matches = refl
 
 -- so under inversion no line is left
-empty_literal_inverted : search_plan (record wide { invert_match = true }) (literal []) (codes "a\nb\n")
-    ≡ plan_of (begun ∷ []) 4
+empty_literal_inverted : search_plan (record wide {
+  invert_match = true;
+}) (literal []) (codes "a\nb\n") ≡ plan_of (begun ∷ []) 4
 empty_literal_inverted = refl
 
 -- the first two of them are in the first line
-empty_literal_to_limit : search_plan (record wide { max_matches = Some 2 }) (literal []) (codes "a\nb\n")
-    ≡ plan_of (begun ∷ match_call 1 0 (codes "a\n") 2 ∷ []) 4
+empty_literal_to_limit : search_plan (record wide {
+  max_matches = Some 2;
+}) (literal []) (codes "a\nb\n") ≡ plan_of (begun ∷ match_call 1 0 (codes "a\n") 2 ∷ []) 4
 empty_literal_to_limit = refl
 
 -- an empty match after the last terminator touches no line
-after_last_line : search_plan (record wide { before_context = 1 }) at_end (codes "a\nb\n") ≡ plan_of (begun ∷ []) 4
+after_last_line : search_plan (record wide {
+  before_context = 1;
+}) at_end (codes "a\nb\n") ≡ plan_of (begun ∷ []) 4
 after_last_line = refl
 
 -- one at the end of a line without terminator touches that line
 at_end_of_open_line : search_plan (record wide { before_context = 1 }) at_end (codes "a\nb")
-    ≡ plan_of (begun ∷ context_call Before 1 0 (codes "a\n") 3 ∷ match_call 2 2 (codes "b") 3 ∷ []) 3
+    ≡ plan_of (begun ∷ context_call Before 1 0 (codes "a\n") 3 ∷ match_call 2 2 (codes "b") 3 ∷ [])
+    3
 at_end_of_open_line = refl
 
 -- the second match begins where the first ends, in the same line
@@ -109,42 +122,46 @@ overlapping_lines : search_plan wide two_lines (codes "xxx\nabc\ndefabc\ndefxxx\
     ≡ plan_of (begun ∷ match_call 2 4 (codes "abc\ndefabc\ndefxxx\n") 22 ∷ []) 25
 overlapping_lines = refl
 
--- a match that ends with a terminator doesn't touch the next line, and lines that touch are one report
+-- a match that ends with a terminator doesn't touch the next line, and lines that touch are one
+-- report
 matched_terminators : search_plan wide (literal (codes "a\n")) (codes "a\na\nb\n")
     ≡ plan_of (begun ∷ match_call 1 0 (codes "a\na\n") 4 ∷ []) 6
 matched_terminators = refl
 
 -- a line between two reports is reported once, as the line after the first, and makes no break
-apart_by_a_line : search_plan (record wide { before_context = 1; after_context = 1 }) (literal (codes "a\na"))
-    (codes "a\na\nx\na\na\n")
-    ≡ plan_of
+apart_by_a_line : search_plan (record wide {
+  before_context = 1;
+  after_context = 1;
+}) (literal (codes "a\na")) (codes "a\na\nx\na\na\n") ≡ plan_of
     (begun ∷ match_call 1 0 (codes "a\na\n") 4 ∷ context_call After 3 4 (codes "x\n") 6
     ∷ match_call 4 6 (codes "a\na\n") 10 ∷ []) 10
 apart_by_a_line = refl
 
 -- lines left out before a line before a report make a break, with the report's count
 break_before_report : search_plan (record wide { before_context = 1 }) (literal (codes "a\na"))
-    (codes "a\na\nx\nx\na\na\n")
-    ≡ plan_of
-    (begun ∷ match_call 1 0 (codes "a\na\n") 4 ∷ break_call 12 ∷ context_call Before 4 6 (codes "x\n") 12
-    ∷ match_call 5 8 (codes "a\na\n") 12 ∷ []) 12
+    (codes "a\na\nx\nx\na\na\n") ≡ plan_of
+    (begun ∷ match_call 1 0 (codes "a\na\n") 4 ∷ break_call 12
+    ∷ context_call Before 4 6 (codes "x\n") 12 ∷ match_call 5 8 (codes "a\na\n") 12 ∷ []) 12
 break_before_report = refl
 
 -- under passthru the other lines are reported, and at limit 0 all are such lines
-passthru_at_limit_zero : search_plan (record wide { passthru = true; max_matches = Some 0 }) (literal (codes "a\nb"))
-    (codes "a\nb\n")
-    ≡ plan_of (begun ∷ context_call Other 1 0 (codes "a\n") 2 ∷ context_call Other 2 2 (codes "b\n") 4 ∷ []) 4
+passthru_at_limit_zero : search_plan (record wide {
+  passthru = true;
+  max_matches = Some 0;
+}) (literal (codes "a\nb")) (codes "a\nb\n")
+    ≡ plan_of (begun ∷ context_call Other 1 0 (codes "a\n") 2
+    ∷ context_call Other 2 2 (codes "b\n") 4 ∷ []) 4
 passthru_at_limit_zero = refl
 
 -- at limit 0 each byte counts
-limit_zero : search_plan (record wide { max_matches = Some 0 }) (literal (codes "a\nb")) (codes "a\nb\n")
-    ≡ plan_of (begun ∷ []) 4
+limit_zero : search_plan (record wide {
+  max_matches = Some 0;
+}) (literal (codes "a\nb")) (codes "a\nb\n") ≡ plan_of (begun ∷ []) 4
 limit_zero = refl
 
 -- under CRLF a match may end between the carriage return and the line feed, or with both
 crlf_terminator : search_plan (record wide { line_terminator = Crlf }) (literal (codes "a\r\nb\r"))
-    (codes "a\r\nb\r\nc\r\n")
-    ≡ plan_of (begun ∷ match_call 1 0 (codes "a\r\nb\r\n") 6 ∷ []) 9
+    (codes "a\r\nb\r\nc\r\n") ≡ plan_of (begun ∷ match_call 1 0 (codes "a\r\nb\r\n") 6 ∷ []) 9
 crlf_terminator = refl
 
 -- a matcher that knows that no match contains the terminator is searched with by line
@@ -160,9 +177,9 @@ known_present : is_across wide (literal_meaning (codes "a\nb")) ≡ true
 known_present = refl
 
 -- a stop ends a search by line, and none across lines
-stop_by_line : search_plan (record wide { stop_on_nonmatch = true }) (record has_a { terminator = Some (Byte 10) })
-    (codes "a\nb\nc\n")
-    ≡ plan_of (begun ∷ match_call 1 0 (codes "a\n") 2 ∷ []) 4
+stop_by_line : search_plan (record wide { stop_on_nonmatch = true }) (record has_a {
+  terminator = Some (Byte 10);
+}) (codes "a\nb\nc\n") ≡ plan_of (begun ∷ match_call 1 0 (codes "a\n") 2 ∷ []) 4
 stop_by_line = refl
 
 stop_across_lines : search_plan (record wide { stop_on_nonmatch = true }) has_a (codes "a\nb\nc\n")
@@ -174,24 +191,23 @@ abbrev one_letter : Meaning
 one_letter = literal (codes "a")
 
 -- which lines after the first they touch
-touched_later : (j : ℕ) → 1 ≤ j → is_touched wide one_letter (codes "a\nx\na\n") ((0, 1) ∷ (4, 5) ∷ []) j
-    ≡ (nat_le 2 j && nat_lt j 3)
-touched_later j low = ⊎_elim
-    (λ (inside : j < 3). ⊎_elim
+touched_later : (j : ℕ) → 1 ≤ j → is_touched wide one_letter (codes "a\nx\na\n") ((0, 1) ∷ (4, 5)
+    ∷ []) j ≡ (nat_le 2 j && nat_lt j 3)
+touched_later j low = ⊎_elim (λ (inside : j < 3). ⊎_elim
     (λ (less : j < 2). let same : j ≡ 1 = omega arith in subst Touched (sym same) refl)
     (λ (over : 2 ≤ j). let same : j ≡ 2 = omega arith in subst Touched (sym same) refl)
-    (cases_lt j 2))
-    (λ (past : 3 ≤ j).
+    (cases_lt j 2)) (λ (past : 3 ≤ j).
     let out = le-ltb j 3 past in
-    ap (λ b. b && list_any (touches wide one_letter (codes "a\nx\na\n") j) ((0, 1) ∷ (4, 5) ∷ [])) out
-    ∙ sym (ap (λ b. nat_le 2 j && b) out ∙ and-false (nat_le 2 j)))
-    (cases_lt j 3)
+    ap (λ b. b && list_any (touches wide one_letter (codes "a\nx\na\n") j) ((0, 1) ∷ (4, 5) ∷ []))
+    out ∙ sym (ap (λ b. nat_le 2 j && b) out ∙ and-false (nat_le 2 j))) (cases_lt j 3)
   where
     Touched : ℕ → Type 0
     Touched j =
-        is_touched wide one_letter (codes "a\nx\na\n") ((0, 1) ∷ (4, 5) ∷ []) j ≡ (nat_le 2 j && nat_lt j 3)
+        is_touched wide one_letter (codes "a\nx\na\n") ((0, 1) ∷ (4, 5) ∷ []) j
+        ≡ (nat_le 2 j && nat_lt j 3)
 
--- the matcher is asked at the line between for what comes after the second, once the first was reported
+-- the matcher is asked at the line between for what comes after the second, once the first was
+-- reported
 asked_between : IsAskedWith wide one_letter (codes "a\nx\na\n") (codes "\n")
     (begun ∷ match_call 1 0 (codes "a\n") 2 ∷ [])
 asked_between = record {

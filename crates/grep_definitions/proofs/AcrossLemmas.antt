@@ -52,16 +52,16 @@ module _ (k : Settings) (meaning : Meaning) (bytes : List ℕ) where
   abbrev touched_by : ℕ × ℕ → ℕ → Bool
   touched_by m i = nat_lt i n && touches k meaning bytes i m
 
-  touched_by-run : (m : ℕ × ℕ) (i j : ℕ) → i < j → begins_run (touched_by m) i ≡ true → begins_run (touched_by m) j
-      ≡ true → ⊥
+  touched_by-run : (m : ℕ × ℕ) (i j : ℕ) → i < j → begins_run (touched_by m) i ≡ true
+      → begins_run (touched_by m) j ≡ true → ⊥
   touched_by-run m =
       is_inside-run at n (block_start (byte_of k.line_terminator) bytes m)
       (block_end (byte_of k.line_terminator) bytes m)
       (line_start-le (byte_of k.line_terminator) bytes)
 
   -- the lines that some matches touch are no more runs than matches
-  touched-runs : (found : List (ℕ × ℕ)) (m : ℕ) → count_below (begins_run (is_touched k meaning bytes found)) m ≤ length
-      found
+  touched-runs : (found : List (ℕ × ℕ)) (m : ℕ)
+      → count_below (begins_run (is_touched k meaning bytes found)) m ≤ length found
   touched-runs [] m =
       let none = count_below-none (begins_run (is_touched k meaning bytes [])) m
       (λ j. rw (and-false (nat_lt j n)) refl) in
@@ -69,11 +69,11 @@ module _ (k : Settings) (meaning : Meaning) (bytes : List ℕ) where
   touched-runs (x ∷ found) m =
       omega (
         arith,
-        count_below-either (begins_run (touched_by x)) (begins_run (is_touched k meaning bytes found))
+        count_below-either (begins_run (touched_by x))
+            (begins_run (is_touched k meaning bytes found))
             (begins_run (is_touched k meaning bytes (x ∷ found))) m
             (begins_run-either (touched_by x) (is_touched k meaning bytes found)
-            (is_touched k meaning bytes (x ∷ found))
-            either first second),
+            (is_touched k meaning bytes (x ∷ found)) either first second),
         count_below-once (begins_run (touched_by x)) m (touched_by-run x),
         touched-runs found m,
       )
@@ -82,17 +82,18 @@ module _ (k : Settings) (meaning : Meaning) (bytes : List ℕ) where
           → (touched_by x i ≡ true) ⊎ (is_touched k meaning bytes found i ≡ true)
       either i is =
           let parts = and_parts (nat_lt i n) _ is in
-          ⊎_elim
-          (λ one. inl (and_from (nat_lt i n) _ parts.0 one))
+          ⊎_elim (λ one. inl (and_from (nat_lt i n) _ parts.0 one))
           (λ later. inr (and_from (nat_lt i n) _ parts.0 later))
-          (or_cases (touches k meaning bytes i x) (list_any (touches k meaning bytes i) found) parts.1)
+          (or_cases (touches k meaning bytes i x) (list_any (touches k meaning bytes i) found)
+          parts.1)
 
       first : (i : ℕ) → touched_by x i ≡ true → is_touched k meaning bytes (x ∷ found) i ≡ true
       first i is =
           let parts = and_parts (nat_lt i n) _ is in
           and_from (nat_lt i n) _ parts.0 (or_left (touches k meaning bytes i x) _ parts.1)
 
-      second : (i : ℕ) → is_touched k meaning bytes found i ≡ true → is_touched k meaning bytes (x ∷ found) i ≡ true
+      second : (i : ℕ) → is_touched k meaning bytes found i ≡ true
+          → is_touched k meaning bytes (x ∷ found) i ≡ true
       second i is =
           let parts = and_parts (nat_lt i n) _ is in
           and_from (nat_lt i n) _ parts.0 (or_right (touches k meaning bytes i x) _ parts.1)
@@ -111,18 +112,28 @@ module _ (k : Settings) (meaning : Meaning) (bytes : List ℕ) where
       held : ℕ → Bool
       held = is_touched k meaning bytes (matches_up_to meaning bytes k.max_matches)
 
-      few : (o : Option ℕ) → is_below limit o ≡ false → length (matches_up_to meaning bytes o) ≤ limit
+      few : (o : Option ℕ) → is_below limit o ≡ false → length (matches_up_to meaning bytes o)
+          ≤ limit
       few None shut = cc
-      few (Some x) shut = omega (arith, ltb-false limit x shut, length-take x (all_matches meaning bytes))
+      few (Some x) shut = omega (
+        arith,
+        ltb-false limit x shut,
+        length-take x (all_matches meaning bytes),
+      )
 
       go : (b : Bool) → count_below (λ i. (if b then free i else held i)
           && not (not b && nat_lt 0 i && (if b then free (i - 1) else held (i - 1)))) m ≤ limit
       go true = omega (
         arith,
-        count_below-weaker (λ i. free i && not false) free m (λ j yes. (and_parts (free j) _ yes).0),
+        count_below-weaker (λ i. free i && not false) free m
+            (λ j yes. (and_parts (free j) _ yes).0),
         count_below-limited k (is_free k meaning bytes) limit m shut,
       )
-      go false = omega (arith, touched-runs (matches_up_to meaning bytes k.max_matches) m, few _ shut)
+      go false = omega (
+        arith,
+        touched-runs (matches_up_to meaning bytes k.max_matches) m,
+        few _ shut,
+      )
 
   -- the calls of a line, with its break or without
   abbrev broken : ℕ → Bool → List Planned
@@ -133,7 +144,8 @@ module _ (k : Settings) (meaning : Meaning) (bytes : List ℕ) where
       else report k bytes selection i (Plans.kind k bytes selection i)
 
   -- a selected line that is in the unit of the line before it has no report
-  unreported : (i : ℕ) → selected i ≡ true → continues k bytes selection i ≡ true → report_calls (T i) ≡ []
+  unreported : (i : ℕ) → selected i ≡ true → continues k bytes selection i ≡ true
+      → report_calls (T i) ≡ []
   unreported i here goes_on =
       let kind : Plans.kind k bytes selection i ≡ Some matched = rw here refl in
       report_calls-broken (breaks_before k bytes selection i) _ _
@@ -142,8 +154,8 @@ module _ (k : Settings) (meaning : Meaning) (bytes : List ℕ) where
   -- a line has one report at most, of its bytes or of those of the unit that begins there
   reported-line : (i : ℕ) → i < n → (report_calls (T i) ≡ []) ⊎ IsReported T at i
   reported-line i inside =
-      go (Plans.kind k bytes selection i) refl (report_calls-broken (breaks_before k bytes selection i) _
-      _)
+      go (Plans.kind k bytes selection i) refl
+      (report_calls-broken (breaks_before k bytes selection i) _ _)
     where
       above : at i < at (i + 1)
       above = line_start-ascends (byte_of k.line_terminator) bytes i inside
@@ -173,8 +185,7 @@ module _ (k : Settings) (meaning : Meaning) (bytes : List ℕ) where
             from = refl;
             to = unit.size;
             alone = λ j low high. unreported j (unit.hits j low high).0 (unit.hits j low high).1;
-          }))
-          (cases_Bool (continues k bytes selection i))
+          })) (cases_Bool (continues k bytes selection i))
       go (Some (in_context c)) kind is = inr (record {
         call = context c (number k bytes i) (at i) (line k bytes i);
         next = i + 1;
@@ -192,13 +203,15 @@ module _ (k : Settings) (meaning : Meaning) (bytes : List ℕ) where
       reported-line
 
   -- a line after a selected one that isn't selected itself is reported as the line after it
-  pub calls_at-follows : (i j : ℕ) → selected i ≡ false → selected j ≡ true → j < i → i - j ≤ k.after_context
+  pub calls_at-follows : (i j : ℕ) → selected i ≡ false → selected j ≡ true → j < i → i - j
+      ≤ k.after_context
       → T i ≡ planned (context After (number k bytes i) (at i) (line k bytes i)) (at (i + 1)) ∷ []
   calls_at-follows i j misses hit less close =
       let near = le-leb (i - j) k.after_context close in
       let follows : follows_selected k bytes selection i
       ≡ true = some_below-some _ i j less (rw (near, hit) refl) in
-      let kind : Plans.kind k bytes selection i ≡ Some (in_context After) = rw (misses, follows) refl in
+      let kind : Plans.kind k bytes selection i ≡ Some (in_context After) =
+      rw (misses, follows) refl in
       rw (kind, and-false (nat_lt 0 (k.after_context + k.before_context))) refl
 
   -- a match is reported at a line only if a unit begins there
@@ -208,8 +221,7 @@ module _ (k : Settings) (meaning : Meaning) (bytes : List ℕ) where
   matches-report i (Some matched) is =
       let here = kind-selected (selected i) (follows_selected k bytes selection i)
       (precedes_selected k bytes selection i) k.passthru is in
-      ⊎_elim
-      (λ yes. rw yes (omega arith))
+      ⊎_elim (λ yes. rw yes (omega arith))
       (λ (no : continues k bytes selection i ≡ false). rw (here, no) (omega arith))
       (cases_Bool (continues k bytes selection i))
   matches-report i (Some (in_context c)) is = omega arith
@@ -222,5 +234,10 @@ module _ (k : Settings) (meaning : Meaning) (bytes : List ℕ) where
       go false = matches-report i (Plans.kind k bytes selection i) refl
 
   -- the calls report no more matches than the limit has
-  pub matches-across : (limit : ℕ) → has_room k limit ≡ false → matches_in (across_plan k meaning bytes).calls ≤ limit
-  matches-across limit is = omega (arith, matches-joined T begins_unit matches-line n, units-few limit n is)
+  pub matches-across : (limit : ℕ) → has_room k limit ≡ false
+      → matches_in (across_plan k meaning bytes).calls ≤ limit
+  matches-across limit is = omega (
+    arith,
+    matches-joined T begins_unit matches-line n,
+    units-few limit n is,
+  )

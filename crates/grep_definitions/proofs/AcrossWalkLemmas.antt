@@ -1,5 +1,5 @@
--- The calls of a search across lines, as a walk over units of selected lines and over the lines between them makes
--- them.
+-- The calls of a search across lines, as a walk over units of selected lines and over the lines
+-- between them makes them.
 use Rattle.grep_definitions.specs.LineWalks.{IsNear}
 use Rattle.grep_definitions.specs.Plans.{across_plan, calls_at, continues, is_touched_selected}
 use Rattle.grep_definitions.specs.Plans.{line, line_count, number, start, touched_lines, planned}
@@ -77,8 +77,7 @@ module _ (k : Settings) (meaning : Meaning) (bytes : List ℕ) where
       → ((j : ℕ) → i ≤ j → j < e → S j ≡ false) → Near v e 0
   near-skipped {v} {i} e near plain low high missed =
       let sum : i + (e - i) ≡ e = omega arith in
-      subst (λ x. Near v x 0) sum
-      (SelectionLemmas.IsNear-skipped plain i (e - i) near
+      subst (λ x. Near v x 0) sum (SelectionLemmas.IsNear-skipped plain i (e - i) near
       (λ j from below. missed j from (omega arith)))
 
   -- one such line, and its calls
@@ -89,9 +88,10 @@ module _ (k : Settings) (meaning : Meaning) (bytes : List ℕ) where
 
   pub front-missed : Bare → {v i left : ℕ} → Near v i left → i < n → S i ≡ false
       → front (if nat_lt 0 left || k.passthru then i + 1 else v)
-      ≡ front v ++ (if nat_lt 0 left then context_calls After (number_of k i) (starts i) (starts (i + 1))
+      ≡ front v ++ (if nat_lt 0 left then context_calls After (number_of k i) (starts i)
+      (starts (i + 1)) (span i (i + 1))
+      else (if k.passthru then context_calls Other (number_of k i) (starts i) (starts (i + 1))
       (span i (i + 1))
-      else (if k.passthru then context_calls Other (number_of k i) (starts i) (starts (i + 1)) (span i (i + 1))
       else []))
   front-missed bare {v} {i} {left} near inside missed =
       SelectionLemmas.headed-missed near (planned begins 0) T _ _ after other
@@ -102,29 +102,33 @@ module _ (k : Settings) (meaning : Meaning) (bytes : List ℕ) where
       is_line : line k bytes i ≡ span i (i + 1)
       is_line = sym (slice-line k bytes i)
 
-      after : 0 < left → T i ≡ context_calls After (number_of k i) (starts i) (starts (i + 1)) (span i (i + 1))
+      after : 0 < left → T i ≡ context_calls After (number_of k i) (starts i) (starts (i + 1))
+          (span i (i + 1))
       after some =
           let kind : Plans.kind k bytes selection i ≡ Some (in_context After) =
           SelectionLemmas.kind-after near missed some in
           rw (kind, and-false (nat_lt 0 (A + B)), is_number, is_line) refl
 
-      other : left ≡ 0 → k.passthru ≡ true → T i ≡ context_calls Other (number_of k i) (starts i) (starts (i + 1))
-          (span i (i + 1))
+      other : left ≡ 0 → k.passthru ≡ true → T i ≡ context_calls Other (number_of k i) (starts i)
+          (starts (i + 1)) (span i (i + 1))
       other none is_p =
           let kind : Plans.kind k bytes selection i ≡ Some (in_context Other) =
           SelectionLemmas.kind-other near missed none is_p (bare is_p).1 in
           rw (kind, and-false (nat_lt 0 (A + B)), is_number, is_line) refl
 
   -- after a unit
-  pub near-unit : (i e : ℕ) → i < e → e ≤ n → ((j : ℕ) → i ≤ j → j < e → S j ≡ true) → Near e e k.after_context
+  pub near-unit : (i e : ℕ) → i < e → e ≤ n → ((j : ℕ) → i ≤ j → j < e → S j ≡ true)
+      → Near e e k.after_context
   near-unit i e some high hits =
       let sum : (e - 1) + 1 ≡ e = omega arith in
       subst (λ x. Near x x k.after_context) sum
-      (SelectionLemmas.IsNear-hit k bytes selection (e - 1) (omega arith) (hits (e - 1) (omega arith) (omega arith)))
+      (SelectionLemmas.IsNear-hit k bytes selection (e - 1) (omega arith)
+      (hits (e - 1) (omega arith) (omega arith)))
 
   module _ {v i left : ℕ} (e : ℕ) (near : Near v i left) (some : i < e) (high : e ≤ n)
       (hits : (j : ℕ) → i ≤ j → j < e → S j ≡ true)
-      (closed : selects_free k ≡ false → e < n → S e ≡ false) (alone : selects_free k ≡ true → e ≡ i + 1) where
+      (closed : selects_free k ≡ false → e < n → S e ≡ false) (alone : selects_free k ≡ true → e ≡ i
+      + 1) where
     inside : i < n
     inside = omega arith
 
@@ -133,8 +137,7 @@ module _ (k : Settings) (meaning : Meaning) (bytes : List ℕ) where
 
     -- the unit ends there
     end-is : report_end k bytes selection i ≡ e
-    end-is = ⊎_elim
-        (λ inverted. rw inverted (sym (alone inverted)))
+    end-is = ⊎_elim (λ inverted. rw inverted (sym (alone inverted)))
         (λ plain. ap (λ b. if not b then run_end S n i else i + 1) plain
         ∙ IsRunEnd-one S n i (run_end S n i) e (IsRunEnd-run_end S n i inside hit)
         (record { low = omega arith; high = high; inner = hits; closed = closed plain }))
@@ -145,7 +148,8 @@ module _ (k : Settings) (meaning : Meaning) (bytes : List ℕ) where
         → T j ≡ before_calls k v j i (number k bytes j) (starts j) (starts e) (line k bytes j)
     passed-is j low less = ⊎_elim far close (cases_lt B (i - j))
       where
-        is_kind : Plans.kind k bytes selection j ≡ (if nat_le (i - j) B then Some (in_context Before) else None)
+        is_kind : Plans.kind k bytes selection j
+            ≡ (if nat_le (i - j) B then Some (in_context Before) else None)
         is_kind = SelectionLemmas.kind-passed near inside inside hit j low less
 
         far : B < i - j → T j ≡ before_calls k v j i (number k bytes j) (starts j) (starts e)
@@ -162,17 +166,20 @@ module _ (k : Settings) (meaning : Meaning) (bytes : List ℕ) where
             let test = le-leb (i - j) B inner in
             let kind : Plans.kind k bytes selection j ≡ Some (in_context Before) = is_kind
             ∙ ap (λ b. if b then Some (in_context Before) else None) test in
-            let gap : (nat_lt 0 (A + B) && true && not (is_reported (j - 1)) && some_below is_reported j)
+            let gap : (nat_lt 0 (A + B) && true && not (is_reported (j - 1))
+            && some_below is_reported j)
             ≡ is_gap k v j i =
             SelectionLemmas.gap-passed near inside inside hit j low less inner in
             let found = SelectionLemmas.next-passed near inside inside hit j low less in
             rw (kind, gap, found, end-is, test) refl
 
     -- those of its first line
-    hit-is : continues k bytes selection i ≡ false → T i ≡ selected_calls k v i (starts i) (starts e) (span i e)
+    hit-is : continues k bytes selection i ≡ false → T i ≡ selected_calls k v i (starts i)
+        (starts e) (span i e)
     hit-is first =
         let kind : Plans.kind k bytes selection i ≡ Some matched = rw hit refl in
-        let gap : (nat_lt 0 (A + B) && true && not (is_reported (i - 1)) && some_below is_reported i)
+        let gap : (nat_lt 0 (A + B) && true && not (is_reported (i - 1))
+        && some_below is_reported i)
         ≡ (nat_lt 0 A && is_gap k v i i) =
         SelectionLemmas.gap-hit near inside inside hit in
         let is_number = number-line k bytes i inside in
@@ -181,20 +188,21 @@ module _ (k : Settings) (meaning : Meaning) (bytes : List ℕ) where
     -- a later line of it has none
     later-is : (j : ℕ) → i < j → j < e → T j ≡ []
     later-is j less below =
-        let plain : selects_free k ≡ false = ⊎_elim (λ yes. absurd (omega (arith, alone yes))) (λ no. no)
-        (cases_Bool (selects_free k)) in
+        let plain : selects_free k ≡ false = ⊎_elim (λ yes. absurd (omega (arith, alone yes)))
+        (λ no. no) (cases_Bool (selects_free k)) in
         let kind : Plans.kind k bytes selection j
         ≡ Some matched = let here = hits j (omega arith) below in rw here refl in
         let before = hits (j - 1) (omega arith) (omega arith) in
         let above = lt-ltb 0 j (omega arith) in
         let goes_on : continues k bytes selection j ≡ true =
         ap (λ b. not b && nat_lt 0 j && S (j - 1)) plain ∙ rw (above, before) refl in
-        let reported : is_reported (j - 1) ≡ true = let test = lt-ltb (j - 1) n (omega arith) in rw (before, test)
-        refl in
+        let reported : is_reported (j - 1) ≡ true = let test = lt-ltb (j - 1) n (omega arith) in rw
+        (before, test) refl in
         rw (kind, reported, and-false (nat_lt 0 (A + B) && true), goes_on) refl
 
   -- the calls of a unit: those of the lines before it, and the match at its first line
-  pub front-unit : {v i left : ℕ} (e : ℕ) → Near v i left → i < e → e ≤ n → ((j : ℕ) → i ≤ j → j < e → S j ≡ true)
+  pub front-unit : {v i left : ℕ} (e : ℕ) → Near v i left → i < e → e ≤ n
+      → ((j : ℕ) → i ≤ j → j < e → S j ≡ true)
       → (selects_free k ≡ false → e < n → S e ≡ false) → (selects_free k ≡ true → e ≡ i + 1)
       → continues k bytes selection i ≡ false
       → front e ≡ front v ++ (pending_calls k bytes v i (starts e) v (i - v)
@@ -208,8 +216,7 @@ module _ (k : Settings) (meaning : Meaning) (bytes : List ℕ) where
       let rest = joined_from-none T (i + 1) (e - (i + 1)) (λ j low below.
       later-is e near some high hits closed alone j (omega arith) (omega arith)) in
       let here = hit-is e near some high hits closed alone first in
-      front-through v e (omega arith)
-      ∙ ap (λ xs. front v ++ xs)
+      front-through v e (omega arith) ∙ ap (λ xs. front v ++ xs)
       (ap (joined_from T v) sum ∙ (joined_from-add T v (i - v) (suc (e - (i + 1)))
       ∙ (ap (λ m. joined_from T v (i - v) ++ joined_from T m (suc (e - (i + 1)))) at
       ∙ (ap (λ xs. joined_from T v (i - v) ++ (T i ++ xs)) rest

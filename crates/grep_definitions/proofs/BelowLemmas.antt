@@ -1,4 +1,5 @@
--- Numbers below a bound that pass a test, bounds that may be missing, and lists joined over numbers.
+-- Numbers below a bound that pass a test, bounds that may be missing, and lists joined over
+-- numbers.
 use Rattle.std.proofs.Common.{min, ◌≡◌, ◌⊎◌, ℕ, zero, suc, ◌+◌, ◌-◌, ◌<◌, ◌≤◌, Bool, true, false}
 use Rattle.std.proofs.Common.{Option, Some, None, if◌then◌else◌, refl, sym, ◌∙◌, ap, arith, ⊎_elim}
 use Rattle.std.proofs.Common.{append_assoc, ltb-false}
@@ -10,43 +11,54 @@ use Rattle.grep_definitions.specs.Plans.{some_below, count_below, first_below, S
 use Rattle.grep_definitions.specs.Plans.{is_below, at_most, joined_from}
 use Rattle.grep_definitions.proofs.BoolLemmas.{clash}
 
-pub some_below-none : (p : ℕ → Bool) (n : ℕ) → ((j : ℕ) → j < n → p j ≡ false) → some_below p n ≡ false
+pub some_below-none : (p : ℕ → Bool) (n : ℕ) → ((j : ℕ) → j < n → p j ≡ false) → some_below p n
+    ≡ false
 some_below-none p zero none = refl
-some_below-none p (suc n) none = rw (some_below-none p n (λ j below. none j (omega arith)), none n (omega arith)) refl
+some_below-none p (suc n) none = rw (
+  some_below-none p n (λ j below. none j (omega arith)),
+  none n (omega arith),
+) refl
 
 pub some_below-some : (p : ℕ → Bool) (n j : ℕ) → j < n → p j ≡ true → some_below p n ≡ true
 some_below-some p zero j below passes = absurd (omega arith)
 some_below-some p (suc n) j below passes =
     ⊎_elim (λ less. rw (some_below-some p n j less passes) refl)
-    (λ over. let same : n ≡ j = omega arith in rw (same, passes) (or-true (some_below p j))) (cases_lt j n)
+    (λ over. let same : n ≡ j = omega arith in rw (same, passes) (or-true (some_below p j)))
+    (cases_lt j n)
 
 pub some_below-false : (p : ℕ → Bool) (n j : ℕ) → some_below p n ≡ false → j < n → p j ≡ false
-some_below-false p n j none below = ⊎_elim (λ yes. absurd (clash (some_below-some p n j below yes) none)) (λ no. no)
+some_below-false p n j none below =
+    ⊎_elim (λ yes. absurd (clash (some_below-some p n j below yes) none)) (λ no. no)
     (cases_Bool (p j))
 
-pub first_below-here : (p : ℕ → Bool) (m q : ℕ) → q < m → p q ≡ true → some_below p q ≡ false → first_below p m ≡ Some q
+pub first_below-here : (p : ℕ → Bool) (m q : ℕ) → q < m → p q ≡ true → some_below p q ≡ false
+    → first_below p m ≡ Some q
 first_below-here p zero q below passes none = absurd (omega arith)
 first_below-here p (suc m) q below passes none = ⊎_elim
-    (λ less. let some = some_below-some p m q less passes in rw (some, first_below-here p m q less passes none) refl)
-    (λ over. let same : q ≡ m = omega arith in let silent : some_below p m ≡ false = ap (some_below p) (sym same)
+    (λ less. let some = some_below-some p m q less passes in rw
+    (some, first_below-here p m q less passes none) refl)
+    (λ over. let same : q ≡ m = omega arith in let silent : some_below p m
+    ≡ false = ap (some_below p) (sym same)
     ∙ none in
     let here : p m ≡ true = ap p (sym same) ∙ passes in rw (silent, here, same) refl)
     (cases_lt q m)
 
 pub first_below-of : (p : ℕ → Bool) (n q : ℕ) → first_below p n ≡ Some q → (q < n) × (p q ≡ true)
 first_below-of p zero q is = cc
-first_below-of p (suc n) q is = go (some_below p n) (p n) refl is (λ found. first_below-of p n q found)
+first_below-of p (suc n) q is = go (some_below p n) (p n) refl is
+    (λ found. first_below-of p n q found)
   where
-    go : (s h : Bool) → p n ≡ h → (if s then first_below p n else (if h then Some n else None)) ≡ Some q
-        → (first_below p n ≡ Some q → (q < n) × (p q ≡ true)) → (q < suc n) × (p q ≡ true)
+    go : (s h : Bool) → p n ≡ h → (if s then first_below p n else (if h then Some n else None))
+        ≡ Some q → (first_below p n ≡ Some q → (q < n) × (p q ≡ true)) → (q < suc n) × (p q ≡ true)
     go true h is_h found before = let below = before found in (omega arith, below.1)
     go false true is_h found before = let same : n ≡ q = cc in (omega arith, ap p (sym same) ∙ is_h)
     go false false is_h found before = cc
 
-pub first_below-more : (p : ℕ → Bool) (i n m : ℕ) → i ≤ n → first_below p i ≡ Some m → first_below p n ≡ Some m
-first_below-more p i zero m le is = let same : i ≡ zero = omega arith in ap (first_below p) (sym same) ∙ is
-first_below-more p i (suc n) m le is = ⊎_elim
-    (λ less.
+pub first_below-more : (p : ℕ → Bool) (i n m : ℕ) → i ≤ n → first_below p i ≡ Some m
+    → first_below p n ≡ Some m
+first_below-more p i zero m le is = let same : i ≡ zero = omega arith in ap (first_below p)
+    (sym same) ∙ is
+first_below-more p i (suc n) m le is = ⊎_elim (λ less.
     let before = first_below-more p i n m (omega arith) is in
     let found = first_below-of p n m before in
     let some = some_below-some p n m found.0 found.1 in
@@ -54,14 +66,14 @@ first_below-more p i (suc n) m le is = ⊎_elim
     (λ over. let same : i ≡ suc n = omega arith in ap (first_below p) (sym same) ∙ is)
     (cases_lt i (suc n))
 
-pub first_below-late : (p : ℕ → Bool) (i n m : ℕ) → some_below p i ≡ false → first_below p n ≡ Some m → i ≤ m
-first_below-late p i n m none is = ⊎_elim
-    (λ less. let found = first_below-of p n m is in absurd (clash found.1 (some_below-false p i m none less)))
-    (λ over. over)
-    (cases_lt m i)
+pub first_below-late : (p : ℕ → Bool) (i n m : ℕ) → some_below p i ≡ false → first_below p n
+    ≡ Some m → i ≤ m
+first_below-late p i n m none is = ⊎_elim (λ less. let found = first_below-of p n m is in absurd
+    (clash found.1 (some_below-false p i m none less))) (λ over. over) (cases_lt m i)
 
 pub count_below-le : (p : ℕ → Bool) (i q : ℕ) → i ≤ q → count_below p i ≤ count_below p q
-count_below-le p i zero le = let same : i ≡ zero = omega arith in let e = ap (count_below p) same in omega arith
+count_below-le p i zero le = let same : i ≡ zero = omega arith in let e =
+    ap (count_below p) same in omega arith
 count_below-le p i (suc q) le = ⊎_elim
     (λ less. let before = count_below-le p i q (omega arith) in go (p q) before)
     (λ over. let same : i ≡ suc q = omega arith in let e = ap (count_below p) same in omega arith)
@@ -81,7 +93,8 @@ room-le k n m le = go k.max_matches
     go (Some x) is = let over = ltb-false n x is in le-ltb m x (omega arith)
 
 pub room-first : (k : Settings) (m : ℕ) → has_room k m ≡ true → has_room k 0 ≡ true
-room-first k m room = ⊎_elim (λ yes. yes) (λ no. absurd (clash room (room-le k 0 m (omega arith) no)))
+room-first k m room =
+    ⊎_elim (λ yes. yes) (λ no. absurd (clash room (room-le k 0 m (omega arith) no)))
     (cases_Bool (has_room k 0))
 
 pub room-none : (k : Settings) (n : ℕ) → k.max_matches ≡ Some n → has_room k n ≡ false
@@ -104,8 +117,8 @@ at_most-some None i n is less = cc
 at_most-some (Some b) i n is less = let same : b ≡ suc i = cc in omega arith
 
 -- what is joined up to a number, and from it on
-pub joined_from-add : {X : Type 0} (f : ℕ → List X) (i n m : ℕ) → joined_from f i (n + m) ≡ joined_from f i n
-    ++ joined_from f (i + n) m
+pub joined_from-add : {X : Type 0} (f : ℕ → List X) (i n m : ℕ) → joined_from f i (n + m)
+    ≡ joined_from f i n ++ joined_from f (i + n) m
 joined_from-add f i zero m = rw (zero-add-is m, add-zero-is i) refl
   where
     zero-add-is : (m : ℕ) → zero + m ≡ m
@@ -116,12 +129,14 @@ joined_from-add f i zero m = rw (zero-add-is m, add-zero-is i) refl
 joined_from-add f i (suc n) m =
     let sum : suc n + m ≡ suc (n + m) = omega arith in
     let shift : (i + 1) + n ≡ i + suc n = omega arith in
-    rw (sum) (ap (λ rest. f i ++ rest) (joined_from-add f (i + 1) n m) ∙ (rw shift (sym (append_assoc (f i) _ _))))
+    rw (sum) (ap (λ rest. f i ++ rest) (joined_from-add f (i + 1) n m)
+    ∙ (rw shift (sym (append_assoc (f i) _ _))))
 
 -- one more of what is joined
-pub joined_from-more : {X : Type 0} (f : ℕ → List X) (i n : ℕ) → joined_from f i (n + 1) ≡ joined_from f i n
-    ++ f (i + n)
-joined_from-more f i n = joined_from-add f i n 1 ∙ ap (λ xs. joined_from f i n ++ xs) (append-nil (f (i + n)))
+pub joined_from-more : {X : Type 0} (f : ℕ → List X) (i n : ℕ) → joined_from f i (n + 1)
+    ≡ joined_from f i n ++ f (i + n)
+joined_from-more f i n = joined_from-add f i n 1 ∙ ap (λ xs. joined_from f i n ++ xs)
+    (append-nil (f (i + n)))
 
 -- an element, and then what is joined up to a number
 module _ {X : Type 0} (first : X) (f : ℕ → List X) where
@@ -141,45 +156,43 @@ module _ {X : Type 0} (first : X) (f : ℕ → List X) where
   pub headed-one : (v i : ℕ) → v ≡ i → headed (i + 1) ≡ headed v ++ f i
   headed-one v i same =
       let one : (i + 1) - i ≡ 1 = omega arith in
-      headed-through i (i + 1) (omega arith)
-      ∙ (ap (λ m. headed i ++ joined_from f i m) one
+      headed-through i (i + 1) (omega arith) ∙ (ap (λ m. headed i ++ joined_from f i m) one
       ∙ (ap (λ xs. headed i ++ xs) (append-nil (f i)) ∙ ap (λ m. headed m ++ f i) (sym same)))
 
-  pub headed-many : (v i : ℕ) → v ≤ i → headed (i + 1) ≡ headed v ++ (joined_from f v (i - v) ++ f i)
+  pub headed-many : (v i : ℕ) → v ≤ i → headed (i + 1) ≡ headed v
+      ++ (joined_from f v (i - v) ++ f i)
   headed-many v i low =
       let sum : (i + 1) - v ≡ (i - v) + 1 = omega arith in
       let last : v + (i - v) ≡ i = omega arith in
-      headed-through v (i + 1) (omega arith)
-      ∙ ap (λ xs. headed v ++ xs)
-      (ap (λ m. joined_from f v m) sum ∙ (joined_from-more f v (i - v) ∙ ap (λ m. joined_from f v (i - v) ++ f m) last))
+      headed-through v (i + 1) (omega arith) ∙ ap (λ xs. headed v ++ xs)
+      (ap (λ m. joined_from f v m) sum
+      ∙ (joined_from-more f v (i - v) ∙ ap (λ m. joined_from f v (i - v) ++ f m) last))
 
 -- joined lists are equal if their parts are
-pub joined_from-equal : {X : Type 0} (f h : ℕ → List X) (i n : ℕ) → ((j : ℕ) → i ≤ j → j < i + n → f j ≡ h j)
-    → joined_from f i n
-    ≡ joined_from h i n
+pub joined_from-equal : {X : Type 0} (f h : ℕ → List X) (i n : ℕ)
+    → ((j : ℕ) → i ≤ j → j < i + n → f j ≡ h j) → joined_from f i n ≡ joined_from h i n
 joined_from-equal f h i zero same = refl
 joined_from-equal f h i (suc n) same = rw (
   same i (omega arith) (omega arith),
-  joined_from-equal f h (i + 1) n
-      (λ j low high. same j (omega arith) (omega arith)),
+  joined_from-equal f h (i + 1) n (λ j low high. same j (omega arith) (omega arith)),
 ) refl
 
-pub joined_from-none : {X : Type 0} (f : ℕ → List X) (i n : ℕ) → ((j : ℕ) → i ≤ j → j < i + n → f j ≡ [])
-    → joined_from f i n ≡ []
+pub joined_from-none : {X : Type 0} (f : ℕ → List X) (i n : ℕ)
+    → ((j : ℕ) → i ≤ j → j < i + n → f j ≡ []) → joined_from f i n ≡ []
 joined_from-none f i zero none = refl
 joined_from-none f i (suc n) none = rw (
   none i (omega arith) (omega arith),
-  joined_from-none f (i + 1) n
-      (λ j low high. none j (omega arith) (omega arith)),
+  joined_from-none f (i + 1) n (λ j low high. none j (omega arith) (omega arith)),
 ) refl
 
 -- if some number passes, there is one
-pub some_below-find : (p : ℕ → Bool) (n : ℕ) → some_below p n ≡ true → (j : ℕ) × (j < n) × (p j ≡ true)
+pub some_below-find : (p : ℕ → Bool) (n : ℕ) → some_below p n ≡ true → (j : ℕ) × (j < n)
+    × (p j ≡ true)
 some_below-find p zero is = cc
 some_below-find p (suc n) is = go (p n) refl (λ h. some_below-find p n h)
   where
-    go : (b : Bool) → p n ≡ b → (some_below p n ≡ true → (j : ℕ) × (j < n) × (p j ≡ true)) → (j : ℕ) × (j < suc n)
-        × (p j ≡ true)
+    go : (b : Bool) → p n ≡ b → (some_below p n ≡ true → (j : ℕ) × (j < n) × (p j ≡ true)) → (j : ℕ)
+        × (j < suc n) × (p j ≡ true)
     go true here later = (n, omega arith, here)
     go false here later =
         let found = later (sym (or-false (some_below p n)) ∙ rw here at is) in
@@ -190,8 +203,8 @@ pub first_below-nowhere : (p : ℕ → Bool) (n : ℕ) → some_below p n ≡ fa
 first_below-nowhere p zero none = refl
 first_below-nowhere p (suc n) none = go (some_below p n) (p n) refl refl (first_below-nowhere p n)
   where
-    go : (a b : Bool) → some_below p n ≡ a → p n ≡ b → (some_below p n ≡ false → first_below p n ≡ None)
-        → first_below p (suc n) ≡ None
+    go : (a b : Bool) → some_below p n ≡ a → p n ≡ b → (some_below p n ≡ false → first_below p n
+        ≡ None) → first_below p (suc n) ≡ None
     go true b e f later = absurd (let at = rw e at none in cc)
     go false true e f later = absurd (let at = rw (e, f) at none in cc)
     go false false e f later = rw (e, f) refl
@@ -201,16 +214,16 @@ pub first_below-none : (p : ℕ → Bool) (n : ℕ) → first_below p n ≡ None
 first_below-none p zero none = refl
 first_below-none p (suc n) none = go (some_below p n) (p n) refl refl (first_below-none p n)
   where
-    go : (a b : Bool) → some_below p n ≡ a → p n ≡ b → (first_below p n ≡ None → some_below p n ≡ false)
-        → some_below p (suc n) ≡ false
+    go : (a b : Bool) → some_below p n ≡ a → p n ≡ b → (first_below p n ≡ None → some_below p n
+        ≡ false) → some_below p (suc n) ≡ false
     go true b e f earlier = absurd (clash e (earlier (let at = rw e at none in at)))
     go false true e f earlier = absurd (let at = rw (e, f) at none in cc)
     go false false e f earlier = rw (e, f) refl
 
 -- no number before the first that passes does
 pub first_below-before : (p : ℕ → Bool) (n q j : ℕ) → first_below p n ≡ Some q → j < q → p j ≡ false
-first_below-before p n q j is less = ⊎_elim (λ here. absurd (go (first_below p q) refl here)) (λ none. none)
-    (cases_Bool (p j))
+first_below-before p n q j is less = ⊎_elim (λ here. absurd (go (first_below p q) refl here))
+    (λ none. none) (cases_Bool (p j))
   where
     go : (found : Option ℕ) → first_below p q ≡ found → p j ≡ true → ⊥
     go None none here = clash here (some_below-false p q j (first_below-none p q none) less)
@@ -222,8 +235,8 @@ first_below-before p n q j is less = ⊎_elim (λ here. absurd (go (first_below 
         absurd (omega arith)
 
 -- no more numbers pass than there are in a range that all of them are in
-pub count_below-within : (p : ℕ → Bool) (low size n : ℕ) → ((i : ℕ) → i < n → p i ≡ true → (low ≤ i) × (i < low + size))
-    → count_below p n ≤ min n (low + size) - low
+pub count_below-within : (p : ℕ → Bool) (low size n : ℕ) → ((i : ℕ) → i < n → p i ≡ true → (low ≤ i)
+    × (i < low + size)) → count_below p n ≤ min n (low + size) - low
 count_below-within p low size zero inside = omega arith
 count_below-within p low size (suc n) inside =
     go (p n) refl (count_below-within p low size n (λ i less. inside i (omega arith)))
@@ -239,30 +252,33 @@ count_below-none p zero none = refl
 count_below-none p (suc n) none = rw (none n) (count_below-none p n none)
 
 -- if no two numbers pass, at most one of them counts
-pub count_below-once : (p : ℕ → Bool) (n : ℕ) → ((i j : ℕ) → i < j → p i ≡ true → p j ≡ true → ⊥) → count_below p n ≤ 1
+pub count_below-once : (p : ℕ → Bool) (n : ℕ) → ((i j : ℕ) → i < j → p i ≡ true → p j ≡ true → ⊥)
+    → count_below p n ≤ 1
 count_below-once p zero one = omega arith
 count_below-once p (suc n) one = go (p n) refl (count_below-once p n one)
   where
     none : (m : ℕ) → m ≤ n → p n ≡ true → count_below p m ≡ 0
     none zero low here = refl
-    none (suc m) low here = ⊎_elim
-        (λ yes. absurd (one m n (omega arith) yes here))
-        (λ no. rw no (none m (omega arith) here))
-        (cases_Bool (p m))
+    none (suc m) low here = ⊎_elim (λ yes. absurd (one m n (omega arith) yes here))
+        (λ no. rw no (none m (omega arith) here)) (cases_Bool (p m))
 
-    go : (b : Bool) → p n ≡ b → count_below p n ≤ 1 → (if b then count_below p n + 1 else count_below p n) ≤ 1
+    go : (b : Bool) → p n ≡ b → count_below p n ≤ 1
+        → (if b then count_below p n + 1 else count_below p n) ≤ 1
     go true here before = omega (arith, none n (omega arith) here)
     go false here before = before
 
 -- if each number that passes also passes one of two tests, no more pass than pass the two
-pub count_below-either : (p q r : ℕ → Bool) (n : ℕ) → ((i : ℕ) → r i ≡ true → (p i ≡ true) ⊎ (q i ≡ true))
+pub count_below-either : (p q r : ℕ → Bool) (n : ℕ)
+    → ((i : ℕ) → r i ≡ true → (p i ≡ true) ⊎ (q i ≡ true))
     → count_below r n ≤ count_below p n + count_below q n
 count_below-either p q r zero either = omega arith
-count_below-either p q r (suc n) either = go (p n) (q n) (r n) (either n) (count_below-either p q r n either)
+count_below-either p q r (suc n) either = go (p n) (q n) (r n) (either n)
+    (count_below-either p q r n either)
   where
-    go : (a b c : Bool) → (c ≡ true → (a ≡ true) ⊎ (b ≡ true)) → count_below r n ≤ count_below p n + count_below q n
-        → (if c then count_below r n + 1 else count_below r n)
-        ≤ (if a then count_below p n + 1 else count_below p n) + (if b then count_below q n + 1 else count_below q n)
+    go : (a b c : Bool) → (c ≡ true → (a ≡ true) ⊎ (b ≡ true)) → count_below r n ≤ count_below p n
+        + count_below q n → (if c then count_below r n + 1 else count_below r n)
+        ≤ (if a then count_below p n + 1 else count_below p n)
+        + (if b then count_below q n + 1 else count_below q n)
     go true true true some before = omega arith
     go true false true some before = omega arith
     go false true true some before = omega arith

@@ -1,5 +1,5 @@
--- Where searches end at a binary byte, and what is searched of converted bytes, at some inputs, as the checker computes
--- them.
+-- Where searches end at a binary byte, and what is searched of converted bytes, at some inputs, as
+-- the checker computes them.
 use Rattle.std.proofs.Common.{◌≡◌, ℕ, true, false, List, [], ◌∷◌, ◌++◌, Some, None, inl, inr, refl}
 use Rattle.std.proofs.Common.{codes, arith, get_or}
 use Rattle.grep_matcher.specs.Lines.{lines}
@@ -21,16 +21,22 @@ module _ (settings : Settings) (bytes : List ℕ) where
 
   -- the plan if they are searched up to the byte 0
   abbrev quit_plan : Plan
-  quit_plan = plan_with (Quit 0) (contents_point 0 bytes all_calls) (search_plan settings has_a bytes)
+  quit_plan = plan_with (Quit 0) (contents_point 0 bytes all_calls)
+      (search_plan settings has_a bytes)
 
   -- the same if the byte isn't looked for among the first bytes
   abbrev quit_in_reports : Plan
-  quit_in_reports = plan_with (Quit 0) (point_unless 0 all_calls None) (search_plan settings has_a bytes)
+  quit_in_reports = plan_with (Quit 0) (point_unless 0 all_calls None)
+      (search_plan settings has_a bytes)
 
--- some calls, and `binary_data` after them, with the offset of the byte and the count of the search that ends there
+-- some calls, and `binary_data` after them, with the offset of the byte and the count of the search
+-- that ends there
 abbrev plan_to_byte : List Planned → ℕ → ℕ → Plan
 plan_to_byte calls offset count =
-    record { calls = calls ++ record { call = binary_data offset; if_false = finish_at_byte } ∷ []; finish = finish_at_byte }
+    record {
+      calls = calls ++ record { call = binary_data offset; if_false = finish_at_byte } ∷ [];
+      finish = finish_at_byte;
+    }
   where
     finish_at_byte : Finish
     finish_at_byte = record { count = count; binary = Some offset }
@@ -49,11 +55,12 @@ quit_at_limit_zero : quit_plan (record default_settings { max_matches = Some 0 }
 quit_at_limit_zero = refl
 
 -- a text without the byte has no such point, so its plan is as ever
-quit_nowhere : quit_plan default_settings (codes "a\nb\n") ≡ plan_of (begun ∷ match_call 1 0 (codes "a\n") 2 ∷ []) 4
+quit_nowhere : quit_plan default_settings (codes "a\nb\n")
+    ≡ plan_of (begun ∷ match_call 1 0 (codes "a\n") 2 ∷ []) 4
 quit_nowhere = refl
 
--- after the first bytes only reports are looked at: a line that isn't reported may hold the byte, and the search ends
--- at the next report that does
+-- after the first bytes only reports are looked at: a line that isn't reported may hold the byte,
+-- and the search ends at the next report that does
 abbrev nul_in_lines : List ℕ
 nul_in_lines = codes "a\nb" ++ 0 ∷ codes "\na" ++ 0 ∷ codes "\na\n"
 
@@ -71,17 +78,20 @@ abbrev nul_after_break : List ℕ
 nul_after_break = codes "a\nx\nx\na" ++ 0 ∷ codes "\n"
 
 break_not_made : quit_in_reports (record default_settings { after_context = 1 }) nul_after_break
-    ≡ plan_to_byte (begun ∷ match_call 1 0 (codes "a\n") 2 ∷ context_call After 2 2 (codes "x\n") 4 ∷ []) 7 7
+    ≡ plan_to_byte (begun ∷ match_call 1 0 (codes "a\n") 2 ∷ context_call After 2 2 (codes "x\n") 4
+    ∷ []) 7 7
 break_not_made = refl
 
 -- one before a line that comes before it is
-break_before_context_made : quit_in_reports (record default_settings { before_context = 1 }) nul_after_break
-    ≡ plan_to_byte
-    (begun ∷ match_call 1 0 (codes "a\n") 2 ∷ break_call 9 ∷ context_call Before 3 4 (codes "x\n") 9 ∷ []) 7 7
+break_before_context_made : quit_in_reports (record default_settings {
+  before_context = 1;
+}) nul_after_break ≡ plan_to_byte
+    (begun ∷ match_call 1 0 (codes "a\n") 2 ∷ break_call 9 ∷ context_call Before 3 4 (codes "x\n") 9
+    ∷ []) 7 7
 break_before_context_made = refl
 
--- what is read before the first byte at which a search ends. A line that is too long for a buffer of two bytes, as it
--- holds the byte, isn't before it
+-- what is read before the first byte at which a search ends. A line that is too long for a buffer
+-- of two bytes, as it holds the byte, isn't before it
 quit_before : lines 10 (before_quit (Quit 0) nul_in_lines) ≡ codes "a\n" ∷ codes "b" ∷ []
 quit_before = refl
 
@@ -99,8 +109,8 @@ converted = refl
 -- so there are more lines, and the offset is that of the first such byte
 converted_plan : search_plan default_settings has_a (stream_view (Convert 0) 10 nul_in_lines)
     ≡ plan_of
-    (begun ∷ match_call 1 0 (codes "a\n") 2 ∷ match_call 4 5 (codes "a\n") 7 ∷ match_call 6 8 (codes "a\n") 10 ∷ [])
-    10
+    (begun ∷ match_call 1 0 (codes "a\n") 2 ∷ match_call 4 5 (codes "a\n") 7
+    ∷ match_call 6 8 (codes "a\n") 10 ∷ []) 10
 converted_plan = refl
 
 converted_offset : binary_position (Convert 0) 10 nul_in_lines ≡ Some 3
@@ -118,17 +128,25 @@ quit_view : stream_view (Quit 0) 10 nul_in_lines ≡ nul_in_lines
 quit_view = refl
 
 -- a slice that is searched as it is is looked at as contents, and only to end there
-slice_quits : look_of (record default_settings { binary_detection = Quit 0 }) has_a true ≡ in_contents 0
+slice_quits : look_of (record default_settings {
+  binary_detection = Quit 0;
+}) has_a true ≡ in_contents 0
 slice_quits = refl
 
-slice_converts_nothing : look_of (record default_settings { binary_detection = Convert 0 }) has_a true ≡ nowhere
+slice_converts_nothing : look_of (record default_settings {
+  binary_detection = Convert 0;
+}) has_a true ≡ nowhere
 slice_converts_nothing = refl
 
 -- any other input is looked at as it is read, line by line
-reader_quits : look_of (record default_settings { binary_detection = Quit 0 }) has_a false ≡ on_stream
+reader_quits : look_of (record default_settings {
+  binary_detection = Quit 0;
+}) has_a false ≡ on_stream
 reader_quits = refl
 
-reader_converts : look_of (record default_settings { binary_detection = Convert 0 }) has_a false ≡ on_stream
+reader_converts : look_of (record default_settings {
+  binary_detection = Convert 0;
+}) has_a false ≡ on_stream
 reader_converts = refl
 
 -- without detection nowhere

@@ -35,7 +35,8 @@ module _ (b : ℕ) where
   clear-before : (calls : List Planned) (n m : ℕ) → position (holds_byte b) calls ≡ Some n → m ≤ n
       → AreClear (take m calls)
   clear-before calls n m is low =
-      none-passes (holds_byte b) (take m calls) (position-take-before (holds_byte b) m calls n is low)
+      none-passes (holds_byte b) (take m calls) (position-take-before (holds_byte b) m calls n is
+      low)
 
   clear-calls : (calls : List Planned) (n : ℕ) → position (holds_byte b) calls ≡ Some n
       → AreClear (take (point_at b calls n).position calls)
@@ -68,15 +69,16 @@ module _ (b : ℕ) where
         reported None found is = absurd (none-some point is)
         reported (Some n) found is = subst AreClear (ap before_of is) (clear-calls calls n found)
 
-        by : (o : Option ℕ) → point_unless b calls o ≡ Some point → AreClear (take point.position calls)
+        by : (o : Option ℕ) → point_unless b calls o ≡ Some point
+            → AreClear (take point.position calls)
         by None is = reported (position (holds_byte b) calls) refl is
         by (Some offset) is = subst AreClear (ap before_of is) begun-clear
 
     pub clear-all : contents_point b bytes calls ≡ None → AreClear calls
     clear-all is = by (position_of b (take first_look bytes)) is
       where
-        reported : (o : Option ℕ) → position (holds_byte b) calls ≡ o → option_map (point_at b calls) o ≡ None
-            → AreClear calls
+        reported : (o : Option ℕ) → position (holds_byte b) calls ≡ o
+            → option_map (point_at b calls) o ≡ None → AreClear calls
         reported None found is = none-passes (holds_byte b) calls found
         reported (Some n) found is = absurd (none-some (point_at b calls n) (sym is))
 
@@ -91,16 +93,18 @@ quit_reports-clear b settings meaning bytes =
     (clear-point b later bytes, clear-all b later bytes)
 
 -- a slice_range of bytes that end before a test passes
-slice-clear : (p : ℕ → Bool) (bytes : List ℕ) (s e count : ℕ) → s ≤ e → e ≤ count → position p (take count bytes) ≡ None
-    → position p (slice_range bytes s e) ≡ None
+slice-clear : (p : ℕ → Bool) (bytes : List ℕ) (s e count : ℕ) → s ≤ e → e ≤ count
+    → position p (take count bytes) ≡ None → position p (slice_range bytes s e) ≡ None
 slice-clear p bytes s e count up low clear =
     let P : ℕ → Type 0 = λ x. p x ≡ false in
     let sum : s + (e - s) ≡ e = omega arith in
     let front = All-take P e (take count bytes) (none-passes p (take count bytes) clear) in
     let short : take e (take count bytes) ≡ take (s + (e - s)) bytes = take-take e count bytes low
     ∙ ap (λ n. take n bytes) (sym sum) in
-    let piece : drop s (take e (take count bytes)) ≡ slice_range bytes s e = ap (drop s) short ∙ drop-take s (e - s) bytes in
-    position-none p (slice_range bytes s e) (subst (All P) piece (All-drop P s (take e (take count bytes)) front))
+    let piece : drop s (take e (take count bytes)) ≡ slice_range bytes s e = ap (drop s) short
+    ∙ drop-take s (e - s) bytes in
+    position-none p (slice_range bytes s e)
+    (subst (All P) piece (All-drop P s (take e (take count bytes)) front))
 
 module _ (k : Settings) (meaning : Meaning) (bytes : List ℕ) where
   abbrev selection : Selection
@@ -112,15 +116,15 @@ module _ (k : Settings) (meaning : Meaning) (bytes : List ℕ) where
     line-clear i inside low =
         let up = line_start-le (byte_of k.line_terminator) bytes i (i + 1) (omega arith) in
         ap (position_of b) (sym (slice-line k bytes i))
-        ∙ slice-clear (λ x. x == b) bytes (start k bytes i)
-        (start k bytes (i + 1)) count up low
+        ∙ slice-clear (λ x. x == b) bytes (start k bytes i) (start k bytes (i + 1)) count up low
         clear
 
     pub lines-clear : All (λ call. call.if_false.count ≤ count → holds_byte b call ≡ false)
         (line_plan k meaning bytes).calls
     lines-clear =
         All-cons P (planned begins 0)
-        (joined_from (Plans.calls_at k bytes selection) 0 (reports_end k meaning bytes)) (λ low. refl)
+        (joined_from (Plans.calls_at k bytes selection) 0 (reports_end k meaning bytes))
+        (λ low. refl)
         (All-joined_from P (Plans.calls_at k bytes selection) 0 (reports_end k meaning bytes)
         (λ i low high. each i (omega (arith, reports_end-le k meaning bytes))))
       where
@@ -128,11 +132,11 @@ module _ (k : Settings) (meaning : Meaning) (bytes : List ℕ) where
         P call = call.if_false.count ≤ count → holds_byte b call ≡ false
 
         each : (i : ℕ) → i < line_count k bytes → All P (Plans.calls_at k bytes selection i)
-        each i inside j d below low = ⊎_elim
-            (λ none. ap (λ xs. is_some (position_of b xs)) none)
+        each i inside j d below low = ⊎_elim (λ none. ap (λ xs. is_some (position_of b xs)) none)
             (λ line.
             let late = ends-late k meaning bytes i i (omega arith) j d below in
-            ap (λ xs. is_some (position_of b xs)) line ∙ ap is_some (line-clear i inside (omega arith)))
+            ap (λ xs. is_some (position_of b xs)) line
+            ∙ ap is_some (line-clear i inside (omega arith)))
             (reports-line k meaning bytes i j d below)
 
 pub counted_reports-clear : CountedReportsAreClear
@@ -142,8 +146,10 @@ counted_reports-clear b k meaning bytes count clear = lines-clear k meaning byte
 pub seen_lines-clear : SeenLinesAreClear
 seen_lines-clear b k meaning bytes seen quits front clear =
     All-cons P (planned begins 0)
-    (joined_from (Plans.calls_at k seen (selected_lines k meaning seen)) 0 (reports_end k meaning seen)) refl
-    (All-joined_from P (Plans.calls_at k seen (selected_lines k meaning seen)) 0 (reports_end k meaning seen)
+    (joined_from (Plans.calls_at k seen (selected_lines k meaning seen)) 0
+    (reports_end k meaning seen)) refl
+    (All-joined_from P (Plans.calls_at k seen (selected_lines k meaning seen)) 0
+    (reports_end k meaning seen)
     (λ i low high. each i (omega (arith, reports_end-le k meaning seen))))
   where
     P : Planned → Type 0
@@ -154,13 +160,13 @@ seen_lines-clear b k meaning bytes seen quits front clear =
 
     is_clear : position_of b (take (length seen) seen) ≡ None
     is_clear = ap (position_of b) (take_all (length seen) seen (omega arith)
-        ∙ (sym (take_at seen front.after (length seen) refl)
-        ∙ ap (take (length seen)) (sym whole)))
-        ∙ (sym (ap (λ d. binary_position d (byte_of k.line_terminator) (take (length seen) bytes)) quits) ∙ clear)
+        ∙ (sym (take_at seen front.after (length seen) refl) ∙ ap (take (length seen)) (sym whole)))
+        ∙ (sym (ap (λ d. binary_position d (byte_of k.line_terminator) (take (length seen) bytes))
+        quits) ∙ clear)
 
-    each : (i : ℕ) → i < line_count k seen → All P (Plans.calls_at k seen (selected_lines k meaning seen) i)
-    each i inside j d below = ⊎_elim
-        (λ none. ap (λ xs. is_some (position_of b xs)) none)
+    each : (i : ℕ) → i < line_count k seen
+        → All P (Plans.calls_at k seen (selected_lines k meaning seen) i)
+    each i inside j d below = ⊎_elim (λ none. ap (λ xs. is_some (position_of b xs)) none)
         (λ line. ap (λ xs. is_some (position_of b xs)) line
         ∙ ap is_some (line-clear k meaning seen b (length seen) is_clear i inside
         (line_start-within (byte_of k.line_terminator) seen (i + 1))))

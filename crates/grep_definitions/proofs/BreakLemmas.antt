@@ -17,18 +17,22 @@ use Rattle.grep_report.specs.declared.sink_context.SinkContextKind.TheVariants.{
 use Rattle.grep_report.specs.declared.sink_context.SinkContextKind.TheVariants.{Other}
 use Rattle.grep_definitions.proofs.BoolLemmas.{clash}
 
--- the calls of a search between `begin` and `finish`: reports, and breaks, each directly before a report that ends alike;
--- after one that returns false `finish` has no offset
+-- the calls of a search between `begin` and `finish`: reports, and breaks, each directly before a
+-- report that ends alike; after one that returns false `finish` has no offset
 pub data AreReports : List Planned → Type 0 where
   no_reports : AreReports []
-  plain_report : {call : Planned} {later : List Planned} → is_report call.call ≡ true → call.if_false.binary ≡ None
-      → AreReports later → AreReports (call ∷ later)
-  broken_report : {gap call : Planned} {later : List Planned} → gap.call ≡ breaks → is_report call.call ≡ true
-      → call.if_false.binary ≡ None → gap.if_false ≡ call.if_false → AreReports later → AreReports (gap ∷ call ∷ later)
+  plain_report : {call : Planned} {later : List Planned} → is_report call.call ≡ true
+      → call.if_false.binary ≡ None → AreReports later → AreReports (call ∷ later)
+  broken_report : {gap call : Planned} {later : List Planned} → gap.call ≡ breaks
+      → is_report call.call ≡ true
+      → call.if_false.binary ≡ None → gap.if_false ≡ call.if_false → AreReports later
+      → AreReports (gap ∷ call ∷ later)
 
-calls-append : (front back : List Planned) → AreReports front → AreReports back → AreReports (front ++ back)
+calls-append : (front back : List Planned) → AreReports front → AreReports back
+    → AreReports (front ++ back)
 calls-append [] back no_reports are = are
-calls-append (call ∷ front) back (plain_report is plain later) are = plain_report is plain (calls-append front back later are)
+calls-append (call ∷ front) back (plain_report is plain later) are =
+    plain_report is plain (calls-append front back later are)
 calls-append (gap ∷ call ∷ front) back (broken_report off is plain same later) are =
     broken_report off is plain same (calls-append front back later are)
 
@@ -46,7 +50,8 @@ calls-through offset [] no_reports = no_reports
 calls-through offset (call ∷ later) (plain_report is plain rest) =
     go (nat_le call.if_false.count offset) (calls-through offset later rest)
   where
-    go : (b : Bool) {kept : List Planned} → AreReports kept → AreReports (if b then call ∷ kept else kept)
+    go : (b : Bool) {kept : List Planned} → AreReports kept
+        → AreReports (if b then call ∷ kept else kept)
     go true are = plain_report is plain are
     go false are = are
 calls-through offset (gap ∷ call ∷ later) (broken_report off is plain same rest) =
@@ -55,7 +60,8 @@ calls-through offset (gap ∷ call ∷ later) (broken_report off is plain same r
     rw alike (go (nat_le call.if_false.count offset) (calls-through offset later rest))
   where
     go : (b : Bool) {kept : List Planned} → AreReports kept
-        → AreReports (if b then gap ∷ (if b then call ∷ kept else kept) else (if b then call ∷ kept else kept))
+        → AreReports (if b then gap ∷ (if b then call ∷ kept else kept)
+        else (if b then call ∷ kept else kept))
     go true are = broken_report off is plain same are
     go false are = are
 
@@ -84,15 +90,15 @@ module _ (k : Settings) (meaning : Meaning) (bytes : List ℕ) where
   report-by_line i (Some (in_context c)) true can = broken_report refl refl refl refl no_reports
   report-by_line i (Some (in_context c)) false can = plain_report refl refl no_reports
 
-  pub calls-by_line : AreReports (joined_from (calls_at k bytes by_line) 0 (reports_end k meaning bytes))
+  pub calls-by_line : AreReports (joined_from (calls_at k bytes by_line) 0
+      (reports_end k meaning bytes))
   calls-by_line = calls-joined (calls_at k bytes by_line) 0 (reports_end k meaning bytes)
-      (λ j low high. report-by_line j (Plans.kind k bytes by_line j) (breaks_before k bytes by_line j)
-      (λ is. (breaks-need _ _ _ _ is).0))
+      (λ j low high. report-by_line j (Plans.kind k bytes by_line j)
+      (breaks_before k bytes by_line j) (λ is. (breaks-need _ _ _ _ is).0))
 
   -- across lines a selected line is reported
   reported-selected : (i : ℕ) → i < line_count k bytes → is_touched_selected k meaning bytes i
-      ≡ true
-      → is_reported k bytes selection i ≡ true
+      ≡ true → is_reported k bytes selection i ≡ true
   reported-selected i inside selected =
       let here = lt-ltb i (line_count k bytes) inside in
       let kind : Plans.kind k bytes selection i ≡ Some matched =
@@ -103,20 +109,18 @@ module _ (k : Settings) (meaning : Meaning) (bytes : List ℕ) where
       ap (λ b. b && is_some (Plans.kind k bytes selection i)) here ∙ ap is_some kind
 
   -- so a break isn't made within a unit
-  unit-unbroken : (i : ℕ) → i < line_count k bytes → breaks_before k bytes selection i
-      ≡ true
+  unit-unbroken : (i : ℕ) → i < line_count k bytes → breaks_before k bytes selection i ≡ true
       → continues k bytes selection i ≡ false
-  unit-unbroken i inside is = ⊎_elim
-      (λ goes.
-      let parts = within (not (selects_free k)) (nat_lt 0 i) (is_touched_selected k meaning bytes (i - 1)) goes in
+  unit-unbroken i inside is = ⊎_elim (λ goes.
+      let parts = within (not (selects_free k)) (nat_lt 0 i)
+      (is_touched_selected k meaning bytes (i - 1)) goes in
       let before = reported-selected (i - 1) (omega (arith, ltb-true 0 i parts.0)) parts.1 in
       let silent = (breaks-need (nat_lt 0 (k.after_context + k.before_context))
       (can_break (Plans.kind k bytes selection i))
       (not (is_reported k bytes selection (i - 1))) (some_below (is_reported k bytes selection) i)
       is).1 in
       absurd (clash before (not-true (is_reported k bytes selection (i - 1)) silent)))
-      (λ ends. ends)
-      (cases_Bool (continues k bytes selection i))
+      (λ ends. ends) (cases_Bool (continues k bytes selection i))
     where
       within : (a b c : Bool) → (a && b && c) ≡ true → (b ≡ true) × (c ≡ true)
       within true true true is = (refl, refl)
@@ -132,14 +136,15 @@ module _ (k : Settings) (meaning : Meaning) (bytes : List ℕ) where
   report-across i None false can whole = no_reports
   report-across i (Some matched) true can whole =
       rw (whole refl) (broken_report refl refl refl refl no_reports)
-  report-across i (Some matched) false can whole = ⊎_elim
-      (λ goes. rw goes no_reports)
+  report-across i (Some matched) false can whole = ⊎_elim (λ goes. rw goes no_reports)
       (λ ends. rw ends (plain_report refl refl no_reports))
       (cases_Bool (continues k bytes selection i))
-  report-across i (Some (in_context c)) true can whole = broken_report refl refl refl refl no_reports
+  report-across i (Some (in_context c)) true can whole =
+      broken_report refl refl refl refl no_reports
   report-across i (Some (in_context c)) false can whole = plain_report refl refl no_reports
 
   pub calls-across : AreReports (joined_from (calls_at k bytes selection) 0 (line_count k bytes))
   calls-across = calls-joined (calls_at k bytes selection) 0 (line_count k bytes)
-      (λ j low high. report-across j (Plans.kind k bytes selection j) (breaks_before k bytes selection j)
+      (λ j low high. report-across j (Plans.kind k bytes selection j)
+      (breaks_before k bytes selection j)
       (λ is. (breaks-need _ _ _ _ is).0) (unit-unbroken j (omega arith)))

@@ -9,20 +9,24 @@ use Rattle.grep_definitions.specs.Searches.{asked, contents_point, in_contents, 
 use Rattle.grep_definitions.specs.Searches.{plan_with, ran, Look}
 use Rattle.grep_definitions.specs.SliceSearches.{IsContentsSearch}
 
-module _ {S E F : Type 0} (step : Steps S E) (errors : ErrorMakers F E) (matcher : MatcherFacts F) (k : Settings)
+module _ {S E F : Type 0} (step : Steps S E) (errors : ErrorMakers F E) (matcher : MatcherFacts F)
+    (k : Settings)
     (bytes : List ℕ) (old : S) where
   abbrev IsSearch : Look → Bool → Result (Unit {0}) E → S → Type 0
   IsSearch look across = IsContentsSearch step errors matcher k look across bytes old
 
   module _ {across : Bool} where
-    -- without `binary_data` it is a run, or it ends in the matcher's error after calls that all returned true
+    -- without `binary_data` it is a run, or it ends in the matcher's error after calls that all
+    -- returned true
     pub plain-ran : {result : Result (Unit {0}) E} {new : S}
-        → IsRun step k old (plan_in k matcher.meaning bytes across) result new → IsSearch nowhere across result new
+        → IsRun step k old (plan_in k matcher.meaning bytes across) result new
+        → IsSearch nowhere across result new
     plain-ran run = ran None refl run tt
 
     pub plain-asked : {e : E} {new : S} (haystack : List ℕ) (error : F) (calls : List Planned)
         → IsAskedIn k matcher.meaning bytes across haystack calls → matcher.fails haystack error
-        → errors.is_message error e → AreMade step k old calls all_true new → IsSearch nowhere across (Err e) new
+        → errors.is_message error e → AreMade step k old calls all_true new
+        → IsSearch nowhere across (Err e) new
     plain-asked haystack error calls asks fails message made =
         asked haystack error calls asks fails message (None, refl, (λ is. refl), made)
 

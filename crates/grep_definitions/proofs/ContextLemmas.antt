@@ -64,23 +64,27 @@ module _ (k : Settings) (meaning : Meaning) (bytes : List ℕ) where
       → follows_selected k bytes selection i ≡ nat_lt 0 left
   follows-selected near = SelectionLemmas.follows-here near
 
-  module _ {v i left : ℕ} (near : IsNear k bytes selection v i left) (inside : i < n) (has : i < reportable) where
+  module _ {v i left : ℕ} (near : IsNear k bytes selection v i left) (inside : i < n) (has : i
+      < reportable) where
     -- a line after a selected one
     pub calls_at-after : (start end : ℕ) (line : List ℕ) → is_selected i ≡ false → 0 < left
         → number k bytes i
         ≡ number_of k i → Plans.start k bytes i ≡ start → Plans.start k bytes (i + 1) ≡ end
         → Plans.line k bytes i ≡ line → calls_at k bytes selection i
         ≡ after_calls k (is_trailing i) v i start end line
-    calls_at-after start end line misses some is_number is_start is_end is_line = go (is_trailing i) refl
+    calls_at-after start end line misses some is_number is_start is_end is_line =
+        go (is_trailing i) refl
       where
-        kind : Plans.kind k bytes selection i ≡ Some (if is_trailing i then matched else in_context After)
+        kind : Plans.kind k bytes selection i
+            ≡ Some (if is_trailing i then matched else in_context After)
         kind = SelectionLemmas.kind-after near misses some
 
         gap : (nat_lt 0 (A + B) && true && not (is_reported (i - 1)) && some_below is_reported i)
             ≡ (nat_lt 0 A && is_gap k v i i)
         gap = SelectionLemmas.gap-after near some
 
-        go : (b : Bool) → is_trailing i ≡ b → calls_at k bytes selection i ≡ after_calls k b v i start end line
+        go : (b : Bool) → is_trailing i ≡ b → calls_at k bytes selection i
+            ≡ after_calls k b v i start end line
         go true is =
             let as_match = kind ∙ ap (λ b. Some (if b then matched else in_context After)) is in
             rw (as_match, gap, slice-line k bytes i, is_number, is_end, is_start, is_line) refl
@@ -89,19 +93,19 @@ module _ (k : Settings) (meaning : Meaning) (bytes : List ℕ) where
             rw (as_context, and-false (nat_lt 0 (A + B)), is_number, is_end, is_start, is_line) refl
 
     -- a line that is reported under passthru alone
-    pub calls_at-other : (start end : ℕ) (line : List ℕ) → is_selected i ≡ false → left ≡ 0 → k.passthru ≡ true
-        → k.before_context ≡ 0
+    pub calls_at-other : (start end : ℕ) (line : List ℕ) → is_selected i ≡ false → left ≡ 0
+        → k.passthru ≡ true → k.before_context ≡ 0
         → number k bytes i ≡ number_of k i → Plans.start k bytes i ≡ start
         → Plans.start k bytes (i + 1) ≡ end → Plans.line k bytes i ≡ line
-        → calls_at k bytes selection i
-        ≡ context_calls Other (number_of k i) start end line
+        → calls_at k bytes selection i ≡ context_calls Other (number_of k i) start end line
     calls_at-other start end line misses empty bare none is_number is_start is_end is_line =
         let kind : Plans.kind k bytes selection i ≡ Some (in_context Other) =
         SelectionLemmas.kind-other near misses empty bare none in
         rw (kind, and-false (nat_lt 0 (A + B)), is_number, is_end, is_start, is_line) refl
 
     pub IsNear-missed : (k.passthru ≡ true → k.before_context ≡ 0) → is_selected i ≡ false
-        → IsNear k bytes selection (if nat_lt 0 left || k.passthru then i + 1 else v) (i + 1) (left - 1)
+        → IsNear k bytes selection (if nat_lt 0 left || k.passthru then i + 1 else v) (i + 1)
+        (left - 1)
     IsNear-missed bare = SelectionLemmas.IsNear-missed near bare has
 
     module _ (hit : is_selected i ≡ true) where
@@ -109,16 +113,16 @@ module _ (k : Settings) (meaning : Meaning) (bytes : List ℕ) where
       IsNear-hit = SelectionLemmas.IsNear-hit k bytes selection i has hit
 
       -- a passed line's calls
-      pub calls_at-passed : (j start end : ℕ) (line : List ℕ) → v ≤ j → j < i → Plans.start k bytes j
-          ≡ start
+      pub calls_at-passed : (j start end : ℕ) (line : List ℕ) → v ≤ j → j < i
+          → Plans.start k bytes j ≡ start
           → Plans.start k bytes (i + 1) ≡ end → Plans.line k bytes j ≡ line
-          → calls_at k bytes selection j
-          ≡ before_calls k v j i (number k bytes j) start end line
-      calls_at-passed j start end line low less is_start is_end is_line = ⊎_elim far close (cases_lt B (i - j))
+          → calls_at k bytes selection j ≡ before_calls k v j i (number k bytes j) start end line
+      calls_at-passed j start end line low less is_start is_end is_line =
+          ⊎_elim far close (cases_lt B (i - j))
         where
-          is_kind : Plans.kind k bytes selection j ≡ (if nat_le (i - j) B then Some (in_context Before) else None)
-          is_kind = SelectionLemmas.kind-passed near inside has hit j low
-              less
+          is_kind : Plans.kind k bytes selection j
+              ≡ (if nat_le (i - j) B then Some (in_context Before) else None)
+          is_kind = SelectionLemmas.kind-passed near inside has hit j low less
 
           far : B < i - j → calls_at k bytes selection j ≡ before_calls k v j i (number k bytes j)
               start end line
@@ -134,10 +138,10 @@ module _ (k : Settings) (meaning : Meaning) (bytes : List ℕ) where
               let test = le-leb (i - j) B inner in
               let kind : Plans.kind k bytes selection j ≡ Some (in_context Before) = is_kind
               ∙ ap (λ b. if b then Some (in_context Before) else None) test in
-              let gap : (nat_lt 0 (A + B) && true && not (is_reported (j - 1)) && some_below is_reported j)
+              let gap : (nat_lt 0 (A + B) && true && not (is_reported (j - 1))
+              && some_below is_reported j)
               ≡ is_gap k v j i =
-              SelectionLemmas.gap-passed near inside has hit j low less
-              inner in
+              SelectionLemmas.gap-passed near inside has hit j low less inner in
               let found = SelectionLemmas.next-passed near inside has hit j
               low less in
               rw (kind, gap, found, is_start, is_end, is_line, test) refl
@@ -145,10 +149,12 @@ module _ (k : Settings) (meaning : Meaning) (bytes : List ℕ) where
       -- the match's calls
       pub calls_at-hit : (start end : ℕ) (line : List ℕ) → number k bytes i ≡ number_of k i
           → Plans.start k bytes i ≡ start → Plans.start k bytes (i + 1) ≡ end
-          → Plans.line k bytes i ≡ line → calls_at k bytes selection i ≡ selected_calls k v i start end line
+          → Plans.line k bytes i ≡ line → calls_at k bytes selection i
+          ≡ selected_calls k v i start end line
       calls_at-hit start end line is_number is_start is_end is_line =
           let kind : Plans.kind k bytes selection i ≡ Some matched = rw hit refl in
-          let gap : (nat_lt 0 (A + B) && true && not (is_reported (i - 1)) && some_below is_reported i)
+          let gap : (nat_lt 0 (A + B) && true && not (is_reported (i - 1))
+          && some_below is_reported i)
           ≡ (nat_lt 0 A && is_gap k v i i) =
           SelectionLemmas.gap-hit near inside has hit in
           rw (kind, gap, slice-line k bytes i, is_number, is_end, is_start, is_line) refl

@@ -27,7 +27,8 @@ use Rattle.grep_definitions.specs.LineWalks.{IsNear}
 use Rattle.grep_definitions.proofs.BoolLemmas.{clash}
 use Rattle.grep_definitions.proofs.ListLemmas.{All-joined_from, filter-all, filter-none}
 
--- of calls whose counts are at most an offset, and later ones whose counts are above it, just the first are kept
+-- of calls whose counts are at most an offset, and later ones whose counts are above it, just the
+-- first are kept
 pub ended-by : (at : ℕ) (first : List Planned) (T : ℕ → List Planned) (v m : ℕ)
     → All (λ call. call.if_false.count ≤ at) first
     → ((j : ℕ) → v ≤ j → j < v + m → All (λ call. at < call.if_false.count) (T j))
@@ -38,9 +39,10 @@ ended-by at first T v m ended late =
     (All-weaker (λ call. call.if_false.count ≤ at) (λ call. passes call ≡ true)
     (λ call low. le-leb call.if_false.count at low) first ended))
     ∙ (ap (λ xs. first ++ xs) (filter-none passes (joined_from T v m)
-    (All-joined_from (λ call. passes call ≡ false) T v m (λ j low high. All-weaker (λ call. at < call.if_false.count)
-    (λ call. passes call ≡ false) (λ call high. lt-leb call.if_false.count at high) (T j) (late j low high))))
-    ∙ append-nil first))
+    (All-joined_from (λ call. passes call ≡ false) T v m
+    (λ j low high. All-weaker (λ call. at < call.if_false.count)
+    (λ call. passes call ≡ false) (λ call high. lt-leb call.if_false.count at high) (T j)
+    (late j low high)))) ∙ append-nil first))
   where
     passes : Planned → Bool
     passes call = nat_le call.if_false.count at
@@ -48,11 +50,14 @@ ended-by at first T v m ended late =
 -- a call and the break before it end alike
 pub ends-one : (call : Call) (end : ℕ) → All (λ call. call.if_false.count ≡ end) (one_call call end)
 ends-one call end =
-    All-cons (λ x. x.if_false.count ≡ end) (planned call end) [] refl (All-nil (λ x. x.if_false.count ≡ end))
+    All-cons (λ x. x.if_false.count ≡ end) (planned call end) [] refl
+    (All-nil (λ x. x.if_false.count ≡ end))
 
-ends-broken : (gap : Bool) (call : Call) (end : ℕ) → All (λ call. call.if_false.count ≡ end) (broken_calls gap call end)
+ends-broken : (gap : Bool) (call : Call) (end : ℕ) → All (λ call. call.if_false.count ≡ end)
+    (broken_calls gap call end)
 ends-broken true call end =
-    All-cons (λ x. x.if_false.count ≡ end) (planned breaks end) (one_call call end) refl (ends-one call end)
+    All-cons (λ x. x.if_false.count ≡ end) (planned breaks end) (one_call call end) refl
+    (ends-one call end)
 ends-broken false call end = ends-one call end
 
 module _ (k : Settings) (bytes : List ℕ) (v i end : ℕ) where
@@ -66,13 +71,14 @@ module _ (k : Settings) (bytes : List ℕ) (v i end : ℕ) where
       (context Before (number k bytes q) (line_start (byte_of k.line_terminator) bytes q)
       (slice_index_or (lines (byte_of k.line_terminator) bytes) q []))
     where
-      go : (near : Bool) (call : Call) → EndThere (if near then broken_calls (is_gap k v q i) call end else [])
+      go : (near : Bool) (call : Call)
+          → EndThere (if near then broken_calls (is_gap k v q i) call end else [])
       go true call = ends-broken (is_gap k v q i) call end
       go false call = All-nil (λ x. x.if_false.count ≡ end)
 
   pub ends-pending : (j n : ℕ) → EndThere (pending_calls k bytes v i end j n)
-  ends-pending j n = All-joined_from (λ x. x.if_false.count ≡ end) (listed_calls k bytes v i end) j n (λ q low high.
-      ends-listed q)
+  ends-pending j n = All-joined_from (λ x. x.if_false.count ≡ end) (listed_calls k bytes v i end) j
+      n (λ q low high. ends-listed q)
 
   pub ends-match : (offset : ℕ) (line : List ℕ) → EndThere (selected_calls k v i offset end line)
   ends-match offset line = ends-broken (nat_lt 0 k.after_context && is_gap k v i i)
@@ -86,7 +92,8 @@ module _ (k : Settings) (meaning : Meaning) (bytes : List ℕ) where
   start = Plans.start k bytes
 
   -- a line's count is no earlier than its end
-  pub count_at-late : (q : ℕ) (kind : Option Kind) → start (q + 1) ≤ count_at k bytes selection q kind
+  pub count_at-late : (q : ℕ) (kind : Option Kind) → start (q + 1)
+      ≤ count_at k bytes selection q kind
   count_at-late q None = omega arith
   count_at-late q (Some matched) = omega arith
   count_at-late q (Some (in_context After)) = omega arith
@@ -101,12 +108,12 @@ module _ (k : Settings) (meaning : Meaning) (bytes : List ℕ) where
       go None is = rw is (omega arith)
       go (Some j) is =
           let found = first_below-of later (line_count k bytes) j is in
-          let above = ltb-true q j (and_parts (nat_lt q j) (is_selected k meaning bytes j) found.1).0 in
+          let above = ltb-true q j (and_parts (nat_lt q j) (is_selected k meaning bytes j)
+          found.1).0 in
           rw is (line_start-le (byte_of k.line_terminator) bytes (q + 1) (j + 1) (omega arith))
 
   -- if the count of a line is no earlier than some offset, so is that of each of its calls
-  pub ends-calls_at : (bound j : ℕ)
-      → ((kind : Kind) → Plans.kind k bytes selection j ≡ Some kind
+  pub ends-calls_at : (bound j : ℕ) → ((kind : Kind) → Plans.kind k bytes selection j ≡ Some kind
       → bound ≤ count_at k bytes selection j (Some kind))
       → All (λ call. bound ≤ call.if_false.count) (calls_at k bytes selection j)
   ends-calls_at bound j late = go (Plans.kind k bytes selection j) refl
@@ -117,7 +124,8 @@ module _ (k : Settings) (meaning : Meaning) (bytes : List ℕ) where
       end : Kind → ℕ
       end kind = count_at k bytes selection j (Some kind)
 
-      report : (kind : Kind) → bound ≤ end kind → All P (Plans.report k bytes selection j (Some kind))
+      report : (kind : Kind) → bound ≤ end kind
+          → All P (Plans.report k bytes selection j (Some kind))
       report matched low = All-cons P _ [] low (All-nil P)
       report (in_context c) low = All-cons P _ [] low (All-nil P)
 
@@ -126,22 +134,22 @@ module _ (k : Settings) (meaning : Meaning) (bytes : List ℕ) where
       choose true call rest low all = All-cons P call rest low all
       choose false call rest low all = all
 
-      go : (kind : Option Kind) → Plans.kind k bytes selection j ≡ kind → All P (calls_at k bytes selection j)
+      go : (kind : Option Kind) → Plans.kind k bytes selection j ≡ kind
+          → All P (calls_at k bytes selection j)
       go None is = rw (is, and-false (nat_lt 0 (k.after_context + k.before_context))) (All-nil P)
       go (Some kind) is =
           let low = late kind is in
           rw is (choose _ (planned breaks (end kind)) (Plans.report k bytes selection j (Some kind))
-          low
-          (report kind low))
+          low (report kind low))
 
   -- the calls of a line end no earlier than the line
-  pub ends-late : (i q : ℕ) → i ≤ q → All (λ call. start (i + 1) ≤ call.if_false.count) (calls_at k bytes selection q)
+  pub ends-late : (i q : ℕ) → i ≤ q → All (λ call. start (i + 1) ≤ call.if_false.count)
+      (calls_at k bytes selection q)
   ends-late i q low = ends-calls_at (start (i + 1)) q
       (λ kind is. omega (
         arith,
         count_at-late q (Some kind),
-        line_start-le (byte_of k.line_terminator) bytes (i + 1) (q + 1)
-            (omega arith),
+        line_start-le (byte_of k.line_terminator) bytes (i + 1) (q + 1) (omega arith),
       ))
 
   -- those of a line that was passed unreported can only belong to a later match
@@ -160,8 +168,8 @@ module _ (k : Settings) (meaning : Meaning) (bytes : List ℕ) where
 
       missed : (q : ℕ) → q < i → later q ≡ false
       missed q less = ⊎_elim
-          (λ above. let unselected = (near.passed q (omega arith) less).0 in rw unselected (and-false (nat_lt j q)))
-          (λ below. let no = le-ltb j q below in rw no refl)
+          (λ above. let unselected = (near.passed q (omega arith) less).0 in rw unselected
+          (and-false (nat_lt j q))) (λ below. let no = le-ltb j q below in rw no refl)
           (cases_lt j q)
 
       nearer-later : (q : ℕ) → nearer q ≡ true → later q ≡ true
@@ -172,7 +180,8 @@ module _ (k : Settings) (meaning : Meaning) (bytes : List ℕ) where
           let chosen = both.1 in
           rw (above, chosen) refl
 
-      next : (first : Option ℕ) → first_below later n ≡ first → precedes_selected k bytes selection j ≡ true
+      next : (first : Option ℕ) → first_below later n ≡ first
+          → precedes_selected k bytes selection j ≡ true
           → start (i + 1) ≤ start (next_report_end k bytes selection j)
       next None is precedes =
           let found = some_below-find nearer n precedes in
@@ -180,14 +189,16 @@ module _ (k : Settings) (meaning : Meaning) (bytes : List ℕ) where
           (first_below-none later n is))
       next (Some q) is precedes =
           let passes = (first_below-of later n q is).1 in
-          let far : i ≤ q = ⊎_elim (λ less. absurd (clash passes (missed q less))) (λ le. le) (cases_lt q i) in
+          let far : i ≤ q = ⊎_elim (λ less. absurd (clash passes (missed q less))) (λ le. le)
+          (cases_lt q i) in
           rw is (line_start-le (byte_of k.line_terminator) bytes (i + 1) (q + 1) (omega arith))
 
       out : (is_selected k meaning bytes j ≡ false) × (follows_selected k bytes selection j ≡ false)
       out = near.passed j low high
 
       plain : k.passthru ≡ false
-      plain = ⊎_elim (λ yes. absurd (omega (arith, near.bare yes))) (λ no. no) (cases_Bool k.passthru)
+      plain = ⊎_elim (λ yes. absurd (omega (arith, near.bare yes))) (λ no. no)
+          (cases_Bool k.passthru)
 
       late : (kind : Kind) → Plans.kind k bytes selection j ≡ Some kind
           → start (i + 1) ≤ count_at k bytes selection j (Some kind)
@@ -195,8 +206,7 @@ module _ (k : Settings) (meaning : Meaning) (bytes : List ℕ) where
         where
           go : (b : Bool) → precedes_selected k bytes selection j ≡ b
               → start (i + 1) ≤ count_at k bytes selection j (Some kind)
-          go false alone = absurd
-              (let none : Plans.kind k bytes selection j
+          go false alone = absurd (let none : Plans.kind k bytes selection j
               ≡ None = rw (out.0, out.1, alone, plain) refl in let e = sym none ∙ is in cc)
           go true precedes =
               let before : Plans.kind k bytes selection j

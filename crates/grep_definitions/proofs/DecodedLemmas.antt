@@ -13,14 +13,15 @@ use Rattle.grep_definitions.specs.SearchLaws.{UnsniffedIsUnchanged, UnmarkedIsUn
 
 pub unchanged-input : UnchangedIsInput
 unfolding searched_bytes is_searched_unchanged
-unchanged-input settings input is = unchanged-decoded settings.encoding settings.bom_sniffing input is
+unchanged-input settings input is = unchanged-decoded settings.encoding settings.bom_sniffing input
+    is
 
 pub unsniffed-unchanged : UnsniffedIsUnchanged
 unfolding is_searched_unchanged
 unsniffed-unchanged settings input unlabelled unsniffed = rw (unlabelled, unsniffed) refl
 
-none-found : (sniff : Bool) (mark : Option Label) → mark ≡ None → not (is_some (if sniff || false then mark else None))
-    ≡ true
+none-found : (sniff : Bool) (mark : Option Label) → mark ≡ None
+    → not (is_some (if sniff || false then mark else None)) ≡ true
 none-found true mark none = rw none refl
 none-found false mark none = refl
 

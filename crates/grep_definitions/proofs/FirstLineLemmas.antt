@@ -16,25 +16,31 @@ use Rattle.grep_definitions.specs.Plans.{start}
 use Rattle.grep_matcher.proofs.LineStartLemmas.{line_start-within}
 
 -- as many pass if the tests agree
-pub count_below-same : (p q : ℕ → Bool) (n : ℕ) → ((j : ℕ) → j < n → p j ≡ q j) → count_below p n ≡ count_below q n
+pub count_below-same : (p q : ℕ → Bool) (n : ℕ) → ((j : ℕ) → j < n → p j ≡ q j) → count_below p n
+    ≡ count_below q n
 count_below-same p q zero same = refl
-count_below-same p q (suc n) same = rw (count_below-same p q n (λ j below. same j (omega arith)), same n (omega arith))
-    refl
+count_below-same p q (suc n) same = rw (
+  count_below-same p q n (λ j below. same j (omega arith)),
+  same n (omega arith),
+) refl
 
 -- some number passes, or none, if the tests agree
-pub some_below-same : (p q : ℕ → Bool) (n : ℕ) → ((j : ℕ) → j < n → p j ≡ q j) → some_below p n ≡ some_below q n
+pub some_below-same : (p q : ℕ → Bool) (n : ℕ) → ((j : ℕ) → j < n → p j ≡ q j) → some_below p n
+    ≡ some_below q n
 some_below-same p q zero same = refl
-some_below-same p q (suc n) same = rw (some_below-same p q n (λ j below. same j (omega arith)), same n (omega arith))
-    refl
+some_below-same p q (suc n) same = rw (
+  some_below-same p q n (λ j below. same j (omega arith)),
+  same n (omega arith),
+) refl
 
 -- the first that passes is the same if the tests agree
-pub first_below-same : (p q : ℕ → Bool) (n : ℕ) → ((j : ℕ) → j < n → p j ≡ q j) → first_below p n ≡ first_below q n
+pub first_below-same : (p q : ℕ → Bool) (n : ℕ) → ((j : ℕ) → j < n → p j ≡ q j) → first_below p n
+    ≡ first_below q n
 first_below-same p q zero same = refl
 first_below-same p q (suc n) same = rw (
   some_below-same p q n (λ j below. same j (omega arith)),
   first_below-same p q n (λ j below. same j (omega arith)),
-  same n
-      (omega arith),
+  same n (omega arith),
 ) refl
 
 -- bytes that are empty or end in a terminator
@@ -57,14 +63,15 @@ module _ (k : Settings) (meaning : Meaning) (front back : List ℕ)
 
   -- a line of the front is that line of the whole
   pub line-same : (i : ℕ) → i < n → line k whole i ≡ line k front i
-  line-same i below = ap (λ ls. get_or ls i []) all_lines ∙ get_or_append_left (lines (byte_of k.line_terminator) front)
+  line-same i below = ap (λ ls. get_or ls i []) all_lines
+      ∙ get_or_append_left (lines (byte_of k.line_terminator) front)
       (lines (byte_of k.line_terminator) back) [] i below
 
   -- it begins at the same offset
   pub start-same : (i : ℕ) → i ≤ n → start k whole i ≡ start k front i
   start-same i inside = ap (λ ls. length (concat (take i ls))) all_lines
-      ∙ ap (λ ls. length (concat ls))
-      (take-append-le i (lines (byte_of k.line_terminator) front) (lines (byte_of k.line_terminator) back) inside)
+      ∙ ap (λ ls. length (concat ls)) (take-append-le i (lines (byte_of k.line_terminator) front)
+      (lines (byte_of k.line_terminator) back) inside)
 
   -- it hits in both or in neither
   pub hits-same : (i : ℕ) → i < n → hits k meaning whole i ≡ hits k meaning front i
@@ -75,8 +82,7 @@ module _ (k : Settings) (meaning : Meaning) (front back : List ℕ)
         ap length all_lines,
         length-append (lines (byte_of k.line_terminator) front)
             (lines (byte_of k.line_terminator) back),
-      )
-      in
+      ) in
       let there : nat_lt i (length (lines (byte_of k.line_terminator) whole))
       ≡ true = lt-ltb i (length (lines (byte_of k.line_terminator) whole)) inside in
       rw (here, there, line-same i below) refl
@@ -127,7 +133,8 @@ module _ (k : Settings) (meaning : Meaning) (front back : List ℕ)
       ≡ take (start k front i) front = ap (λ p. take p whole)
       (start-same i inside) ∙ take-append-le (start k front i) front back
       (line_start-within (byte_of k.line_terminator) front i) in
-      ap (λ bs. if k.line_number then Some (count_by (λ b. nat_eq b (byte_of k.line_terminator)) bs + 1) else None) cut
+      ap (λ bs. if k.line_number then Some (count_by (λ b. nat_eq b (byte_of k.line_terminator)) bs
+      + 1) else None) cut
 
   -- it fills the limit in both or in neither
   pub fills_limit-same : (i : ℕ) → i < n → fills_limit k meaning whole i

@@ -1,4 +1,5 @@
--- The front of an input, by whole lines, bytes that end in the terminator, and how many bytes the line after them has.
+-- The front of an input, by whole lines, bytes that end in the terminator, and how many bytes the
+-- line after them has.
 use Rattle.std.proofs.Common.{◌≡◌, ◌≢◌, ℕ, ◌+◌, ◌-◌, ◌<◌, ◌≤◌, List, [], ◌∷◌, ◌++◌, length, take}
 use Rattle.std.proofs.Common.{drop, get_or, inl, inr, refl, sym, ◌∙◌, ap, subst, arith, ⊎_elim}
 use Rattle.std.proofs.Common.{append-nil, append_assoc, length-append, length-drop}
@@ -30,7 +31,8 @@ use Rattle.grep_lines.proofs.LineRangeLemmas.{comes-from}
 
 module _ (t : ℕ) where
   -- two closed parts are closed
-  pub closed-append : (front back : List ℕ) → IsClosed t front → IsClosed t back → IsClosed t (front ++ back)
+  pub closed-append : (front back : List ℕ) → IsClosed t front → IsClosed t back
+      → IsClosed t (front ++ back)
   closed-append front [] shut closed = subst (IsClosed t) (sym (append-nil front)) shut
   closed-append front (b ∷ back) shut closed = λ some.
       let last : (length (front ++ (b ∷ back)) - 1) - length front ≡ length (b ∷ back) - 1 =
@@ -42,21 +44,22 @@ module _ (t : ℕ) where
   -- so is what follows a position in closed bytes
   pub closed-drop : (bytes : List ℕ) (r : ℕ) → IsClosed t bytes → IsClosed t (drop r bytes)
   closed-drop bytes r closed = λ some.
-      let last : r + (length (drop r bytes) - 1) ≡ length bytes - 1 = omega (arith, length-drop r bytes) in
+      let last : r + (length (drop r bytes) - 1) ≡ length bytes - 1 =
+      omega (arith, length-drop r bytes) in
       get_or-drop r bytes (length (drop r bytes) - 1) 0
       ∙ (ap (λ i. get_or bytes i 0) last ∙ closed (omega (arith, length-drop r bytes)))
 
   -- and what comes before a position right after the terminator
-  pub closed-take : (bytes : List ℕ) (r : ℕ) → r ≤ length bytes → (0 < r → slice_index bytes (r - 1) ≡ t)
-      → IsClosed t (take r bytes)
+  pub closed-take : (bytes : List ℕ) (r : ℕ) → r ≤ length bytes
+      → (0 < r → slice_index bytes (r - 1) ≡ t) → IsClosed t (take r bytes)
   closed-take bytes r within ends = λ some.
       let size = length-take-le r bytes within in
       ap (λ n. get_or (take r bytes) (n - 1) 0) size
       ∙ (get_or-take r bytes (r - 1) 0 (omega arith) ∙ ends (omega arith))
 
 -- of two ways to cut a list the longer front begins with the shorter one
-pub longer-front : (front back whole rest : List ℕ) → front ++ back ≡ whole ++ rest → length front ≤ length whole
-    → whole ≡ front ++ drop (length front) whole
+pub longer-front : (front back whole rest : List ℕ) → front ++ back ≡ whole ++ rest → length front
+    ≤ length whole → whole ≡ front ++ drop (length front) whole
 longer-front front back whole rest same long =
     let first : take (length front) whole ≡ front =
     sym (take-append-le (length front) whole rest long)
@@ -68,11 +71,10 @@ pub lines-fit : (t size : ℕ) (bytes : List ℕ) → length bytes ≤ size
     → (length bytes ≡ size → IsClosed t bytes)
     → All (λ line. IsTooLong t size line → ⊥) (lines t bytes)
 lines-fit t size bytes within full = λ k x below. go (get_or (lines t bytes) k x)
-    (lines-within t bytes k x below)
-    (λ closed. lines-end t bytes closed k x below)
+    (lines-within t bytes k x below) (λ closed. lines-end t bytes closed k x below)
   where
-    go : (line : List ℕ) → length line ≤ length bytes → (IsClosed t bytes → slice_index line (length line - 1) ≡ t)
-        → IsTooLong t size line → ⊥
+    go : (line : List ℕ) → length line ≤ length bytes
+        → (IsClosed t bytes → slice_index line (length line - 1) ≡ t) → IsTooLong t size line → ⊥
     go line short ends (inl long) = absurd (omega arith)
     go line short ends (inr (same, broken)) =
         broken (ap (λ n. slice_index line (n - 1)) (sym same) ∙ ends (full (omega arith)))
@@ -82,15 +84,18 @@ module _ (t : ℕ) (front back : List ℕ) (closed : IsClosed t front) where
   pub start-after : (i : ℕ) → line_start t (front ++ back) (length (lines t front) + i)
       ≡ length front + line_start t back i
   start-after i =
-      ap (λ ls. length (concat (take (length (lines t front) + i) ls))) (lines-append t front back closed)
+      ap (λ ls. length (concat (take (length (lines t front) + i) ls)))
+      (lines-append t front back closed)
       ∙ (ap (λ ls. length (concat ls)) (take-append-add (lines t front) (lines t back) i)
       ∙ (ap length (concat-append (lines t front) (take i (lines t back)))
       ∙ (length-append (concat (lines t front)) (concat (take i (lines t back)))
       ∙ ap (λ xs. length xs + line_start t back i) (AreLines-lines t front).joined)))
 
   -- how many there are
-  pub count-after : length (lines t (front ++ back)) ≡ length (lines t front) + length (lines t back)
-  count-after = ap length (lines-append t front back closed) ∙ length-append (lines t front) (lines t back)
+  pub count-after : length (lines t (front ++ back)) ≡ length (lines t front)
+      + length (lines t back)
+  count-after = ap length (lines-append t front back closed) ∙ length-append (lines t front)
+      (lines t back)
 
   -- where they begin
   pub start-there : IsLineStart t (front ++ back) (length front) (length (lines t front))
@@ -117,53 +122,53 @@ some-first (line ∷ ls) some = omega arith
 
 -- bytes without lines are none
 no-lines : (t : ℕ) (bytes : List ℕ) → length (lines t bytes) ≡ 0 → bytes ≡ []
-no-lines t bytes none = sym (AreLines-lines t bytes).joined ∙ ap concat (nil_from_length (lines t bytes) none)
+no-lines t bytes none = sym (AreLines-lines t bytes).joined
+    ∙ ap concat (nil_from_length (lines t bytes) none)
 
 -- bytes that don't end a line begin one that is too long for a buffer of so many
-open-long : (t least : ℕ) (tail more : List ℕ) → All (λ b. b ≢ t) tail → 0 < least → least ≤ length tail
-    → IsTooLong t least (slice_index_or (lines t (tail ++ more)) 0 [])
+open-long : (t least : ℕ) (tail more : List ℕ) → All (λ b. b ≢ t) tail → 0 < least → least
+    ≤ length tail → IsTooLong t least (slice_index_or (lines t (tail ++ more)) 0 [])
 open-long t least tail more lacks some enough =
     go (slice_index_or (lines t (tail ++ more)) 0 []) (first-open t tail more lacks)
   where
-    go : (line : List ℕ) → (take (length tail) line ≡ tail) × (length tail ≤ length line) → IsTooLong t least line
-    go line (begins, long) = ⊎_elim inl
-        (λ same.
+    go : (line : List ℕ) → (take (length tail) line ≡ tail) × (length tail ≤ length line)
+        → IsTooLong t least line
+    go line (begins, long) = ⊎_elim inl (λ same.
         let all : line ≡ tail = sym (take_all (length tail) line (omega arith)) ∙ begins in
         inr (
           omega arith,
           subst (λ xs. slice_index xs (least - 1) ≢ t) (sym all)
               (All-get_or (λ b. b ≢ t) tail (least - 1) 0 (omega arith) lacks),
-        ))
-        (cases_lt least (length line))
+        )) (cases_lt least (length line))
 
 -- lines that a walk has passed to the end of some bytes aren't reported by the calls for them
 pub unreported-passed : (k : Settings) (meaning : Meaning) (bytes : List ℕ) (v left : ℕ)
-    → IsNear k bytes (selected_lines k meaning bytes) v (line_count k bytes) left → (i : ℕ) → v ≤ i → i < line_count k bytes
-    → is_reported k bytes (selected_lines k meaning bytes) i ≡ false
+    → IsNear k bytes (selected_lines k meaning bytes) v (line_count k bytes) left → (i : ℕ) → v ≤ i
+    → i < line_count k bytes → is_reported k bytes (selected_lines k meaning bytes) i ≡ false
 unreported-passed k meaning bytes v left near i low below =
     let out = near.passed i low below in
     let plain : k.passthru ≡ false = ⊎_elim (λ yes. absurd (omega (arith, near.bare yes)))
     (λ no. no) (cases_Bool k.passthru) in
     let apart = unpreceded in
-    let none : kind k bytes (selected_lines k meaning bytes) i ≡ None = rw (out.0, out.1, apart, plain) refl in
-    ap (λ o. nat_lt i (reports_end k meaning bytes) && is_some o) none ∙ and-false (nat_lt i (reports_end k meaning bytes))
+    let none : kind k bytes (selected_lines k meaning bytes) i ≡ None =
+    rw (out.0, out.1, apart, plain) refl in
+    ap (λ o. nat_lt i (reports_end k meaning bytes) && is_some o) none
+    ∙ and-false (nat_lt i (reports_end k meaning bytes))
   where
     before : ℕ → Bool
     before j = nat_lt i j && nat_le (j - i) k.before_context && is_selected k meaning bytes j
 
     unpreceded : precedes_selected k bytes (selected_lines k meaning bytes) i ≡ false
-    unpreceded = ⊎_elim
-        (λ holds.
+    unpreceded = ⊎_elim (λ holds.
         let found = some_below-find before (line_count k bytes) holds in
         let both = and_parts (nat_lt i found.0 && nat_le (found.0 - i) k.before_context)
         (is_selected k meaning bytes found.0) found.2 in
         let above = ltb-true i found.0 (and_parts (nat_lt i found.0) _ both.0).0 in
-        absurd (clash both.1 (near.passed found.0 (omega arith) found.1).0))
-        (λ no. no)
+        absurd (clash both.1 (near.passed found.0 (omega arith) found.1).0)) (λ no. no)
         (cases_Bool (precedes_selected k bytes (selected_lines k meaning bytes) i))
 
--- a buffer that shows some lines after those that are gone, and holds bytes after them that end none, can't hold the
--- next line
+-- a buffer that shows some lines after those that are gone, and holds bytes after them that end
+-- none, can't hold the next line
 pub crowded : (k : Settings) (meaning : Meaning) (gone shown tail later : List ℕ) (least : ℕ)
     → IsClosed (byte_of k.line_terminator) gone → IsClosed (byte_of k.line_terminator) shown
     → ((i : ℕ) → length (lines (byte_of k.line_terminator) gone) ≤ i
@@ -178,12 +183,14 @@ crowded k meaning gone shown tail later least opens shut unreported lacks few so
     let count : length (lines t (gone ++ shown)) ≡ length (lines t gone) + length (lines t shown) =
     count-after t gone shown opens in
     let first = start-after t gone (shown ++ (tail ++ later)) opens 0 in
-    let none : length (lines t gone) + 0 ≡ length (lines t (gone ++ shown)) - length (lines t shown) =
+    let none : length (lines t gone) + 0 ≡ length (lines t (gone ++ shown))
+    - length (lines t shown) =
     omega arith in
     let from : line_start t ((gone ++ shown) ++ (tail ++ later))
     (length (lines t (gone ++ shown)) - length (lines t shown))
     ≡ length gone + 0 = ap (line_start t ((gone ++ shown) ++ (tail ++ later))) (sym none)
-    ∙ (ap (λ xs. line_start t xs (length (lines t gone) + 0)) (append_assoc gone shown (tail ++ later)) ∙ first) in
+    ∙ (ap (λ xs. line_start t xs (length (lines t gone) + 0))
+    (append_assoc gone shown (tail ++ later)) ∙ first) in
     let next = start-after t (gone ++ shown) (tail ++ later) seen_closed 1 in
     let long = first-long t tail later lacks in
     record {
@@ -198,7 +205,8 @@ crowded k meaning gone shown tail later least opens shut unreported lacks few so
           let broken = first-open t tail later lacks in
           let lines_after = some-first (lines t (tail ++ later)) (omega arith) in (
             omega (arith, count-after t (gone ++ shown) (tail ++ later) seen_closed),
-            subst (IsTooLong t least) (sym (line-after t (gone ++ shown) (tail ++ later) seen_closed))
+            subst (IsTooLong t least)
+                (sym (line-after t (gone ++ shown) (tail ++ later) seen_closed))
                 (open-long t least tail later lacks some all),
           );
     }
@@ -220,9 +228,11 @@ calls-within k meaning seen back closed within = go back closed within
     few bytes = laws.reports_end-le k meaning bytes
 
     above : (bytes : List ℕ) (m : ℕ) → line_start t bytes m ≡ length seen
-        → (line_plan k meaning bytes).finish.count ≤ length seen
-        → reports_end k meaning bytes ≤ m
-    above bytes m is within = comes-from {t = t} {bytes = bytes} (record { listed = few bytes; begins = refl }) m (omega arith)
+        → (line_plan k meaning bytes).finish.count ≤ length seen → reports_end k meaning bytes ≤ m
+    above bytes m is within = comes-from {t = t} {bytes = bytes} (record {
+      listed = few bytes;
+      begins = refl;
+    }) m (omega arith)
 
     go : (back : List ℕ) → (0 < length back → IsClosed t seen)
         → (line_plan k meaning (seen ++ back)).finish.count ≤ length seen
@@ -251,8 +261,7 @@ front-whole k bytes below = record {
   after = [];
   whole = sym (append-nil bytes);
   closed = λ more. absurd (omega (arith, more));
-  held = λ limit is.
-      All-weaker (λ line. length line ≤ length bytes)
+  held = λ limit is. All-weaker (λ line. length line ≤ length bytes)
       (λ line. IsTooLong (byte_of k.line_terminator) limit line → ⊥)
       (λ line within. λ long. ⊎_elim (λ more. absurd (omega (arith, more, within, below limit is)))
       (λ full. absurd (omega (arith, full.0, within, below limit is))) long)

@@ -74,7 +74,8 @@ module _ (k : Settings) (meaning : Meaning) (bytes : List ℕ) where
           let next = room (count_below hits j + 1) in rw next (and-false (is_chosen j))))
 
       go : (s : Bool) → (if s then None else (if has_room k 0
-          then option_map (λ m. suc (m + k.after_context)) (first_below fills n) else Some 0)) ≡ None
+          then option_map (λ m. suc (m + k.after_context)) (first_below fills n) else Some 0))
+          ≡ None
       go true = refl
       go false = rw (room 0, none) refl
 
@@ -90,7 +91,8 @@ module _ (k : Settings) (meaning : Meaning) (bytes : List ℕ) where
 
   -- the limit of a search in which a line fills it isn't 0
   filled-room : (m : ℕ) → fills m ≡ true → has_room k 0 ≡ true
-  filled-room m full = room-first k (count_below hits m) (and_parts (hits m) _ (and_parts (is_chosen m) _ full).0).1
+  filled-room m full = room-first k (count_below hits m)
+      (and_parts (hits m) _ (and_parts (is_chosen m) _ full).0).1
 
   by_limit-is : (m : ℕ) → k.passthru ≡ false → first_below fills n ≡ Some m → by_limit
       ≡ Some (suc (m + k.after_context))
@@ -101,11 +103,13 @@ module _ (k : Settings) (meaning : Meaning) (bytes : List ℕ) where
   stop_bound : {i left c : ℕ} → IsOpen k meaning bytes i left c → IfSome by_stop (λ b. i < b)
   stop_bound {i} {left} {c} opened = go (first_below ends n) refl
     where
-      go : (found : Option ℕ) → first_below ends n ≡ found → IfSome (option_map suc found) (λ b. i < b)
+      go : (found : Option ℕ) → first_below ends n ≡ found → IfSome (option_map suc found)
+          (λ b. i < b)
       go None is = tt
       go (Some u) is = let late = first_below-late ends i n u opened.unended is in omega arith
 
-  limit_bound : {i left c : ℕ} → i ≤ n → IsOpen k meaning bytes i left c → IfSome by_limit (λ b. i < b)
+  limit_bound : {i left c : ℕ} → i ≤ n → IsOpen k meaning bytes i left c
+      → IfSome by_limit (λ b. i < b)
   limit_bound {i} {left} {c} inside opened = go k.passthru (has_room k 0) refl refl
     where
       inner : (found : Option ℕ) → first_below fills n ≡ found → k.passthru ≡ false
@@ -117,17 +121,16 @@ module _ (k : Settings) (meaning : Meaning) (bytes : List ℕ) where
           let f = opened.filled plain full in
           let more = first_below-more fills i n f.0 inside f.1 in
           let same : m ≡ f.0 = cc in
-          omega arith)
-          (cases_Bool (has_room k c))
+          omega arith) (cases_Bool (has_room k c))
 
       go : (s room : Bool) → k.passthru ≡ s → has_room k 0 ≡ room
           → IfSome (if s then None else (if room
-          then option_map (λ m. suc (m + k.after_context)) (first_below fills n) else Some 0)) (λ b. i < b)
+          then option_map (λ m. suc (m + k.after_context)) (first_below fills n) else Some 0))
+          (λ b. i < b)
       go true room plain some = tt
       go false true plain some = inner (first_below fills n) refl plain
       go false false plain none = absurd (⊎_elim
-          (λ (free : has_room k c ≡ true). clash (room-first k c free) none)
-          (λ full.
+          (λ (free : has_room k c ≡ true). clash (room-first k c free) none) (λ full.
           let f = opened.filled plain full in
           clash (filled-room f.0 (first_below-of fills i f.0 f.1).1) none)
           (cases_Bool (has_room k c)))
@@ -135,8 +138,7 @@ module _ (k : Settings) (meaning : Meaning) (bytes : List ℕ) where
   -- the line that the walk is at may be reported
   pub reportable-above : {i left c : ℕ} → IsOpen k meaning bytes i left c → i < n → i < reportable
   reportable-above {i} {left} {c} opened inside = at_most-above by_limit i (at_most by_stop n)
-      (limit_bound (omega arith) opened)
-      (at_most-above by_stop i n (stop_bound opened) inside)
+      (limit_bound (omega arith) opened) (at_most-above by_stop i n (stop_bound opened) inside)
 
   -- at the end each line has one
   pub reportable-all : {left c : ℕ} → IsOpen k meaning bytes n left c → reportable ≡ n
@@ -158,7 +160,8 @@ module _ (k : Settings) (meaning : Meaning) (bytes : List ℕ) where
       free = sym opened.below ∙ (and_parts (hits i) _ yes).1
 
       count_next : (j : ℕ) → j ≡ suc i → count_below hits j ≡ c + 1
-      count_next j is = let hit = (and_parts (hits i) _ yes).0 in rw (is, hit, opened.counted free) refl
+      count_next j is = let hit = (and_parts (hits i) _ yes).0 in rw (is, hit, opened.counted free)
+          refl
 
       fills-is : fills i ≡ not (has_room k (c + 1))
       fills-is = rw (yes, opened.counted free) refl
@@ -176,16 +179,18 @@ module _ (k : Settings) (meaning : Meaning) (bytes : List ℕ) where
             unfilled = λ free_next. rw (is, opened.unfilled free, fills-is, free_next) refl;
             filled = λ plain full. (
               i,
-              first_below-here fills j i (omega arith) (fills-is ∙ ap not full) (opened.unfilled free),
+              first_below-here fills j i (omega arith) (fills-is ∙ ap not full)
+                  (opened.unfilled free),
               omega arith,
-              goes
-                  plain full,
+              goes plain full,
             );
           }
 
-      pub IsDone-chosen : k.passthru ≡ false → has_room k (c + 1) ≡ false → k.after_context ≡ 0 → IsDone (i + 1)
+      pub IsDone-chosen : k.passthru ≡ false → has_room k (c + 1) ≡ false → k.after_context ≡ 0
+          → IsDone (i + 1)
       IsDone-chosen plain full none =
-          let found = first_below-here fills n i inside (fills-is ∙ ap not full) (opened.unfilled free) in
+          let found = first_below-here fills n i inside (fills-is ∙ ap not full)
+          (opened.unfilled free) in
           let bound = by_limit-is i plain found in
           let same : i + k.after_context ≡ i = omega arith in record {
             last = at_most-some by_limit i (at_most by_stop n) (bound ∙ ap (λ m. Some (suc m)) same)
@@ -209,12 +214,11 @@ module _ (k : Settings) (meaning : Meaning) (bytes : List ℕ) where
         where
           go : (h : Bool) → hits i ≡ h → has_room k (count_below hits i) ≡ true → hits i ≡ false
           go false is_h fits = is_h
-          go true is_h fits = absurd (clash (let both : is_chosen i ≡ true = rw (is_h, fits) refl in both) no)
+          go true is_h fits = absurd
+              (clash (let both : is_chosen i ≡ true = rw (is_h, fits) refl in both) no)
 
       below-more : (j : ℕ) → j ≡ suc i → has_room k (count_below hits j) ≡ has_room k c
-      below-more j is = ⊎_elim
-          (λ free. ap (has_room k) (count_keep free j is))
-          (λ full.
+      below-more j is = ⊎_elim (λ free. ap (has_room k) (count_keep free j is)) (λ full.
           room-le k _ _ (count_below-le hits i j (omega arith)) (opened.below ∙ full) ∙ sym full)
           (cases_Bool (has_room k c))
 
@@ -261,7 +265,8 @@ module _ (k : Settings) (meaning : Meaning) (bytes : List ℕ) where
           let last = at_most-some by_stop i n bound inside in record {
             last = ap (λ m. at_most by_limit m) last ∙ at_most-next by_limit i
                 (limit_bound (omega arith) opened);
-            silent = λ q low below. let over = some_below-some ends q i (omega arith) ended in rw over (and-false _);
+            silent = λ q low below. let over = some_below-some ends q i (omega arith) ended in rw
+                over (and-false _);
           }
 
   -- limit 0 without passthru
@@ -272,5 +277,6 @@ module _ (k : Settings) (meaning : Meaning) (bytes : List ℕ) where
   IsDone-none plain full = record {
     last = reportable-none plain full;
     silent = λ q low below. selected-none q (
-        let none : has_room k (count_below hits q) ≡ false = room-le k 0 _ (omega arith) full in rw none (and-false _));
+        let none : has_room k (count_below hits q) ≡ false = room-le k 0 _ (omega arith) full in rw
+        none (and-false _));
   }

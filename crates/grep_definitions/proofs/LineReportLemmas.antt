@@ -39,5 +39,6 @@ module _ (k : Settings) (meaning : Meaning) (bytes : List ℕ) where
     where
       of_report : (o : Option Kind) → All (Reports i) (Plans.report k bytes selection i o)
       of_report None = All-nil (Reports i)
-      of_report (Some matched) = All-cons (Reports i) _ [] (inr (slice-line k bytes i)) (All-nil (Reports i))
+      of_report (Some matched) = All-cons (Reports i) _ [] (inr (slice-line k bytes i))
+          (All-nil (Reports i))
       of_report (Some (in_context c)) = All-cons (Reports i) _ [] (inr refl) (All-nil (Reports i))

@@ -14,9 +14,10 @@ use Rattle.grep_definitions.specs.SearchLaws.{number_of}
 
 module _ (k : Settings) (bytes : List ℕ) where
   -- the bytes of a line, also past the last one
-  pub slice-line : (i : ℕ) → slice_range bytes (start k bytes i) (start k bytes (i + 1)) ≡ line k bytes i
-  slice-line i = ⊎_elim (λ inside. sym (IsStep-line (byte_of k.line_terminator) bytes i inside).line)
-      (λ past.
+  pub slice-line : (i : ℕ) → slice_range bytes (start k bytes i) (start k bytes (i + 1))
+      ≡ line k bytes i
+  slice-line i = ⊎_elim
+      (λ inside. sym (IsStep-line (byte_of k.line_terminator) bytes i inside).line) (λ past.
       let all : List (List ℕ) = lines (byte_of k.line_terminator) bytes in
       let none : line k bytes i ≡ [] = get_or_past all i [] past in
       let same : start k bytes (i + 1) ≡ start k bytes i = ap (λ ls. length (concat ls))
@@ -28,9 +29,11 @@ module _ (k : Settings) (bytes : List ℕ) where
   -- the number of a line
   pub number-line : (i : ℕ) → i < line_count k bytes → number k bytes i ≡ number_of k i
   number-line i inside =
-      ap (λ c. if k.line_number then Some (c + 1) else None) (lines-numbered (byte_of k.line_terminator) bytes i inside)
+      ap (λ c. if k.line_number then Some (c + 1) else None)
+      (lines-numbered (byte_of k.line_terminator) bytes i inside)
 
   -- by line a match is reported with its line
-  pub line-report : (meaning : Meaning) (i : ℕ) → report k bytes (selected_lines k meaning bytes) i (Some matched)
-      ≡ planned (matches (number k bytes i) (start k bytes i) (line k bytes i)) (start k bytes (i + 1)) ∷ []
+  pub line-report : (meaning : Meaning) (i : ℕ) → report k bytes (selected_lines k meaning bytes) i
+      (Some matched) ≡ planned (matches (number k bytes i) (start k bytes i) (line k bytes i))
+      (start k bytes (i + 1)) ∷ []
   line-report meaning i = rw (slice-line i) refl

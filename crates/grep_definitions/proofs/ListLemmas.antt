@@ -6,13 +6,15 @@ use Rattle.std.specs.Prelude.{All, filter}
 use Rattle.grep_definitions.specs.Plans.{joined_from}
 
 -- if all elements pass, a filter keeps them, and if none does, it keeps none
-pub filter-all : {X : Type 0} (p : X → Bool) (xs : List X) → All (λ x. p x ≡ true) xs → filter p xs ≡ xs
+pub filter-all : {X : Type 0} (p : X → Bool) (xs : List X) → All (λ x. p x ≡ true) xs → filter p xs
+    ≡ xs
 filter-all p [] all = refl
 filter-all p (x ∷ xs) all =
     let here = All-head (λ y. p y ≡ true) x xs all in
     rw here (ap (λ ys. x ∷ ys) (filter-all p xs (All-tail (λ y. p y ≡ true) x xs all)))
 
-pub filter-none : {X : Type 0} (p : X → Bool) (xs : List X) → All (λ x. p x ≡ false) xs → filter p xs ≡ []
+pub filter-none : {X : Type 0} (p : X → Bool) (xs : List X) → All (λ x. p x ≡ false) xs
+    → filter p xs ≡ []
 filter-none p [] none = refl
 filter-none p (x ∷ xs) none =
     let here = All-head (λ y. p y ≡ false) x xs none in

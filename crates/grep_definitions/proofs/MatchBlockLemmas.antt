@@ -1,4 +1,5 @@
--- The whole lines that matches extend over: in which order they are, and where they are in the bytes from a line on.
+-- The whole lines that matches extend over: in which order they are, and where they are in the
+-- bytes from a line on.
 use Rattle.std.proofs.Common.{◌≡◌, ℕ, ◌+◌, ◌-◌, ◌<◌, ◌≤◌, ◌==◌, Bool, true, false, ◌&&◌, List, ◌++◌}
 use Rattle.std.proofs.Common.{length, take, drop, slice_index, refl, sym, ◌∙◌, ap, arith, ⊎_elim}
 use Rattle.std.proofs.Common.{cond, if◌then◌else◌, length-append, take_all}
@@ -20,17 +21,16 @@ use Rattle.grep_matcher.proofs.LineStartLemmas.{line_start-le}
 module _ (t : ℕ) (bytes : List ℕ) where
   -- where any line starts a line of the list does, or the bytes end
   edge : (i : ℕ) → (k : ℕ) × IsLineStart t bytes (line_start t bytes i) k
-  edge i = ⊎_elim
-      (λ few. (i, record { listed = omega arith; begins = refl }))
+  edge i = ⊎_elim (λ few. (i, record { listed = omega arith; begins = refl }))
       (λ many. (
         length (lines t bytes),
         record {
           listed = omega arith;
           begins = ap (λ ls. length (concat ls))
-              (take_all (length (lines t bytes)) (lines t bytes) (omega arith) ∙ sym (take_all i (lines t bytes) many));
+              (take_all (length (lines t bytes)) (lines t bytes) (omega arith)
+              ∙ sym (take_all i (lines t bytes) many));
         },
-      ))
-      (cases_lt i (length (lines t bytes)))
+      )) (cases_lt i (length (lines t bytes)))
 
   -- the edges of a block are line starts
   pub block_start-edge : (m : ℕ × ℕ) → (k : ℕ) × IsLineStart t bytes (block_start t bytes m) k
@@ -49,29 +49,28 @@ module _ (t : ℕ) (bytes : List ℕ) where
   pub within-block : (i : ℕ) (m : ℕ × ℕ) → i < length (lines t bytes)
       → (nat_le (block_start t bytes m) (line_start t bytes i)
       && nat_le (line_start t bytes (i + 1)) (block_end t bytes m))
-      ≡ (nat_le (block_start t bytes m) (line_start t bytes i) && nat_lt (line_start t bytes i) (block_end t bytes m))
+      ≡ (nat_le (block_start t bytes m) (line_start t bytes i) && nat_lt (line_start t bytes i)
+      (block_end t bytes m))
   within-block i m here =
       let stop = block_end-edge m in
       ap (λ b. nat_le (block_start t bytes m) (line_start t bytes i) && b)
-      (same-tests (line_start t bytes (i + 1)) (block_end t bytes m) (line_start t bytes i) (block_end t bytes m)
-      (λ early over. omega (arith, rises t bytes i here))
-      (λ over late. ⊎_elim
+      (same-tests (line_start t bytes (i + 1)) (block_end t bytes m) (line_start t bytes i)
+      (block_end t bytes m) (λ early over. omega (arith, rises t bytes i here)) (λ over late. ⊎_elim
       (λ less. omega (arith, line_start-le t bytes (i + 1) stop.0 (omega (arith, less))))
-      (λ more. omega (arith, line_start-le t bytes stop.0 i more))
-      (cases_lt i stop.0)))
+      (λ more. omega (arith, line_start-le t bytes stop.0 i more)) (cases_lt i stop.0)))
 
   -- a later position has no fewer lines before it
   lines_before-le : (p q : ℕ) → p ≤ q → lines_before t bytes p ≤ lines_before t bytes q
   lines_before-le p q low =
       let sum : p + (q - p) ≡ q = omega arith in
-      let cut : take q bytes ≡ take p bytes ++ take (q - p) (drop p bytes) = ap (λ n. take n bytes) (sym sum)
-      ∙ take-add p (q - p) bytes in
+      let cut : take q bytes ≡ take p bytes ++ take (q - p) (drop p bytes) =
+      ap (λ n. take n bytes) (sym sum) ∙ take-add p (q - p) bytes in
       rw cut (rw (sum_by-append (λ b. cond (b == t) 1 0) (take p bytes)) (omega arith))
 
   -- so of two matches the one that starts later has no earlier block
   pub block_start-le : (m o : ℕ × ℕ) → m.0 ≤ o.0 → block_start t bytes m ≤ block_start t bytes o
-  block_start-le m o low = line_start-le t bytes (lines_before t bytes m.0) (lines_before t bytes o.0)
-      (lines_before-le m.0 o.0 low)
+  block_start-le m o low = line_start-le t bytes (lines_before t bytes m.0)
+      (lines_before t bytes o.0) (lines_before-le m.0 o.0 low)
 
   -- a block starts no later than its match
   pub block_start-low : (m : ℕ × ℕ) → m.0 < length bytes → block_start t bytes m ≤ m.0
@@ -80,15 +79,12 @@ module _ (t : ℕ) (bytes : List ℕ) where
       omega (arith, block_start-line t bytes m line.0 line.1 line.2 line.3)
 
   -- a match that starts before a line start and ends no later has its block before it
-  pub block_end-within : (m : ℕ × ℕ) (e k : ℕ) → IsLineStart t bytes e k → e ≤ length bytes → m.0 < e → m.0 ≤ m.1
-      → m.1 ≤ e
-      → block_end t bytes m ≤ e
-  block_end-within m e k here within low order high = ⊎_elim
-      (λ some.
+  pub block_end-within : (m : ℕ × ℕ) (e k : ℕ) → IsLineStart t bytes e k → e ≤ length bytes → m.0
+      < e → m.0 ≤ m.1 → m.1 ≤ e → block_end t bytes m ≤ e
+  block_end-within m e k here within low order high = ⊎_elim (λ some.
       let line = holder t bytes (m.1 - 1) (omega arith) in
       let last = block_end-line t bytes m line.0 some line.1 (omega arith) (omega arith) in
-      omega (arith, next line.0 (omega (arith, line.2))))
-      (λ none.
+      omega (arith, next line.0 (omega (arith, line.2)))) (λ none.
       let line = holder t bytes m.0 (omega arith) in
       let same : m.1 ≡ m.0 = omega arith in
       omega (
@@ -96,26 +92,24 @@ module _ (t : ℕ) (bytes : List ℕ) where
         block_end-empty t bytes m.0 line.0 line.1 line.2 line.3,
         ap (λ x. block_end t bytes (m.0, x)) same,
         next line.0 (omega arith),
-      ))
-      (cases_lt m.0 m.1)
+      )) (cases_lt m.0 m.1)
     where
       next : (b : ℕ) → line_start t bytes b < e → line_start t bytes (b + 1) ≤ e
       next b low = ⊎_elim
           (λ less. omega (arith, line_start-le t bytes (b + 1) k (omega (arith, less))))
-          (λ more. absurd (omega (arith, line_start-le t bytes k b more)))
-          (cases_lt b k)
+          (λ more. absurd (omega (arith, line_start-le t bytes k b more))) (cases_lt b k)
 
   -- a block that doesn't start at the end has a line
   pub block-some : (m : ℕ × ℕ) → m.0 ≤ m.1 → block_start t bytes m ≤ m.0 → m.1 ≤ block_end t bytes m
-      → block_start t bytes m < length bytes
-      → block_start t bytes m < block_end t bytes m
-  block-some m order low high below = ⊎_elim
-      (λ some. some)
-      (λ none.
+      → block_start t bytes m < length bytes → block_start t bytes m < block_end t bytes m
+  block-some m order low high below = ⊎_elim (λ some. some) (λ none.
       let line = holder t bytes m.0 (omega arith) in
       let same : m.1 ≡ m.0 = omega arith in
-      absurd (omega (arith, block_end-empty t bytes m.0 line.0 line.1 line.2 line.3, ap (λ x. block_end t bytes (m.0, x)) same)))
-      (cases_lt (block_start t bytes m) (block_end t bytes m))
+      absurd (omega (
+        arith,
+        block_end-empty t bytes m.0 line.0 line.1 line.2 line.3,
+        ap (λ x. block_end t bytes (m.0, x)) same,
+      ))) (cases_lt (block_start t bytes m) (block_end t bytes m))
 
   -- the bytes from a line on
   module _ (e a : ℕ) (here : IsLineStart t bytes e a) (below : e < length bytes) where
@@ -123,47 +117,49 @@ module _ (t : ℕ) (bytes : List ℕ) where
     line_start-part k =
         let at = IsAt-start t bytes e a here in
         let cut = ap (λ ls. length (concat ls)) (take-add a k (lines t bytes)) in
-        let joined = ap length (concat-append (take a (lines t bytes)) (take k (drop a (lines t bytes)))) in
+        let joined = ap length
+        (concat-append (take a (lines t bytes)) (take k (drop a (lines t bytes)))) in
         let rest = ap (λ ls. length (concat (take k ls))) at.rest in
-        let sizes = length-append (concat (take a (lines t bytes))) (concat (take k (drop a (lines t bytes)))) in
+        let sizes = length-append (concat (take a (lines t bytes)))
+        (concat (take k (drop a (lines t bytes)))) in
         omega arith
 
-    lines_before-part : (p : ℕ) → e ≤ p → lines_before t bytes p ≡ a + lines_before t (drop e bytes) (p - e)
+    lines_before-part : (p : ℕ) → e ≤ p → lines_before t bytes p ≡ a + lines_before t (drop e bytes)
+        (p - e)
     lines_before-part p low =
         let at = IsAt-start t bytes e a here in
         let sum : e + (p - e) ≡ p = omega arith in
-        let cut : take p bytes ≡ take e bytes ++ take (p - e) (drop e bytes) = ap (λ n. take n bytes) (sym sum)
-        ∙ take-add e (p - e) bytes in
+        let cut : take p bytes ≡ take e bytes ++ take (p - e) (drop e bytes) =
+        ap (λ n. take n bytes) (sym sum) ∙ take-add e (p - e) bytes in
         rw (cut, sum_by-append (λ b. cond (b == t) 1 0) (take e bytes), at.counted below) refl
 
     -- the block of a match that starts there or later
-    pub block_start-part : (m o : ℕ × ℕ) → e ≤ m.0 → o.0 ≡ m.0 - e → e + block_start t (drop e bytes) o
-        ≡ block_start t bytes m
+    pub block_start-part : (m o : ℕ × ℕ) → e ≤ m.0 → o.0 ≡ m.0 - e → e
+        + block_start t (drop e bytes) o ≡ block_start t bytes m
     block_start-part m o low is =
         sym (line_start-part (lines_before t (drop e bytes) o.0))
         ∙ (ap (λ p. line_start t bytes (a + lines_before t (drop e bytes) p)) is
         ∙ ap (line_start t bytes) (sym (lines_before-part m.0 low)))
 
     -- and of one that ends there or later
-    pub block_end-part : (m o : ℕ × ℕ) → e ≤ m.1 → (m.0 < m.1 → e < m.1) → o.1 ≡ m.1 - e → nat_lt o.0 o.1
-        ≡ nat_lt m.0 m.1
-        → e + block_end t (drop e bytes) o ≡ block_end t bytes m
+    pub block_end-part : (m o : ℕ × ℕ) → e ≤ m.1 → (m.0 < m.1 → e < m.1) → o.1 ≡ m.1 - e
+        → nat_lt o.0 o.1 ≡ nat_lt m.0 m.1 → e + block_end t (drop e bytes) o ≡ block_end t bytes m
     block_end-part m o low inner is alike =
-        ap (λ b. e + edge_of t (drop e bytes) o.1 b) closed ∙ moved (nat_lt m.0 m.1 && slice_index bytes (m.1 - 1) == t)
+        ap (λ b. e + edge_of t (drop e bytes) o.1 b) closed
+        ∙ moved (nat_lt m.0 m.1 && slice_index bytes (m.1 - 1) == t)
       where
         edge_of : (t : ℕ) (bytes : List ℕ) → ℕ → Bool → ℕ
-        edge_of t bytes p b = if b then line_start t bytes (lines_before t bytes p) else line_start t bytes
+        edge_of t bytes p b = if b then line_start t bytes (lines_before t bytes p)
+            else line_start t bytes
             (lines_before t bytes p + 1)
 
         closed : (nat_lt o.0 o.1 && slice_index (drop e bytes) (o.1 - 1) == t)
             ≡ (nat_lt m.0 m.1 && slice_index bytes (m.1 - 1) == t)
-        closed = ⊎_elim
-            (λ some.
+        closed = ⊎_elim (λ some.
             let sum : e + (o.1 - 1) ≡ m.1 - 1 = omega (arith, inner some) in
             let byte : slice_index (drop e bytes) (o.1 - 1) ≡ slice_index bytes (m.1 - 1) =
             get_or-drop e bytes (o.1 - 1) 0 ∙ ap (slice_index bytes) sum in
-            rw (alike, byte) refl)
-            (λ none. let no = le-ltb m.0 m.1 none in rw (alike, no) refl)
+            rw (alike, byte) refl) (λ none. let no = le-ltb m.0 m.1 none in rw (alike, no) refl)
             (cases_lt m.0 m.1)
 
         moved : (b : Bool) → e + edge_of t (drop e bytes) o.1 b ≡ edge_of t bytes m.1 b
@@ -172,7 +168,8 @@ module _ (t : ℕ) (bytes : List ℕ) where
             ∙ (ap (λ p. line_start t bytes (a + lines_before t (drop e bytes) p)) is
             ∙ ap (line_start t bytes) (sym (lines_before-part m.1 low)))
         moved false =
-            let sum : a + (lines_before t (drop e bytes) (m.1 - e) + 1) ≡ lines_before t bytes m.1 + 1 =
+            let sum : a + (lines_before t (drop e bytes) (m.1 - e) + 1) ≡ lines_before t bytes m.1
+            + 1 =
             omega (arith, lines_before-part m.1 low) in
             sym (line_start-part (lines_before t (drop e bytes) o.1 + 1))
             ∙ (ap (λ p. line_start t bytes (a + (lines_before t (drop e bytes) p + 1))) is

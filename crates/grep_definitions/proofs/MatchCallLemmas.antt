@@ -1,4 +1,5 @@
--- The matches that are reported, and the matched lines: those that are selected, or trailing after a selected one.
+-- The matches that are reported, and the matched lines: those that are selected, or trailing after
+-- a selected one.
 use Rattle.grep_definitions.specs.Plans.{end_by_limit, end_by_stop, line_plan, reports_end}
 use Rattle.grep_definitions.specs.Plans.{selected_lines, planned, Call, Planned, breaks, matches}
 use Rattle.grep_definitions.specs.Plans.{Settings, some_below, count_below, first_below}
@@ -47,7 +48,8 @@ length-passing p zero = refl
 length-passing p (suc n) =
     let next : suc n ≡ n + 1 = omega arith in
     let sum : 0 + n ≡ n = omega arith in
-    ap (λ m. length (joined_from (passing p) 0 m)) next ∙ ap length (joined_from-more (passing p) 0 n)
+    ap (λ m. length (joined_from (passing p) 0 m)) next
+    ∙ ap length (joined_from-more (passing p) 0 n)
     ∙ length-append (joined_from (passing p) 0 n) (passing p (0 + n))
     ∙ (rw (sum, length-passing p n) (go (p n)))
   where
@@ -57,7 +59,8 @@ length-passing p (suc n) =
     go false = omega arith
 
 -- the first that is listed is the first that passes
-slice_get-front : (xs ys : List ℕ) (x : ℕ) → slice_get xs 0 ≡ Some x → slice_get (xs ++ ys) 0 ≡ Some x
+slice_get-front : (xs ys : List ℕ) (x : ℕ) → slice_get xs 0 ≡ Some x → slice_get (xs ++ ys) 0
+    ≡ Some x
 slice_get-front [] ys x is = cc
 slice_get-front (y ∷ xs) ys x is = is
 
@@ -65,7 +68,8 @@ slice_get-back : (xs ys : List ℕ) → slice_get xs 0 ≡ None → slice_get (x
 slice_get-back [] ys is = refl
 slice_get-back (y ∷ xs) ys is = cc
 
-pub first-passing : (p : ℕ → Bool) (n : ℕ) → slice_get (joined_from (passing p) 0 n) 0 ≡ first_below p n
+pub first-passing : (p : ℕ → Bool) (n : ℕ) → slice_get (joined_from (passing p) 0 n) 0
+    ≡ first_below p n
 first-passing p zero = refl
 first-passing p (suc n) =
     let next : suc n ≡ n + 1 = omega arith in
@@ -78,11 +82,13 @@ first-passing p (suc n) =
     last true = refl
     last false = refl
 
-    go : (found : Option ℕ) → first_below p n ≡ found → slice_get (joined_from (passing p) 0 n) 0 ≡ first_below p n
+    go : (found : Option ℕ) → first_below p n ≡ found → slice_get (joined_from (passing p) 0 n) 0
+        ≡ first_below p n
         → slice_get (joined_from (passing p) 0 n ++ passing p n) 0 ≡ first_below p (suc n)
     go None is before =
         let none : some_below p n ≡ false = first_below-none p n is in
-        slice_get-back (joined_from (passing p) 0 n) (passing p n) (before ∙ is) ∙ (rw none (last (p n)))
+        slice_get-back (joined_from (passing p) 0 n) (passing p n) (before ∙ is)
+        ∙ (rw none (last (p n)))
     go (Some q) is before =
         slice_get-front (joined_from (passing p) 0 n) (passing p n) q (before ∙ is)
         ∙ sym (first_below-more p n (suc n) q (omega arith) is)
@@ -92,18 +98,21 @@ map-passing : {X : Type 0} (f : ℕ → X) (p : ℕ → Bool) (i n : ℕ)
     → map f (joined_from (passing p) i n) ≡ joined_from (λ j. if p j then f j ∷ [] else []) i n
 map-passing f p i zero = refl
 map-passing f p i (suc n) =
-    map-append f (passing p i) (joined_from (passing p) (i + 1) n) ∙ (rw (map-passing f p (i + 1) n) (go (p i)))
+    map-append f (passing p i) (joined_from (passing p) (i + 1) n)
+    ∙ (rw (map-passing f p (i + 1) n) (go (p i)))
   where
-    go : (b : Bool) → map f (if b then i ∷ [] else []) ++ joined_from (λ j. if p j then f j ∷ [] else []) (i + 1) n
+    go : (b : Bool) → map f (if b then i ∷ [] else []) ++ joined_from (λ j. if p j then f j ∷ []
+        else []) (i + 1) n
         ≡ (if b then f i ∷ [] else []) ++ joined_from (λ j. if p j then f j ∷ [] else []) (i + 1) n
     go true = refl
     go false = refl
 
 -- the matches of joined calls
-match_calls-append : (front back : List Planned) → match_calls (front ++ back) ≡ match_calls front ++ match_calls back
+match_calls-append : (front back : List Planned) → match_calls (front ++ back) ≡ match_calls front
+    ++ match_calls back
 match_calls-append front back =
-    rw (map-append (λ call. call.call) front back) (filter-append is_match (map (λ call. call.call) front)
-    (map (λ call. call.call) back))
+    rw (map-append (λ call. call.call) front back)
+    (filter-append is_match (map (λ call. call.call) front) (map (λ call. call.call) back))
 
 match_calls-joined : (f : ℕ → List Planned) (i n : ℕ) → match_calls (joined_from f i n)
     ≡ joined_from (λ j. match_calls (f j)) i n
@@ -153,10 +162,8 @@ module _ (k : Settings) (meaning : Meaning) (bytes : List ℕ) where
           let parts = and_parts (is_chosen k meaning bytes m) _ full in
           let hit : hits m ≡ true = (and_parts (hits m) _ parts.0).0 in
           let next : count_below hits m + 1 ≡ count_below hits (suc m) = rw hit refl in
-          ⊎_elim
-          (λ before. absurd (clash room (room-le k _ _
-          (omega (arith, next, count_below-le hits (suc m) i (omega arith)))
-          (not-true _ parts.1))))
+          ⊎_elim (λ before. absurd (clash room (room-le k _ _
+          (omega (arith, next, count_below-le hits (suc m) i (omega arith))) (not-true _ parts.1))))
           (λ over. over) (cases_lt m i)
 
       go : (s some : Bool) → has_room k 0 ≡ some → (found : Option ℕ) → first_below fills n ≡ found
@@ -164,7 +171,8 @@ module _ (k : Settings) (meaning : Meaning) (bytes : List ℕ) where
           then option_map (λ m. suc (m + k.after_context)) found else Some 0)) (λ b. i < b)
       go true some is found first = tt
       go false true is None first = tt
-      go false true is (Some m) first = let bound = late m (first_below-of fills n m first).1 in omega arith
+      go false true is (Some m) first = let bound =
+          late m (first_below-of fills n m first).1 in omega arith
       go false false is found first = absurd (clash (room-first k _ room) is)
 
   -- it is one of the lines
@@ -177,9 +185,9 @@ module _ (k : Settings) (meaning : Meaning) (bytes : List ℕ) where
   pub selected-reportable : (i : ℕ) → selected i ≡ true → i < reports_end k meaning bytes
   selected-reportable i taken =
       let chosen = and_parts (is_chosen k meaning bytes i) _ taken in
-      at_most-above (end_by_limit k meaning bytes) i _
-      (limit-bound i chosen.0)
-      (at_most-above (end_by_stop k meaning bytes) i n (stop-bound i taken) (selected-inside i taken))
+      at_most-above (end_by_limit k meaning bytes) i _ (limit-bound i chosen.0)
+      (at_most-above (end_by_stop k meaning bytes) i n (stop-bound i taken)
+      (selected-inside i taken))
 
   -- how many lines may be reported
   abbrev reportable : ℕ
@@ -196,13 +204,15 @@ module _ (k : Settings) (meaning : Meaning) (bytes : List ℕ) where
       (precedes_selected k bytes selection i) k.passthru
     where
       one : match_calls (Plans.report k bytes selection i (Some matched)) ≡ match_of k bytes i ∷ []
-      one = ap match_calls (line-report k bytes meaning i) ∙ ap (λ number. matches number (start k bytes i) (line k bytes i) ∷ [])
+      one = ap match_calls (line-report k bytes meaning i)
+          ∙ ap (λ number. matches number (start k bytes i) (line k bytes i) ∷ [])
           (rw (lines-numbered (byte_of k.line_terminator) bytes i inside) refl)
 
       go : (a b t c d : Bool)
           → match_calls (Plans.report k bytes selection i (if a then Some matched
           else (if b then Some (if t then matched else in_context After)
-          else (if c then Some (in_context Before) else (if d then Some (in_context Other) else None)))))
+          else (if c then Some (in_context Before)
+          else (if d then Some (in_context Other) else None)))))
           ≡ (if a || (b && t) then match_of k bytes i ∷ [] else [])
       go true b t c d = one
       go false true true c d = one
@@ -219,7 +229,8 @@ module _ (k : Settings) (meaning : Meaning) (bytes : List ℕ) where
       go (breaks_before k bytes selection i)
       (count_at k bytes selection i (kind k bytes selection i))
     where
-      go : (b : Bool) (end : ℕ) → match_calls (if b then planned breaks end ∷ report i else report i)
+      go : (b : Bool) (end : ℕ) → match_calls (if b then planned breaks end ∷ report i
+          else report i)
           ≡ match_at i
       go true end = match_calls-kind i inside
       go false end = match_calls-kind i inside
@@ -244,14 +255,16 @@ module _ (k : Settings) (meaning : Meaning) (bytes : List ℕ) where
   first-matched = go (first_below selected n) refl
     where
       -- before the first selected line, no line is matched
-      unmatched : (j : ℕ) → ((i : ℕ) → i ≤ j → selected i ≡ false) → is_matched k meaning bytes j ≡ false
+      unmatched : (j : ℕ) → ((i : ℕ) → i ≤ j → selected i ≡ false) → is_matched k meaning bytes j
+          ≡ false
       unmatched j none =
           let follows : follows_selected k bytes selection j ≡ false =
           some_below-none _ j (λ i less. let no = none i (omega arith) in rw no
           (and-false (nat_le (j - i) k.after_context))) in
           rw (none j (omega arith), follows) refl
 
-      go : (found : Option ℕ) → first_below selected n ≡ found → first_below (is_matched k meaning bytes) reportable ≡ found
+      go : (found : Option ℕ) → first_below selected n ≡ found
+          → first_below (is_matched k meaning bytes) reportable ≡ found
       go None is =
           let none = first_below-none selected n is in
           first_below-nowhere (is_matched k meaning bytes) reportable (some_below-none _ reportable
@@ -259,22 +272,25 @@ module _ (k : Settings) (meaning : Meaning) (bytes : List ℕ) where
           (omega (arith, reports_end-le k meaning bytes)))))
       go (Some q) is =
           let taken = (first_below-of selected n q is).1 in
-          first_below-here (is_matched k meaning bytes) reportable q (selected-reportable q taken) (rw taken refl)
-          (some_below-none _ q (λ j less. unmatched j (λ i low. first_below-before selected n q i is (omega arith))))
+          first_below-here (is_matched k meaning bytes) reportable q (selected-reportable q taken)
+          (rw taken refl) (some_below-none _ q
+          (λ j less. unmatched j (λ i low. first_below-before selected n q i is (omega arith))))
 
   pub first-match_calls : slice_get (match_calls (line_plan k meaning bytes).calls) 0
       ≡ option_map (match_of k bytes) (first_below selected n)
   first-match_calls =
       ap (λ xs. slice_get xs 0) match_calls-plan ∙ slice_get-map (match_of k bytes)
       (matched_lines k meaning bytes) 0
-      ∙ ap (option_map (match_of k bytes)) (first-passing (is_matched k meaning bytes) reportable ∙ first-matched)
+      ∙ ap (option_map (match_of k bytes)) (first-passing (is_matched k meaning bytes) reportable
+      ∙ first-matched)
 
 -- no more numbers pass than there are
 pub count_below-few : (p : ℕ → Bool) (n : ℕ) → count_below p n ≤ n
 count_below-few p zero = omega arith
 count_below-few p (suc n) = go (p n) (count_below-few p n)
   where
-    go : (b : Bool) → count_below p n ≤ n → (if b then count_below p n + 1 else count_below p n) ≤ suc n
+    go : (b : Bool) → count_below p n ≤ n → (if b then count_below p n + 1 else count_below p n)
+        ≤ suc n
     go true before = omega arith
     go false before = omega arith
 

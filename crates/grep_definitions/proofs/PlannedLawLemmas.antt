@@ -47,7 +47,8 @@ at_most-limit k meaning bytes limit is =
     omega (
       arith,
       count_by-map is_match (λ (call : Planned). call.call) (line_plan k meaning bytes).calls,
-      by_line.matches-few k meaning bytes limit (reports_end k meaning bytes) (room-none k limit is),
+      by_line.matches-few k meaning bytes limit (reports_end k meaning bytes)
+          (room-none k limit is),
     )
 
 -- ---- across lines
@@ -73,12 +74,12 @@ selected-reported k meaning bytes =
 
 pub reports-apart : AcrossLaws.ReportsAreApart
 reports-apart k meaning bytes plain =
-    subst IsStrictlyIncreasing
-    (sym (flat_map-map AcrossLaws.report_edges (λ call. call.call) (across_plan k meaning bytes).calls))
-    (edges-calls k meaning bytes plain)
+    subst IsStrictlyIncreasing (sym (flat_map-map AcrossLaws.report_edges (λ call. call.call)
+    (across_plan k meaning bytes).calls)) (edges-calls k meaning bytes plain)
 
 pub as-by_line : AcrossLaws.ReportsAreAsByLine
-as-by_line k meaning other bytes inverted same each none = calls-same k meaning other bytes inverted same each none
+as-by_line k meaning other bytes inverted same each none = calls-same k meaning other bytes inverted
+    same each none
 
 -- ---- binary bytes
 pub seen_lines-begin_all : SeenLinesBegin

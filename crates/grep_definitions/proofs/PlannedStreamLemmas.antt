@@ -1,4 +1,5 @@
--- Where a binary byte of a stream is reported, in the plan of a search by line, and a stream in which none is looked for.
+-- Where a binary byte of a stream is reported, in the plan of a search by line, and a stream in
+-- which none is looked for.
 use Rattle.std.proofs.Common.{◌≡◌, ℕ, Bool, true, false, List, [], ◌∷◌, ◌++◌, Some, refl, ap, ◌∙◌}
 use Rattle.std.proofs.Common.{arith, length, map, take, drop, length-append, Option, None, Result}
 use Rattle.std.proofs.Common.{Ok, Err, inl, inr, sym, subst, ◌≤◌}
@@ -27,15 +28,17 @@ module _ {S E : Type 0} (step : Steps S E) (k : Settings) where
   pub binary-made : (d : BinaryDetection) (q : Bool) → quits d ≡ q
       → (point : BinaryPoint) (plan : Plan) (front : List Planned)
       → take point.position plan.calls ≡ front → (old mid : S) (outcome : Outcome E) (last : S)
-      → AreMade step k old front all_true mid → AreMade step k mid (planned_binary point ∷ []) outcome last
-      → (outcome ≡ all_true → q ≡ true)
+      → AreMade step k old front all_true mid → AreMade step k mid (planned_binary point ∷ [])
+      outcome last → (outcome ≡ all_true → q ≡ true)
       → AreMade step k old (plan_with d (Some point) plan).calls outcome last
   binary-made d true is point plan front same old mid outcome last made called ends =
-      rw (is, same) (AreMade-append step k front (planned_binary point ∷ []) old mid outcome last made called)
+      rw (is, same) (AreMade-append step k front (planned_binary point ∷ []) old mid outcome last
+      made called)
   binary-made d false is point plan front same old mid outcome last made called ends =
-      rw (is, same) (AreMade-append step k front (planned_binary point ∷ map (after_binary point) (drop point.position plan.calls))
-      old mid outcome last made
-      (AreMade-ended step k (planned_binary point ∷ []) (map (after_binary point) (drop point.position plan.calls)) mid outcome last
+      rw (is, same) (AreMade-append step k front (planned_binary point
+      ∷ map (after_binary point) (drop point.position plan.calls)) old mid outcome last made
+      (AreMade-ended step k (planned_binary point ∷ [])
+      (map (after_binary point) (drop point.position plan.calls)) mid outcome last
       (λ all. absurd (clash (ends all) refl)) called))
 
 -- where `binary_data` comes, if these calls come first
@@ -43,7 +46,11 @@ abbrev pub stream-point : (k : Settings) (meaning : Meaning) (bytes seen : List 
     → IsCutAt k meaning bytes seen offset
     → (calls later : List Planned) → calls ≡ (search_plan k meaning seen).calls ++ later
     → IsStreamPoint k meaning bytes calls
-    (record { position = length (search_plan k meaning seen).calls; offset = offset; count = length seen })
+    (record {
+      position = length (search_plan k meaning seen).calls;
+      offset = offset;
+      count = length seen;
+    })
 stream-point k meaning bytes seen offset cut calls later begin =
     let front : List Planned = (search_plan k meaning seen).calls in
     record {
@@ -56,7 +63,8 @@ stream-point k meaning bytes seen offset cut calls later begin =
 
 -- without detection a search on a stream is one that looks nowhere
 module _ {R : Type 0} (remaining : R → Option (List ℕ)) (read_step : R → ReadResult → R → Type 0)
-    {S E F : Type 0} (step : Steps S E) (errors : ErrorMakers F E) (matcher : MatcherFacts F) (state : SearcherState)
+    {S E F : Type 0} (step : Steps S E) (errors : ErrorMakers F E) (matcher : MatcherFacts F)
+    (state : SearcherState)
     (none : state.settings.binary_detection ≡ no_detection) where
   abbrev k : Settings
   k = state.settings
@@ -73,8 +81,10 @@ module _ {R : Type 0} (remaining : R → Option (List ℕ)) (read_step : R → R
       (sym (ap (λ d. binary_position d (byte_of k.line_terminator) bytes) none) ∙ at.cut.first))
 
   search-undetected : (reader : R) (old : S) (result : Result (Unit {0}) E) (reader' : R) (new : S)
-      → IsReaderSearch remaining read_step step errors matcher state on_stream reader old result reader' new
-      → IsReaderSearch remaining read_step step errors matcher state nowhere reader old result reader' new
+      → IsReaderSearch remaining read_step step errors matcher state on_stream reader old result
+      reader' new
+      → IsReaderSearch remaining read_step step errors matcher state nowhere reader old result
+      reader' new
   search-undetected reader old result reader' new read = record {
     taken = read.taken;
     seen = read.seen;
@@ -90,20 +100,20 @@ module _ {R : Type 0} (remaining : R → Option (List ℕ)) (read_step : R → R
         (λ calls point at bytes input. no-point bytes _ calls _ (at bytes input))
         (λ haystack calls asks. (
           asks.0,
-          λ bytes input. subst (λ xs. IsAskedWith k matcher.meaning xs haystack calls) view-is (asks.1 bytes input),
+          λ bytes input. subst (λ xs. IsAskedWith k matcher.meaning xs haystack calls) view-is
+              (asks.1 bytes input),
         ))
         (λ plan outcome ended far. (
           (λ all goes_on bytes input.
               let seen = far.0 all goes_on bytes input in
               record {
-                few = subst (λ xs. (selection_in k matcher.meaning xs (is_across k matcher.meaning)).end
-                    ≤ line_count k read.seen) view-is seen.few;
-                plan = subst (λ xs. search_plan k matcher.meaning xs ≡ search_plan k matcher.meaning read.seen) view-is
-                    seen.plan;
+                few = subst (λ xs. (selection_in k matcher.meaning xs
+                    (is_across k matcher.meaning)).end ≤ line_count k read.seen) view-is seen.few;
+                plan = subst (λ xs. search_plan k matcher.meaning xs
+                    ≡ search_plan k matcher.meaning read.seen) view-is seen.plan;
               }),
           far.1,
-        ))
-        result new read.over_seen;
+        )) result new read.over_seen;
     whole = read.whole;
   }
 
@@ -121,15 +131,15 @@ module _ {R : Type 0} (remaining : R → Option (List ℕ)) (read_step : R → R
     calls = λ begun.
         let there = search.calls begun in (
           there.0,
-          (λ bytes input. no-point bytes _
-              _ _ (there.1 bytes input)),
+          (λ bytes input. no-point bytes _ _ _ (there.1 bytes input)),
           there.2,
           there.3,
         );
     none = search.none;
   }
 
-  pub undetected-read : (reader : R) (old : S) (result : Result (Unit {0}) E) (reader' : R) (new : S)
+  pub undetected-read : (reader : R) (old : S) (result : Result (Unit {0}) E) (reader' : R)
+      (new : S)
       → IsRead remaining read_step step errors matcher state on_stream reader old result reader' new
       → IsRead remaining read_step step errors matcher state nowhere reader old result reader' new
   undetected-read reader old (Ok u) reader' new search = search-undetected _ old _ _ new search

@@ -13,11 +13,12 @@ use Rattle.grep_definitions.specs.SearchLaws.{reported_to, AreReportsInOrder, is
 use Rattle.grep_definitions.specs.SearchLaws.{report_calls}
 
 -- the reports of some calls, and then those of the later calls
-report_calls-append : (front back : List Planned) → report_calls (front ++ back) ≡ report_calls front ++ report_calls
-    back
+report_calls-append : (front back : List Planned) → report_calls (front ++ back)
+    ≡ report_calls front ++ report_calls back
 report_calls-append front back =
     ap (filter is_report) (map-append (λ (call : Planned). call.call) front back)
-    ∙ filter-append is_report (map (λ (call : Planned). call.call) front) (map (λ (call : Planned). call.call) back)
+    ∙ filter-append is_report (map (λ (call : Planned). call.call) front)
+    (map (λ (call : Planned). call.call) back)
 
 -- some reports, of which the first isn't before a bound
 pub record InOrderFrom (low : ℕ) (reports : List Call) : Type 0 where
@@ -28,13 +29,13 @@ in_order-none : (low : ℕ) → InOrderFrom low []
 in_order-none low = record {
   in_order = (
     All-nil (λ report. 0 < length (reported_bytes report)),
-    λ i j d less inside.
-        absurd (omega arith),
+    λ i j d less inside. absurd (omega arith),
   );
   after = All-nil (λ report. low ≤ reported_from report);
 }
 
-in_order-lower : (low high : ℕ) (reports : List Call) → low ≤ high → InOrderFrom high reports → InOrderFrom low reports
+in_order-lower : (low high : ℕ) (reports : List Call) → low ≤ high → InOrderFrom high reports
+    → InOrderFrom low reports
 in_order-lower low high reports le follow = record {
   in_order = follow.in_order;
   after = All-weaker (λ report. high ≤ reported_from report) (λ report. low ≤ reported_from report)
@@ -48,7 +49,8 @@ in_order-cons : (low : ℕ) (report : Call) (later : List Call) → low ≤ repo
 in_order-cons low report later above some follow = record {
   in_order = (
     All-cons (λ r. 0 < length (reported_bytes r)) report later (omega arith) follow.in_order.0,
-    AllPairs-cons (λ one other. reported_to one ≤ reported_from other) report later follow.after follow.in_order.1,
+    AllPairs-cons (λ one other. reported_to one ≤ reported_from other) report later follow.after
+        follow.in_order.1,
   );
   after = All-cons (λ r. low ≤ reported_from r) report later above
       (in_order-lower low (reported_to report) later (omega (arith, above)) follow).after;
@@ -75,31 +77,29 @@ module _ (f : ℕ → List Planned) (start : ℕ → ℕ) where
   module _ (n : ℕ) (rises : (i : ℕ) → i < n → start i < start (i + 1))
       (each : (i : ℕ) → i < n → (report_calls (f i) ≡ []) ⊎ IsReported i) where
     -- from line i on, if the lines up to line q have no report
-    in_order-from : (m i q : ℕ) → i + m ≡ n → i ≤ q → ((j : ℕ) → i ≤ j → j < q → report_calls (f j) ≡ [])
-        → InOrderFrom (start q) (report_calls (joined_from f i m))
+    in_order-from : (m i q : ℕ) → i + m ≡ n → i ≤ q → ((j : ℕ) → i ≤ j → j < q → report_calls (f j)
+        ≡ []) → InOrderFrom (start q) (report_calls (joined_from f i m))
     in_order-from zero i q all low none = in_order-none (start q)
     in_order-from (suc m) i q all low none =
         let rest = report_calls (joined_from f (i + 1) m) in
         subst (InOrderFrom (start q)) (sym (report_calls-append (f i) (joined_from f (i + 1) m)))
-        (⊎_elim
-        (λ (less : i < q).
+        (⊎_elim (λ (less : i < q).
         let here = none i (omega arith) less in
-        rw here (in_order-from m (i + 1) q (omega arith) (omega arith) (λ j above below. none j (omega arith) below)))
-        (λ (over : q ≤ i).
+        rw here (in_order-from m (i + 1) q (omega arith) (omega arith)
+        (λ j above below. none j (omega arith) below))) (λ (over : q ≤ i).
         let same : q ≡ i = omega arith in
         subst (λ x. InOrderFrom (start x) (report_calls (f i) ++ rest)) (sym same) (⊎_elim
         (λ silent. subst (λ calls. InOrderFrom (start i) (calls ++ rest)) (sym silent)
-        (in_order-lower (start i) (start (i + 1)) rest (let up = rises i (omega arith) in omega arith)
+        (in_order-lower (start i) (start (i + 1)) rest
+        (let up = rises i (omega arith) in omega arith)
         (in_order-from m (i + 1) (i + 1) (omega arith) (omega arith)
         (λ j above below. absurd (omega (arith, above))))))
-        (λ (reported : IsReported i). subst (λ calls. InOrderFrom (start i) (calls ++ rest)) (sym reported.reports)
-        (in_order-cons (start i) reported.call rest (omega arith)
-        (omega arith)
-        (subst (λ x. InOrderFrom x rest) (sym reported.to)
+        (λ (reported : IsReported i). subst (λ calls. InOrderFrom (start i) (calls ++ rest))
+        (sym reported.reports) (in_order-cons (start i) reported.call rest (omega arith)
+        (omega arith) (subst (λ x. InOrderFrom x rest) (sym reported.to)
         (in_order-from m (i + 1) reported.next (omega arith) (omega arith)
         (λ j above below. reported.alone j (omega (arith, above)) below)))))
-        (each i (omega arith))))
-        (cases_lt i q))
+        (each i (omega arith)))) (cases_lt i q))
 
     pub in_order-joined : AreReportsInOrder (report_calls (joined_from f 0 n))
     in_order-joined = (in_order-from n 0 0 (omega arith) (omega arith)

@@ -20,14 +20,15 @@ begins_run p i = p i && not (nat_lt 0 i && p (i - 1))
 
 -- a run of two tests together begins where a run of one of them does
 pub begins_run-either : (p q r : ℕ → Bool) → ((i : ℕ) → r i ≡ true → (p i ≡ true) ⊎ (q i ≡ true))
-    → ((i : ℕ) → p i ≡ true → r i ≡ true) → ((i : ℕ) → q i ≡ true → r i ≡ true) → (i : ℕ) → begins_run r i ≡ true
-    → (begins_run p i ≡ true) ⊎ (begins_run q i ≡ true)
+    → ((i : ℕ) → p i ≡ true → r i ≡ true) → ((i : ℕ) → q i ≡ true → r i ≡ true) → (i : ℕ)
+    → begins_run r i ≡ true → (begins_run p i ≡ true) ⊎ (begins_run q i ≡ true)
 begins_run-either p q r either first second i is =
     let parts = and_parts (r i) (not (nat_lt 0 i && r (i - 1))) is in
     ⊎_elim
-    (λ here. inl (and_from (p i) _ here (fewer (nat_lt 0 i) (p (i - 1)) (r (i - 1)) (first (i - 1)) parts.1)))
-    (λ here. inr (and_from (q i) _ here (fewer (nat_lt 0 i) (q (i - 1)) (r (i - 1)) (second (i - 1)) parts.1)))
-    (either i parts.0)
+    (λ here. inl (and_from (p i) _ here (fewer (nat_lt 0 i) (p (i - 1)) (r (i - 1)) (first (i - 1))
+    parts.1)))
+    (λ here. inr (and_from (q i) _ here (fewer (nat_lt 0 i) (q (i - 1)) (r (i - 1)) (second (i - 1))
+    parts.1))) (either i parts.0)
   where
     fewer : (z x y : Bool) → (x ≡ true → y ≡ true) → not (z && y) ≡ true → not (z && x) ≡ true
     fewer true true y weaker none = absurd (clash (weaker refl) (not-true y none))
@@ -39,25 +40,30 @@ abbrev pub is_inside : (ℕ → ℕ) → ℕ → ℕ → ℕ → ℕ → Bool
 is_inside f n low high i = nat_lt i n && (nat_le low (f i) && nat_le (f (i + 1)) high)
 
 -- if f rises, these numbers are one run
-pub is_inside-run : (f : ℕ → ℕ) (n low high : ℕ) → ((i j : ℕ) → i ≤ j → f i ≤ f j) → (i j : ℕ) → i < j
-    → begins_run (is_inside f n low high) i ≡ true → begins_run (is_inside f n low high) j ≡ true → ⊥
+pub is_inside-run : (f : ℕ → ℕ) (n low high : ℕ) → ((i j : ℕ) → i ≤ j → f i ≤ f j) → (i j : ℕ) → i
+    < j
+    → begins_run (is_inside f n low high) i ≡ true → begins_run (is_inside f n low high) j ≡ true
+    → ⊥
 is_inside-run f n low high rises i j less first second =
     let a = and_parts (nat_lt i n) _ (and_parts (is_inside f n low high i) _ first).0 in
     let b = and_parts (nat_lt j n) _ (and_parts (is_inside f n low high j) _ second).0 in
     let is_low : low ≤ f i = leb-true low (f i) (and_parts (nat_le low (f i)) _ a.1).0 in
-    let is_high : f (j + 1) ≤ high = leb-true (f (j + 1)) high (and_parts (nat_le low (f j)) _ b.1).1 in
+    let is_high : f (j + 1) ≤ high = leb-true (f (j + 1)) high
+    (and_parts (nat_le low (f j)) _ b.1).1 in
     let below : j < n = ltb-true j n b.0 in
     let back : (j - 1) + 1 ≡ j = omega arith in
     let starts = le-leb low (f (j - 1)) (omega (arith, rises i (j - 1) (omega arith))) in
     let ends : nat_le (f ((j - 1) + 1)) high ≡ true =
     le-leb (f ((j - 1) + 1)) high (rw back (omega (arith, rises j (j + 1) (omega arith)))) in
     let here : is_inside f n low high (j - 1) ≡ true =
-    and_from (nat_lt (j - 1) n) _ (lt-ltb (j - 1) n (omega arith)) (and_from (nat_le low (f (j - 1))) _ starts ends) in
+    and_from (nat_lt (j - 1) n) _ (lt-ltb (j - 1) n (omega arith))
+    (and_from (nat_le low (f (j - 1))) _ starts ends) in
     clash (and_from (nat_lt 0 j) _ (lt-ltb 0 j (omega arith)) here)
     (not-true _ (and_parts (is_inside f n low high j) _ second).1)
 
 module _ (p : ℕ → Bool) (n : ℕ) where
-  -- a run from number i on ends before number e: those from i on pass, and e doesn't, if it is below n
+  -- a run from number i on ends before number e: those from i on pass, and e doesn't, if it is
+  -- below n
   pub record IsRunEnd (i e : ℕ) : Type 0 where
     pub low : i ≤ e
     pub high : e ≤ n
@@ -72,20 +78,17 @@ module _ (p : ℕ → Bool) (n : ℕ) where
   IsRunEnd-run_end i inside here = go (first_below (λ j. nat_lt i j && not (p j)) n) refl
     where
       passes : (j : ℕ) → i ≤ j → (nat_lt i j && not (p j)) ≡ false → p j ≡ true
-      passes j low none = ⊎_elim
-          (λ yes. yes)
-          (λ no. ⊎_elim
-          (λ less. absurd (clash (and_from (nat_lt i j) (not (p j)) (lt-ltb i j less) (rw no refl)) none))
-          (λ over. let same : i ≡ j = omega arith in ap p (sym same) ∙ here)
-          (cases_lt i j))
+      passes j low none = ⊎_elim (λ yes. yes) (λ no. ⊎_elim
+          (λ less. absurd (clash (and_from (nat_lt i j) (not (p j)) (lt-ltb i j less) (rw no refl))
+          none)) (λ over. let same : i ≡ j = omega arith in ap p (sym same) ∙ here) (cases_lt i j))
           (cases_Bool (p j))
 
-      go : (found : Option ℕ) → first_below (λ j. nat_lt i j && not (p j)) n ≡ found → IsRunEnd i (unwrap_or found n)
+      go : (found : Option ℕ) → first_below (λ j. nat_lt i j && not (p j)) n ≡ found
+          → IsRunEnd i (unwrap_or found n)
       go None is = record {
         low = omega arith;
         high = omega arith;
-        inner = λ j low below.
-            passes j low (some_below-false (λ j. nat_lt i j && not (p j)) n j
+        inner = λ j low below. passes j low (some_below-false (λ j. nat_lt i j && not (p j)) n j
             (first_below-none (λ j. nat_lt i j && not (p j)) n is) below);
         closed = λ below. absurd (omega arith);
       }
@@ -95,7 +98,8 @@ module _ (p : ℕ → Bool) (n : ℕ) where
           record {
             low = omega (arith, ltb-true i q parts.0);
             high = omega arith;
-            inner = λ j low below. passes j low (first_below-before (λ j. nat_lt i j && not (p j)) n q j is below);
+            inner = λ j low below. passes j low (first_below-before (λ j. nat_lt i j && not (p j)) n
+                q j is below);
             closed = λ below. not-true (p q) parts.1;
           }
 
@@ -105,19 +109,14 @@ module _ (p : ℕ → Bool) (n : ℕ) where
       (λ less. absurd (clash (other.inner d one.low less) (one.closed (omega arith))))
       (λ over. ⊎_elim
       (λ more. absurd (clash (one.inner e other.low more) (other.closed (omega arith))))
-      (λ under. omega arith)
-      (cases_lt e d))
-      (cases_lt d e)
+      (λ under. omega arith) (cases_lt e d)) (cases_lt d e)
 
   -- a run that begins earlier ends at the same number
   IsRunEnd-next : (i e : ℕ) → i < n → p i ≡ true → IsRunEnd i e → IsRunEnd (i + 1) e
   IsRunEnd-next i e inside here run = record {
-    low = ⊎_elim
-        (λ less. omega arith)
-        (λ over.
+    low = ⊎_elim (λ less. omega arith) (λ over.
         let same : e ≡ i = omega arith in
-        absurd (clash here (ap p (sym same) ∙ run.closed (omega arith))))
-        (cases_lt i e);
+        absurd (clash here (ap p (sym same) ∙ run.closed (omega arith)))) (cases_lt i e);
     high = run.high;
     inner = λ j low below. run.inner j (omega arith) below;
     closed = run.closed;
@@ -135,11 +134,13 @@ module _ (p : ℕ → Bool) (n : ℕ) where
 
   -- what is joined over all numbers, if each run is in the list of its first number
   module _ {X : Type 0} (whole each : ℕ → List X) (skipped : (i : ℕ) → p i ≡ false → whole i ≡ [])
-      (none : (i : ℕ) → p i ≡ false → each i ≡ []) (later : (i : ℕ) → p i ≡ true → continues i ≡ true → whole i ≡ [])
-      (first : (i : ℕ) → i < n → p i ≡ true → continues i ≡ false → whole i ≡ joined_from each i (run_end i - i)) where
+      (none : (i : ℕ) → p i ≡ false → each i ≡ []) (later : (i : ℕ) → p i ≡ true → continues i
+      ≡ true → whole i ≡ []) (first : (i : ℕ) → i < n → p i ≡ true → continues i ≡ false → whole i
+      ≡ joined_from each i (run_end i - i)) where
     joined-from : (m i : ℕ) → i + m ≡ n
         → (continues i ≡ false → joined_from whole i m ≡ joined_from each i m)
-        × ((e : ℕ) → IsRunEnd i e → continues i ≡ true → joined_from whole i m ≡ joined_from each e (n - e))
+        × ((e : ℕ) → IsRunEnd i e → continues i ≡ true → joined_from whole i m
+        ≡ joined_from each e (n - e))
     joined-from zero i all =
         (λ _. refl, λ e run _. let nothing : n - e ≡ zero = omega arith in rw nothing refl)
     joined-from (suc m) i all =
@@ -154,36 +155,40 @@ module _ (p : ℕ → Bool) (n : ℕ) where
               let split : joined_from each i (suc m) ≡ joined_from each i (run_end i - i)
               ++ joined_from each (run_end i) (n - run_end i) =
               ap (joined_from each i) cut ∙ joined_from-add each i (run_end i - i) (n - run_end i)
-              ∙ ap (λ x. joined_from each i (run_end i - i) ++ joined_from each x (n - run_end i)) on in
-              rw (first i (omega arith) yes begins, rest.1 (run_end i) next (continues-next i ∙ yes)) (sym split),
-          λ e run goes_on. rw (later i yes goes_on) (rest.1 e (IsRunEnd-next i e (omega arith) yes run)
-              (continues-next i ∙ yes)),
-        ))
-        (λ no.
+              ∙ ap (λ x. joined_from each i (run_end i - i) ++ joined_from each x (n - run_end i))
+              on in
+              rw (
+                first i (omega arith) yes begins,
+                rest.1 (run_end i) next (continues-next i ∙ yes),
+              ) (sym split),
+          λ e run goes_on. rw (later i yes goes_on)
+              (rest.1 e (IsRunEnd-next i e (omega arith) yes run) (continues-next i ∙ yes)),
+        )) (λ no.
         let same : joined_from whole i (suc m) ≡ joined_from each i (suc m) =
         rw (skipped i no, none i no) (rest.0 (continues-next i ∙ no)) in (
           λ _. same,
           λ e run _.
               let here : e ≡ i = ⊎_elim
-              (λ less. absurd (clash (run.inner i (omega arith) less) no))
-              (λ over. omega arith)
+              (λ less. absurd (clash (run.inner i (omega arith) less) no)) (λ over. omega arith)
               (cases_lt i e) in
               let count : suc m ≡ n - i = omega arith in
               same ∙ (rw (here, ← count) refl),
-        ))
-        (cases_Bool (p i))
+        )) (cases_Bool (p i))
 
     pub joined-runs : joined_from whole 0 n ≡ joined_from each 0 n
     joined-runs = (joined-from n 0 (omega arith)).0 refl
 
-  -- if what f gives rises with the number, so does what it gives for the first number of each run and for its end
-  module _ (f : ℕ → ℕ) (rises : (i : ℕ) → i < n → f i < f (i + 1)) (higher : (i j : ℕ) → i ≤ j → f i ≤ f j) where
+  -- if what f gives rises with the number, so does what it gives for the first number of each run
+  -- and for its end
+  module _ (f : ℕ → ℕ) (rises : (i : ℕ) → i < n → f i < f (i + 1)) (higher : (i j : ℕ) → i ≤ j → f i
+      ≤ f j) where
     abbrev pub edges : ℕ → List ℕ
     edges i = if p i && not (continues i) then f i ∷ f (run_end i) ∷ [] else []
 
     edges-ascend : (m i : ℕ) → i + m ≡ n
         → (continues i ≡ false → AscendFrom (f i) (joined_from edges i m))
-        × ((e : ℕ) → IsRunEnd i e → continues i ≡ true → AscendFrom (suc (f e)) (joined_from edges i m))
+        × ((e : ℕ) → IsRunEnd i e → continues i ≡ true
+        → AscendFrom (suc (f e)) (joined_from edges i m))
     edges-ascend zero i all = (
       λ _. (λ j below. absurd (omega arith), λ some. absurd (omega arith)),
       λ e run _. (λ j below. absurd (omega arith), λ some. absurd (omega arith)),
@@ -201,24 +206,20 @@ module _ (p : ℕ → Bool) (n : ℕ) where
               rw (here, begins) (
                 IsStrictlyIncreasing-cons (f i) (f (run_end i) ∷ joined_from edges (i + 1) m)
                     (IsStrictlyIncreasing-cons (f (run_end i)) (joined_from edges (i + 1) m) later.0
-                    (λ some. let low = later.1 some in omega arith))
-                    (λ some. wide),
+                    (λ some. let low = later.1 some in omega arith)) (λ some. wide),
                 λ some. omega arith,
               ),
           λ e run goes_on. rw (here, goes_on) (rest.1 e (IsRunEnd-next i e (omega arith) here run)
               (continues-next i ∙ here)),
-        ))
-        (λ none.
+        )) (λ none.
         let later = rest.0 (continues-next i ∙ none) in (
           λ _. rw none (later.0, λ some. let low = later.1 some in omega arith),
           λ e run _.
               let same : e ≡ i = ⊎_elim
-              (λ less. absurd (clash (run.inner i (omega arith) less) none))
-              (λ over. omega arith)
+              (λ less. absurd (clash (run.inner i (omega arith) less) none)) (λ over. omega arith)
               (cases_lt i e) in
               rw (none, same) (later.0, λ some. let low = later.1 some in omega arith),
-        ))
-        (cases_Bool (p i))
+        )) (cases_Bool (p i))
 
     pub edges-rise : IsStrictlyIncreasing (joined_from edges 0 n)
     edges-rise = ((edges-ascend n 0 (omega arith)).0 refl).0

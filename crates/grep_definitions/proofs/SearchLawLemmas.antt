@@ -44,45 +44,50 @@ count_below-weaker p q zero weaker = omega arith
 count_below-weaker p q (suc n) weaker = go (p n) (q n) (weaker n) (count_below-weaker p q n weaker)
   where
     go : (a b : Bool) → (a ≡ true → b ≡ true) → count_below p n ≤ count_below q n
-        → (if a then count_below p n + 1 else count_below p n) ≤ (if b then count_below q n + 1 else count_below q n)
+        → (if a then count_below p n + 1 else count_below p n)
+        ≤ (if b then count_below q n + 1 else count_below q n)
     go true true both before = omega arith
     go true false both before = absurd (let never = both refl in cc)
     go false true both before = omega arith
     go false false both before = before
 
 -- a number in front of larger ones
-pub IsStrictlyIncreasing-cons : (x : ℕ) (xs : List ℕ) → IsStrictlyIncreasing xs → (0 < length xs → x < slice_index xs 0)
-    → IsStrictlyIncreasing (x ∷ xs)
+pub IsStrictlyIncreasing-cons : (x : ℕ) (xs : List ℕ) → IsStrictlyIncreasing xs
+    → (0 < length xs → x < slice_index xs 0) → IsStrictlyIncreasing (x ∷ xs)
 IsStrictlyIncreasing-cons x xs rises above zero below = above (omega arith)
-IsStrictlyIncreasing-cons x xs rises above (suc i) below = let next : suc i + 1 ≡ suc (i + 1) = omega arith in
+IsStrictlyIncreasing-cons x xs rises above (suc i) below = let next : suc i + 1 ≡ suc (i + 1) =
+    omega arith in
     rw next (rises i (omega arith))
 
 -- offsets that ascend, from a bound on
 abbrev pub AscendFrom : ℕ → List ℕ → Type 0
-AscendFrom low offsets = IsStrictlyIncreasing offsets × (0 < length offsets → low ≤ slice_index offsets 0)
+AscendFrom low offsets = IsStrictlyIncreasing offsets
+    × (0 < length offsets → low ≤ slice_index offsets 0)
 
 -- how many matches some calls report
 abbrev pub matches_in : List Planned → ℕ
 matches_in = count_by (λ call. is_match call.call)
 
--- some first lines report no more matches than numbers pass, if a line reports one at most, and only if its number
--- passes
-pub matches-joined : (f : ℕ → List Planned) (p : ℕ → Bool) → ((i : ℕ) → matches_in (f i) ≤ (if p i then 1 else 0))
-    → (m : ℕ)
+-- some first lines report no more matches than numbers pass, if a line reports one at most, and
+-- only if its number passes
+pub matches-joined : (f : ℕ → List Planned) (p : ℕ → Bool)
+    → ((i : ℕ) → matches_in (f i) ≤ (if p i then 1 else 0)) → (m : ℕ)
     → matches_in (joined_from f 0 m) ≤ count_below p m
 matches-joined f p one zero = omega arith
 matches-joined f p one (suc m) =
     let next : suc m ≡ m + 1 = omega arith in
     let sum : 0 + m ≡ m = omega arith in
-    let more : matches_in (joined_from f 0 (suc m)) ≡ matches_in (joined_from f 0 m) + matches_in (f m) =
+    let more : matches_in (joined_from f 0 (suc m)) ≡ matches_in (joined_from f 0 m)
+    + matches_in (f m) =
     ap (λ x. matches_in (joined_from f 0 x)) next ∙ ap matches_in (joined_from-more f 0 m)
     ∙ sum_by-append (λ call. cond (is_match call.call) 1 0) (joined_from f 0 m) (f (0 + m))
     ∙ ap (λ x. matches_in (joined_from f 0 m) + matches_in (f x)) sum in
     let P : ℕ → Type 0 = λ x. x ≤ count_below p (suc m) in
     subst P (sym more) (go (p m) (one m) (matches-joined f p one m))
   where
-    go : (b : Bool) → matches_in (f m) ≤ (if b then 1 else 0) → matches_in (joined_from f 0 m) ≤ count_below p m
-        → matches_in (joined_from f 0 m) + matches_in (f m) ≤ (if b then count_below p m + 1 else count_below p m)
+    go : (b : Bool) → matches_in (f m) ≤ (if b then 1 else 0) → matches_in (joined_from f 0 m)
+        ≤ count_below p m → matches_in (joined_from f 0 m) + matches_in (f m)
+        ≤ (if b then count_below p m + 1 else count_below p m)
     go true here before = omega arith
     go false here before = omega arith
 
@@ -101,19 +106,17 @@ count_below-limited k p limit (suc m) shut =
         → count_below (λ i. p i && has_room k (count_below p i)) m ≤ limit
         → (if a && b then count_below (λ i. p i && has_room k (count_below p i)) m + 1
         else count_below (λ i. p i && has_room k (count_below p i)) m) ≤ limit
-    go true true room before = ⊎_elim
-        (λ less. omega (arith, few, less))
+    go true true room before = ⊎_elim (λ less. omega (arith, few, less))
         (λ over. absurd (clash room (room-le k limit _ over shut)))
         (cases_lt (count_below p m) limit)
     go true false room before = before
     go false b room before = before
 
 -- which kind of report a line has
-pub kind-matched : (a b t c d : Bool)
-    → (if a then Some matched
+pub kind-matched : (a b t c d : Bool) → (if a then Some matched
     else (if b then Some (if t then matched else in_context After)
-    else (if c then Some (in_context Before) else (if d then Some (in_context Other) else None)))) ≡ Some matched
-    → (a || (b && t)) ≡ true
+    else (if c then Some (in_context Before) else (if d then Some (in_context Other) else None))))
+    ≡ Some matched → (a || (b && t)) ≡ true
 kind-matched true b t c d is = refl
 kind-matched false true true c d is = refl
 kind-matched false true false c d is = cc
@@ -122,11 +125,10 @@ kind-matched false false t false true is = cc
 kind-matched false false t false false is = cc
 
 -- across lines none is trailing
-pub kind-selected : (a b c d : Bool)
-    → (if a then Some matched
+pub kind-selected : (a b c d : Bool) → (if a then Some matched
     else (if b then Some (in_context After)
-    else (if c then Some (in_context Before) else (if d then Some (in_context Other) else None)))) ≡ Some matched → a
-    ≡ true
+    else (if c then Some (in_context Before) else (if d then Some (in_context Other) else None))))
+    ≡ Some matched → a ≡ true
 kind-selected a b c d is =
     ⊎_elim (λ yes. yes) (λ no. absurd (clash no (and-false b)))
     (or_cases a (b && false) (kind-matched a b false c d is))
@@ -159,27 +161,24 @@ module _ (k : Settings) (meaning : Meaning) (bytes : List ℕ) where
   reports_end-le =
       omega (
         arith,
-        at_most-le (end_by_limit k meaning bytes)
-            (at_most (end_by_stop k meaning bytes) n),
+        at_most-le (end_by_limit k meaning bytes) (at_most (end_by_stop k meaning bytes) n),
         at_most-le (end_by_stop k meaning bytes) n,
       )
 
   -- a line after a selected one follows it
   follows-near : (i j : ℕ) → selected j ≡ true → j < i → i - j ≤ k.after_context
       → follows_selected k bytes selection i ≡ true
-  follows-near i j hit less close = let near = le-leb (i - j) k.after_context close in some_below-some _ i j less
-      (rw (near, hit) refl)
+  follows-near i j hit less close = let near =
+      le-leb (i - j) k.after_context close in some_below-some _ i j less (rw (near, hit) refl)
 
   -- and so is reported, if it may be
   shown-near : (i j : ℕ) → i < reports_end k meaning bytes → selected j ≡ true → j ≤ i
-      → i - j ≤ k.after_context
-      → is_reported k bytes selection i ≡ true
+      → i - j ≤ k.after_context → is_reported k bytes selection i ≡ true
   shown-near i j has hit low close = ⊎_elim
-      (λ less. let here = lt-ltb i _ has in let follows = follows-near i j hit less close in rw (here, follows)
-      (some (selected i)))
+      (λ less. let here = lt-ltb i _ has in let follows = follows-near i j hit less close in rw
+      (here, follows) (some (selected i)))
       (λ same. let here = lt-ltb i _ has in let own : selected i ≡ true = ap selected (one same)
-      ∙ hit in rw (here, own) refl)
-      (cases_lt j i)
+      ∙ hit in rw (here, own) refl) (cases_lt j i)
     where
       one : i ≤ j → i ≡ j
       one same = omega arith
@@ -189,10 +188,10 @@ module _ (k : Settings) (meaning : Meaning) (bytes : List ℕ) where
       some true = refl
       some false = refl
 
-  -- a line after a selected one that isn't selected itself, is reported as the line after it, and as a match if it is
-  -- trailing
-  pub calls_at-follows : (i j : ℕ) → i < reports_end k meaning bytes → selected i ≡ false → selected j ≡ true
-      → j < i → i - j ≤ k.after_context → T i
+  -- a line after a selected one that isn't selected itself, is reported as the line after it, and
+  -- as a match if it is trailing
+  pub calls_at-follows : (i j : ℕ) → i < reports_end k meaning bytes → selected i ≡ false
+      → selected j ≡ true → j < i → i - j ≤ k.after_context → T i
       ≡ planned (if is_trailing k meaning bytes i then matches (number k bytes i) (start
       i) (Plans.line k bytes i) else context After (number k bytes i) (start i)
       (Plans.line k bytes i)) (start (i + 1)) ∷ []
@@ -211,8 +210,8 @@ module _ (k : Settings) (meaning : Meaning) (bytes : List ℕ) where
           (start (i + 1)) ∷ []
       go true is =
           let kind = is_kind ∙ ap (λ b. Some (if b then matched else in_context After)) is in
-          rw (kind, shown, and-false (nat_lt 0 (k.after_context + k.before_context) && true)) (line-report k bytes
-          meaning i)
+          rw (kind, shown, and-false (nat_lt 0 (k.after_context + k.before_context) && true))
+          (line-report k bytes meaning i)
       go false is =
           let kind = is_kind ∙ ap (λ b. Some (if b then matched else in_context After)) is in
           rw (kind, and-false (nat_lt 0 (k.after_context + k.before_context))) refl
@@ -231,7 +230,11 @@ module _ (k : Settings) (meaning : Meaning) (bytes : List ℕ) where
         later = omega arith;
         above = line_start-ascends (byte_of k.line_terminator) bytes i inside;
         from = from;
-        to = omega (arith, ap length own, line_start-more (byte_of k.line_terminator) bytes i inside);
+        to = omega (
+          arith,
+          ap length own,
+          line_start-more (byte_of k.line_terminator) bytes i inside,
+        );
         alone = λ j above below. absurd (omega arith);
       }
 
@@ -244,8 +247,8 @@ module _ (k : Settings) (meaning : Meaning) (bytes : List ℕ) where
   -- the reports ascend
   pub in_order-by_line : AreReportsInOrder (report_calls (line_plan k meaning bytes).calls)
   in_order-by_line = in_order-joined T start (reports_end k meaning bytes)
-      (λ i below. line_start-ascends (byte_of k.line_terminator) bytes i (omega (arith, reports_end-le)))
-      (λ i below. reported-line i (omega (arith, reports_end-le)))
+      (λ i below. line_start-ascends (byte_of k.line_terminator) bytes i
+      (omega (arith, reports_end-le))) (λ i below. reported-line i (omega (arith, reports_end-le)))
 
   -- whether a line is trailing in the context after a selected line
   abbrev late : ℕ → Bool
@@ -253,12 +256,12 @@ module _ (k : Settings) (meaning : Meaning) (bytes : List ℕ) where
 
   -- a report tells one match at most, and only where its line is a match
   matches-report : (i : ℕ) (kind : Option Kind) → Plans.kind k bytes selection i ≡ kind
-      → matches_in (report k bytes selection i kind) ≤ (if is_matched k meaning bytes i then 1 else 0)
+      → matches_in (report k bytes selection i kind) ≤ (if is_matched k meaning bytes i then 1
+      else 0)
   matches-report i None is = omega arith
   matches-report i (Some matched) is =
       let here = kind-matched (selected i) (follows_selected k bytes selection i)
-      (is_trailing k meaning bytes i)
-      (precedes_selected k bytes selection i) k.passthru is in
+      (is_trailing k meaning bytes i) (precedes_selected k bytes selection i) k.passthru is in
       rw here (omega arith)
   matches-report i (Some (in_context c)) is = omega arith
 
@@ -266,9 +269,10 @@ module _ (k : Settings) (meaning : Meaning) (bytes : List ℕ) where
   matches-line : (i : ℕ) → matches_in (T i) ≤ (if is_matched k meaning bytes i then 1 else 0)
   matches-line i = go (breaks_before k bytes selection i)
     where
-      go : (b : Bool) → matches_in
-          (if b then (planned breaks (count_at k bytes selection i (Plans.kind k bytes selection i)))
-          ∷ report k bytes selection i (Plans.kind k bytes selection i) else report k bytes selection i
+      go : (b : Bool) → matches_in (if b then (planned breaks
+          (count_at k bytes selection i (Plans.kind k bytes selection i)))
+          ∷ report k bytes selection i (Plans.kind k bytes selection i)
+          else report k bytes selection i
           (Plans.kind k bytes selection i)) ≤ (if is_matched k meaning bytes i then 1 else 0)
       go true = matches-report i (Plans.kind k bytes selection i) refl
       go false = matches-report i (Plans.kind k bytes selection i) refl
@@ -276,7 +280,8 @@ module _ (k : Settings) (meaning : Meaning) (bytes : List ℕ) where
   chosen-few : (limit m : ℕ) → has_room k limit ≡ false → count_below chosen m ≤ limit
   chosen-few limit m = count_below-limited k (hits k meaning bytes) limit m
 
-  -- what a late line has: a selected line before it in reach, before which the limit had room, as it hasn't there
+  -- what a late line has: a selected line before it in reach, before which the limit had room, as
+  -- it hasn't there
   record IsLate (i : ℕ) : Type 0 where
     line : ℕ
     before : line < i
@@ -311,7 +316,8 @@ module _ (k : Settings) (meaning : Meaning) (bytes : List ℕ) where
   late-few : (m : ℕ) → count_below late m ≤ k.after_context
   late-few m = go (first_below (λ i. not (is_open i)) m) refl
     where
-      go : (found : Option ℕ) → first_below (λ i. not (is_open i)) m ≡ found → count_below late m ≤ k.after_context
+      go : (found : Option ℕ) → first_below (λ i. not (is_open i)) m ≡ found → count_below late m
+          ≤ k.after_context
       go None is =
           let none = first_below-none (λ i. not (is_open i)) m is in
           omega (
@@ -320,15 +326,15 @@ module _ (k : Settings) (meaning : Meaning) (bytes : List ℕ) where
                 (some_below-false (λ i. not (is_open i)) m i none less))),
           )
       go (Some first) is =
-          let shut = not-true (is_open first) (first_below-of (λ i. not (is_open i)) m first is).1 in
+          let shut = not-true (is_open first) (first_below-of (λ i. not (is_open i)) m first is).1
+          in
           omega (
             arith,
             count_below-within late first k.after_context m (λ i less yes.
                 let late = late-is i yes in
                 let low : first ≤ i = ⊎_elim
                 (λ early. absurd (clash (ap not late.shut)
-                (first_below-before (λ i. not (is_open i)) m first i is early)))
-                (λ over. over)
+                (first_below-before (λ i. not (is_open i)) m first i is early))) (λ over. over)
                 (cases_lt i first) in
                 let high : late.line < first = ⊎_elim
                 (λ early. early)
@@ -337,8 +343,8 @@ module _ (k : Settings) (meaning : Meaning) (bytes : List ℕ) where
                 (low, omega (arith, late.near, late.before))),
           )
 
-  -- the calls tell no more matches than the limit has and those in the context after the last of them, and none at
-  -- limit 0
+  -- the calls tell no more matches than the limit has and those in the context after the last of
+  -- them, and none at limit 0
   pub matches-few : (limit m : ℕ) → has_room k limit ≡ false
       → matches_in (joined_from T 0 m) ≤ (if nat_lt 0 limit then limit + k.after_context else 0)
   matches-few limit m is = go limit is (omega (
@@ -356,8 +362,8 @@ module _ (k : Settings) (meaning : Meaning) (bytes : List ℕ) where
           let some : count_below chosen (suc i) ≡ count_below chosen i + 1 = rw taken refl in
           absurd (omega (arith, sym some ∙ none))
 
-      go : (limit : ℕ) → has_room k limit ≡ false → matches_in (joined_from T 0 m) ≤ count_below chosen m +
-          count_below late m
+      go : (limit : ℕ) → has_room k limit ≡ false → matches_in (joined_from T 0 m)
+          ≤ count_below chosen m + count_below late m
           → matches_in (joined_from T 0 m) ≤ (if nat_lt 0 limit then limit + k.after_context else 0)
       go zero is few =
           let none : (n : ℕ) → count_below chosen n ≡ 0 = λ n. omega (arith, chosen-few 0 n is) in
@@ -365,9 +371,8 @@ module _ (k : Settings) (meaning : Meaning) (bytes : List ℕ) where
             arith,
             few,
             none m,
-            count_below-none late m (λ i. ⊎_elim
-                (λ yes. let late = late-is i yes in absurd (unchosen late.line late.chosen (none (suc late.line))))
-                (λ no. no)
+            count_below-none late m (λ i. ⊎_elim (λ yes. let late = late-is i yes in absurd
+                (unchosen late.line late.chosen (none (suc late.line)))) (λ no. no)
                 (cases_Bool (late i))),
           )
       go (suc limit) is few =

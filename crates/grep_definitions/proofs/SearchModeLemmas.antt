@@ -13,19 +13,23 @@ use Rattle.grep_definitions.specs.Searches.{calls_with, in_contents, is_detectin
 use Rattle.grep_definitions.specs.Searches.{plan_with, quits, with_offset, BinaryPoint}
 
 module _ (k : Settings) (meaning : Meaning) (bytes : List ℕ) where
-  pub plan-by_line : is_across k meaning ≡ false → search_plan k meaning bytes ≡ line_plan k meaning bytes
+  pub plan-by_line : is_across k meaning ≡ false → search_plan k meaning bytes
+      ≡ line_plan k meaning bytes
   plan-by_line by_line = ap (λ b. reports_plan k bytes (selection_in k meaning bytes b)) by_line
 
 pub calls-are : (k : Settings) (meaning : Meaning) → is_across k meaning ≡ false → (bytes : List ℕ)
     → (search_plan k meaning bytes).calls ≡ (line_plan k meaning bytes).calls
-calls-are k meaning by_line bytes = ap (λ (p : Plan). p.calls) (plan-by_line k meaning bytes by_line)
+calls-are k meaning by_line bytes = ap (λ (p : Plan). p.calls)
+    (plan-by_line k meaning bytes by_line)
 
 pub finish-is : (k : Settings) (meaning : Meaning) → is_across k meaning ≡ false → (bytes : List ℕ)
     → (search_plan k meaning bytes).finish ≡ counted (line_plan k meaning bytes).finish.count
-finish-is k meaning by_line bytes = ap (λ (p : Plan). p.finish) (plan-by_line k meaning bytes by_line)
+finish-is k meaning by_line bytes = ap (λ (p : Plan). p.finish)
+    (plan-by_line k meaning bytes by_line)
 
 -- the calls of a plan with the one in between, if the search goes on
-pub with-calls : (d : BinaryDetection) → quits d ≡ false → (point : Option BinaryPoint) (plan : Plan)
+pub with-calls : (d : BinaryDetection) → quits d ≡ false
+    → (point : Option BinaryPoint) (plan : Plan)
     → (plan_with d point plan).calls ≡ calls_with point plan.calls
 with-calls d is None plan = refl
 with-calls d is (Some point) plan = rw is refl
@@ -42,13 +46,15 @@ asked-with k meaning {bytes} {haystack} {made} by_line query =
     subst (λ across. IsAskedIn k meaning bytes across haystack made) (sym by_line) query
 
 -- a search across lines looks nowhere, if no byte ends it
-pub look-plain : (d : BinaryDetection) → ((b : ℕ) → quit_byte_of d ≡ Some b → ⊥) → look_at d false ≡ nowhere
+pub look-plain : (d : BinaryDetection) → ((b : ℕ) → quit_byte_of d ≡ Some b → ⊥) → look_at d false
+    ≡ nowhere
 look-plain no_detection none = refl
 look-plain (Quit b) none = absurd (none b refl)
 look-plain (Convert b) none = refl
 
 -- in whole contents, if a byte does
-pub look-quit : (d : BinaryDetection) (b : ℕ) → quit_byte_of d ≡ Some b → look_at d false ≡ in_contents b
+pub look-quit : (d : BinaryDetection) (b : ℕ) → quit_byte_of d ≡ Some b → look_at d false
+    ≡ in_contents b
 look-quit no_detection b is = absurd (none-some b is)
 look-quit (Quit c) b is = ap (λ n. in_contents n) (same_Some c b is)
 look-quit (Convert c) b is = absurd (none-some b is)

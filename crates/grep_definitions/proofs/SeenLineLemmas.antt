@@ -46,8 +46,8 @@ abbrev ends-by : ℕ → Planned → Bool
 ends-by offset call = nat_le call.if_false.count offset
 
 -- calls that end after an offset aren't among those that end at or before it
-through-none : (offset : ℕ) (calls : List Planned) → All (λ call. offset < call.if_false.count) calls
-    → through offset calls ≡ []
+through-none : (offset : ℕ) (calls : List Planned) → All (λ call. offset < call.if_false.count)
+    calls → through offset calls ≡ []
 through-none offset calls after = filter-none (ends-by offset) calls
     (All-weaker (λ call. offset < call.if_false.count) (λ call. ends-by offset call ≡ false)
     (λ call above. lt-leb call.if_false.count offset above) calls after)
@@ -72,7 +72,8 @@ module _ (k : Settings) (meaning : Meaning) where
       let none = through-none at (joined_from T i (count - i))
       (All-joined_from (λ call. at < call.if_false.count) T i (count - i) (λ j low high.
       All-weaker (λ call. start k bytes (i + 1) ≤ call.if_false.count)
-      (λ call. at < call.if_false.count) (λ call over. omega arith) (T j) (ends-late k meaning bytes i j low))) in
+      (λ call. at < call.if_false.count) (λ call over. omega arith) (T j)
+      (ends-late k meaning bytes i j low))) in
       ap (through at) (headed-through begin T i count (omega arith))
       ∙ (filter-append (ends-by at) (headed begin T i) (joined_from T i (count - i))
       ∙ (ap (λ cs. through at (headed begin T i) ++ cs) none ∙ append-nil _))
@@ -99,32 +100,37 @@ module _ (k : Settings) (meaning : Meaning) where
     -- if each line that may be reported is of the front, each match is
     none-late : count_whole ≤ n → (i : ℕ) → first.IsLate k meaning front back closed i → ⊥
     none-late inside i late =
-        let found = some_below-find (first.near_before k meaning front back closed whole i) (Plans.line_count k whole) late.precedes in
+        let found = some_below-find (first.near_before k meaning front back closed whole i)
+        (Plans.line_count k whole) late.precedes in
         let near = first.near-from k meaning front back closed whole i found.0 found.2 in
         let below = selected-reportable k meaning whole found.0 near.chosen in
-        clash
-        (some_below-some (first.near_before k meaning front back closed front i) n found.0 (omega arith)
+        clash (some_below-some (first.near_before k meaning front back closed front i) n found.0
+        (omega arith)
         (first.near-to k meaning front back closed front i found.0 (record {
           beyond = near.beyond;
           within = near.within;
-          chosen = sym (first.same_selected k meaning front back closed found.0 (omega arith)) ∙ near.chosen;
-        })))
-        late.unpreceded
+          chosen = sym (first.same_selected k meaning front back closed found.0 (omega arith))
+              ∙ near.chosen;
+        }))) late.unpreceded
 
     -- so it has the same calls
-    pub calls-same : count_whole ≤ n → (line_plan k meaning whole).calls ≡ (line_plan k meaning front).calls
+    pub calls-same : count_whole ≤ n → (line_plan k meaning whole).calls
+        ≡ (line_plan k meaning front).calls
     calls-same inside =
         let same : count_whole ≡ count_front = omega (arith, few) in
         let joined : joined_from (calls_at k whole (selection whole)) 0 count_front
-        ≡ joined_from (calls_at k front (selection front)) 0 count_front = elim (first.split k meaning front back closed count_front (omega (arith, few))) [
-          | inl alike ↦ first.joined-same k meaning front back closed count_front alike (omega arith)
+        ≡ joined_from (calls_at k front (selection front)) 0 count_front =
+        elim (first.split k meaning front back closed count_front (omega (arith, few))) [
+          | inl alike ↦ first.joined-same k meaning front back closed count_front alike
+              (omega arith)
           | inr late ↦ absurd (none-late inside late.0 late.2)
         ] in
         ap (λ m. planned begins 0 ∷ joined_from (calls_at k whole (selection whole)) 0 m) same
         ∙ ap (λ calls. planned begins 0 ∷ calls) joined
 
     -- and the same byte count
-    pub bytes-same : count_whole ≤ n → (line_plan k meaning whole).finish.count ≡ (line_plan k meaning front).finish.count
+    pub bytes-same : count_whole ≤ n → (line_plan k meaning whole).finish.count
+        ≡ (line_plan k meaning front).finish.count
     bytes-same inside =
         ap (start k whole) (omega (arith, few)) ∙ start-same count_front (omega (arith, few))
 
@@ -135,7 +141,8 @@ module _ (k : Settings) (meaning : Meaning) where
         let s = first.same_selected k meaning front back closed i late.inside ∙ late.unselected in
         let f = prefix.follows-same k meaning front back closed i late.inside ∙ late.unfollowed in
         let p = late.precedes in
-        let is : Plans.kind k whole (selection whole) i ≡ Some (in_context Before) = rw (s, f, p) refl in
+        let is : Plans.kind k whole (selection whole) i ≡ Some (in_context Before) =
+        rw (s, f, p) refl in
         let over = first.late-through k meaning front back closed i late in
         All-weaker (λ call. start k whole n + 1 ≤ call.if_false.count)
         (λ call. start k whole n < call.if_false.count) (λ call low. omega arith) _
@@ -145,9 +152,10 @@ module _ (k : Settings) (meaning : Meaning) where
 
     module _ (built : k.passthru ≡ true → k.before_context ≡ 0) where
       -- up to a line that may be reported, the same calls are kept
-      through-same : (i : ℕ) → i < count_front
-          → through (start k whole i) (headed (planned begins 0) (calls_at k whole (selection whole)) i)
-          ≡ through (start k whole i) (headed (planned begins 0) (calls_at k front (selection front)) i)
+      through-same : (i : ℕ) → i < count_front → through (start k whole i)
+          (headed (planned begins 0) (calls_at k whole (selection whole)) i)
+          ≡ through (start k whole i)
+          (headed (planned begins 0) (calls_at k front (selection front)) i)
       through-same i below = elim (first.split k meaning front back closed i (omega (arith, few))) [
         | inl alike ↦ ap (λ calls. through at (begin ∷ calls))
             (first.joined-same k meaning front back closed i alike (omega arith))
@@ -163,23 +171,28 @@ module _ (k : Settings) (meaning : Meaning) where
           -- between a late line and this one no call ends by then
           between : (j q : ℕ) → first.IsLate k meaning front back closed j → j ≤ q → q < i
               → All (λ call. at < call.if_false.count) (calls_at k whole (selection whole) q)
-          between j q late low less = elim (first.kind-same k meaning front back closed q (omega (arith, few))) [
-            | inl alike ↦
-                let none = alike ∙ first.late-kind k meaning front back closed built j q late low (omega (arith, few)) in
-                subst (λ (calls : List Planned). All (λ call. at < call.if_false.count) calls)
-                (sym (unreported q none))
-                (All-nil (λ (call : Planned). at < call.if_false.count))
-            | inr later ↦ All-weaker (λ call. start k whole n < call.if_false.count)
-                (λ call. at < call.if_false.count)
-                (λ call over. omega (arith, line_start-le t whole i n (omega (arith, few))))
-                (calls_at k whole (selection whole) q) (late-after q later)
-          ]
+          between j q late low less =
+              elim (first.kind-same k meaning front back closed q (omega (arith, few))) [
+                | inl alike ↦
+                    let none = alike ∙ first.late-kind k meaning front back closed built j q late
+                    low (omega (arith, few)) in
+                    subst (λ (calls : List Planned). All (λ call. at < call.if_false.count) calls)
+                    (sym (unreported q none))
+                    (All-nil (λ (call : Planned). at < call.if_false.count))
+                | inr later ↦ All-weaker (λ call. start k whole n < call.if_false.count)
+                    (λ call. at < call.if_false.count)
+                    (λ call over. omega (arith, line_start-le t whole i n (omega (arith, few))))
+                    (calls_at k whole (selection whole) q) (late-after q later)
+              ]
             where
-              unreported : (q : ℕ) → Plans.kind k whole (selection whole) q ≡ None → calls_at k whole (selection whole) q ≡ []
-              unreported q none = rw (none, and-false (nat_lt 0 (k.after_context + k.before_context))) refl
+              unreported : (q : ℕ) → Plans.kind k whole (selection whole) q ≡ None
+                  → calls_at k whole (selection whole) q ≡ []
+              unreported q none = rw
+                  (none, and-false (nat_lt 0 (k.after_context + k.before_context))) refl
 
           -- from a late line on none does
-          cut : (j : ℕ) → j < i → first.IsLate k meaning front back closed j → first.Same k meaning front back closed j
+          cut : (j : ℕ) → j < i → first.IsLate k meaning front back closed j
+              → first.Same k meaning front back closed j
               → through at (headed begin (calls_at k whole (selection whole)) i)
               ≡ through at (headed begin (calls_at k front (selection front)) i)
           cut j less late alike =
@@ -189,17 +202,19 @@ module _ (k : Settings) (meaning : Meaning) where
               (All-joined_from (λ call. at < call.if_false.count) T j (i - j)
               (λ q low high. between j q late low (omega arith))) in
               let empty = joined_from-none U j (i - j) (λ q low high.
-              first.late-calls k meaning front back closed built j q late low (omega (arith, few))) in
-              ap (through at) (headed-through begin T j i (omega arith))
+              first.late-calls k meaning front back closed built j q late low (omega (arith, few)))
+              in ap (through at) (headed-through begin T j i (omega arith))
               ∙ (filter-append (ends-by at) (headed begin T j) (joined_from T j (i - j))
               ∙ (ap (λ cs. through at (headed begin T j) ++ cs) none
               ∙ (append-nil (through at (headed begin T j))
-              ∙ (ap (λ cs. through at (begin ∷ cs)) (first.joined-same k meaning front back closed j alike (omega arith))
-              ∙ (ap (through at) (sym (append-nil (headed begin U j)) ∙ ap (λ cs. headed begin U j ++ cs) (sym empty)
+              ∙ (ap (λ cs. through at (begin ∷ cs)) (first.joined-same k meaning front back closed j
+              alike (omega arith)) ∙ (ap (through at) (sym (append-nil (headed begin U j))
+              ∙ ap (λ cs. headed begin U j ++ cs) (sym empty)
               ∙ sym (headed-through begin U j i (omega arith))))))))
 
       -- a question in the front is one in the whole
-      pub asked-whole : {haystack : List ℕ} {made : List Planned} → IsAskedIn k meaning front false haystack made
+      pub asked-whole : {haystack : List ℕ} {made : List Planned}
+          → IsAskedIn k meaning front false haystack made
           → IsAskedIn k meaning whole false haystack made
       asked-whole {haystack} {made} asks = record {
         index = i;
@@ -210,14 +225,15 @@ module _ (k : Settings) (meaning : Meaning) where
               (prefix.follows-same k meaning front back closed i inside) ∙ asks.question.room);
           question = elim asks.question.question [
             | inl alone ↦ inl (alone
-                ∙ ap (strip k.line_terminator) (sym (prefix.line-same k meaning front back closed i inside)))
+                ∙ ap (strip k.line_terminator)
+                (sym (prefix.line-same k meaning front back closed i inside)))
             | inr ahead ↦ inr (asked-ahead ahead)
           ];
         };
-        before = asks.before
-            ∙ (through-before front i asks.question.may_report
-            ∙ (ap (λ s. through s (headed (planned begins 0) (calls_at k front (selection front)) i)) (sym same)
-            ∙ (sym (through-same i asks.question.may_report) ∙ sym (through-before whole i (omega (arith, few, asks.question.may_report))))));
+        before = asks.before ∙ (through-before front i asks.question.may_report
+            ∙ (ap (λ s. through s (headed (planned begins 0) (calls_at k front (selection front))
+            i)) (sym same) ∙ (sym (through-same i asks.question.may_report)
+            ∙ sym (through-before whole i (omega (arith, few, asks.question.may_report))))));
       }
         where
           i : ℕ
@@ -233,19 +249,19 @@ module _ (k : Settings) (meaning : Meaning) where
           opens = ap (has_room k) (count_below-same (hits k meaning whole) (hits k meaning front) i
               (λ j less. prefix.hits-same k meaning front back closed j (omega (arith, inside))))
 
-          asked-ahead : IsAskedAhead k meaning front i haystack → IsAskedAhead k meaning whole i haystack
+          asked-ahead : IsAskedAhead k meaning front i haystack
+              → IsAskedAhead k meaning whole i haystack
           asked-ahead ahead = record {
             allowed = ahead.allowed;
             room = opens ∙ ahead.room;
             unstopped = ap (stops_next k) (some_below-same (is_chosen k meaning whole)
                 (is_chosen k meaning front) i
-                (λ j less. prefix.is_chosen-same k meaning front back closed j (omega (arith, inside))))
-                ∙ ahead.unstopped;
+                (λ j less. prefix.is_chosen-same k meaning front back closed j
+                (omega (arith, inside)))) ∙ ahead.unstopped;
             end = ahead.end;
             after = ahead.after;
             within = omega (arith, ahead.within, first.more_lines k meaning front back closed);
-            lines = ahead.lines
-                ∙ (sym (slice-front front back (start k front i)
+            lines = ahead.lines ∙ (sym (slice-front front back (start k front i)
                 (start k front ahead.end) (line_start-within t front i)
                 (line_start-within t front ahead.end))
                 ∙ (ap (λ x. slice_range whole x (start k front ahead.end)) (sym same)
@@ -254,39 +270,39 @@ module _ (k : Settings) (meaning : Meaning) where
           }
 
 -- what holds of the bytes that were seen of an input, with any bytes after them, holds of the input
-of-front : {k : Settings} {input seen : List ℕ} → IsFront k input seen → (P : List ℕ → Type 0) → P seen
+of-front : {k : Settings} {input seen : List ℕ} → IsFront k input seen → (P : List ℕ → Type 0)
+    → P seen
     → ((back : List ℕ) → IsClosed (byte_of k.line_terminator) seen → P (seen ++ back)) → P input
-of-front {k} {input} {seen} front P all more = subst P (sym front.whole) (go front.after front.closed)
+of-front {k} {input} {seen} front P all more = subst P (sym front.whole)
+    (go front.after front.closed)
   where
-    go : (after : List ℕ) → (0 < length after → IsClosed (byte_of k.line_terminator) seen) → P (seen ++ after)
+    go : (after : List ℕ) → (0 < length after → IsClosed (byte_of k.line_terminator) seen)
+        → P (seen ++ after)
     go [] closed = subst P (sym (append-nil seen)) all
     go (b ∷ after) closed = more (b ∷ after) (closed (omega arith))
 
 -- the lines that were seen of an input that is searched by line
-module _ {k : Settings} (meaning : Meaning) {input seen : List ℕ} (by_line : is_across k meaning ≡ false)
+module _ {k : Settings} (meaning : Meaning) {input seen : List ℕ} (by_line : is_across k meaning
+    ≡ false)
     (front : IsFront k input seen) where
   -- if each line that may be reported was seen, the plan is theirs
   pub plan-same : reports_end k meaning input ≤ line_count k seen
       → search_plan k meaning input ≡ search_plan k meaning seen
-  plan-same = of-front front
-      (λ bytes. reports_end k meaning bytes ≤ line_count k seen
-      → search_plan k meaning bytes ≡ search_plan k meaning seen)
-      (λ inside. refl)
+  plan-same = of-front front (λ bytes. reports_end k meaning bytes ≤ line_count k seen
+      → search_plan k meaning bytes ≡ search_plan k meaning seen) (λ inside. refl)
       (λ back closed inside. plan-by_line k meaning (seen ++ back) by_line
       ∙ (ap (λ calls. plan_of calls (line_plan k meaning (seen ++ back)).finish.count)
       (calls-same k meaning seen back closed inside)
-      ∙ (ap (plan_of (line_plan k meaning seen).calls) (bytes-same k meaning seen back closed inside)
-      ∙ sym (plan-by_line k meaning seen by_line))))
+      ∙ (ap (plan_of (line_plan k meaning seen).calls)
+      (bytes-same k meaning seen back closed inside) ∙ sym (plan-by_line k meaning seen by_line))))
 
   module _ (built : k.passthru ≡ true → k.before_context ≡ 0) where
     -- its calls begin with theirs
     pub calls-begin : (later : List Planned)
         × ((search_plan k meaning input).calls ≡ (search_plan k meaning seen).calls ++ later)
-    calls-begin = of-front front
-        (λ bytes. (later : List Planned)
+    calls-begin = of-front front (λ bytes. (later : List Planned)
         × ((search_plan k meaning bytes).calls ≡ (search_plan k meaning seen).calls ++ later))
-        ([], sym (append-nil _))
-        (λ back closed.
+        ([], sym (append-nil _)) (λ back closed.
         let begun = first.front_calls-begin k meaning seen back closed built in (
           begun.0,
           calls-are k meaning by_line (seen ++ back)
@@ -294,7 +310,9 @@ module _ {k : Settings} (meaning : Meaning) {input seen : List ℕ} (by_line : i
         ))
 
     -- a question in them is one in it
-    pub asked-begin : {haystack : List ℕ} {made : List Planned} → IsAskedIn k meaning seen false haystack made
+    pub asked-begin : {haystack : List ℕ} {made : List Planned}
+        → IsAskedIn k meaning seen false haystack made
         → IsAskedIn k meaning input false haystack made
-    asked-begin {haystack} {made} asks = of-front front (λ bytes. IsAskedIn k meaning bytes false haystack made) asks
+    asked-begin {haystack} {made} asks =
+        of-front front (λ bytes. IsAskedIn k meaning bytes false haystack made) asks
         (λ back closed. asked-whole k meaning seen back closed built asks)

@@ -33,22 +33,23 @@ module _ (k : Settings) (bytes : List ℕ) (selection : Selection) where
   }
 
   -- after a selected line
-  pub IsNear-hit : (i : ℕ) → i < selection.end → selection.selected i ≡ true → IsNear k bytes selection (i + 1) (i + 1) k.after_context
+  pub IsNear-hit : (i : ℕ) → i < selection.end → selection.selected i ≡ true
+      → IsNear k bytes selection (i + 1) (i + 1) k.after_context
   IsNear-hit i has hit = record {
     low = omega arith;
     few = omega arith;
     close = λ above. refl;
     window = λ x low. ⊎_elim
-        (λ less. some_below-some (λ j. nat_le (x - j) k.after_context && selection.selected j) (i + 1) i (omega arith)
+        (λ less. some_below-some (λ j. nat_le (x - j) k.after_context && selection.selected j)
+        (i + 1) i (omega arith)
         (let near = le-leb (x - i) k.after_context (omega arith) in rw (near, hit) refl)
         ∙ sym (lt-ltb (x - (i + 1)) k.after_context less))
-        (λ over. some_below-none (λ j. nat_le (x - j) k.after_context && selection.selected j) (i + 1)
-        (λ j below. let far = lt-leb (x - j) k.after_context (omega arith) in rw far refl)
-        ∙ sym (le-ltb (x - (i + 1)) k.after_context over))
-        (cases_lt (x - (i + 1)) k.after_context);
+        (λ over. some_below-none (λ j. nat_le (x - j) k.after_context && selection.selected j)
+        (i + 1) (λ j below. let far = lt-leb (x - j) k.after_context (omega arith) in rw far refl)
+        ∙ sym (le-ltb (x - (i + 1)) k.after_context over)) (cases_lt (x - (i + 1)) k.after_context);
     passed = λ j low high. absurd (omega arith);
-    shown = λ above. let back : (i + 1) - 1 ≡ i = omega arith in let test = lt-ltb i selection.end has in rw (back, hit, test)
-        refl;
+    shown = λ above. let back : (i + 1) - 1 ≡ i = omega arith in let test =
+        lt-ltb i selection.end has in rw (back, hit, test) refl;
     bare = λ _. refl;
   }
 
@@ -85,7 +86,8 @@ module _ {k : Settings} {bytes : List ℕ} {selection : Selection} {v i left : �
 
   -- a line that was passed unreported is never reported under passthru
   never_bare : (j : ℕ) → v ≤ j → j < i → k.passthru ≡ false
-  never_bare j low less = ⊎_elim (λ yes. absurd (omega (arith, near.bare yes))) (λ no. no) (cases_Bool k.passthru)
+  never_bare j low less = ⊎_elim (λ yes. absurd (omega (arith, near.bare yes))) (λ no. no)
+      (cases_Bool k.passthru)
 
   -- if no line from the i-th on is selected, the lines that were passed aren't reported
   pub kind-done : ((q : ℕ) → i ≤ q → q < n → selected q ≡ false) → (j : ℕ) → v ≤ j → j < i
@@ -98,13 +100,13 @@ module _ {k : Settings} {bytes : List ℕ} {selection : Selection} {v i left : �
     where
       miss : (q : ℕ) → q < n → nat_lt j q ≡ true → selected q ≡ false
       miss q below is = ⊎_elim (λ early. (near.passed q (omega (arith, ltb-true j q is)) early).0)
-          (λ late. silent q late below)
-          (cases_lt q i)
+          (λ late. silent q late below) (cases_lt q i)
 
       none : (q : ℕ) → q < n → (nat_lt j q && nat_le (q - j) B && selected q) ≡ false
       none q below = go (nat_lt j q) refl
         where
-          go : (less : Bool) → nat_lt j q ≡ less → (nat_lt j q && nat_le (q - j) B && selected q) ≡ false
+          go : (less : Bool) → nat_lt j q ≡ less → (nat_lt j q && nat_le (q - j) B && selected q)
+              ≡ false
           go false is = rw is refl
           go true is = let out = miss q below is in rw out (and-false _)
 
@@ -115,12 +117,14 @@ module _ {k : Settings} {bytes : List ℕ} {selection : Selection} {v i left : �
 
   -- the next line's window
   window-more : (next : ℕ)
-      → ((x : ℕ) → i + 1 ≤ x → (nat_lt (x - i) left || (nat_le (x - i) A && selected i)) ≡ nat_lt (x - (i + 1)) next)
-      → (x : ℕ)
-      → i + 1 ≤ x → some_below (λ j. nat_le (x - j) A && selected j) (i + 1) ≡ nat_lt (x - (i + 1)) next
+      → ((x : ℕ) → i + 1 ≤ x → (nat_lt (x - i) left || (nat_le (x - i) A && selected i))
+      ≡ nat_lt (x - (i + 1)) next) → (x : ℕ)
+      → i + 1 ≤ x → some_below (λ j. nat_le (x - j) A && selected j) (i + 1)
+      ≡ nat_lt (x - (i + 1)) next
   window-more next goes x low = unfolded (i + 1) (omega arith)
     where
-      unfolded : (m : ℕ) → m ≡ suc i → some_below (λ j. nat_le (x - j) A && selected j) m ≡ nat_lt (x - (i + 1)) next
+      unfolded : (m : ℕ) → m ≡ suc i → some_below (λ j. nat_le (x - j) A && selected j) m
+          ≡ nat_lt (x - (i + 1)) next
       unfolded m is = rw (is, near.window x (omega arith)) (goes x low)
 
   -- a line that is not selected and follows none stays unreported so far
@@ -130,8 +134,8 @@ module _ {k : Settings} {bytes : List ℕ} {selection : Selection} {v i left : �
     few = omega arith;
     close = λ above. absurd (omega arith);
     window = window-more 0
-        (λ x low. let ended = le-ltb (x - i) left (omega arith) in let ended_next = le-ltb (x - (i + 1)) 0
-        (omega arith) in
+        (λ x low. let ended = le-ltb (x - i) left (omega arith) in let ended_next = le-ltb
+        (x - (i + 1)) 0 (omega arith) in
         rw (ended, misses, and-false (nat_le (x - i) A), ended_next) refl);
     passed = λ j low high. ⊎_elim (λ less. near.passed j low less)
         (λ over. let same : j ≡ i = omega arith in let out = le-ltb 0 left (omega arith) in
@@ -143,7 +147,8 @@ module _ {k : Settings} {bytes : List ℕ} {selection : Selection} {v i left : �
   -- a line after a selected one
   pub kind-after : selected i ≡ false → 0 < left
       → kind k bytes selection i ≡ Some (if selection.trailing i then matched else in_context After)
-  kind-after misses some = let follows_it = follows-here ∙ lt-ltb 0 left some in rw (misses, follows_it) refl
+  kind-after misses some = let follows_it = follows-here
+      ∙ lt-ltb 0 left some in rw (misses, follows_it) refl
 
   -- no break comes before it, since the line before it is reported
   pub gap-after : 0 < left
@@ -151,8 +156,10 @@ module _ {k : Settings} {bytes : List ℕ} {selection : Selection} {v i left : �
       ≡ (nat_lt 0 A && is_gap k v i i)
   gap-after some =
       let same = near.close some in
-      let first : 0 < i = ⊎_elim (λ less. less) (λ none. absurd (begins (omega (arith, none)))) (cases_lt 0 i) in
-      let shown : is_reported (i - 1) ≡ true = ap (λ x. is_reported (x - 1)) (sym same) ∙ near.shown (omega arith) in
+      let first : 0 < i = ⊎_elim (λ less. less) (λ none. absurd (begins (omega (arith, none))))
+      (cases_lt 0 i) in
+      let shown : is_reported (i - 1) ≡ true = ap (λ x. is_reported (x - 1)) (sym same)
+      ∙ near.shown (omega arith) in
       let late = le-ltb v i (omega arith) in
       rw (shown, late) (unbroken (nat_lt 0 (A + B)) (some_below is_reported i)
       ∙ sym (joined (nat_lt 0 A) (nat_lt 0 v) (nat_eq (i - i) B)))
@@ -169,7 +176,8 @@ module _ {k : Settings} {bytes : List ℕ} {selection : Selection} {v i left : �
       joined true false c = refl
       joined false b c = refl
 
-  pub IsNear-after : i < reportable → (rest : ℕ) → selected i ≡ false → left ≡ rest + 1 → Near (i + 1) (i + 1) rest
+  pub IsNear-after : i < reportable → (rest : ℕ) → selected i ≡ false → left ≡ rest + 1
+      → Near (i + 1) (i + 1) rest
   IsNear-after has rest misses is = record {
     low = omega arith;
     few = omega arith;
@@ -177,22 +185,26 @@ module _ {k : Settings} {bytes : List ℕ} {selection : Selection} {v i left : �
     window = window-more rest (λ x low. rw (misses, and-false (nat_le (x - i) A))
         (or-false (nat_lt (x - i) left) ∙ shifted x low));
     passed = λ j low high. absurd (omega arith);
-    shown = λ above. let back : (i + 1) - 1 ≡ i = omega arith in let kind = kind-after misses (omega arith) in
+    shown = λ above. let back : (i + 1) - 1 ≡ i = omega arith in let kind =
+        kind-after misses (omega arith) in
         let test = lt-ltb i reportable has in rw (back, kind, test) refl;
     bare = λ _. refl;
   }
     where
       shifted : (x : ℕ) → i + 1 ≤ x → nat_lt (x - i) left ≡ nat_lt (x - (i + 1)) rest
-      shifted x low = ⊎_elim (λ less. lt-ltb (x - i) left less ∙ sym (lt-ltb (x - (i + 1)) rest (omega arith)))
-          (λ over. le-ltb (x - i) left over ∙ sym (le-ltb (x - (i + 1)) rest (omega arith))) (cases_lt (x - i) left)
+      shifted x low = ⊎_elim (λ less. lt-ltb (x - i) left less
+          ∙ sym (lt-ltb (x - (i + 1)) rest (omega arith)))
+          (λ over. le-ltb (x - i) left over ∙ sym (le-ltb (x - (i + 1)) rest (omega arith)))
+          (cases_lt (x - i) left)
 
   precedes-bare : k.before_context ≡ 0 → precedes i ≡ false
   precedes-bare none = some_below-none _ n (λ q below. go q (nat_lt i q) refl)
     where
-      go : (q : ℕ) (less : Bool) → nat_lt i q ≡ less → (nat_lt i q && nat_le (q - i) k.before_context && selected q)
-          ≡ false
+      go : (q : ℕ) (less : Bool) → nat_lt i q ≡ less
+          → (nat_lt i q && nat_le (q - i) k.before_context && selected q) ≡ false
       go q false is = rw is refl
-      go q true is = let high = ltb-true i q is in let out = lt-leb (q - i) k.before_context (omega arith) in
+      go q true is = let high = ltb-true i q is in let out = lt-leb (q - i) k.before_context
+          (omega arith) in
           rw (is, out) refl
 
   -- a line that is reported under passthru alone
@@ -202,29 +214,32 @@ module _ {k : Settings} {bytes : List ℕ} {selection : Selection} {v i left : �
       ∙ le-ltb 0 left (omega arith) in let ahead = precedes-bare none in
       rw (misses, follows_it, ahead, bare) refl
 
-  pub IsNear-other : i < reportable → selected i ≡ false → left ≡ 0 → k.passthru ≡ true → k.before_context ≡ 0
-      → Near (i + 1) (i + 1) 0
+  pub IsNear-other : i < reportable → selected i ≡ false → left ≡ 0 → k.passthru ≡ true
+      → k.before_context ≡ 0 → Near (i + 1) (i + 1) 0
   IsNear-other has misses empty bare none = record {
     low = omega arith;
     few = omega arith;
     close = λ above. refl;
     window = window-more 0
-        (λ x low. let ended = le-ltb (x - i) left (omega arith) in let ended_next = le-ltb (x - (i + 1)) 0
-        (omega arith) in
+        (λ x low. let ended = le-ltb (x - i) left (omega arith) in let ended_next = le-ltb
+        (x - (i + 1)) 0 (omega arith) in
         rw (ended, misses, and-false (nat_le (x - i) A), ended_next) refl);
     passed = λ j low high. absurd (omega arith);
-    shown = λ above. let back : (i + 1) - 1 ≡ i = omega arith in let kind = kind-other misses empty bare none in
+    shown = λ above. let back : (i + 1) - 1 ≡ i = omega arith in let kind =
+        kind-other misses empty bare none in
         let test = lt-ltb i reportable has in rw (back, kind, test) refl;
     bare = λ _. refl;
   }
 
   -- after any line that isn't selected
-  pub IsNear-missed : (k.passthru ≡ true → k.before_context ≡ 0) → i < reportable → selected i ≡ false
-      → Near (if nat_lt 0 left || k.passthru then i + 1 else v) (i + 1) (left - 1)
+  pub IsNear-missed : (k.passthru ≡ true → k.before_context ≡ 0) → i < reportable → selected i
+      ≡ false → Near (if nat_lt 0 left || k.passthru then i + 1 else v) (i + 1) (left - 1)
   IsNear-missed bare has misses = go (nat_lt 0 left) k.passthru refl refl
     where
-      go : (b p : Bool) → nat_lt 0 left ≡ b → k.passthru ≡ p → Near (if b || p then i + 1 else v) (i + 1) (left - 1)
-      go true p is_b is_p = let some = ltb-true 0 left is_b in IsNear-after has (left - 1) misses (omega arith)
+      go : (b p : Bool) → nat_lt 0 left ≡ b → k.passthru ≡ p → Near (if b || p then i + 1 else v)
+          (i + 1) (left - 1)
+      go true p is_b is_p = let some = ltb-true 0 left is_b in IsNear-after has (left - 1) misses
+          (omega arith)
       go false true is_b is_p =
           let none : left ≡ 0 = let le = ltb-false 0 left is_b in omega arith in
           let rest : 0 ≡ left - 1 = omega arith in
@@ -235,8 +250,8 @@ module _ {k : Settings} {bytes : List ℕ} {selection : Selection} {v i left : �
           subst (λ l. Near v (i + 1) l) rest (IsNear-pass misses none is_p)
 
   -- what is joined over the lines grows by that line's part, if it is reported
-  pub headed-missed : {X : Type 0} (first : X) (f : ℕ → List X) (after other : List X) → (0 < left → f i ≡ after)
-      → (left ≡ 0 → k.passthru ≡ true → f i ≡ other)
+  pub headed-missed : {X : Type 0} (first : X) (f : ℕ → List X) (after other : List X)
+      → (0 < left → f i ≡ after) → (left ≡ 0 → k.passthru ≡ true → f i ≡ other)
       → headed first f (if nat_lt 0 left || k.passthru then i + 1 else v)
       ≡ headed first f v ++ (if nat_lt 0 left then after else (if k.passthru then other else []))
   headed-missed first f after other is_after is_other = go (nat_lt 0 left) k.passthru refl refl
@@ -246,10 +261,12 @@ module _ {k : Settings} {bytes : List ℕ} {selection : Selection} {v i left : �
           ++ (if b then after else (if p then other else []))
       go true p is_b is_p =
           let some = ltb-true 0 left is_b in
-          headed-one first f v i (near.close some) ∙ ap (λ xs. headed first f v ++ xs) (is_after some)
+          headed-one first f v i (near.close some) ∙ ap (λ xs. headed first f v ++ xs)
+          (is_after some)
       go false true is_b is_p =
           let none : left ≡ 0 = let le = ltb-false 0 left is_b in omega arith in
-          headed-one first f v i (near.bare is_p) ∙ ap (λ xs. headed first f v ++ xs) (is_other none is_p)
+          headed-one first f v i (near.bare is_p) ∙ ap (λ xs. headed first f v ++ xs)
+          (is_other none is_p)
       go false false is_b is_p = sym (append-nil (headed first f v))
 
   -- if line i is selected
@@ -271,19 +288,20 @@ module _ {k : Settings} {bytes : List ℕ} {selection : Selection} {v i left : �
           where
             none : (q : ℕ) → q < n → (nat_lt j q && nat_le (q - j) B && selected q) ≡ false
             none q below = ⊎_elim
-                (λ early. ⊎_elim (λ follows_it. let c = (near.passed q (omega arith) early).0 in rw c (and-false _))
-                (λ ahead. let c = le-ltb j q ahead in rw c refl) (cases_lt j q))
-                (λ late. let c = lt-leb (q - j) B (omega arith) in rw (c, and-false (nat_lt j q)) refl)
-                (cases_lt q i)
+                (λ early. ⊎_elim (λ follows_it. let c = (near.passed q (omega arith) early).0 in rw
+                c (and-false _)) (λ ahead. let c = le-ltb j q ahead in rw c refl) (cases_lt j q))
+                (λ late. let c = lt-leb (q - j) B (omega arith) in rw (c, and-false (nat_lt j q))
+                refl) (cases_lt q i)
 
-    pub kind-passed : (j : ℕ) → v ≤ j → j < i
-        → kind k bytes selection j
+    pub kind-passed : (j : ℕ) → v ≤ j → j < i → kind k bytes selection j
         ≡ (if nat_le (i - j) B then Some (in_context Before) else None)
-    kind-passed j low less = let out = near.passed j low less in let p = precedes-passed j low less in
+    kind-passed j low less = let out = near.passed j low less in let p =
+        precedes-passed j low less in
         let plain = never_bare j low less in rw (out.0, out.1, p, plain) refl
 
     reported-passed : (j : ℕ) → v ≤ j → j < i → is_reported j ≡ nat_le (i - j) B
-    reported-passed j low less = let test = lt-ltb j reportable (omega arith) in let kind = kind-passed j low less in
+    reported-passed j low less = let test = lt-ltb j reportable (omega arith) in let kind =
+        kind-passed j low less in
         rw (kind, test) (settled (nat_le (i - j) B))
       where
         settled : (b : Bool) → is_some (if b then Some (in_context Before) else None) ≡ b
@@ -292,83 +310,85 @@ module _ {k : Settings} {bytes : List ℕ} {selection : Selection} {v i left : �
 
     -- whether a break comes before line j, which is reported
     break-here : (j : ℕ) → v ≤ j → j ≤ i → i - j ≤ B → is_reported j ≡ true
-        → (not (is_reported (j - 1)) && some_below is_reported j)
-        ≡ is_gap k v j i
+        → (not (is_reported (j - 1)) && some_below is_reported j) ≡ is_gap k v j i
     break-here j low high close shown = ⊎_elim after_report first_report (cases_lt 0 v)
       where
         -- the line before is reported
         joined : is_reported (j - 1) ≡ true → is_gap k v j i ≡ false
-            → (not (is_reported (j - 1)) && some_below is_reported j)
-            ≡ is_gap k v j i
+            → (not (is_reported (j - 1)) && some_below is_reported j) ≡ is_gap k v j i
         joined shown unbroken = rw (shown, unbroken) refl
 
-        first_report : v ≤ 0 → (not (is_reported (j - 1)) && some_below is_reported j) ≡ is_gap k v j i
+        first_report : v ≤ 0 → (not (is_reported (j - 1)) && some_below is_reported j)
+            ≡ is_gap k v j i
         first_report none =
             let out = le-ltb 0 v none in
             let unbroken : is_gap k v j i ≡ false = rw out refl in
-            ⊎_elim
-            (λ above. ⊎_elim
+            ⊎_elim (λ above. ⊎_elim
             (λ inner. joined (reported-passed (j - 1) (omega arith) (omega arith)
             ∙ le-leb (i - (j - 1)) B (omega arith)) unbroken)
             (λ outer. let silent = some_below-none is_reported j
-            (λ q below. reported-passed q (omega arith) (omega arith) ∙ lt-leb (i - q) B (omega arith)) in
-            rw (silent, unbroken) (and-false _))
-            (cases_lt (i - j) B))
-            (λ zero_j. let same : j - 1 ≡ j = omega arith in joined (ap is_reported same ∙ shown) unbroken)
-            (cases_lt 0 j)
+            (λ q below. reported-passed q (omega arith) (omega arith)
+            ∙ lt-leb (i - q) B (omega arith)) in
+            rw (silent, unbroken) (and-false _)) (cases_lt (i - j) B))
+            (λ zero_j. let same : j - 1 ≡ j = omega arith in joined (ap is_reported same ∙ shown)
+            unbroken) (cases_lt 0 j)
 
-        after_report : 0 < v → (not (is_reported (j - 1)) && some_below is_reported j) ≡ is_gap k v j i
-        after_report some = ⊎_elim
-            (λ above.
+        after_report : 0 < v → (not (is_reported (j - 1)) && some_below is_reported j)
+            ≡ is_gap k v j i
+        after_report some = ⊎_elim (λ above.
             let prior = reported-passed (j - 1) (omega arith) (omega arith) in
             let earlier = some_below-some is_reported j (v - 1) (omega arith) (near.shown some) in
             let a = lt-ltb 0 v some in
             let b = lt-ltb v j above in
             rw (prior, earlier, a, b) (and-true _ ∙ ⊎_elim
-            (λ inner. let p = le-leb (i - (j - 1)) B (omega arith) in let q = ne_eqb (i - j) B (λ e. omega arith) in
+            (λ inner. let p = le-leb (i - (j - 1)) B (omega arith) in let q = ne_eqb (i - j) B
+            (λ e. omega arith) in
             rw (p, q) refl)
-            (λ outer. let p = lt-leb (i - (j - 1)) B (omega arith) in let q = eq-eqb (i - j) B (omega arith) in
-            rw (p, q) refl)
-            (cases_lt (i - j) B)))
+            (λ outer. let p = lt-leb (i - (j - 1)) B (omega arith) in let q = eq-eqb (i - j) B
+            (omega arith) in
+            rw (p, q) refl) (cases_lt (i - j) B)))
             (λ at. let same : v - 1 ≡ j - 1 = omega arith in let b = le-ltb v j at in
-            joined (ap is_reported (sym same) ∙ near.shown some) (rw (b, and-false (nat_lt 0 v)) refl))
-            (cases_lt v j)
+            joined (ap is_reported (sym same) ∙ near.shown some)
+            (rw (b, and-false (nat_lt 0 v)) refl)) (cases_lt v j)
 
     -- the break before a passed line, and before the match
     pub gap-passed : (j : ℕ) → v ≤ j → j < i → i - j ≤ B
-        → (nat_lt 0 (A + B) && true && not (is_reported (j - 1)) && some_below is_reported j) ≡ is_gap k v j i
+        → (nat_lt 0 (A + B) && true && not (is_reported (j - 1)) && some_below is_reported j)
+        ≡ is_gap k v j i
     gap-passed j low less close =
         let wide : nat_lt 0 (A + B) ≡ true = lt-ltb 0 (A + B) (omega arith) in
-        let gap = break-here j low (omega arith) close (reported-passed j low less ∙ le-leb (i - j) B close) in
+        let gap = break-here j low (omega arith) close (reported-passed j low less
+        ∙ le-leb (i - j) B close) in
         rw wide gap
 
-    pub gap-hit : (nat_lt 0 (A + B) && true && not (is_reported (i - 1)) && some_below is_reported i)
-        ≡ (nat_lt 0 A && is_gap k v i i)
+    pub gap-hit : (nat_lt 0 (A + B) && true && not (is_reported (i - 1))
+        && some_below is_reported i) ≡ (nat_lt 0 A && is_gap k v i i)
     gap-hit = guard (not (is_reported (i - 1))) (some_below is_reported i)
         (break-here i near.low (omega arith) (omega arith) reported-here)
       where
         guard : (r s : Bool) → (r && s) ≡ is_gap k v i i → (((nat_lt 0 (A + B) && true) && r) && s)
             ≡ (nat_lt 0 A && is_gap k v i i)
         guard r s same = ⊎_elim
-            (λ some. let a = lt-ltb 0 A some in let w = lt-ltb 0 (A + B) (omega arith) in rw (a, w) same)
-            (λ none. ⊎_elim
+            (λ some. let a = lt-ltb 0 A some in let w = lt-ltb 0 (A + B) (omega arith) in rw
+            (a, w) same) (λ none. ⊎_elim
             (λ some. let a = le-ltb 0 A none in let w = lt-ltb 0 (A + B) (omega arith) in
             let apart = ne_eqb (i - i) B (λ e. omega arith) in rw (a, w)
             (same ∙ rw (apart) (and-false (nat_lt 0 v && nat_lt v i))))
-            (λ both. let a = le-ltb 0 A none in let w = le-ltb 0 (A + B) (omega arith) in rw (a, w) refl)
-            (cases_lt 0 B))
-            (cases_lt 0 A)
+            (λ both. let a = le-ltb 0 A none in let w = le-ltb 0 (A + B) (omega arith) in rw
+            (a, w) refl) (cases_lt 0 B)) (cases_lt 0 A)
 
     -- the next selected line after a passed one
-    pub next-passed : (j : ℕ) → v ≤ j → j < i → first_below (λ q. nat_lt j q && selected q) n ≡ Some i
+    pub next-passed : (j : ℕ) → v ≤ j → j < i → first_below (λ q. nat_lt j q && selected q) n
+        ≡ Some i
     next-passed j low less =
-        first_below-here (λ q. nat_lt j q && selected q) n i inside (let a = lt-ltb j i less in rw (a, hit) refl)
-        (some_below-none _ i (λ q below. ⊎_elim (λ follows_it. let c = (near.passed q (omega arith) below).0 in rw c
-        (and-false _))
-        (λ ahead. let c = le-ltb j q ahead in rw c refl) (cases_lt j q)))
+        first_below-here (λ q. nat_lt j q && selected q) n i inside
+        (let a = lt-ltb j i less in rw (a, hit) refl) (some_below-none _ i
+        (λ q below. ⊎_elim (λ follows_it. let c = (near.passed q (omega arith) below).0 in rw c
+        (and-false _)) (λ ahead. let c = le-ltb j q ahead in rw c refl) (cases_lt j q)))
 
 -- lines that aren't selected are passed unreported, if none is left to be reported after a match
-pub IsNear-skipped : {k : Settings} {bytes : List ℕ} {selection : Selection} {v : ℕ} → k.passthru ≡ false → (i m : ℕ)
+pub IsNear-skipped : {k : Settings} {bytes : List ℕ} {selection : Selection} {v : ℕ} → k.passthru
+    ≡ false → (i m : ℕ)
     → IsNear k bytes selection v i 0 → ((j : ℕ) → i ≤ j → j < i + m → selection.selected j ≡ false)
     → IsNear k bytes selection v (i + m) 0
 IsNear-skipped {k} {bytes} {selection} {v} plain i zero near missed =

@@ -37,15 +37,14 @@ module _ {S E : Type 0} (step : Steps S E) (k : Settings) where
   AreMade-one call end old (Err e) new made = inr (inr (e, refl, made))
 
   -- one call, after the break before it if there is a gap
-  pub AreMade-broken : (gap : Bool) (call : Call) (end : ℕ) (old mid : S) (result : Result Bool E) (new : S)
-      → AreMade step k old (break_calls gap end) all_true mid → step mid k call result new
+  pub AreMade-broken : (gap : Bool) (call : Call) (end : ℕ) (old mid : S) (result : Result Bool E)
+      (new : S) → AreMade step k old (break_calls gap end) all_true mid → step mid k call result new
       → AreMade step k old (broken_calls gap call end) (outcome_of end result) new
   AreMade-broken true call end old mid result new (inl (next, goes, (is, same))) made =
       inl (
         mid,
         subst (λ s. step old k breaks (Ok true) s) (sym same) goes,
-        AreMade-one call end mid result
-            new made,
+        AreMade-one call end mid result new made,
       )
   AreMade-broken true call end old mid result new (inr (inl (is, stops))) made = cc
   AreMade-broken true call end old mid result new (inr (inr (e, is, fails))) made = cc
@@ -54,8 +53,8 @@ module _ {S E : Type 0} (step : Steps S E) (k : Settings) where
       (AreMade-one call end mid result new made)
 
   -- a break that ends it
-  pub AreMade-unbroken : (gap : Bool) (call : Call) (end : ℕ) (old : S) (outcome : Outcome E) (new : S)
-      → (outcome ≡ all_true → ⊥) → AreMade step k old (break_calls gap end) outcome new
+  pub AreMade-unbroken : (gap : Bool) (call : Call) (end : ℕ) (old : S) (outcome : Outcome E)
+      (new : S) → (outcome ≡ all_true → ⊥) → AreMade step k old (break_calls gap end) outcome new
       → AreMade step k old (broken_calls gap call end) outcome new
   AreMade-unbroken true call end old outcome new ended reported =
       AreMade-ended (one_call breaks end) (one_call call end) old outcome new ended reported
@@ -77,7 +76,8 @@ outcome_by found all_true = all_true
 outcome_by found (stopped finish) = stopped (finish_by found finish)
 outcome_by found (failed e) = failed e
 
-pub all-by : {E : Type 0} (found : Option ℕ) (o : Outcome E) → outcome_by found o ≡ all_true → o ≡ all_true
+pub all-by : {E : Type 0} (found : Option ℕ) (o : Outcome E) → outcome_by found o ≡ all_true → o
+    ≡ all_true
 all-by found all_true is = refl
 all-by found (stopped finish) is = cc
 all-by found (failed e) is = cc
@@ -87,15 +87,16 @@ by-none all_true = refl
 by-none (stopped finish) = refl
 by-none (failed e) = refl
 
-pub by-some : {E : Type 0} (offset : ℕ) (o : Outcome E) → outcome_with (Some offset) o ≡ outcome_by (Some offset) o
+pub by-some : {E : Type 0} (offset : ℕ) (o : Outcome E) → outcome_with (Some offset) o
+    ≡ outcome_by (Some offset) o
 by-some offset all_true = refl
 by-some offset (stopped finish) = refl
 by-some offset (failed e) = refl
 
 module _ {S E : Type 0} (step : Steps S E) (k : Settings) where
   -- the same calls, after which `finish` has this offset
-  pub made-binary : (binary : Option ℕ) (calls : List Planned) (old : S) (outcome : Outcome E) (new : S)
-      → AreMade step k old calls outcome new
+  pub made-binary : (binary : Option ℕ) (calls : List Planned) (old : S) (outcome : Outcome E)
+      (new : S) → AreMade step k old calls outcome new
       → AreMade step k old (map (with_binary binary) calls) (outcome_with binary outcome) new
   made-binary binary [] old outcome new (is, same) = (ap (outcome_with binary) is, same)
   made-binary binary (call ∷ later) old outcome new (inl (mid, goes, made)) =

@@ -1,4 +1,5 @@
--- The successive matches: how many there are, in which order, and which are left after some of them.
+-- The successive matches: how many there are, in which order, and which are left after some of
+-- them.
 use Rattle.std.proofs.Common.{◌≡◌, ℕ, zero, suc, ◌+◌, ◌-◌, ◌<◌, ◌≤◌, Bool, true, false, List, []}
 use Rattle.std.proofs.Common.{◌∷◌, ◌++◌, length, take, drop, refl, ap, sym, ◌∙◌, arith, ⊎_elim}
 use Rattle.std.proofs.Common.{Option, Some, None, if◌then◌else◌, length-drop}
@@ -19,27 +20,29 @@ use Rattle.grep_definitions.proofs.BoolLemmas.{clash}
 pub position_after-later : (p : ℕ) (m : ℕ × ℕ) → p ≤ m.0 → m.0 ≤ m.1 → p < position_after m
 position_after-later p m low order = ⊎_elim
     (λ less. let yes = lt-ltb m.0 m.1 less in rw yes (omega arith))
-    (λ over. let no = le-ltb m.0 m.1 over in rw no (omega arith))
-    (cases_lt m.0 m.1)
+    (λ over. let no = le-ltb m.0 m.1 over in rw no (omega arith)) (cases_lt m.0 m.1)
 
 -- and not before its start
 pub position_after-start : (m : ℕ × ℕ) → m.0 ≤ m.1 → m.0 ≤ position_after m
-position_after-start m order = let after = position_after-later m.0 m (omega arith) order in omega arith
+position_after-start m order = let after = position_after-later m.0 m (omega arith) order in omega
+    arith
 
 -- the last of some matches decides
-pub position_past-last : (p : ℕ) (found : List (ℕ × ℕ)) (m : ℕ × ℕ) → position_past p (found ++ m ∷ [])
-    ≡ position_after m
+pub position_past-last : (p : ℕ) (found : List (ℕ × ℕ)) (m : ℕ × ℕ)
+    → position_past p (found ++ m ∷ []) ≡ position_after m
 position_past-last p [] m = refl
 position_past-last p (x ∷ found) m = position_past-last (position_after x) found m
 
 -- a match that is within its haystack is kept, and no other is
-pub if_within-same : (haystack : List ℕ) (found : Option (ℕ × ℕ)) → IsWithin haystack found → if_within haystack found
-    ≡ found
+pub if_within-same : (haystack : List ℕ) (found : Option (ℕ × ℕ)) → IsWithin haystack found
+    → if_within haystack found ≡ found
 if_within-same haystack None inside = refl
 if_within-same haystack (Some m) inside =
-    let both = and_from _ _ (le-leb m.0 m.1 inside.0) (le-leb m.1 (length haystack) inside.1) in rw both refl
+    let both = and_from _ _ (le-leb m.0 m.1 inside.0) (le-leb m.1 (length haystack) inside.1) in rw
+    both refl
 
-if_within-is : (haystack : List ℕ) (found : Option (ℕ × ℕ)) → IsWithin haystack (if_within haystack found)
+if_within-is : (haystack : List ℕ) (found : Option (ℕ × ℕ))
+    → IsWithin haystack (if_within haystack found)
 if_within-is haystack None = tt
 if_within-is haystack (Some m) = go _ refl
   where
@@ -49,13 +52,16 @@ if_within-is haystack (Some m) = go _ refl
     go false is = tt
 
 module _ (meaning : Meaning) (bytes : List ℕ) where
-  -- a match that is found starts at the position or after it, ends no earlier than it starts, and is within the bytes
+  -- a match that is found starts at the position or after it, ends no earlier than it starts, and
+  -- is within the bytes
   pub match_from-order : (p : ℕ) → IfSome {T = ℕ × ℕ} (match_from meaning bytes p)
       (λ m. (p ≤ m.0) × (m.0 ≤ m.1) × (m.1 ≤ length bytes))
-  match_from-order p = go (nat_lt p (length bytes)) refl (if_within (drop p bytes) (meaning.first (drop p bytes)))
+  match_from-order p = go (nat_lt p (length bytes)) refl
+      (if_within (drop p bytes) (meaning.first (drop p bytes)))
       (if_within-is (drop p bytes) (meaning.first (drop p bytes)))
     where
-      go : (b : Bool) → nat_lt p (length bytes) ≡ b → (found : Option (ℕ × ℕ)) → IsWithin (drop p bytes) found
+      go : (b : Bool) → nat_lt p (length bytes) ≡ b → (found : Option (ℕ × ℕ))
+          → IsWithin (drop p bytes) found
           → IfSome {T = ℕ × ℕ} (if b then option_map (λ m. (p + m.0, p + m.1)) found else None)
           (λ m. (p ≤ m.0) × (m.0 ≤ m.1) × (m.1 ≤ length bytes))
       go true is None inside = tt
@@ -72,15 +78,16 @@ module _ (meaning : Meaning) (bytes : List ℕ) where
   pub matches_from-enough : (p n m : ℕ) → length bytes ≤ p + n → length bytes ≤ p + m
       → matches_from meaning bytes p n ≡ matches_from meaning bytes p m
   matches_from-enough p zero zero some more = refl
-  matches_from-enough p zero (suc m) some more = let none = match_from-end p (omega arith) in rw (none, matches_from)
-      refl
-  matches_from-enough p (suc n) zero some more = let none = match_from-end p (omega arith) in rw (none, matches_from)
-      refl
+  matches_from-enough p zero (suc m) some more = let none = match_from-end p (omega arith) in rw
+      (none, matches_from) refl
+  matches_from-enough p (suc n) zero some more = let none = match_from-end p (omega arith) in rw
+      (none, matches_from) refl
   matches_from-enough p (suc n) (suc m) some more =
       go (match_from meaning bytes p) (match_from-order p)
       (λ q later. matches_from-enough q n m (omega arith) (omega arith))
     where
-      go : (found : Option (ℕ × ℕ)) → IfSome {T = ℕ × ℕ} found (λ m. (p ≤ m.0) × (m.0 ≤ m.1) × (m.1 ≤ length bytes))
+      go : (found : Option (ℕ × ℕ)) → IfSome {T = ℕ × ℕ} found (λ m. (p ≤ m.0) × (m.0 ≤ m.1)
+          × (m.1 ≤ length bytes))
           → ((q : ℕ) → p < q → matches_from meaning bytes q n ≡ matches_from meaning bytes q m)
           → elim found as (λ x. List (ℕ × ℕ)) [
             | None ↦ []
@@ -93,37 +100,44 @@ module _ (meaning : Meaning) (bytes : List ℕ) where
                 ∷ matches_from meaning bytes (position_after x) m
           ]
       go None order later = refl
-      go (Some x) order later = ap (λ xs. x ∷ xs) (later (position_after x) (position_after-later p x order.0 order.1))
+      go (Some x) order later =
+          ap (λ xs. x ∷ xs) (later (position_after x) (position_after-later p x order.0 order.1))
 
   -- a match that is found comes first, and then those after it
   matches_from-found : (p : ℕ) (m : ℕ × ℕ) → match_from meaning bytes p ≡ Some m
-      → matches_from meaning bytes p (length bytes) ≡ m ∷ matches_from meaning bytes (position_after m) (length bytes)
-  matches_from-found p m is = ⊎_elim
-      (λ some.
+      → matches_from meaning bytes p (length bytes) ≡ m
+      ∷ matches_from meaning bytes (position_after m) (length bytes)
+  matches_from-found p m is = ⊎_elim (λ some.
       let size : length bytes ≡ suc (length bytes - 1) = omega arith in
       let first : matches_from meaning bytes p (suc (length bytes - 1))
-      ≡ m ∷ matches_from meaning bytes (position_after m) (length bytes - 1) = rw (is, matches_from) refl in
+      ≡ m ∷ matches_from meaning bytes (position_after m) (length bytes - 1) =
+      rw (is, matches_from) refl in
       let later = matches_from-enough (position_after m) (length bytes - 1) (length bytes)
       (omega (arith, position_after-later p m order.0 order.1)) (omega arith) in
       ap (matches_from meaning bytes p) size ∙ (first ∙ ap (λ xs. m ∷ xs) later))
-      (λ none. absurd (let over = match_from-end p (omega arith) in let clash : None ≡ Some m = sym over ∙ is in cc))
+      (λ none. absurd (let over = match_from-end p (omega arith) in let clash : None
+      ≡ Some m = sym over ∙ is in cc))
       (cases_lt p (length bytes))
     where
       order : (p ≤ m.0) × (m.0 ≤ m.1) × (m.1 ≤ length bytes)
       order = let at = match_from-order p in rw is at at
 
   -- where none is found there are none
-  matches_from-none : (p : ℕ) (n : ℕ) → match_from meaning bytes p ≡ None → matches_from meaning bytes p n ≡ []
+  matches_from-none : (p : ℕ) (n : ℕ) → match_from meaning bytes p ≡ None
+      → matches_from meaning bytes p n ≡ []
   matches_from-none p zero is = refl
   matches_from-none p (suc n) is = rw (is, matches_from) refl
 
   -- all start at the position or after it
-  matches_from-after : (low p n : ℕ) → low ≤ p → All (λ m. low ≤ m.0) (matches_from meaning bytes p n)
+  matches_from-after : (low p n : ℕ) → low ≤ p
+      → All (λ m. low ≤ m.0) (matches_from meaning bytes p n)
   matches_from-after low p zero over = All-nil (λ m. low ≤ m.0)
   matches_from-after low p (suc n) over =
-      go (match_from meaning bytes p) (match_from-order p) (λ q later. matches_from-after low q n (omega arith))
+      go (match_from meaning bytes p) (match_from-order p)
+      (λ q later. matches_from-after low q n (omega arith))
     where
-      go : (found : Option (ℕ × ℕ)) → IfSome {T = ℕ × ℕ} found (λ m. (p ≤ m.0) × (m.0 ≤ m.1) × (m.1 ≤ length bytes))
+      go : (found : Option (ℕ × ℕ)) → IfSome {T = ℕ × ℕ} found (λ m. (p ≤ m.0) × (m.0 ≤ m.1)
+          × (m.1 ≤ length bytes))
           → ((q : ℕ) → p < q → All (λ m. low ≤ m.0) (matches_from meaning bytes q n))
           → All (λ m. low ≤ m.0)
           (elim found as (λ x. List (ℕ × ℕ)) [
@@ -137,38 +151,47 @@ module _ (meaning : Meaning) (bytes : List ℕ) where
           (later (position_after x) (position_after-later p x order.0 order.1))
 
   -- of those that count, the first is the one found first, and the others are those after it
-  pub matches_left-found : (p : ℕ) (left : Option ℕ) (m : ℕ × ℕ) → match_from meaning bytes p ≡ Some m → is_below 0 left
-      ≡ true
+  pub matches_left-found : (p : ℕ) (left : Option ℕ) (m : ℕ × ℕ) → match_from meaning bytes p
+      ≡ Some m → is_below 0 left ≡ true
       → matches_left meaning bytes p left ≡ m ∷ matches_left meaning bytes (position_after m)
       (option_map (λ n. n - 1) left)
   matches_left-found p None m is room = matches_from-found p m is
-  matches_left-found p (Some zero) m is room = absurd (let no : is_below 0 (Some 0) ≡ false = refl in clash room no)
+  matches_left-found p (Some zero) m is room = absurd (let no : is_below 0 (Some 0)
+      ≡ false = refl in clash room no)
   matches_left-found p (Some (suc left)) m is room =
       let one : suc left - 1 ≡ left = omega arith in
       ap (take (suc left)) (matches_from-found p m is)
-      ∙ ap (λ n. m ∷ take n (matches_from meaning bytes (position_after m) (length bytes))) (sym one)
+      ∙ ap (λ n. m ∷ take n (matches_from meaning bytes (position_after m) (length bytes)))
+      (sym one)
 
   pub matches_left-none : (p : ℕ) (left : Option ℕ) → match_from meaning bytes p ≡ None
       → matches_left meaning bytes p left ≡ []
   matches_left-none p None is = matches_from-none p (length bytes) is
-  matches_left-none p (Some left) is = ap (take left) (matches_from-none p (length bytes) is) ∙ take-nil left
+  matches_left-none p (Some left) is = ap (take left) (matches_from-none p (length bytes) is)
+      ∙ take-nil left
 
-  pub matches_left-end : (p : ℕ) (left : Option ℕ) → length bytes ≤ p → matches_left meaning bytes p left ≡ []
+  pub matches_left-end : (p : ℕ) (left : Option ℕ) → length bytes ≤ p
+      → matches_left meaning bytes p left ≡ []
   matches_left-end p left over = matches_left-none p left (match_from-end p over)
 
-  pub matches_left-full : (p : ℕ) (left : Option ℕ) → is_below 0 left ≡ false → matches_left meaning bytes p left ≡ []
-  matches_left-full p None full = absurd (let room : is_below 0 None ≡ true = refl in clash room full)
+  pub matches_left-full : (p : ℕ) (left : Option ℕ) → is_below 0 left ≡ false
+      → matches_left meaning bytes p left ≡ []
+  matches_left-full p None full = absurd (let room : is_below 0 None
+      ≡ true = refl in clash room full)
   matches_left-full p (Some zero) full = refl
-  matches_left-full p (Some (suc left)) full = absurd (clash (lt-ltb 0 (suc left) (omega arith)) full)
+  matches_left-full p (Some (suc left)) full =
+      absurd (clash (lt-ltb 0 (suc left) (omega arith)) full)
 
-  pub matches_left-after : (p : ℕ) (left : Option ℕ) → All (λ m. p ≤ m.0) (matches_left meaning bytes p left)
+  pub matches_left-after : (p : ℕ) (left : Option ℕ)
+      → All (λ m. p ≤ m.0) (matches_left meaning bytes p left)
   matches_left-after p None = matches_from-after p p (length bytes) (omega arith)
   matches_left-after p (Some left) =
       All-take (λ m. p ≤ m.0) left (matches_from meaning bytes p (length bytes))
       (matches_from-after p p (length bytes) (omega arith))
 
   -- at the start they are those that the limit has
-  pub matches_left-start : (limit : Option ℕ) → matches_up_to meaning bytes limit ≡ matches_left meaning bytes 0 limit
+  pub matches_left-start : (limit : Option ℕ) → matches_up_to meaning bytes limit
+      ≡ matches_left meaning bytes 0 limit
   matches_left-start None = refl
   matches_left-start (Some limit) = refl
 
@@ -180,7 +203,8 @@ module _ (meaning : Meaning) (bytes : List ℕ) where
       let same = if_within-same (drop p bytes) (Some m) inside in
       rw (yes, is, same) refl
 
-  pub match_from-missed : (p : ℕ) → meaning.first (drop p bytes) ≡ None → match_from meaning bytes p ≡ None
+  pub match_from-missed : (p : ℕ) → meaning.first (drop p bytes) ≡ None → match_from meaning bytes p
+      ≡ None
   match_from-missed p is = go (nat_lt p (length bytes))
     where
       go : (b : Bool) → (if b then option_map {T = ℕ × ℕ} {U = ℕ × ℕ} (λ m. (p + m.0, p + m.1))

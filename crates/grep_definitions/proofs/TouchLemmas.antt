@@ -1,4 +1,5 @@
--- Which lines a match touches: those that it has a byte of, and an empty match the line that holds its position.
+-- Which lines a match touches: those that it has a byte of, and an empty match the line that holds
+-- its position.
 use Rattle.std.proofs.Common.{◌≡◌, ◌≢◌, ℕ, zero, suc, ◌+◌, ◌-◌, ◌<◌, ◌≤◌, ◌==◌, Bool, true, ◌&&◌}
 use Rattle.std.proofs.Common.{List, length, slice_index, refl, sym, ap, ◌∙◌, arith, ⊎_elim, inl}
 use Rattle.std.proofs.Common.{inr, take_all}
@@ -19,16 +20,10 @@ use Rattle.grep_matcher.proofs.LineStartLemmas.{line_start-last, line_start-le}
 
 -- a test for at most that passes if a test for less does, and no other time
 pub same-tests : (x y z w : ℕ) → (x ≤ y → w ≤ z → ⊥) → (z < w → y < x → ⊥) → nat_le x y ≡ nat_lt z w
-same-tests x y z w first second = ⊎_elim
-    (λ less. ⊎_elim
-    (λ over. absurd (second less over))
-    (λ low. le-leb x y low ∙ sym (lt-ltb z w less))
-    (cases_lt y x))
-    (λ over. ⊎_elim
-    (λ high. lt-leb x y high ∙ sym (le-ltb z w over))
-    (λ low. absurd (first low over))
-    (cases_lt y x))
-    (cases_lt z w)
+same-tests x y z w first second = ⊎_elim (λ less. ⊎_elim (λ over. absurd (second less over))
+    (λ low. le-leb x y low ∙ sym (lt-ltb z w less)) (cases_lt y x)) (λ over. ⊎_elim
+    (λ high. lt-leb x y high ∙ sym (le-ltb z w over)) (λ low. absurd (first low over))
+    (cases_lt y x)) (cases_lt z w)
 
 module _ (t : ℕ) (bytes : List ℕ) where
   -- how many lines there are, and where each begins
@@ -53,8 +48,7 @@ module _ (t : ℕ) (bytes : List ℕ) where
     where
       find : (k : ℕ) → k ≤ n → p < from k → (a : ℕ) × (a < n) × (from a ≤ p) × (p < from (a + 1))
       find zero few less = absurd (omega arith)
-      find (suc k) few less = ⊎_elim
-          (λ before. find k (omega arith) before)
+      find (suc k) few less = ⊎_elim (λ before. find k (omega arith) before)
           (λ over. let one : k + 1 ≡ suc k = omega arith in (k, omega arith, over, rw one less))
           (cases_lt p (from k))
 
@@ -66,36 +60,36 @@ module _ (t : ℕ) (bytes : List ℕ) where
       (IsLastStart-line t bytes a m.0 inside low below)
 
   -- so many lines come before a position in a line
-  pub lines_before-line : (p a : ℕ) → a < n → from a ≤ p → p < from (a + 1) → lines_before t bytes p ≡ a
+  pub lines_before-line : (p a : ℕ) → a < n → from a ≤ p → p < from (a + 1) → lines_before t bytes p
+      ≡ a
   lines_before-line p a inside low below =
       let same = block_start-line (p, p) a inside low below in
       ⊎_elim
-      (λ less. absurd (omega (arith, rises (lines_before t bytes p) (omega (arith, less)), line_start-le t bytes (lines_before t bytes p + 1) a (omega (arith, less)))))
-      (λ over. ⊎_elim
+      (λ less. absurd (omega (
+        arith,
+        rises (lines_before t bytes p) (omega (arith, less)),
+        line_start-le t bytes (lines_before t bytes p + 1) a (omega (arith, less)),
+      ))) (λ over. ⊎_elim
       (λ more. absurd (omega (
         arith,
         rises a inside,
-        line_start-le t bytes (a + 1) (lines_before t bytes p)
-            (omega (arith, more)),
-      )))
-      (λ few. omega arith)
-      (cases_lt a (lines_before t bytes p)))
+        line_start-le t bytes (a + 1) (lines_before t bytes p) (omega (arith, more)),
+      ))) (λ few. omega arith) (cases_lt a (lines_before t bytes p)))
       (cases_lt (lines_before t bytes p) a)
 
   -- the block of a match that isn't empty and ends in a line ends with the line
-  pub block_end-line : (m : ℕ × ℕ) (b : ℕ) → m.0 < m.1 → b < n → from b < m.1 → m.1 ≤ from (b + 1) → from (b + 1)
-      ≡ block_end t bytes m
-  block_end-line m b some inside low below = ⊎_elim
-      (λ less.
+  pub block_end-line : (m : ℕ × ℕ) (b : ℕ) → m.0 < m.1 → b < n → from b < m.1 → m.1 ≤ from (b + 1)
+      → from (b + 1) ≡ block_end t bytes m
+  block_end-line m b some inside low below = ⊎_elim (λ less.
       let open_end : slice_index bytes (m.1 - 1) ≢ t =
-      (IsLastStart-line t bytes b m.1 inside (omega arith) less).inner (m.1 - 1) (omega arith) (omega arith) in
+      (IsLastStart-line t bytes b m.1 inside (omega arith) less).inner (m.1 - 1) (omega arith)
+      (omega arith) in
       block_end-open t bytes m (from (b + 1)) (λ _. open_end)
-      (next (lines_before-line m.1 b inside (omega arith) less)))
-      (λ over. ⊎_elim
-      (λ same. let whole : from (b + 1) ≡ m.1 = omega arith in whole ∙ block_end-closed t bytes m some within same)
+      (next (lines_before-line m.1 b inside (omega arith) less))) (λ over. ⊎_elim
+      (λ same. let whole : from (b + 1) ≡ m.1 = omega arith in whole
+      ∙ block_end-closed t bytes m some within same)
       (λ other. block_end-open t bytes m (from (b + 1)) (λ _. other) (next (before other)))
-      (cases_eq (slice_index bytes (m.1 - 1)) t))
-      (cases_lt m.1 (from (b + 1)))
+      (cases_eq (slice_index bytes (m.1 - 1)) t)) (cases_lt m.1 (from (b + 1)))
     where
       within : m.1 ≤ length bytes
       within = omega (arith, high (b + 1))
@@ -112,36 +106,34 @@ module _ (t : ℕ) (bytes : List ℕ) where
           ∙ lines_before-line (m.1 - 1) b inside (omega arith) (omega arith))
 
   -- the block of an empty match in a line ends with the line
-  pub block_end-empty : (p a : ℕ) → a < n → from a ≤ p → p < from (a + 1) → from (a + 1) ≡ block_end t bytes (p, p)
+  pub block_end-empty : (p a : ℕ) → a < n → from a ≤ p → p < from (a + 1) → from (a + 1)
+      ≡ block_end t bytes (p, p)
   block_end-empty p a inside low below =
       block_end-open t bytes (p, p) (from (a + 1)) (λ less. absurd (omega arith))
       (ap (λ q. from (q + 1)) (sym (lines_before-line p a inside low below)))
 
   -- whether a line is within the whole lines of a match
   abbrev is_within : ℕ → ℕ × ℕ → Bool
-  is_within i m = nat_le (block_start t bytes m) (from i) && nat_le (from (i + 1)) (block_end t bytes m)
+  is_within i m = nat_le (block_start t bytes m) (from i)
+      && nat_le (from (i + 1)) (block_end t bytes m)
 
   -- a line's start and the next one's against those of the lines that a match starts and ends in
-  starts-late : (s a i : ℕ) → a < n → i < n → from a ≤ s → s < from (a + 1) → nat_le (from a) (from i)
-      ≡ nat_lt s (from (i + 1))
+  starts-late : (s a i : ℕ) → a < n → i < n → from a ≤ s → s < from (a + 1)
+      → nat_le (from a) (from i) ≡ nat_lt s (from (i + 1))
   starts-late s a i inside here low below = same-tests (from a) (from i) s (from (i + 1))
       (λ early over. ⊎_elim
       (λ less. omega (arith, rises i here, line_start-le t bytes (i + 1) a (omega (arith, less))))
       (λ more. omega (arith, line_start-le t bytes (a + 1) (i + 1) (omega (arith, more))))
-      (cases_lt i a))
-      (λ over late. ⊎_elim
+      (cases_lt i a)) (λ over late. ⊎_elim
       (λ less. omega (arith, line_start-le t bytes (i + 1) a (omega (arith, less))))
-      (λ more. omega (arith, line_start-le t bytes a i more))
-      (cases_lt i a))
+      (λ more. omega (arith, line_start-le t bytes a i more)) (cases_lt i a))
 
-  ends-early : (e b i : ℕ) → b < n → i < n → from b < e → e ≤ from (b + 1) → nat_le (from (i + 1)) (from (b + 1))
-      ≡ nat_lt (from i) e
+  ends-early : (e b i : ℕ) → b < n → i < n → from b < e → e ≤ from (b + 1)
+      → nat_le (from (i + 1)) (from (b + 1)) ≡ nat_lt (from i) e
   ends-early e b i inside here low below = same-tests (from (i + 1)) (from (b + 1)) (from i) e
       (λ early over. ⊎_elim
       (λ less. omega (arith, rises i here, line_start-le t bytes (b + 1) i (omega (arith, less))))
-      (λ more. omega (arith, line_start-le t bytes i b more))
-      (cases_lt b i))
-      (λ over late. ⊎_elim
+      (λ more. omega (arith, line_start-le t bytes i b more)) (cases_lt b i)) (λ over late. ⊎_elim
       (λ less. omega (arith, line_start-le t bytes (b + 1) i (omega (arith, less))))
       (λ more. omega (arith, line_start-le t bytes (i + 1) (b + 1) (omega (arith, more))))
       (cases_lt b i))
@@ -159,7 +151,8 @@ module _ (t : ℕ) (bytes : List ℕ) where
       (omega arith)))
 
 -- an empty match touches the line that holds its position
-module _ (terminator : LineTerminator) (meaning : Meaning) (bytes : List ℕ) (p i : ℕ) (inside : p ≤ length bytes)
+module _ (terminator : LineTerminator) (meaning : Meaning) (bytes : List ℕ) (p i : ℕ) (inside : p
+    ≤ length bytes)
     (here : i < n (byte_of terminator) bytes) where
   abbrev t : ℕ
   t = byte_of terminator
@@ -182,8 +175,7 @@ module _ (terminator : LineTerminator) (meaning : Meaning) (bytes : List ℕ) (p
   -- a touched line holds it
   pub is_within-holds : is_within (byte_of terminator) bytes i (p, p) ≡ true
       → HoldsPosition terminator meaning bytes i p
-  is_within-holds is = ⊎_elim
-      (λ below.
+  is_within-holds is = ⊎_elim (λ below.
       let line = holder t bytes p below in
       let same : i ≡ line.0 = ⊎_elim
       (λ less. absurd (omega (
@@ -192,18 +184,14 @@ module _ (terminator : LineTerminator) (meaning : Meaning) (bytes : List ℕ) (p
         line_start-le t bytes (i + 1) line.0 (omega arith),
         first,
         block_start-line t bytes (p, p) line.0 line.1 line.2 line.3,
-      )))
-      (λ over. ⊎_elim
+      ))) (λ over. ⊎_elim
       (λ more. absurd (omega (
         arith,
         rises t bytes i here,
         line_start-le t bytes (line.0 + 1) i (omega arith),
         second,
         block_end-empty t bytes p line.0 line.1 line.2 line.3,
-      )))
-      (λ few. omega arith)
-      (cases_lt line.0 i))
-      (cases_lt i line.0) in
+      ))) (λ few. omega arith) (cases_lt line.0 i)) (cases_lt i line.0) in
       (omega (arith, ap starts same), inl (omega (arith, ap (λ x. starts (x + 1)) same))))
       (λ over. ⊎_elim
       (λ closed. absurd (omega (
@@ -215,8 +203,7 @@ module _ (terminator : LineTerminator) (meaning : Meaning) (bytes : List ℕ) (p
         end t bytes,
         rises t bytes i here,
         high t bytes (i + 1),
-      )))
-      (λ other.
+      ))) (λ other.
       let last = last-before over other in
       ⊎_elim
       (λ less. absurd (omega (
@@ -227,11 +214,8 @@ module _ (terminator : LineTerminator) (meaning : Meaning) (bytes : List ℕ) (p
       )))
       (λ more. (
         omega (arith, high t bytes i),
-        inr
-            (omega arith, omega arith, other),
-      ))
-      (cases_lt i (lines_before t bytes p)))
-      (cases_eq (slice_index bytes (length bytes - 1)) t))
+        inr (omega arith, omega arith, other),
+      )) (cases_lt i (lines_before t bytes p))) (cases_eq (slice_index bytes (length bytes - 1)) t))
       (cases_lt p (length bytes))
     where
       parts : (nat_le (block_start t bytes (p, p)) (starts i) ≡ true)
@@ -245,12 +229,13 @@ module _ (terminator : LineTerminator) (meaning : Meaning) (bytes : List ℕ) (p
       second = leb-true _ _ parts.1
 
   -- a line that holds it is touched
-  pub holds-is_within : HoldsPosition terminator meaning bytes i p → is_within (byte_of terminator) bytes i (p, p)
-      ≡ true
+  pub holds-is_within : HoldsPosition terminator meaning bytes i p
+      → is_within (byte_of terminator) bytes i (p, p) ≡ true
   holds-is_within (low, inl below) =
       and_from _ _ (le-leb (block_start t bytes (p, p)) (starts i)
       (omega (arith, block_start-line t bytes (p, p) i here low below)))
-      (le-leb (starts (i + 1)) (block_end t bytes (p, p)) (omega (arith, block_end-empty t bytes p i here low below)))
+      (le-leb (starts (i + 1)) (block_end t bytes (p, p))
+      (omega (arith, block_end-empty t bytes p i here low below)))
   holds-is_within (low, inr (last, over, other)) =
       let before = last-before (omega arith) other in
       let same : lines_before t bytes p ≡ i = omega (arith, before) in

@@ -32,11 +32,10 @@ use Rattle.grep_matcher.proofs.LineStartLemmas.{line_start-within, line_start-le
 use Rattle.grep_definitions.proofs.SearchLawLemmas.{kind-selected}
 
 -- a line that isn't reported as a match isn't selected
-kind-other : (a b c d : Bool) (kind : Option Kind)
-    → (if a then Some matched
+kind-other : (a b c d : Bool) (kind : Option Kind) → (if a then Some matched
     else (if b then Some (in_context After)
-    else (if c then Some (in_context Before) else (if d then Some (in_context Other) else None)))) ≡ kind
-    → (kind ≡ Some matched → ⊥) → a ≡ false
+    else (if c then Some (in_context Before) else (if d then Some (in_context Other) else None))))
+    ≡ kind → (kind ≡ Some matched → ⊥) → a ≡ false
 kind-other true b c d kind is other = absurd (other (sym is))
 kind-other false b c d kind is other = refl
 
@@ -49,12 +48,14 @@ flat_map-joined g f i (suc n) =
     ∙ ap (λ xs. flat_map g (f i) ++ xs) (flat_map-joined g f (i + 1) n)
 
 -- two slices, one after the other, are one
-slice-join : (bytes : List ℕ) (a b c : ℕ) → a ≤ b → b ≤ c → slice_range bytes a b ++ slice_range bytes b c ≡ slice_range bytes a c
+slice-join : (bytes : List ℕ) (a b c : ℕ) → a ≤ b → b ≤ c → slice_range bytes a b
+    ++ slice_range bytes b c ≡ slice_range bytes a c
 slice-join bytes a b c first second =
     let sum : c - a ≡ (b - a) + (c - b) = omega arith in
     let at : a + (b - a) ≡ b = omega arith in
     sym (ap (λ k. take k (drop a bytes)) sum ∙ take-add (b - a) (c - b) (drop a bytes)
-    ∙ ap (λ l. take (b - a) (drop a bytes) ++ take (c - b) l) (drop-drop (b - a) a bytes ∙ ap (λ k. drop k bytes) at))
+    ∙ ap (λ l. take (b - a) (drop a bytes) ++ take (c - b) l) (drop-drop (b - a) a bytes
+    ∙ ap (λ k. drop k bytes) at))
 
 module _ (k : Settings) (meaning : Meaning) (bytes : List ℕ) where
   abbrev selection : Selection
@@ -96,8 +97,7 @@ module _ (k : Settings) (meaning : Meaning) (bytes : List ℕ) where
       (line_start-le (byte_of k.line_terminator) bytes (i + 1) ((i + 1) + m) (omega arith)))
       ∙ (rw (
         slice-line k bytes i,
-        lines-slice (i + 1) m (omega arith)
-            (λ j low below. all j (omega arith) (omega arith)),
+        lines-slice (i + 1) m (omega arith) (λ j low below. all j (omega arith) (omega arith)),
         here,
       ) refl)
 
@@ -106,7 +106,8 @@ module _ (k : Settings) (meaning : Meaning) (bytes : List ℕ) where
   report_at i = matches (number k bytes i) (at i) (report_lines k bytes selection i)
 
   -- what is gathered of the match reports alone
-  module _ (g : Call → List ℕ) (in_context_none : (c : SinkContextKind) (o : Option ℕ) (offset : ℕ) (bytes : List ℕ)
+  module _ (g : Call → List ℕ) (in_context_none : (c : SinkContextKind) (o : Option ℕ) (offset : ℕ)
+      (bytes : List ℕ)
       → g (context c o offset bytes) ≡ []) (in_breaks_none : g breaks ≡ []) where
     abbrev gathered : ℕ → List ℕ
     gathered i = if selected i && not (goes_on i) then g (report_at i) else []
@@ -120,8 +121,7 @@ module _ (k : Settings) (meaning : Meaning) (bytes : List ℕ) where
     gathered-report i (Some matched) is =
         let here = kind-selected (selected i) (follows_selected k bytes selection i)
         (precedes_selected k bytes selection i) k.passthru is in
-        ⊎_elim
-        (λ (later : goes_on i ≡ true). rw (here, later) refl)
+        ⊎_elim (λ (later : goes_on i ≡ true). rw (here, later) refl)
         (λ (first : goes_on i ≡ false). rw (here, first) (append-nil (g (report_at i))))
         (cases_Bool (goes_on i))
     gathered-report i (Some (in_context c)) is =
@@ -129,13 +129,13 @@ module _ (k : Settings) (meaning : Meaning) (bytes : List ℕ) where
         (precedes_selected k bytes selection i) k.passthru (Some (in_context c)) is (λ same. cc) in
         rw (none, in_context_none c (number k bytes i) (at i) (line k bytes i)) refl
 
-    gathered-line : (i : ℕ) → flat_map (λ call. g call.call) (calls_at k bytes selection i) ≡ gathered i
+    gathered-line : (i : ℕ) → flat_map (λ call. g call.call) (calls_at k bytes selection i)
+        ≡ gathered i
     gathered-line i =
         go (breaks_before k bytes selection i)
         (count_at k bytes selection i (Plans.kind k bytes selection i))
       where
-        go : (b : Bool) (end : ℕ) → flat_map (λ call. g call.call)
-            (if b then (planned breaks end)
+        go : (b : Bool) (end : ℕ) → flat_map (λ call. g call.call) (if b then (planned breaks end)
             ∷ report k bytes selection i (Plans.kind k bytes selection i)
             else report k bytes selection i (Plans.kind k bytes selection i)) ≡ gathered i
         go true end = rw in_breaks_none (gathered-report i (Plans.kind k bytes selection i) refl)
@@ -145,22 +145,19 @@ module _ (k : Settings) (meaning : Meaning) (bytes : List ℕ) where
         ≡ joined_from gathered 0 n
     gathered-lines =
         flat_map-joined (λ call. g call.call) (calls_at k bytes selection) 0 n
-        ∙ joined_from-equal (λ j. flat_map (λ call. g call.call) (calls_at k bytes selection j)) gathered 0 n
-        (λ j low high. gathered-line j)
+        ∙ joined_from-equal (λ j. flat_map (λ call. g call.call) (calls_at k bytes selection j))
+        gathered 0 n (λ j low high. gathered-line j)
 
   -- under inversion a report has one line
   alone : selects_free k ≡ true → (i : ℕ) → i < n → whole i ≡ each i
   alone inverted i inside = ⊎_elim
       (λ (here : selected i ≡ true). rw (here, inverted) (slice-line k bytes i))
-      (λ (none : selected i ≡ false). rw none refl)
-      (cases_Bool (selected i))
+      (λ (none : selected i ≡ false). rw none refl) (cases_Bool (selected i))
 
   -- and otherwise those of a longest run of selected lines
   together : selects_free k ≡ false → joined_from whole 0 n ≡ joined_from each 0 n
-  together plain = joined-runs selected n whole each
-      (λ i none. rw none refl)
-      (λ i none. rw none refl)
-      (λ i here later. let on = same i plain ∙ later in rw (here, on) refl)
+  together plain = joined-runs selected n whole each (λ i none. rw none refl)
+      (λ i none. rw none refl) (λ i here later. let on = same i plain ∙ later in rw (here, on) refl)
       (λ i inside here first.
       let fresh = same i plain ∙ first in
       let end : report_end k bytes selection i ≡ run_end selected n i =
@@ -177,13 +174,12 @@ module _ (k : Settings) (meaning : Meaning) (bytes : List ℕ) where
       same i plain = ap (λ b. not b && nat_lt 0 i && selected (i - 1)) plain
 
   -- the match reports are the selected lines
-  pub bytes-calls : flat_map (λ call. report_bytes call.call) (across_plan k meaning bytes).calls ≡ joined_from each 0 n
+  pub bytes-calls : flat_map (λ call. report_bytes call.call) (across_plan k meaning bytes).calls
+      ≡ joined_from each 0 n
   bytes-calls =
-      gathered-lines report_bytes (λ c o offset bytes. refl) refl
-      ∙ ⊎_elim
+      gathered-lines report_bytes (λ c o offset bytes. refl) refl ∙ ⊎_elim
       (λ inverted. joined_from-equal whole each 0 n (λ j low high. alone inverted j (omega arith)))
-      (λ plain. together plain)
-      (cases_Bool (selects_free k))
+      (λ plain. together plain) (cases_Bool (selects_free k))
 
   -- a unit's bytes end where its last line ends
   unit-end : (i : ℕ) → i < n → selected i ≡ true → selects_free k ≡ false
@@ -204,12 +200,13 @@ module _ (k : Settings) (meaning : Meaning) (bytes : List ℕ) where
   -- the lines of the unit that begins at a selected line, and where its bytes end
   pub record IsUnitOf (i : ℕ) : Type 0 where
     pub later : i < report_end k bytes selection i
-    pub size : at i + length (report_lines k bytes selection i) ≡ at (report_end k bytes selection i)
-    pub hits : (j : ℕ) → i < j → j < report_end k bytes selection i → (selected j ≡ true) × (goes_on j ≡ true)
+    pub size : at i + length (report_lines k bytes selection i)
+        ≡ at (report_end k bytes selection i)
+    pub hits : (j : ℕ) → i < j → j < report_end k bytes selection i → (selected j ≡ true)
+        × (goes_on j ≡ true)
 
   pub unit-lines : (i : ℕ) → i < n → selected i ≡ true → IsUnitOf i
-  unit-lines i inside here = ⊎_elim
-      (λ (inverted : selects_free k ≡ true).
+  unit-lines i inside here = ⊎_elim (λ (inverted : selects_free k ≡ true).
       let end : report_end k bytes selection i
       ≡ i + 1 = ap (λ b. if not b then run_end selected n i else i + 1) inverted in
       record {
@@ -222,15 +219,12 @@ module _ (k : Settings) (meaning : Meaning) (bytes : List ℕ) where
           line_start-more (byte_of k.line_terminator) bytes i inside,
         );
         hits = λ j low high. absurd (omega arith);
-      })
-      (λ (plain : selects_free k ≡ false).
+      }) (λ (plain : selects_free k ≡ false).
       let end : report_end k bytes selection i ≡ run_end selected n i =
       ap (λ b. if not b then run_end selected n i else i + 1) plain in
       let run = IsRunEnd-run_end selected n i inside here in
       record {
-        later = ⊎_elim
-            (λ less. omega arith)
-            (λ over.
+        later = ⊎_elim (λ less. omega arith) (λ over.
             let same : run_end selected n i ≡ i = omega arith in
             absurd (clash here (ap selected (sym same) ∙ run.closed (omega (arith, same)))))
             (cases_lt i (run_end selected n i));
@@ -241,17 +235,16 @@ module _ (k : Settings) (meaning : Meaning) (bytes : List ℕ) where
               run.inner j (omega arith) (omega arith),
               ap (λ b. not b && nat_lt 0 j && selected (j - 1)) plain ∙ (rw (above, before) refl),
             );
-      })
-      (cases_Bool (selects_free k))
+      }) (cases_Bool (selects_free k))
 
   -- each report ends before the next one begins
   pub edges-calls : selects_free k ≡ false
-      → IsStrictlyIncreasing (flat_map (λ call. report_edges call.call) (across_plan k meaning bytes).calls)
+      → IsStrictlyIncreasing (flat_map (λ call. report_edges call.call)
+      (across_plan k meaning bytes).calls)
   edges-calls plain =
-      subst IsStrictlyIncreasing
-      (sym (gathered-lines report_edges (λ c o offset bytes. refl) refl
-      ∙ joined_from-equal (gathered report_edges (λ c o offset bytes. refl) refl) (edges selected n at rises higher) 0 n
-      (λ j low high. same j (omega arith))))
+      subst IsStrictlyIncreasing (sym (gathered-lines report_edges (λ c o offset bytes. refl) refl
+      ∙ joined_from-equal (gathered report_edges (λ c o offset bytes. refl) refl)
+      (edges selected n at rises higher) 0 n (λ j low high. same j (omega arith))))
       (edges-rise selected n at rises higher)
     where
       rises : (i : ℕ) → i < n → at i < at (i + 1)
@@ -265,11 +258,9 @@ module _ (k : Settings) (meaning : Meaning) (bytes : List ℕ) where
 
       same : (i : ℕ) → i < n → gathered report_edges (λ c o offset bytes. refl) refl i
           ≡ edges selected n at rises higher i
-      same i inside = ⊎_elim
-          (λ (here : selected i ≡ true). ⊎_elim
+      same i inside = ⊎_elim (λ (here : selected i ≡ true). ⊎_elim
           (λ (later : goes_on i ≡ true). let run = sym (on i) ∙ later in rw (here, later, run) refl)
           (λ (first : goes_on i ≡ false). let run = sym (on i)
           ∙ first in rw (here, first, run, unit-end i inside here plain) refl)
-          (cases_Bool (goes_on i)))
-          (λ (none : selected i ≡ false). rw none refl)
+          (cases_Bool (goes_on i))) (λ (none : selected i ≡ false). rw none refl)
           (cases_Bool (selected i))

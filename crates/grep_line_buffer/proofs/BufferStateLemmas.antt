@@ -1,18 +1,21 @@
 -- What a line buffer shows, by the positions of its bytes, and after a fill.
-use Rattle.std.proofs.Common.{◌≡◌, ℕ, ◌+◌, ◌-◌, ◌<◌, ◌≤◌, Bool, List, ◌++◌, length, drop, Option, slice_index, sym, ap}
-use Rattle.std.proofs.Common.{subst, ◌∙◌, arith, ◌⊎◌, inl, inr, refl, false, length-append, ◌≢◌, true, [], get_or}
-use Rattle.std.proofs.Common.{append-nil, append_assoc}
+use Rattle.std.proofs.Common.{◌≡◌, ℕ, ◌+◌, ◌-◌, ◌<◌, ◌≤◌, Bool, List, ◌++◌, length, drop, Option}
+use Rattle.std.proofs.Common.{slice_index, sym, ap, subst, ◌∙◌, arith, ◌⊎◌, inl, inr, refl, false}
+use Rattle.std.proofs.Common.{length-append, ◌≢◌, true, [], get_or, append-nil, append_assoc}
 use Rattle.std.proofs.lemmas.Bool.{false≢true}
 use Rattle.std.proofs.lemmas.List.{append_cancel_left, drop_at, get_or-append-add}
 use Rattle.std.proofs.lemmas.List.Elements.{All-append, All-get_or}
 use Rattle.grep_line_buffer.specs.declared.detection.Detection.{Detection}
 use Rattle.std.specs.Prelude.{slice_range}
-use Rattle.grep_line_buffer.specs.BufferStates.{BufferState, EndsAtEnd, EndsAtLine, EndsWith, GrowsIfFull, IsFilled}
-use Rattle.grep_line_buffer.specs.BufferStates.{HasNoLine, IsSameBuffer, Lacks, held_bytes, has_quit}
-use Rattle.grep_line_buffer.proofs.SliceLemmas.{drop-slice, slice-join, length-slice, slice_index-slice}
+use Rattle.grep_line_buffer.specs.BufferStates.{BufferState, EndsAtEnd, EndsAtLine, EndsWith}
+use Rattle.grep_line_buffer.specs.BufferStates.{GrowsIfFull, IsFilled, HasNoLine, IsSameBuffer}
+use Rattle.grep_line_buffer.specs.BufferStates.{Lacks, held_bytes, has_quit}
+use Rattle.grep_line_buffer.proofs.SliceLemmas.{drop-slice, slice-join, length-slice}
+use Rattle.grep_line_buffer.proofs.SliceLemmas.{slice_index-slice}
 
 -- two windows that differ in what is shown, in what follows it, and in sizes
-pub window-same : (shown shown' rest rest' : List ℕ) (offset size size' free free' : ℕ) (limit : Option ℕ)
+pub window-same : (shown shown' rest rest' : List ℕ) (offset size size' free free' : ℕ)
+    (limit : Option ℕ)
     (terminator : ℕ) (detection : Detection) (binary : Option ℕ) (has_ended : Bool)
     → shown ≡ shown' → rest ≡ rest' → size ≡ size' → free ≡ free'
     → let old : BufferState = record {
@@ -39,7 +42,8 @@ pub window-same : (shown shown' rest rest' : List ℕ) (offset size size' free f
       binary = binary;
       has_ended = has_ended;
     } in old ≡ new
-window-same shown shown' rest rest' offset size size' free free' limit terminator detection binary has_ended p q r s =
+window-same shown shown' rest rest' offset size size' free free' limit terminator detection binary
+    has_ended p q r s =
     let F : List ℕ → List ℕ → ℕ → ℕ → BufferState = λ x y z f. record {
       shown = x;
       rest = y;
@@ -52,10 +56,11 @@ window-same shown shown' rest rest' offset size size' free free' limit terminato
       binary = binary;
       has_ended = has_ended;
     } in
-    ap (λ x. F x rest size free) p ∙ ap (λ y. F shown' y size free) q ∙ ap (λ z. F shown' rest' z free) r
-    ∙ ap (F shown' rest' size') s
+    ap (λ x. F x rest size free) p ∙ ap (λ y. F shown' y size free) q
+    ∙ ap (λ z. F shown' rest' z free) r ∙ ap (F shown' rest' size') s
 
-module _ (start line_end end count found t : ℕ) (bytes : List ℕ) (low : start ≤ line_end) (high : line_end ≤ end)
+module _ (start line_end end count found t : ℕ) (bytes : List ℕ) (low : start ≤ line_end)
+    (high : line_end ≤ end)
     (within : end ≤ length bytes) (read : count ≤ end - line_end) where
   -- the bytes that were read last
   abbrev pub last_read : List ℕ
@@ -68,10 +73,12 @@ module _ (start line_end end count found t : ℕ) (bytes : List ℕ) (low : star
   pub drop-last_read : drop ((end - line_end) - count) (slice_range bytes line_end end) ≡ last_read
   drop-last_read =
       let at : line_end + ((end - line_end) - count) ≡ end - count = omega arith in
-      drop-slice bytes line_end end ((end - line_end) - count) (omega arith) ∙ ap (λ k. slice_range bytes k end) at
+      drop-slice bytes line_end end ((end - line_end) - count) (omega arith)
+      ∙ ap (λ k. slice_range bytes k end) at
 
   -- all that is held, however much of it is shown
-  pub held-same : found ≤ count → slice_range bytes start ((end - count) + found) ++ slice_range bytes ((end - count) + found) end
+  pub held-same : found ≤ count → slice_range bytes start ((end - count) + found)
+      ++ slice_range bytes ((end - count) + found) end
       ≡ slice_range bytes start line_end ++ slice_range bytes line_end end
   held-same part = slice-join bytes start ((end - count) + found) end (omega arith) (omega arith)
       ∙ sym (slice-join bytes start line_end end low high)
@@ -81,7 +88,8 @@ module _ (start line_end end count found t : ℕ) (bytes : List ℕ) (low : star
       → EndsWith t (slice_range bytes start ((end - count) + found))
   EndsWith-shown some part is =
       let top = (end - count) + found in
-      let len : length (slice_range bytes start top) ≡ top - start = length-slice bytes start top (omega arith) in
+      let len : length (slice_range bytes start top) ≡ top - start = length-slice bytes start top
+      (omega arith) in
       let at : start + (top - start - 1) ≡ (end - count) + (found - 1) = omega arith in
       let here : top - start - 1 < top - start = omega arith in
       let there : found - 1 < end - (end - count) = omega arith in
@@ -91,16 +99,19 @@ module _ (start line_end end count found t : ℕ) (bytes : List ℕ) (low : star
       record { some = rw len (omega arith); last = rw len last }
 
   -- what follows the shown bytes has no terminator
-  pub Lacks-rest : found ≤ count → Lacks t (drop found last_read) → Lacks t (slice_range bytes ((end - count) + found) end)
+  pub Lacks-rest : found ≤ count → Lacks t (drop found last_read)
+      → Lacks t (slice_range bytes ((end - count) + found) end)
   Lacks-rest part none =
-      let P : List ℕ → Type 0 = Lacks t in subst P (drop-slice bytes (end - count) end found (omega arith)) none
+      let P : List ℕ → Type 0 =
+      Lacks t in subst P (drop-slice bytes (end - count) end found (omega arith)) none
 
 -- a buffer is like itself
 pub same-buffer : {buffer : BufferState} → IsSameBuffer buffer buffer
 same-buffer = record { offset = refl; limit = refl; terminator = refl; detection = refl }
 
 -- a fill leaves a buffer at least as large
-pub grown : {least : ℕ} (old new : BufferState) → GrowsIfFull old new → least ≤ old.size → least ≤ new.size
+pub grown : {least : ℕ} (old new : BufferState) → GrowsIfFull old new → least ≤ old.size → least
+    ≤ new.size
 grown old new (inl same) low = omega (arith, same, low)
 grown old new (inr (more, full, few)) low = omega (arith, more, low)
 
@@ -108,14 +119,15 @@ grown old new (inr (more, full, few)) low = omega (arith, more, low)
 abbrev pub IsUncut : BufferState → BufferState → Type 0
 IsUncut old new = EndsAtLine old new ⊎ EndsAtEnd old new
 
-pub uncut-filled : {old new : BufferState} → has_quit new ≡ false → IsFilled old new → IsUncut old new
+pub uncut-filled : {old new : BufferState} → has_quit new ≡ false → IsFilled old new
+    → IsUncut old new
 uncut-filled uncut (inl line) = inl line
 uncut-filled uncut (inr (inl end)) = inr end
 uncut-filled uncut (inr (inr byte)) = absurd (false≢true (sym uncut ∙ byte.cut))
 
 -- a fill shows at least what was shown
-pub long-shown : {old new : BufferState} (given : List ℕ) → held_bytes new ≡ held_bytes old ++ given → IsUncut old new
-    → length old.shown ≤ length new.shown
+pub long-shown : {old new : BufferState} (given : List ℕ) → held_bytes new ≡ held_bytes old ++ given
+    → IsUncut old new → length old.shown ≤ length new.shown
 long-shown {old} given whole (inl line) = omega (arith, line.came, length-append old.shown old.rest)
 long-shown {old} {new} given whole (inr end) = omega (
   arith,
@@ -136,7 +148,13 @@ module _ {t : ℕ} {old new : BufferState} (ends_at : old.terminator ≡ t) wher
       → 0 < length (new.rest ++ later) → IsEnded t new.shown
   closed-filled later (inl line) done some = λ _. line.ends.last ∙ ends_at
   closed-filled later (inr end) done some =
-      absurd (omega (arith, some, length-append new.rest later, ap length end.all, ap length (done end.ended)))
+      absurd (omega (
+        arith,
+        some,
+        length-append new.rest later,
+        ap length end.all,
+        ap length (done end.ended),
+      ))
 
   -- nothing follows if it shows no more lines, or an unterminated one
   pub last-filled : (later : List ℕ) → IsUncut old new → (new.has_ended ≡ true → later ≡ [])
@@ -145,15 +163,16 @@ module _ {t : ℕ} {old new : BufferState} (ends_at : old.terminator ≡ t) wher
     arith,
     same,
     line.came,
-    length-append old.shown
-        old.rest,
+    length-append old.shown old.rest,
   ))
   last-filled later (inl line) done (inr broken) = absurd (broken (λ _. line.ends.last ∙ ends_at))
   last-filled later (inr end) done last = ap (λ xs. xs ++ later) end.all ∙ done end.ended
 
   -- if it shows whole lines, and more than before, the end wasn't seen
-  pub unended-filled : (given : List ℕ) → held_bytes new ≡ held_bytes old ++ given → Lacks t old.rest → IsUncut old new
-      → length old.shown < length new.shown → IsEnded t new.shown → (new.has_ended ≡ false) × Lacks t new.rest
+  pub unended-filled : (given : List ℕ) → held_bytes new ≡ held_bytes old ++ given
+      → Lacks t old.rest → IsUncut old new
+      → length old.shown < length new.shown → IsEnded t new.shown → (new.has_ended ≡ false)
+      × Lacks t new.rest
   unended-filled given whole lacks (inl line) more closed =
       (line.unended, subst (λ c. Lacks c new.rest) ends_at line.none)
   unended-filled given whole lacks (inr end) more closed =
@@ -162,18 +181,23 @@ module _ {t : ℕ} {old new : BufferState} (ends_at : old.terminator ≡ t) wher
       let tail : List ℕ = old.rest ++ given in
       let shown : new.shown ≡ old.shown ++ tail = all ∙ append_assoc old.shown old.rest given in
       let given_lacks = subst (λ c. Lacks c given) ends_at (subst (Lacks old.terminator)
-      (ap (drop (length (held_bytes old))) all ∙ drop_at (held_bytes old) given (length (held_bytes old)) refl) end.none) in
+      (ap (drop (length (held_bytes old))) all ∙ drop_at (held_bytes old) given
+      (length (held_bytes old)) refl) end.none) in
       let tail_lacks = All-append (λ b. b ≢ t) old.rest given lacks given_lacks in
-      let size : length new.shown ≡ length old.shown + length tail = ap length shown ∙ length-append old.shown tail in
-      let last : length old.shown + (length tail - 1) ≡ length new.shown - 1 = omega (arith, size, more) in
-      absurd (All-get_or (λ b. b ≢ t) tail (length tail - 1) 0 (omega (arith, size, more)) tail_lacks
-      (sym (get_or-append-add old.shown tail (length tail - 1) 0)
-      ∙ (ap (λ i. get_or (old.shown ++ tail) i 0) last ∙ (ap (λ xs. slice_index xs (length new.shown - 1)) (sym shown)
+      let size : length new.shown ≡ length old.shown + length tail = ap length shown
+      ∙ length-append old.shown tail in
+      let last : length old.shown + (length tail - 1) ≡ length new.shown - 1 =
+      omega (arith, size, more) in
+      absurd (All-get_or (λ b. b ≢ t) tail (length tail - 1) 0 (omega (arith, size, more))
+      tail_lacks (sym (get_or-append-add old.shown tail (length tail - 1) 0)
+      ∙ (ap (λ i. get_or (old.shown ++ tail) i 0) last
+      ∙ (ap (λ xs. slice_index xs (length new.shown - 1)) (sym shown)
       ∙ closed (omega (arith, more))))))
 
 -- after a fill that failed, what is held and isn't shown lacks the byte that ends a line
 pub unended-rest : {t : ℕ} {old new : BufferState} (given : List ℕ) → old.terminator ≡ t
-    → held_bytes new ≡ held_bytes old ++ given → Lacks t old.rest → HasNoLine old new → Lacks t (old.rest ++ given)
+    → held_bytes new ≡ held_bytes old ++ given → Lacks t old.rest → HasNoLine old new
+    → Lacks t (old.rest ++ given)
 unended-rest {t} {old} {new} given ends_at whole lacks no_line =
     let tail : given ≡ new.rest = append_cancel_left (held_bytes old) given new.rest
     (sym whole ∙ ap (λ xs. xs ++ new.rest) no_line.shown) in

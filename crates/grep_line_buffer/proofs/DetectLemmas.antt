@@ -1,8 +1,8 @@
 -- Detection in the bytes that were read last.
 use borrow.Rule.Slice.PartMut.{put_mid}
-use Rattle.std.proofs.Common.{◌≡◌, ℕ, ◌+◌, ◌-◌, ◌<◌, ◌≤◌, ◌⊎◌, inl, inr, ◌==◌, true, false, ◌&&◌, List, ◌++◌, length}
-use Rattle.std.proofs.Common.{take, drop, Option, None, Some, refl, sym, ap, ◌∙◌, subst, arith, length-append}
-use Rattle.std.proofs.Common.{length-drop, length-take-le}
+use Rattle.std.proofs.Common.{◌≡◌, ℕ, ◌+◌, ◌-◌, ◌<◌, ◌≤◌, ◌⊎◌, inl, inr, ◌==◌, true, false, ◌&&◌}
+use Rattle.std.proofs.Common.{List, ◌++◌, length, take, drop, Option, None, Some, refl, sym, ap}
+use Rattle.std.proofs.Common.{◌∙◌, subst, arith, length-append, length-drop, length-take-le}
 use Rattle.std.specs.List.{position, position_or_len}
 use Rattle.std.specs.Option.{option_map, is_some}
 use Rattle.std.proofs.lemmas.Bool.{false≢true}
@@ -14,18 +14,20 @@ use Rattle.grep_line_buffer.specs.Appends.{Detects}
 use Rattle.grep_line_buffer.specs.BufferStates.{BufferState, held_bytes}
 use Rattle.grep_line_buffer.specs.Detections.{detected_bytes, found_in, first_of}
 use Rattle.grep_line_buffer.specs.declared.detection.Detection.TheVariants.{Quit}
-use Rattle.grep_line_buffer.proofs.DetectionLemmas.{all-before, first_of-none, passes-or-not, position-at}
-use Rattle.grep_line_buffer.proofs.DetectionLemmas.{position-missing}
+use Rattle.grep_line_buffer.proofs.DetectionLemmas.{all-before, first_of-none, passes-or-not}
+use Rattle.grep_line_buffer.proofs.DetectionLemmas.{position-at, position-missing}
 use Rattle.std.proofs.lemmas.Option.{none-some, same_Some}
 use Rattle.grep_line_buffer.proofs.SliceLemmas.{length-slice, slice-join, slice-kept}
 
 -- the bytes before the last ones stay, and detection makes these of the last ones
-pub Detects-made : (count : ℕ) (old new : BufferState) (front last made : List ℕ) (free : ℕ) (binary : Option ℕ)
-    → old.rest ≡ front ++ last → length last ≡ count → made ≡ detected_bytes old.detection old.terminator last
+pub Detects-made : (count : ℕ) (old new : BufferState) (front last made : List ℕ) (free : ℕ)
+    (binary : Option ℕ) → old.rest ≡ front ++ last → length last ≡ count → made
+    ≡ detected_bytes old.detection old.terminator last
     → new ≡ record old { rest = front ++ made; free = free; binary = binary }
-    → binary ≡ first_of old.binary (option_map (λ i. old.offset + (length (held_bytes old) - count) + i)
-    (found_in old.detection old.terminator last))
-    → free + length (old.shown ++ (front ++ made)) ≡ old.free + length (held_bytes old) → Detects count old new
+    → binary ≡ first_of old.binary (option_map (λ i. old.offset + (length (held_bytes old) - count)
+    + i) (found_in old.detection old.terminator last))
+    → free + length (old.shown ++ (front ++ made)) ≡ old.free + length (held_bytes old)
+    → Detects count old new
 Detects-made count old new front last made free binary split counted is changed found sum =
     let at : length old.rest - count ≡ length front =
     omega (arith, ap (λ l. length l) split, length-append front last, counted) in
@@ -34,25 +36,32 @@ Detects-made count old new front last made free binary split counted is changed 
     let after : drop (length old.rest - count) old.rest ≡ last =
     ap (λ n. drop n old.rest) at ∙ ap (drop (length front)) split ∙ drop_at front last _ refl in
     subst (Detects count old) (sym changed) (record {
-      appended = ap (λ l. front ++ l) is ∙ ap (λ l. l ++ detected_bytes old.detection old.terminator last) (sym before)
-          ∙ ap (λ l. take (length old.rest - count) old.rest ++ detected_bytes old.detection old.terminator l) (sym after);
-      found = found ∙ ap (λ l. first_of old.binary (option_map (λ i. old.offset + (length (held_bytes old) - count) + i)
+      appended = ap (λ l. front ++ l) is
+          ∙ ap (λ l. l ++ detected_bytes old.detection old.terminator last) (sym before)
+          ∙ ap (λ l. take (length old.rest - count) old.rest
+          ++ detected_bytes old.detection old.terminator l) (sym after);
+      found = found ∙ ap (λ l. first_of old.binary
+          (option_map (λ i. old.offset + (length (held_bytes old) - count) + i)
           (found_in old.detection old.terminator l))) (sym after);
       free = sum;
       others = refl;
     })
 
-module _ (start line_end end count : ℕ) (bytes : List ℕ) (low : start ≤ line_end) (high : line_end ≤ end)
+module _ (start line_end end count : ℕ) (bytes : List ℕ) (low : start ≤ line_end) (high : line_end
+    ≤ end)
     (within : end ≤ length bytes) (read : count ≤ end - line_end) where
   -- the bytes that aren't shown, in two parts
-  pub split-rest : slice_range bytes line_end end ≡ slice_range bytes line_end (end - count) ++ slice_range bytes (end - count) end
+  pub split-rest : slice_range bytes line_end end ≡ slice_range bytes line_end (end - count)
+      ++ slice_range bytes (end - count) end
   split-rest = sym (slice-join bytes line_end (end - count) end (omega arith) (omega arith))
 
   pub length-last : length (slice_range bytes (end - count) end) ≡ count
   length-last = length-slice bytes (end - count) end within ∙ omega arith
 
-  pub length-held : length (slice_range bytes start line_end ++ slice_range bytes line_end end) ≡ end - start
-  length-held = ap (λ l. length l) (slice-join bytes start line_end end low high) ∙ length-slice bytes start end within
+  pub length-held : length (slice_range bytes start line_end ++ slice_range bytes line_end end)
+      ≡ end - start
+  length-held = ap (λ l. length l) (slice-join bytes start line_end end low high)
+      ∙ length-slice bytes start end within
 
   -- up to a byte of the last ones
   pub slice-before : (at : ℕ) → at ≤ count
@@ -63,16 +72,16 @@ module _ (start line_end end count : ℕ) (bytes : List ℕ) (low : start ≤ li
       let most : from + at - from ≡ at = omega arith in
       let left : at ≤ end - from = omega arith in
       sym (slice-join bytes line_end from (from + at) (omega arith) (omega arith))
-      ∙ ap (λ l. slice_range bytes line_end from ++ l)
-      (ap (λ n. take n (drop from bytes)) most ∙ sym (take-take at (end - from) (drop from bytes) left))
+      ∙ ap (λ l. slice_range bytes line_end from ++ l) (ap (λ n. take n (drop from bytes)) most
+      ∙ sym (take-take at (end - from) (drop from bytes) left))
 
   pub length-cut : (at : ℕ) → at ≤ count
       → length (slice_range bytes start line_end ++ (slice_range bytes line_end (end - count)
       ++ take at (slice_range bytes (end - count) end))) ≡ end - count + at - start
   length-cut at part =
       ap (λ l. length (slice_range bytes start line_end ++ l)) (sym (slice-before at part))
-      ∙ ap (λ l. length l) (slice-join bytes start line_end (end - count + at) (omega arith) (omega arith))
-      ∙ length-slice bytes start (end - count + at) (omega arith)
+      ∙ ap (λ l. length l) (slice-join bytes start line_end (end - count + at) (omega arith)
+      (omega arith)) ∙ length-slice bytes start (end - count + at) (omega arith)
 
   -- the last bytes become others
   module _ (made : List ℕ) (counted : length made ≡ count) where
@@ -83,25 +92,28 @@ module _ (start line_end end count : ℕ) (bytes : List ℕ) (low : start ≤ li
     size = omega arith
 
     changed-front : take (end - count) changed ≡ take (end - count) bytes
-    changed-front = take-put_mid_below (end - count) (end - (end - count)) bytes made (end - count) (omega arith)
-        (omega arith)
+    changed-front = take-put_mid_below (end - count) (end - (end - count)) bytes made (end - count)
+        (omega arith) (omega arith)
 
     changed-end : take end changed ≡ take (end - count) bytes ++ made
-    changed-end = take-put_mid (end - count) (end - (end - count)) bytes made end (omega (arith, counted)) (omega arith)
+    changed-end = take-put_mid (end - count) (end - (end - count)) bytes made end
+        (omega (arith, counted)) (omega arith)
 
     changed-back : drop end changed ≡ drop end bytes
-    changed-back = drop-put_mid (end - count) (end - (end - count)) bytes made end (omega arith) (omega arith)
-        (omega (arith, counted))
+    changed-back = drop-put_mid (end - count) (end - (end - count)) bytes made end (omega arith)
+        (omega arith) (omega (arith, counted))
 
     length-changed : length changed ≡ length bytes
     length-changed =
         let front : length (take (end - count) bytes)
         ≡ end - count = length-take-le (end - count) bytes (omega arith) in
-        ap (λ l. length l) (sym (take-append-drop end changed) ∙ ap (λ l. l ++ drop end changed) changed-end
+        ap (λ l. length l) (sym (take-append-drop end changed)
+        ∙ ap (λ l. l ++ drop end changed) changed-end
         ∙ ap (λ l. (take (end - count) bytes ++ made) ++ l) changed-back)
         ∙ rw (length-append, length-append, front, counted, length-drop) (omega arith)
 
-    changed-rest : slice_range changed line_end end ≡ slice_range bytes line_end (end - count) ++ made
+    changed-rest : slice_range changed line_end end ≡ slice_range bytes line_end (end - count)
+        ++ made
     changed-rest =
         sym (slice-join changed line_end (end - count) end (omega arith) (omega arith))
         ∙ ap (λ l. l ++ slice_range changed (end - count) end)
@@ -110,7 +122,8 @@ module _ (start line_end end count : ℕ) (bytes : List ℕ) (low : start ≤ li
       where
         last : slice_range changed (end - count) end ≡ made
         last = between_is changed (end - count) end ∙ ap (drop (end - count)) changed-end
-            ∙ drop_at (take (end - count) bytes) made (end - count) (length-take-le (end - count) bytes (omega arith))
+            ∙ drop_at (take (end - count) bytes) made (end - count)
+            (length-take-le (end - count) bytes (omega arith))
 
     -- what a buffer over bytes that have become these shows, and how many it holds
     pub record IsChanged (now : List ℕ) : Type 0 where
@@ -119,7 +132,8 @@ module _ (start line_end end count : ℕ) (bytes : List ℕ) (low : start ≤ li
       pub rest : slice_range now line_end end ≡ slice_range bytes line_end (end - count) ++ made
       pub sum : (length bytes - end) + length (slice_range bytes start line_end
           ++ (slice_range bytes line_end (end - count) ++ made))
-          ≡ (length bytes - end) + length (slice_range bytes start line_end ++ slice_range bytes line_end end)
+          ≡ (length bytes - end) + length (slice_range bytes start line_end
+          ++ slice_range bytes line_end end)
 
     pub is-changed : (now : List ℕ) → now ≡ changed → IsChanged now
     is-changed now is = subst IsChanged (sym is) (record {
@@ -129,7 +143,8 @@ module _ (start line_end end count : ℕ) (bytes : List ℕ) (low : start ≤ li
       sum = omega (
         arith,
         length-held,
-        length-append (slice_range bytes start line_end) (slice_range bytes line_end (end - count) ++ made),
+        length-append (slice_range bytes start line_end) (slice_range bytes line_end (end - count)
+            ++ made),
         length-append (slice_range bytes line_end (end - count)) made,
         length-slice bytes start line_end (omega arith),
         length-slice bytes line_end (end - count) (omega arith),
@@ -138,21 +153,27 @@ module _ (start line_end end count : ℕ) (bytes : List ℕ) (low : start ≤ li
     })
 
 -- nothing was found
-pub nothing-found : (before found : Option ℕ) (f : ℕ → ℕ) → found ≡ None → before ≡ first_of before (option_map f found)
-nothing-found before found f none = sym (ap (λ o. first_of before (option_map f o)) none ∙ first_of-none before)
+pub nothing-found : (before found : Option ℕ) (f : ℕ → ℕ) → found ≡ None → before
+    ≡ first_of before (option_map f found)
+nothing-found before found f none = sym (ap (λ o. first_of before (option_map f o)) none
+    ∙ first_of-none before)
 
 -- the byte of `Quit` isn't among these, or is first at an index
-pub quit-none : (b t : ℕ) (bytes : List ℕ) → position (λ x. x == b) bytes ≡ None → bytes ≡ detected_bytes (Quit b) t bytes
-quit-none b t bytes none =
-    sym (take_all (position_or_len (λ x. x == b) bytes) bytes (omega (arith, all-before (λ x. x == b) bytes none)))
-
-pub quit-at : (b t : ℕ) (bytes : List ℕ) (at : ℕ) → position (λ x. x == b) bytes ≡ Some at → take at bytes
+pub quit-none : (b t : ℕ) (bytes : List ℕ) → position (λ x. x == b) bytes ≡ None → bytes
     ≡ detected_bytes (Quit b) t bytes
+quit-none b t bytes none =
+    sym (take_all (position_or_len (λ x. x == b) bytes) bytes
+    (omega (arith, all-before (λ x. x == b) bytes none)))
+
+pub quit-at : (b t : ℕ) (bytes : List ℕ) (at : ℕ) → position (λ x. x == b) bytes ≡ Some at
+    → take at bytes ≡ detected_bytes (Quit b) t bytes
 quit-at b t bytes at is = by (passes-or-not (λ x. x == b) bytes)
   where
-    by : (position_or_len (λ x. x == b) bytes < length bytes) ⊎ (position_or_len (λ x. x == b) bytes ≡ length bytes)
+    by : (position_or_len (λ x. x == b) bytes < length bytes)
+        ⊎ (position_or_len (λ x. x == b) bytes ≡ length bytes)
         → take at bytes ≡ take (position_or_len (λ x. x == b) bytes) bytes
-    by (inl some) = ap (λ n. take n bytes) (same_Some _ _ (sym is ∙ position-at (λ x. x == b) bytes some))
+    by (inl some) = ap (λ n. take n bytes)
+        (same_Some _ _ (sym is ∙ position-at (λ x. x == b) bytes some))
     by (inr all) = absurd (none-some at (sym (position-missing (λ x. x == b) bytes all) ∙ is))
 
 -- a buffer that isn't cut found no byte before
@@ -160,7 +181,7 @@ pub found-first : (before : Option ℕ) → (true && is_some before) ≡ false �
 found-first None uncut = refl
 found-first (Some n) uncut = absurd (false≢true (sym uncut))
 
-pub found-at : (before later : Option ℕ) (f : ℕ → ℕ) (at : ℕ) → before ≡ None → later ≡ Some at → Some (f at)
-    ≡ first_of before (option_map f later)
+pub found-at : (before later : Option ℕ) (f : ℕ → ℕ) (at : ℕ) → before ≡ None → later ≡ Some at
+    → Some (f at) ≡ first_of before (option_map f later)
 found-at before later f at none is = sym (ap (λ o. first_of o (option_map f later)) none
     ∙ ap (λ o. first_of None (option_map f o)) is)

@@ -1,7 +1,8 @@
 -- What detection makes of bytes and of those that come after them.
-use Rattle.std.proofs.Common.{◌≡◌, ◌⊎◌, inl, inr, ℕ, ◌+◌, ◌<◌, ◌≤◌, Bool, true, false, List, [], ◌++◌, length, take}
-use Rattle.std.proofs.Common.{Option, None, Some, refl, sym, ap, ◌∙◌, arith, if◌then◌else◌, ◌==◌, nat_lt, length-append}
-use Rattle.std.proofs.Common.{not, eqb, ltb-true, drop, ◌&&◌}
+use Rattle.std.proofs.Common.{◌≡◌, ◌⊎◌, inl, inr, ℕ, ◌+◌, ◌<◌, ◌≤◌, Bool, true, false, List, []}
+use Rattle.std.proofs.Common.{◌++◌, length, take, Option, None, Some, refl, sym, ap, ◌∙◌, arith}
+use Rattle.std.proofs.Common.{if◌then◌else◌, ◌==◌, nat_lt, length-append, not, eqb, ltb-true, drop}
+use Rattle.std.proofs.Common.{◌&&◌}
 use Rattle.std.specs.List.{position, position_or_len}
 use Rattle.std.specs.Option.{option_map, is_some}
 use Rattle.std.proofs.lemmas.Bool.{eq-eqb, eqb-true, le-ltb, lt-ltb, false_from_ne_true, false≢true}
@@ -11,7 +12,8 @@ use Rattle.std.proofs.lemmas.List.Folds.{prefix_len-append}
 use Rattle.std.proofs.lemmas.List.Sums.{prefix_len-le-length}
 use Rattle.std.proofs.lemmas.Option.{none-some}
 use Rattle.grep_line_buffer.specs.declared.detection.Detection.{Detection}
-use Rattle.grep_line_buffer.specs.declared.detection.Detection.TheVariants.{None as no_detection, Quit, Convert}
+use Rattle.grep_line_buffer.specs.declared.detection.Detection.TheVariants.{None as no_detection}
+use Rattle.grep_line_buffer.specs.declared.detection.Detection.TheVariants.{Quit, Convert}
 use Rattle.grep_line_buffer.specs.Detections.{detected_bytes, found_in, first_of, is_quit}
 
 -- a number that is at most another is below it or the same
@@ -24,7 +26,8 @@ below-or-same a b most false is =
     not_below below = false≢true (sym is ∙ lt-ltb a b below)
 
 unlike : (a b : ℕ) → a < b → eqb a b ≡ false
-unlike a b below = false_from_ne_true (eqb a b) (λ same. absurd (omega (arith, below, eqb-true a b same)))
+unlike a b below = false_from_ne_true (eqb a b)
+    (λ same. absurd (omega (arith, below, eqb-true a b same)))
 
 take-later : (l : List ℕ) (n : ℕ) (m : List ℕ) → take (length l + n) (l ++ m) ≡ l ++ take n m
 take-later l n m = take-add (length l) n (l ++ m)
@@ -33,19 +36,21 @@ take-later l n m = take-add (length l) n (l ++ m)
 
 module _ (p : ℕ → Bool) where
   -- whether a byte passes
-  pub passes-or-not : (xs : List ℕ) → (position_or_len p xs < length xs) ⊎ (position_or_len p xs ≡ length xs)
+  pub passes-or-not : (xs : List ℕ) → (position_or_len p xs < length xs)
+      ⊎ (position_or_len p xs ≡ length xs)
   passes-or-not xs =
       below-or-same (position_or_len p xs) (length xs) (prefix_len-le-length (λ x. not (p x)) xs)
       (nat_lt (position_or_len p xs) (length xs)) refl
 
-  pub position-at : (xs : List ℕ) → position_or_len p xs < length xs → position p xs ≡ Some (position_or_len p xs)
+  pub position-at : (xs : List ℕ) → position_or_len p xs < length xs → position p xs
+      ≡ Some (position_or_len p xs)
   position-at xs some = rw (lt-ltb (position_or_len p xs) (length xs) some) refl
 
   pub position-missing : (xs : List ℕ) → position_or_len p xs ≡ length xs → position p xs ≡ None
   position-missing xs none = rw (none, le-ltb (length xs) (length xs) (omega arith)) refl
 
-  pub first-same : (xs ys : List ℕ) → position_or_len p xs < length xs → position_or_len p (xs ++ ys)
-      ≡ position_or_len p xs
+  pub first-same : (xs ys : List ℕ) → position_or_len p xs < length xs
+      → position_or_len p (xs ++ ys) ≡ position_or_len p xs
   first-same xs ys some = prefix_len-append (λ x. not (p x)) xs ys
       ∙ rw (unlike (position_or_len p xs) (length xs) some) refl
 
@@ -54,23 +59,28 @@ module _ (p : ℕ → Bool) where
   first-later xs ys none = prefix_len-append (λ x. not (p x)) xs ys
       ∙ rw (eq-eqb (position_or_len p xs) (length xs) none) refl
 
-  position-append-by : (xs ys : List ℕ) → (position_or_len p xs < length xs) ⊎ (position_or_len p xs ≡ length xs)
+  position-append-by : (xs ys : List ℕ) → (position_or_len p xs < length xs)
+      ⊎ (position_or_len p xs ≡ length xs)
       → (position_or_len p ys < length ys) ⊎ (position_or_len p ys ≡ length ys)
-      → position p (xs ++ ys) ≡ first_of (position p xs) (option_map (λ i. length xs + i) (position p ys))
+      → position p (xs ++ ys)
+      ≡ first_of (position p xs) (option_map (λ i. length xs + i) (position p ys))
   position-append-by xs ys (inl some) other =
       let at = first-same xs ys some in
       position-at (xs ++ ys) (omega (arith, at, some, length-append xs ys)) ∙ ap Some at
-      ∙ ap (λ o. first_of o (option_map (λ i. length xs + i) (position p ys))) (sym (position-at xs some))
+      ∙ ap (λ o. first_of o (option_map (λ i. length xs + i) (position p ys)))
+      (sym (position-at xs some))
   position-append-by xs ys (inr none) (inl some) =
       let at = first-later xs ys none in
       position-at (xs ++ ys) (omega (arith, at, some, length-append xs ys)) ∙ ap Some at
       ∙ ap (λ o. option_map (λ i. length xs + i) o) (sym (position-at ys some))
-      ∙ ap (λ o. first_of o (option_map (λ i. length xs + i) (position p ys))) (sym (position-missing xs none))
+      ∙ ap (λ o. first_of o (option_map (λ i. length xs + i) (position p ys)))
+      (sym (position-missing xs none))
   position-append-by xs ys (inr none) (inr missing) =
       let at = first-later xs ys none in
       position-missing (xs ++ ys) (omega (arith, at, missing, length-append xs ys))
       ∙ ap (λ o. option_map (λ i. length xs + i) o) (sym (position-missing ys missing))
-      ∙ ap (λ o. first_of o (option_map (λ i. length xs + i) (position p ys))) (sym (position-missing xs none))
+      ∙ ap (λ o. first_of o (option_map (λ i. length xs + i) (position p ys)))
+      (sym (position-missing xs none))
 
   -- the first byte that passes
   pub position-append : (xs ys : List ℕ) → position p (xs ++ ys)
@@ -80,7 +90,8 @@ module _ (p : ℕ → Bool) where
   -- no byte passes, so all are before the first
   none-missing : (xs : List ℕ) → position p xs ≡ None → (position_or_len p xs < length xs)
       ⊎ (position_or_len p xs ≡ length xs) → position_or_len p xs ≡ length xs
-  none-missing xs none (inl some) = absurd (none-some (position_or_len p xs) (sym none ∙ position-at xs some))
+  none-missing xs none (inl some) =
+      absurd (none-some (position_or_len p xs) (sym none ∙ position-at xs some))
   none-missing xs none (inr all) = all
 
   pub all-before : (xs : List ℕ) → position p xs ≡ None → position_or_len p xs ≡ length xs
@@ -103,18 +114,20 @@ found-append (Convert b) t xs ys = by (b == t)
 -- bytes that none of `Quit` is among are all held
 pub detected_bytes-append : (detection : Detection) (t : ℕ) (xs ys : List ℕ)
     → (is_quit detection ≡ true → found_in detection t xs ≡ None)
-    → detected_bytes detection t (xs ++ ys) ≡ detected_bytes detection t xs ++ detected_bytes detection t ys
+    → detected_bytes detection t (xs ++ ys) ≡ detected_bytes detection t xs
+    ++ detected_bytes detection t ys
 detected_bytes-append no_detection t xs ys none = refl
 detected_bytes-append (Convert b) t xs ys none = map-append (λ x. if x == b then t else x) xs ys
 detected_bytes-append (Quit b) t xs ys none =
     let p : ℕ → Bool = λ x. x == b in
     let all = all-before p xs (none refl) in
     ap (λ n. take n (xs ++ ys)) (first-later p xs ys all) ∙ take-later xs (position_or_len p ys) ys
-    ∙ ap (λ l. l ++ take (position_or_len p ys) ys) (sym (take_all (position_or_len p xs) xs (omega (arith, all))))
+    ∙ ap (λ l. l ++ take (position_or_len p ys) ys)
+    (sym (take_all (position_or_len p xs) xs (omega (arith, all))))
 
 -- if none was found, as many bytes are held
-pub length-detected_bytes : (detection : Detection) (t : ℕ) (xs : List ℕ) → found_in detection t xs ≡ None
-    → length (detected_bytes detection t xs) ≡ length xs
+pub length-detected_bytes : (detection : Detection) (t : ℕ) (xs : List ℕ) → found_in detection t xs
+    ≡ None → length (detected_bytes detection t xs) ≡ length xs
 length-detected_bytes no_detection t xs none = refl
 length-detected_bytes (Quit b) t xs none =
     ap (λ l. length l) (take_all (position_or_len (λ x. x == b) xs) xs
@@ -122,8 +135,8 @@ length-detected_bytes (Quit b) t xs none =
 length-detected_bytes (Convert b) t xs none = length-map xs (λ x. if x == b then t else x)
 
 -- a buffer that isn't cut found no byte of `Quit`
-pub uncut-none : (detection : Detection) (binary : Option ℕ) → (is_quit detection && is_some binary) ≡ false
-    → is_quit detection ≡ true → binary ≡ None
+pub uncut-none : (detection : Detection) (binary : Option ℕ) → (is_quit detection && is_some binary)
+    ≡ false → is_quit detection ≡ true → binary ≡ None
 uncut-none detection None uncut quits = refl
 uncut-none no_detection (Some n) uncut quits = absurd (false≢true quits)
 uncut-none (Quit b) (Some n) uncut quits = absurd (false≢true (sym uncut))
@@ -157,22 +170,25 @@ length-uncut (Quit b) t xs none = length-detected_bytes (Quit b) t xs (none refl
 length-uncut (Convert b) t xs none = length-map xs (λ x. if x == b then t else x)
 
 -- bytes after the one that cuts are dropped
-pub detected_bytes-cut : (detection : Detection) (t : ℕ) (xs ys : List ℕ) → is_quit detection ≡ true → (n : ℕ)
-    → found_in detection t xs ≡ Some n
+pub detected_bytes-cut : (detection : Detection) (t : ℕ) (xs ys : List ℕ) → is_quit detection ≡ true
+    → (n : ℕ) → found_in detection t xs ≡ Some n
     → detected_bytes detection t (xs ++ ys) ≡ detected_bytes detection t xs
 detected_bytes-cut no_detection t xs ys quits n found = absurd (false≢true quits)
 detected_bytes-cut (Convert b) t xs ys quits n found = absurd (false≢true quits)
 detected_bytes-cut (Quit b) t xs ys quits n found = by (passes-or-not (λ x. x == b) xs)
   where
-    by : (position_or_len (λ x. x == b) xs < length xs) ⊎ (position_or_len (λ x. x == b) xs ≡ length xs)
-        → take (position_or_len (λ x. x == b) (xs ++ ys)) (xs ++ ys) ≡ take (position_or_len (λ x. x == b) xs) xs
+    by : (position_or_len (λ x. x == b) xs < length xs)
+        ⊎ (position_or_len (λ x. x == b) xs ≡ length xs)
+        → take (position_or_len (λ x. x == b) (xs ++ ys)) (xs ++ ys)
+        ≡ take (position_or_len (λ x. x == b) xs) xs
     by (inl some) =
         ap (λ m. take m (xs ++ ys)) (first-same (λ x. x == b) xs ys some)
         ∙ take-append-le (position_or_len (λ x. x == b) xs) xs ys (omega (arith, some))
     by (inr all) = absurd (none-some n (sym (position-missing (λ x. x == b) xs all) ∙ found))
 
 -- the offset of the first binary byte among those that came and the next
-pub found-next : (detection : Detection) (t base rest : ℕ) (raw given : List ℕ) (old now made : Option ℕ)
+pub found-next : (detection : Detection) (t base rest : ℕ) (raw given : List ℕ)
+    (old now made : Option ℕ)
     → now ≡ first_of old (option_map (λ i. base + i) (found_in detection t raw))
     → (found_in detection t raw ≡ None → rest ≡ length raw)
     → made ≡ first_of now (option_map (λ i. base + rest + i) (found_in detection t given))
@@ -180,11 +196,13 @@ pub found-next : (detection : Detection) (t base rest : ℕ) (raw given : List �
 found-next detection t base rest raw given old now made was len is =
     is ∙ ap (λ o. first_of o (option_map (λ i. base + rest + i) (found_in detection t given))) was
     ∙ by old (found_in detection t raw) refl (found_in detection t given)
-    ∙ ap (λ o. first_of old (option_map (λ i. base + i) o)) (sym (found-append detection t raw given))
+    ∙ ap (λ o. first_of old (option_map (λ i. base + i) o))
+    (sym (found-append detection t raw given))
   where
     by : (old first : Option ℕ) → found_in detection t raw ≡ first → (later : Option ℕ)
-        → first_of (first_of old (option_map (λ i. base + i) first)) (option_map (λ i. base + rest + i) later)
-        ≡ first_of old (option_map (λ i. base + i) (first_of first (option_map (λ i. length raw + i) later)))
+        → first_of (first_of old (option_map (λ i. base + i) first))
+        (option_map (λ i. base + rest + i) later) ≡ first_of old (option_map (λ i. base + i)
+        (first_of first (option_map (λ i. length raw + i) later)))
     by (Some n) first same later = refl
     by None (Some m) same later = refl
     by None None same None = refl
@@ -194,6 +212,7 @@ pub first-none : (first other : Option ℕ) → first_of first other ≡ None �
 first-none None other none = refl
 first-none (Some n) other none = absurd (cc)
 
-pub some-below : (n : ℕ) (other : Option ℕ) (offset : ℕ) → option_map (λ i. n + i) other ≡ Some offset → n ≤ offset
+pub some-below : (n : ℕ) (other : Option ℕ) (offset : ℕ) → option_map (λ i. n + i) other
+    ≡ Some offset → n ≤ offset
 some-below n None offset is = absurd (cc)
 some-below n (Some i) offset is = let same : n + i ≡ offset = cc in omega (arith, same)

@@ -1,173 +1,48 @@
 -- What a fill of a line buffer has come to.
-use Rattle.std.proofs.Common.{◌≡◌, ◌≢◌, ◌⊎◌, inl, inr, ℕ, ◌+◌, ◌*◌, ◌-◌, ◌^◌, ◌<◌, ◌≤◌, List, [], ◌++◌, length, drop}
-use Rattle.std.proofs.Common.{Bool, true, false, ◌&&◌, if◌then◌else◌, take, Option, None, Some, Result, Ok, Err, IfErr}
-use Rattle.std.proofs.Common.{OnOk, refl, sym, ap, subst, ◌∙◌, arith, append_assoc, append-nil, length-append}
-use Rattle.std.proofs.Common.{length-drop}
+use Rattle.std.proofs.Common.{◌≡◌, ◌⊎◌, inl, inr, ℕ, ◌+◌, ◌*◌, ◌-◌, ◌^◌, ◌<◌, ◌≤◌, List, [], ◌++◌}
+use Rattle.std.proofs.Common.{length, drop, true, false, ◌&&◌, if◌then◌else◌, take, Option, None}
+use Rattle.std.proofs.Common.{Some, refl, sym, ap, subst, ◌∙◌, arith, append-nil, length-append}
 use Rattle.std.proofs.lemmas.Bool.{false≢true}
 use Rattle.std.proofs.lemmas.List.{drop_at, nil_from_length}
-use Rattle.std.proofs.lemmas.List.Elements.{All-append}
 use Rattle.std.proofs.KnownBytes.{Consumes-nil}
 use Rattle.std.specs.Io.KnownBytes.{Consumes, Keeps, prepend_known}
 use Rattle.std.specs.declared.io.Error.{Error}
 use Rattle.grep_decode.specs.declared.mode.Mode.TheVariants.{Passing}
-use Rattle.grep_decode.specs.DecoderStates.{DecoderState, Decodes, HasReadNothing, HasWaited, IsSettled, TakesAtMost}
-use Rattle.grep_decode.specs.DecoderStates.{runs_ahead, yet}
+use Rattle.grep_decode.specs.DecoderStates.{DecoderState, Decodes, HasReadNothing, HasWaited}
+use Rattle.grep_decode.specs.DecoderStates.{IsSettled, TakesAtMost, runs_ahead, yet}
 use Rattle.grep_decode.specs.Source.{ReadResult}
 use Rattle.grep_line_buffer.specs.declared.detection.Detection.{Detection}
 use Rattle.grep_line_buffer.specs.declared.fill_error.FillError.{FillError}
-use Rattle.grep_line_buffer.specs.declared.fill_error.FillError.TheVariants.{Read, HeapLimit, Offset, Memory}
+use Rattle.grep_line_buffer.specs.declared.fill_error.FillError.TheVariants.{Read, HeapLimit}
+use Rattle.grep_line_buffer.specs.declared.fill_error.FillError.TheVariants.{Offset, Memory}
 use Rattle.std.specs.Option.{option_map, is_some}
 use Rattle.std.proofs.Math.Seq.{take-append_seam}
-use Rattle.grep_line_buffer.specs.declared.detection.Detection.TheVariants.{None as no_detection, Quit, Convert}
+use Rattle.grep_line_buffer.specs.declared.detection.Detection.TheVariants.{None as no_detection}
+use Rattle.grep_line_buffer.specs.declared.detection.Detection.TheVariants.{Quit, Convert}
 use Rattle.grep_line_buffer.specs.Detections.{detected_bytes, found_in, first_of, is_quit}
-use Rattle.grep_line_buffer.proofs.DetectionLemmas.{detected_bytes-append, detected_bytes-cut, detected_bytes-nil, found-next, found-nil}
-use Rattle.grep_line_buffer.proofs.DetectionLemmas.{first_of-none}
+use Rattle.grep_line_buffer.proofs.DetectionLemmas.{detected_bytes-append, detected_bytes-nil}
+use Rattle.grep_line_buffer.proofs.DetectionLemmas.{found-next, found-nil, first_of-none}
 use Rattle.grep_line_buffer.proofs.DetectionLemmas.{length-detected_bytes, length-uncut, uncut-none}
-use Rattle.grep_line_buffer.specs.BufferStates.{BufferState, coming_to, held_bytes, has_quit, stream, Lacks, IsWithin}
-use Rattle.grep_line_buffer.specs.BufferStates.{IsSameBuffer, GrowsIfFull, KeepsStream, EndsWith, ShowsLine, IsFilled}
+use Rattle.grep_line_buffer.specs.BufferStates.{BufferState, coming_to, held_bytes, has_quit}
+use Rattle.grep_line_buffer.specs.BufferStates.{stream, Lacks, IsWithin, IsSameBuffer, GrowsIfFull}
+use Rattle.grep_line_buffer.specs.BufferStates.{KeepsStream, EndsWith, ShowsLine, IsFilled}
 use Rattle.grep_line_buffer.specs.BufferStates.{HasNoLine}
-use Rattle.grep_line_buffer.specs.Fills.{IfRead, UnlessRead, Fills, FailsToFill, FillFails, PassesOffsets, IsAtLimit}
+use Rattle.grep_line_buffer.specs.Fills.{Fills, FailsToFill, FillFails, PassesOffsets, IsAtLimit}
 use Rattle.grep_line_buffer.specs.Fills.{HasWaitedForLine, MayGrow}
 use Rattle.grep_line_buffer.specs.Appends.{Appends, Detects, FailsToRead}
 use Rattle.grep_line_buffer.specs.Room.{IsFullFault}
 use Rattle.grep_line_buffer.proofs.ReadLemmas.{HasRead, HasRead-none, HasRead-more, HasRead-failed}
-
--- parts of a window
-abbrev rest_of : BufferState → List ℕ
-rest_of w = w.rest
-
-abbrev free_of : BufferState → ℕ
-free_of w = w.free
-
-abbrev offset_of : BufferState → ℕ
-offset_of w = w.offset
-
-abbrev limit_of : BufferState → Option ℕ
-limit_of w = w.limit
-
-abbrev pub size_of : BufferState → ℕ
-size_of w = w.size
-
-abbrev terminator_of : BufferState → ℕ
-terminator_of w = w.terminator
-
-abbrev shown_of : BufferState → List ℕ
-shown_of w = w.shown
-
-abbrev binary_of : BufferState → Option ℕ
-binary_of w = w.binary
-
-abbrev detection_of : BufferState → Detection
-detection_of w = w.detection
-
-abbrev pub ended_of : BufferState → Bool
-ended_of w = w.has_ended
-
--- a fact that holds of each result holds unless it is the reader's error
-pub unless-read : (X : Type 0) (e : FillError) {P : Type 0} → P → UnlessRead {X = X} (Err e) P
-unless-read X (Read e) p = tt
-unless-read X HeapLimit p = p
-unless-read X Offset p = p
-unless-read X Memory p = p
-
--- a full buffer is no error of the reader's
-pub if-read-full : (X : Type 0) (limit : Option ℕ) (size : ℕ) (e : FillError) (P : Error → Type 0)
-    → IsFullFault limit size e
-    → IfRead {X = X} (Err e) P
-if-read-full X limit size (Read e) P fault = absurd fault
-if-read-full X limit size HeapLimit P fault = tt
-if-read-full X limit size Offset P fault = tt
-if-read-full X limit size Memory P fault = tt
-
--- what a buffer shows that had seen the end
-pub filled-before : (w : BufferState) → w.has_ended ≡ true → w.rest ≡ [] → length w.shown < w.size → IsFilled w w
-filled-before w ended all room = inr (inl (record {
-  none = λ k x below. absurd (omega (arith, length-drop (length (held_bytes w)) w.shown, length-append w.shown w.rest));
-  all = all;
-  room = room;
-  ended = ended;
-}))
-
--- a full buffer at its limit without the end of a line is an error of its own, and no other
-pub only-limit : (old new : BufferState) (result : Result Bool FillError) → IfErr result (FillFails old new)
-    → OnOk result (IsFilled old new)
-    → HasNoLine old new → IsAtLimit new → new.offset + length (held_bytes new) < 2 ^ 64 → result ≡ Err HeapLimit
-only-limit old new (Ok some) failed (inl line) none full fits =
-    absurd (omega (arith, ap (λ l. length l) none.shown, line.came))
-only-limit old new (Ok some) failed (inr (inl end)) none full fits = absurd (false≢true (sym none.unended ∙ end.ended))
-only-limit old new (Ok some) failed (inr (inr cut)) none full fits = absurd (false≢true (sym none.unended ∙ cut.ended))
-only-limit old new (Err (Read e)) failed filled none full fits = absurd (omega (arith, failed.1, full.full))
-only-limit old new (Err HeapLimit) failed filled none full fits = refl
-only-limit old new (Err Offset) failed filled none full fits = absurd (omega (arith, failed.past, fits))
-only-limit old new (Err Memory) failed filled none full fits = absurd (failed.1.limit full.limit)
-
--- bytes move from those to come to those that are held, as detection makes them
-stream-moved : (detection : Detection) (t : ℕ) (before after : Option (List ℕ)) (old raw now : List ℕ) (cut : Bool)
-    → now ≡ old ++ detected_bytes detection t raw
-    → (cut ≡ false → is_quit detection ≡ true → found_in detection t raw ≡ None)
-    → (cut ≡ true → (is_quit detection ≡ true) × ((n : ℕ) × (found_in detection t raw ≡ Some n)))
-    → Consumes before after raw
-    → Keeps (prepend_known old (option_map (detected_bytes detection t) before))
-    (prepend_known now (if cut then Some [] else option_map (detected_bytes detection t) after))
-stream-moved detection t None after old raw now cut is going ended moved = tt
-stream-moved detection t (Some x) None old raw now cut is going ended moved = absurd moved
-stream-moved detection t (Some x) (Some y) old raw now true is going ended moved =
-    let found = ended refl in
-    append-nil now ∙ is ∙ ap (λ l. old ++ l) (sym (detected_bytes-cut detection t raw y found.0 found.1.0 found.1.1)
-    ∙ ap (detected_bytes detection t) (sym moved))
-stream-moved detection t (Some x) (Some y) old raw now false is going ended moved =
-    ap (λ l. l ++ detected_bytes detection t y) is ∙ append_assoc old (detected_bytes detection t raw) (detected_bytes detection t y)
-    ∙ ap (λ l. old ++ l) (sym (detected_bytes-append detection t raw y (going refl)) ∙ ap (detected_bytes detection t) (sym moved))
-
--- what is known stays
-Keeps-same : (known : Option (List ℕ)) → Keeps known known
-Keeps-same None = tt
-Keeps-same (Some x) = refl
-
--- the first of them that is there isn't
-first-missing : (before later : Option ℕ) (f : ℕ → ℕ) → first_of before (option_map f later) ≡ None → later ≡ None
-first-missing (Some n) later f none = absurd (cc)
-first-missing None None f none = refl
-first-missing None (Some n) f none = absurd (cc)
-
--- bytes that were appended have no terminator, so none that aren't shown has
-pub Lacks-more : (t count : ℕ) (before given now : List ℕ) → now ≡ before ++ given → length given ≡ count
-    → Lacks t before
-    → Lacks t (drop (length now - count) now) → Lacks t now
-Lacks-more t count before given now is len none more =
-    let at : length now - count ≡ length before = rw (is, length-append before given, len) (omega arith) in
-    let last : drop (length now - count) now ≡ given = ap (λ k. drop k now) at ∙ ap (drop (length before)) is
-    ∙ drop_at before given _ refl in
-    let P : List ℕ → Type 0 = Lacks t in
-    subst P (sym is) (All-append (λ b. b ≢ t) before given none (subst P last more))
-
--- a buffer that grew, and one that grew again
-grows-more : (old now made : BufferState) → GrowsIfFull old now → length (held_bytes made) ≡ length (held_bytes now)
-    → (made.size ≡ now.size) ⊎ (now.size < made.size) × (now.size ≤ length (held_bytes now))
-    × (made.size ≤ 2 * length (held_bytes now) + 1)
-    → GrowsIfFull old made
-grows-more old now made (inl same) len (inl kept) = inl (kept ∙ same)
-grows-more old now made (inl same) len (inr grew) = inr
-    (omega (arith, grew.0), omega (arith, grew.1), omega (arith, grew.2))
-grows-more old now made (inr more) len (inl kept) = inr
-    (omega (arith, more.0), omega (arith, more.1), omega (arith, more.2))
-grows-more old now made (inr more) len (inr grew) = inr
-    (omega (arith, more.0, grew.0), omega (arith, more.1), omega (arith, grew.2))
-
--- bytes that are held now don't leave
-grows-held : (old now new : BufferState) → GrowsIfFull old now → new.size ≡ now.size
-    → length (held_bytes now) ≤ length (held_bytes new) → GrowsIfFull old new
-grows-held old now new (inl same) size more = inl (size ∙ same)
-grows-held old now new (inr grew) size more = inr (omega (arith, grew.0), omega (arith, grew.1), omega (arith, grew.2))
-
--- what a buffer found, if reads gave these bytes after those that it held
-abbrev found_after : BufferState → List ℕ → Option ℕ
-found_after old raw = first_of old.binary (option_map (λ i. old.offset + length (held_bytes old) + i)
-    (found_in old.detection old.terminator raw))
+use Rattle.grep_line_buffer.proofs.FillPartLemmas.{Keeps-same, Lacks-more, binary_of, detection_of}
+use Rattle.grep_line_buffer.proofs.FillPartLemmas.{ended_of, first-missing, found_after, free_of}
+use Rattle.grep_line_buffer.proofs.FillPartLemmas.{grows-held, grows-more, limit_of, offset_of}
+use Rattle.grep_line_buffer.proofs.FillPartLemmas.{rest_of, shown_of, size_of, stream-moved}
+use Rattle.grep_line_buffer.proofs.FillPartLemmas.{terminator_of}
 
 module _ {R : Type 0} (remaining : R → Option (List ℕ)) (step : R → ReadResult → R → Type 0) where
-  -- The bytes that were held before are shown, and what detection makes of those that came since follows them.
-  pub record IsFilling (old : BufferState) (d : DecoderState) (r : R) (now : BufferState) (d' : DecoderState) (r' : R) :
+  -- The bytes that were held before are shown, and what detection makes of those that came since
+  -- follows them.
+  pub record IsFilling (old : BufferState) (d : DecoderState) (r : R) (now : BufferState)
+      (d' : DecoderState) (r' : R) :
       Type 0 where
     pub raw : List ℕ
     pub came : now.rest ≡ detected_bytes old.detection old.terminator raw
@@ -183,28 +58,32 @@ module _ {R : Type 0} (remaining : R → Option (List ℕ)) (step : R → ReadRe
     pub read : HasRead remaining step d r raw d' r'
 
   -- No terminator came yet, and no byte that ends the input.
-  pub record HasNone (old : BufferState) (d : DecoderState) (r : R) (now : BufferState) (d' : DecoderState) (r' : R) :
+  pub record HasNone (old : BufferState) (d : DecoderState) (r : R) (now : BufferState)
+      (d' : DecoderState) (r' : R) :
       Type 0 where
     pub filling : IsFilling old d r now d' r'
     pub none : Lacks old.terminator now.rest
     pub offset : now.offset + length (held_bytes now) < 2 ^ 64
     pub going : has_quit now ≡ false
-    pub begun : HasReadNothing d → ((d' ≡ d) × (r' ≡ r)) ⊎ HasWaitedForLine remaining step old d r r'
+    pub begun : HasReadNothing d → ((d' ≡ d) × (r' ≡ r)) ⊎ HasWaitedForLine remaining step old d r
+        r'
     pub waited : (r' ≡ r) ⊎ HasWaitedForLine remaining step old d r r'
 
   -- it begins with all that was held moved to the front
-  pub HasNone-first : (old now : BufferState) (d : DecoderState) (r : R) (free : ℕ) → Decodes remaining step d r [] d r
-      → now ≡ record old { shown = held_bytes old; rest = []; free = free } → free + length (held_bytes old) ≡ old.size
-      → old.has_ended ≡ false
-      → IsWithin old.limit old.size → old.offset + length (held_bytes old) < 2 ^ 64 → has_quit old ≡ false
-      → HasNone old d r now d r
+  pub HasNone-first : (old now : BufferState) (d : DecoderState) (r : R) (free : ℕ)
+      → Decodes remaining step d r [] d r
+      → now ≡ record old {
+        shown = held_bytes old;
+        rest = [];
+        free = free;
+      } → free + length (held_bytes old) ≡ old.size → old.has_ended ≡ false
+      → IsWithin old.limit old.size → old.offset + length (held_bytes old) < 2 ^ 64 → has_quit old
+      ≡ false → HasNone old d r now d r
   HasNone-first old now d r free none is rolled unended within offset uncut =
       let all : held_bytes old ++ [] ≡ held_bytes old = append-nil (held_bytes old) in
       let found : old.binary ≡ found_after old [] =
-      sym (ap (λ o. first_of old.binary (option_map (λ i. old.offset + length (held_bytes old) + i) o))
-      (found-nil old.detection old.terminator)
-      ∙ first_of-none old.binary)
-      in
+      sym (ap (λ o. first_of old.binary (option_map (λ i. old.offset + length (held_bytes old) + i)
+      o)) (found-nil old.detection old.terminator) ∙ first_of-none old.binary) in
       subst (λ w. HasNone old d r w d r) (sym is) (record {
         filling = record {
           raw = [];
@@ -230,7 +109,10 @@ module _ {R : Type 0} (remaining : R → Option (List ℕ)) (step : R → ReadRe
   -- it goes on with more room
   pub HasNone-room : (old now made : BufferState) (d d1 : DecoderState) (r r1 : R) (size free : ℕ)
       → HasNone old d r now d1 r1
-      → made ≡ record now { size = size; free = free } → free + length (held_bytes made) ≡ size → IsWithin made.limit size
+      → made ≡ record now {
+        size = size;
+        free = free;
+      } → free + length (held_bytes made) ≡ size → IsWithin made.limit size
       → (size ≡ now.size) ⊎ (now.size < size) × (now.free ≡ 0) × (size ≤ 2 * now.size + 1)
       → HasNone old d r made d1 r1
   HasNone-room old now made d d1 r r1 size free before is rolled within grows =
@@ -271,26 +153,30 @@ module _ {R : Type 0} (remaining : R → Option (List ℕ)) (step : R → ReadRe
       fits (inr more) = omega (arith, before.filling.fits, more.0)
 
       grew : (size ≡ now.size) ⊎ (now.size < size) × (now.free ≡ 0) × (size ≤ 2 * now.size + 1)
-          → (size ≡ now.size) ⊎ (now.size < size) × (now.size ≤ length (held_bytes now)) × (size ≤ 2 * length (held_bytes now) + 1)
+          → (size ≡ now.size) ⊎ (now.size < size) × (now.size ≤ length (held_bytes now))
+          × (size ≤ 2 * length (held_bytes now) + 1)
       grew (inl same) = inl same
       grew (inr more) =
-          let full : length (held_bytes now) ≡ now.size = omega (arith, before.filling.rolled, more.1) in
+          let full : length (held_bytes now) ≡ now.size =
+          omega (arith, before.filling.rolled, more.1) in
           inr (more.0, omega (arith, full), omega (arith, full, more.2))
 
   -- nothing that ends the input was among the bytes that came
-  going-none : (old now : BufferState) (d d1 : DecoderState) (r r1 : R) → (f : IsFilling old d r now d1 r1) → has_quit now
-      ≡ false
+  going-none : (old now : BufferState) (d d1 : DecoderState) (r r1 : R)
+      → (f : IsFilling old d r now d1 r1) → has_quit now ≡ false
       → is_quit old.detection ≡ true → found_in old.detection old.terminator f.raw ≡ None
   going-none old now d d1 r r1 f going quits =
       let none : now.binary ≡ None =
-      uncut-none old.detection now.binary (ap (λ x. is_quit x && is_some now.binary) (sym f.same.detection) ∙ going)
-      quits in
-      first-missing old.binary (found_in old.detection old.terminator f.raw) (λ i. old.offset + length (held_bytes old) + i)
-      (sym f.found ∙ none)
+      uncut-none old.detection now.binary (ap (λ x. is_quit x && is_some now.binary)
+      (sym f.same.detection) ∙ going) quits in
+      first-missing old.binary (found_in old.detection old.terminator f.raw) (λ i. old.offset
+      + length (held_bytes old) + i) (sym f.found ∙ none)
 
   -- so there was none before a read that calls the reader
-  HasNone-last : (old now : BufferState) (d d1 : DecoderState) (r r1 r2 : R) → HasNone old d r now d1 r1
-      → 0 < now.free → HasWaited remaining step d1 r1 r2 → HasWaitedForLine remaining step old d r r2
+  HasNone-last : (old now : BufferState) (d d1 : DecoderState) (r r1 r2 : R)
+      → HasNone old d r now d1 r1
+      → 0 < now.free → HasWaited remaining step d1 r1 r2 → HasWaitedForLine remaining step old d r
+      r2
   HasNone-last old now d d1 r r1 r2 before some last =
       let f = before.filling in
       let uncut = going-none old now d d1 r r1 f before.going in
@@ -315,8 +201,8 @@ module _ {R : Type 0} (remaining : R → Option (List ℕ)) (step : R → ReadRe
         last = last;
       }
 
-  pub HasNone-waited : (old now : BufferState) (d d1 : DecoderState) (r r1 r2 : R) → HasNone old d r now d1 r1
-      → 0 < now.free → (r2 ≡ r1) ⊎ HasWaited remaining step d1 r1 r2
+  pub HasNone-waited : (old now : BufferState) (d d1 : DecoderState) (r r1 r2 : R)
+      → HasNone old d r now d1 r1 → 0 < now.free → (r2 ≡ r1) ⊎ HasWaited remaining step d1 r1 r2
       → (r2 ≡ r) ⊎ HasWaitedForLine remaining step old d r r2
   HasNone-waited old now d d1 r r1 r2 before some (inl same) =
       subst (λ x. (x ≡ r) ⊎ HasWaitedForLine remaining step old d r x) (sym same) before.waited
@@ -324,52 +210,61 @@ module _ {R : Type 0} (remaining : R → Option (List ℕ)) (step : R → ReadRe
       inr (HasNone-last old now d d1 r r1 r2 before some last)
 
   -- and the first read calls it
-  pub HasNone-begun : (old now : BufferState) (d d1 : DecoderState) (r r1 r2 : R) → HasNone old d r now d1 r1
+  pub HasNone-begun : (old now : BufferState) (d d1 : DecoderState) (r r1 r2 : R)
+      → HasNone old d r now d1 r1
       → 0 < now.free → (HasReadNothing d1 → HasWaited remaining step d1 r1 r2)
       → (r2 ≡ r1) ⊎ HasWaited remaining step d1 r1 r2
       → HasReadNothing d → HasWaitedForLine remaining step old d r r2
-  HasNone-begun old now d d1 r r1 r2 before some begins waited nothing = go (before.begun nothing) waited
+  HasNone-begun old now d d1 r r1 r2 before some begins waited nothing =
+      go (before.begun nothing) waited
     where
       go : ((d1 ≡ d) × (r1 ≡ r)) ⊎ HasWaitedForLine remaining step old d r r1
-          → (r2 ≡ r1) ⊎ HasWaited remaining step d1 r1 r2 → HasWaitedForLine remaining step old d r r2
+          → (r2 ≡ r1) ⊎ HasWaited remaining step d1 r1 r2 → HasWaitedForLine remaining step old d r
+          r2
       go (inl first) any = HasNone-last old now d d1 r r1 r2 before some
           (begins (subst HasReadNothing (sym first.0) nothing))
       go (inr line) (inl same) = subst (HasWaitedForLine remaining step old d r) (sym same) line
       go (inr line) (inr last) = HasNone-last old now d d1 r r1 r2 before some last
 
   -- the bytes of one read, as detection makes them
-  pub record Comes (count : ℕ) (now : BufferState) (given : List ℕ) (made : BufferState) : Type 0 where
-    pub rest : made.rest ≡ now.rest ++ detected_bytes now.detection now.terminator given
-    pub binary : made.binary
-        ≡ first_of now.binary (option_map (λ i. now.offset + length (held_bytes now) + i)
-        (found_in now.detection now.terminator given))
-    pub whole : made.free + length (held_bytes made) ≡ now.free + length (held_bytes now)
-    pub others : made ≡ record now { rest = made.rest; free = made.free; binary = made.binary }
+  pub record Comes (count : ℕ) (now : BufferState) (given : List ℕ) (made : BufferState) : Type 0
+    where
+      pub rest : made.rest ≡ now.rest ++ detected_bytes now.detection now.terminator given
+      pub binary : made.binary
+          ≡ first_of now.binary (option_map (λ i. now.offset + length (held_bytes now) + i)
+          (found_in now.detection now.terminator given))
+      pub whole : made.free + length (held_bytes made) ≡ now.free + length (held_bytes now)
+      pub others : made ≡ record now { rest = made.rest; free = made.free; binary = made.binary }
 
   -- a read, and what detection makes of it
   pub Comes-detected : (now next made : BufferState) (d1 d2 : DecoderState) (r1 r2 : R) (count : ℕ)
       → (came : Appends remaining step count now d1 r1 next d2 r2) → Detects count next made
       → Comes count now came.given made
   Comes-detected now next made d1 d2 r1 r2 count came changed =
-      let grown : BufferState = record now { rest = now.rest ++ came.given; free = now.free - count } in
+      let grown : BufferState = record now {
+        rest = now.rest ++ came.given;
+        free = now.free - count;
+      } in
       let len : length (now.rest ++ came.given) - count
       ≡ length now.rest = omega (arith, length-append now.rest came.given, came.counted) in
-      let front : take (length (now.rest ++ came.given) - count) (now.rest ++ came.given) ≡ now.rest =
+      let front : take (length (now.rest ++ came.given) - count) (now.rest ++ came.given)
+      ≡ now.rest =
       ap (λ n. take n (now.rest ++ came.given)) len ∙ take-append_seam now.rest came.given in
-      let back : drop (length (now.rest ++ came.given) - count) (now.rest ++ came.given) ≡ came.given =
+      let back : drop (length (now.rest ++ came.given) - count) (now.rest ++ came.given)
+      ≡ came.given =
       ap (λ n. drop n (now.rest ++ came.given)) len ∙ drop_at now.rest came.given _ refl in
       let all : length (now.shown ++ (now.rest ++ came.given)) ≡ length (held_bytes now) + count =
       rw (length-append, length-append, length-append, came.counted) (omega arith) in
-      let base : length (now.shown ++ (now.rest ++ came.given)) - count ≡ length (held_bytes now) = omega (arith, all) in
+      let base : length (now.shown ++ (now.rest ++ came.given)) - count ≡ length (held_bytes now) =
+      omega (arith, all) in
       let of : Detects count grown made = subst (λ w. Detects count w made) came.appended changed in
       record {
         rest = of.appended ∙ ap (λ l. l ++ detected_bytes now.detection now.terminator
             (drop (length (now.rest ++ came.given) - count) (now.rest ++ came.given))) front
             ∙ ap (λ l. now.rest ++ detected_bytes now.detection now.terminator l) back;
-        binary = of.found
-            ∙ ap (λ l. first_of now.binary (option_map (λ i. now.offset +
-            (length (now.shown ++ (now.rest ++ came.given)) - count) + i) (found_in now.detection now.terminator l)))
-            back
+        binary = of.found ∙ ap (λ l. first_of now.binary (option_map (λ i. now.offset +
+            (length (now.shown ++ (now.rest ++ came.given)) - count) + i)
+            (found_in now.detection now.terminator l))) back
             ∙ ap (λ n. first_of now.binary (option_map (λ i. now.offset + n + i)
             (found_in now.detection now.terminator came.given))) base;
         whole = omega (arith, of.free, all, came.fits);
@@ -377,8 +272,8 @@ module _ {R : Type 0} (remaining : R → Option (List ℕ)) (step : R → ReadRe
       }
 
   -- it goes on with one read
-  pub IsFilling-more : (old now next made : BufferState) (d d1 d2 : DecoderState) (r r1 r2 : R) (count : ℕ)
-      → HasNone old d r now d1 r1
+  pub IsFilling-more : (old now next made : BufferState) (d d1 d2 : DecoderState) (r r1 r2 : R)
+      (count : ℕ) → HasNone old d r now d1 r1
       → (came : Appends remaining step count now d1 r1 next d2 r2)
       → Comes count now came.given made → d2.capacity ≡ d1.capacity → IsFilling old d r made d2 r2
   IsFilling-more old now next made d d1 d2 r r1 r2 count before came comes capacity =
@@ -390,25 +285,30 @@ module _ {R : Type 0} (remaining : R → Option (List ℕ)) (step : R → ReadRe
       let t = old.terminator in
       let given : detected_bytes now.detection now.terminator came.given
       ≡ detected_bytes D t came.given = rw (same-d, same-t) refl in
-      let found : made.binary ≡ first_of now.binary (option_map (λ i. now.offset + length (held_bytes now) + i)
+      let found : made.binary
+      ≡ first_of now.binary (option_map (λ i. now.offset + length (held_bytes now) + i)
       (found_in D t came.given)) =
       comes.binary ∙ rw (same-d, same-t) refl in
       let held-now : length (held_bytes now) ≡ length (held_bytes old) + length now.rest =
       ap (λ l. length (l ++ now.rest)) f.shown ∙ length-append (held_bytes old) now.rest in
-      let base : now.offset + length (held_bytes now) ≡ old.offset + length (held_bytes old) + length now.rest =
+      let base : now.offset + length (held_bytes now) ≡ old.offset + length (held_bytes old)
+      + length now.rest =
       omega (arith, f.same.offset, held-now) in
-      let len : length (held_bytes made) ≡ length (held_bytes now) + length (detected_bytes D t came.given) =
+      let len : length (held_bytes made) ≡ length (held_bytes now)
+      + length (detected_bytes D t came.given) =
       ap (λ w. length (held_bytes w)) comes.others ∙ ap (λ l. length (now.shown ++ l))
       (comes.rest ∙ ap (λ l. now.rest ++ l) given)
       ∙ (rw (length-append, length-append, length-append) (omega arith)) in
       record {
         raw = f.raw ++ came.given;
-        came = comes.rest ∙ ap (λ l. now.rest ++ l) given ∙ ap (λ l. l ++ detected_bytes D t came.given) f.came
+        came = comes.rest ∙ ap (λ l. now.rest ++ l) given
+            ∙ ap (λ l. l ++ detected_bytes D t came.given) f.came
             ∙ sym (detected_bytes-append D t f.raw came.given none);
-        found = found-next D t (old.offset + length (held_bytes old)) (length now.rest) f.raw came.given old.binary now.binary
-            made.binary f.found
+        found = found-next D t (old.offset + length (held_bytes old)) (length now.rest) f.raw
+            came.given old.binary now.binary made.binary f.found
             (λ missing. ap (λ l. length l) f.came ∙ length-detected_bytes D t f.raw missing)
-            (found ∙ ap (λ n. first_of now.binary (option_map (λ i. n + i) (found_in D t came.given))) base);
+            (found ∙ ap (λ n. first_of now.binary
+            (option_map (λ i. n + i) (found_in D t came.given))) base);
         uncut = f.uncut;
         shown = ap shown_of comes.others ∙ f.shown;
         unended = ap ended_of comes.others ∙ f.unended;
@@ -432,11 +332,13 @@ module _ {R : Type 0} (remaining : R → Option (List ℕ)) (step : R → ReadRe
         );
         within = subst (λ w. IsWithin w.limit w.size) (sym comes.others) f.within;
         grows = grows-held old now made f.grows (ap size_of comes.others) (omega (arith, len));
-        read = HasRead-more remaining step d d1 d2 r r1 r2 f.raw came.given f.read came.reads capacity;
+        read = HasRead-more remaining step d d1 d2 r r1 r2 f.raw came.given f.read came.reads
+            capacity;
       }
 
   -- what a fill says of the bytes that it appended
-  pub record Outcome (old : BufferState) (d : DecoderState) (r : R) (new : BufferState) (d' : DecoderState) (r' : R) :
+  pub record Outcome (old : BufferState) (d : DecoderState) (r : R) (new : BufferState)
+      (d' : DecoderState) (r' : R) :
       Type 0 where
     pub same : IsSameBuffer old new
     pub within : IsWithin new.limit new.size
@@ -445,31 +347,34 @@ module _ {R : Type 0} (remaining : R → Option (List ℕ)) (step : R → ReadRe
     pub reads : Fills remaining step old d r new d' r'
     pub stream : KeepsStream old new (yet d (remaining r)) (yet d' (remaining r'))
     pub ahead : has_quit new ≡ false → d'.mode ≡ Passing
-        → TakesAtMost (remaining r) (remaining r') (length (held_bytes new) - length (held_bytes old) + runs_ahead d.mode)
+        → TakesAtMost (remaining r) (remaining r') (length (held_bytes new)
+        - length (held_bytes old) + runs_ahead d.mode)
     pub stays : IsSettled d.mode → d'.mode ≡ d.mode
 
   -- a buffer is cut exactly if the byte was among those that came
-  cut-found : (old now : BufferState) (d d1 : DecoderState) (r r1 : R) → (f : IsFilling old d r now d1 r1) → has_quit now
-      ≡ true
-      → (is_quit old.detection ≡ true) × ((n : ℕ) × (found_in old.detection old.terminator f.raw ≡ Some n))
-  cut-found old now d d1 r r1 f cut = by old.detection old.binary (found_in old.detection old.terminator f.raw) refl
+  cut-found : (old now : BufferState) (d d1 : DecoderState) (r r1 : R)
+      → (f : IsFilling old d r now d1 r1) → has_quit now ≡ true → (is_quit old.detection ≡ true)
+      × ((n : ℕ) × (found_in old.detection old.terminator f.raw ≡ Some n))
+  cut-found old now d d1 r r1 f cut = by old.detection old.binary
+      (found_in old.detection old.terminator f.raw) refl
       (sym (ap (λ x. is_quit x && is_some now.binary) f.same.detection) ∙ cut) f.found f.uncut
     where
-      by : (D : Detection) (before later : Option ℕ) → found_in old.detection old.terminator f.raw ≡ later
-          → (is_quit D && is_some now.binary) ≡ true
-          → now.binary ≡ first_of before (option_map (λ i. old.offset + length (held_bytes old) + i) later)
-          → (is_quit D && is_some before) ≡ false → (is_quit D ≡ true)
+      by : (D : Detection) (before later : Option ℕ) → found_in old.detection old.terminator f.raw
+          ≡ later → (is_quit D && is_some now.binary) ≡ true
+          → now.binary ≡ first_of before (option_map (λ i. old.offset + length (held_bytes old) + i)
+          later) → (is_quit D && is_some before) ≡ false → (is_quit D ≡ true)
           × ((n : ℕ) × (found_in old.detection old.terminator f.raw ≡ Some n))
       by (Quit b) before (Some n) same cut found uncut = (refl, (n, same))
-      by (Quit b) None None same cut found uncut = absurd (false≢true (sym (ap (λ o. is_some o) found) ∙ cut))
+      by (Quit b) None None same cut found uncut =
+          absurd (false≢true (sym (ap (λ o. is_some o) found) ∙ cut))
       by (Quit b) (Some m) None same cut found uncut = absurd (false≢true (sym uncut))
       by no_detection before later same cut found uncut = absurd (false≢true cut)
       by (Convert b) before later same cut found uncut = absurd (false≢true cut)
 
   stream-filled : (old now new : BufferState) (d d' : DecoderState) (r r' : R)
       → (f : IsFilling old d r now d' r') (after : Option (List ℕ))
-      → held_bytes new ≡ held_bytes old ++ detected_bytes old.detection old.terminator f.raw → has_quit new ≡ has_quit now → new.detection
-      ≡ old.detection
+      → held_bytes new ≡ held_bytes old ++ detected_bytes old.detection old.terminator f.raw
+      → has_quit new ≡ has_quit now → new.detection ≡ old.detection
       → new.terminator ≡ old.terminator → Consumes (yet d (remaining r)) after f.raw
       → KeepsStream old new (yet d (remaining r)) after
   stream-filled old now new d d' r r' f after is cut same-d same-t gives =
@@ -478,28 +383,33 @@ module _ {R : Type 0} (remaining : R → Option (List ℕ)) (step : R → ReadRe
       let before = yet d (remaining r) in
       let was : coming_to old before ≡ option_map (detected_bytes D t) before =
       ap (λ b. if b then Some [] else option_map (detected_bytes D t) before) f.uncut in
-      let will : coming_to new after ≡ (if has_quit new then Some [] else option_map (detected_bytes D t) after) =
-      ap (λ x. if has_quit new then Some [] else option_map (detected_bytes x new.terminator) after) same-d
+      let will : coming_to new after
+      ≡ (if has_quit new then Some [] else option_map (detected_bytes D t) after) =
+      ap (λ x. if has_quit new then Some [] else option_map (detected_bytes x new.terminator) after)
+      same-d
       ∙ ap (λ x. if has_quit new then Some [] else option_map (detected_bytes D x) after) same-t in
       subst (λ c. Keeps (prepend_known (held_bytes old) c) (stream new after)) (sym was)
-      (subst (λ c. Keeps (prepend_known (held_bytes old) (option_map (detected_bytes D t) before)) (prepend_known (held_bytes new) c))
-      (sym will)
+      (subst (λ c. Keeps (prepend_known (held_bytes old) (option_map (detected_bytes D t) before))
+      (prepend_known (held_bytes new) c)) (sym will)
       (stream-moved D t before after (held_bytes old) f.raw (held_bytes new) (has_quit new) is
       (λ going. going-none old now d d' r r' f (sym cut ∙ going))
       (λ ended. cut-found old now d d' r r' f (sym cut ∙ ended)) gives))
 
-  pub IsFilling-outcome : (old now new : BufferState) (d d' : DecoderState) (r r' : R) → IsFilling old d r now d' r'
-      → held_bytes new ≡ held_bytes now → IsSameBuffer now new → new.size ≡ now.size → new.binary ≡ now.binary
-      → Outcome old d r new d' r'
+  pub IsFilling-outcome : (old now new : BufferState) (d d' : DecoderState) (r r' : R)
+      → IsFilling old d r now d' r'
+      → held_bytes new ≡ held_bytes now → IsSameBuffer now new → new.size ≡ now.size → new.binary
+      ≡ now.binary → Outcome old d r new d' r'
   IsFilling-outcome old now new d d' r r' f whole same size binary =
-      let is : held_bytes new ≡ held_bytes old ++ detected_bytes old.detection old.terminator f.raw =
+      let is : held_bytes new ≡ held_bytes old ++ detected_bytes old.detection old.terminator
+      f.raw =
       whole ∙ ap (λ l. l ++ now.rest) f.shown ∙ ap (λ l. held_bytes old ++ l) f.came in
       let cut : has_quit new ≡ has_quit now = rw (same.detection, binary) refl in
-      let len : has_quit new ≡ false → length (held_bytes new) - length (held_bytes old) ≡ length f.raw =
+      let len : has_quit new ≡ false → length (held_bytes new) - length (held_bytes old)
+      ≡ length f.raw =
       λ going.
-      let full = length-uncut old.detection old.terminator f.raw (going-none old now d d' r r' f (sym cut ∙ going)) in
-      rw (is, length-append) (omega (arith, full))
-      in
+      let full = length-uncut old.detection old.terminator f.raw
+      (going-none old now d d' r r' f (sym cut ∙ going)) in
+      rw (is, length-append) (omega (arith, full)) in
       record {
         same = record {
           offset = same.offset ∙ f.same.offset;
@@ -519,15 +429,14 @@ module _ {R : Type 0} (remaining : R → Option (List ℕ)) (step : R → ReadRe
           decodes = f.read.decodes;
         };
         stream = stream-filled old now new d d' r r' f (yet d' (remaining r')) is cut
-            (same.detection ∙ f.same.detection)
-            (same.terminator ∙ f.same.terminator) f.read.gives;
+            (same.detection ∙ f.same.detection) (same.terminator ∙ f.same.terminator) f.read.gives;
         ahead = λ going passing. rw (len going) (f.read.ahead passing);
         stays = f.read.stays;
       }
 
   -- without a read
-  pub Outcome-none : (old : BufferState) (d : DecoderState) (r : R) → Decodes remaining step d r [] d r
-      → IsWithin old.limit old.size → Outcome old d r old d r
+  pub Outcome-none : (old : BufferState) (d : DecoderState) (r : R)
+      → Decodes remaining step d r [] d r → IsWithin old.limit old.size → Outcome old d r old d r
   Outcome-none old d r none within = record {
     same = record { offset = refl; limit = refl; terminator = refl; detection = refl };
     within = within;
@@ -535,10 +444,11 @@ module _ {R : Type 0} (remaining : R → Option (List ℕ)) (step : R → ReadRe
     capacity = refl;
     reads = record {
       given = [];
-      appended = sym (ap (λ l. held_bytes old ++ l) (detected_bytes-nil old.detection old.terminator) ∙ append-nil (held_bytes old));
-      found = sym (ap (λ o. first_of old.binary (option_map (λ i. old.offset + length (held_bytes old) + i) o))
-          (found-nil old.detection old.terminator)
-          ∙ first_of-none old.binary);
+      appended = sym (ap (λ l. held_bytes old ++ l)
+          (detected_bytes-nil old.detection old.terminator) ∙ append-nil (held_bytes old));
+      found = sym (ap (λ o. first_of old.binary
+          (option_map (λ i. old.offset + length (held_bytes old) + i) o))
+          (found-nil old.detection old.terminator) ∙ first_of-none old.binary);
       uncut = λ was. refl;
       fits = λ some. absurd (omega (arith, some));
       decodes = none;
@@ -552,56 +462,64 @@ module _ {R : Type 0} (remaining : R → Option (List ℕ)) (step : R → ReadRe
   pub Fills-none : (old rolled new : BufferState) (d : DecoderState) (r : R) (free : ℕ)
       → Decodes remaining step d r [] d r
       → rolled ≡ record old { shown = held_bytes old; rest = []; free = free }
-      → new ≡ record rolled { shown = held_bytes rolled; rest = []; has_ended = true } → Fills remaining step old d r new d r
+      → new ≡ record rolled {
+        shown = held_bytes rolled;
+        rest = [];
+        has_ended = true;
+      } → Fills remaining step old d r new d r
   Fills-none old rolled new d r free none moved ended = record {
     given = [];
-    appended = ap (λ w. held_bytes w) ended ∙ append-nil (held_bytes rolled) ∙ ap (λ w. held_bytes w) moved ∙ append-nil (held_bytes old)
-        ∙ sym (append-nil (held_bytes old)) ∙ ap (λ l. held_bytes old ++ l) (sym (detected_bytes-nil old.detection old.terminator));
+    appended = ap (λ w. held_bytes w) ended ∙ append-nil (held_bytes rolled)
+        ∙ ap (λ w. held_bytes w) moved ∙ append-nil (held_bytes old)
+        ∙ sym (append-nil (held_bytes old)) ∙ ap (λ l. held_bytes old ++ l)
+        (sym (detected_bytes-nil old.detection old.terminator));
     found = ap binary_of ended ∙ ap binary_of moved
-        ∙ sym (ap (λ o. first_of old.binary (option_map (λ i. old.offset + length (held_bytes old) + i) o))
-        (found-nil old.detection old.terminator)
-        ∙ first_of-none old.binary);
+        ∙ sym (ap (λ o. first_of old.binary (option_map (λ i. old.offset + length (held_bytes old)
+        + i) o)) (found-nil old.detection old.terminator) ∙ first_of-none old.binary);
     uncut = λ was. refl;
     fits = λ some. absurd (omega (arith, some));
     decodes = none;
   }
 
   -- once nothing more can be read
-  pub IsFilling-stopped : (old now new : BufferState) (d d' : DecoderState) (r r' : R) → IsFilling old d r now d' r'
-      → new ≡ now → Outcome old d r new d' r'
+  pub IsFilling-stopped : (old now new : BufferState) (d d' : DecoderState) (r r' : R)
+      → IsFilling old d r now d' r' → new ≡ now → Outcome old d r new d' r'
   IsFilling-stopped old now new d d' r r' f is = subst (λ w. Outcome old d r w d' r') (sym is)
       (IsFilling-outcome old now now d d' r r' f refl
       (record { offset = refl; limit = refl; terminator = refl; detection = refl }) refl refl)
 
   -- once lines are shown
   pub IsFilling-shown : (old now new : BufferState) (d d' : DecoderState) (r r' : R) (count : ℕ)
-      → IsFilling old d r now d' r' → ShowsLine now new count
-      → Outcome old d r new d' r'
-  IsFilling-shown old now new d d' r r' count f shows = IsFilling-outcome old now new d d' r r' f shows.whole
+      → IsFilling old d r now d' r' → ShowsLine now new count → Outcome old d r new d' r'
+  IsFilling-shown old now new d d' r r' count f shows = IsFilling-outcome old now new d d' r r' f
+      shows.whole
       (record {
         offset = ap offset_of shows.others;
         limit = ap limit_of shows.others;
         terminator = ap terminator_of shows.others;
         detection = ap detection_of shows.others;
-      })
-      (ap size_of shows.others) (ap binary_of shows.others)
+      }) (ap size_of shows.others) (ap binary_of shows.others)
 
   -- once the end was seen
-  pub IsFilling-ended : (old now new : BufferState) (d d' : DecoderState) (r r' : R) → IsFilling old d r now d' r'
-      → new ≡ record now { shown = held_bytes now; rest = []; has_ended = true } → Outcome old d r new d' r'
+  pub IsFilling-ended : (old now new : BufferState) (d d' : DecoderState) (r r' : R)
+      → IsFilling old d r now d' r'
+      → new ≡ record now {
+        shown = held_bytes now;
+        rest = [];
+        has_ended = true;
+      } → Outcome old d r new d' r'
   IsFilling-ended old now new d d' r r' f is = IsFilling-outcome old now new d d' r r' f
       (ap (λ w. held_bytes w) is ∙ append-nil (held_bytes now))
       (record {
         offset = ap offset_of is;
         limit = ap limit_of is;
         terminator = ap terminator_of is;
-        detection = ap
-            detection_of is;
-      })
-      (ap size_of is) (ap binary_of is)
+        detection = ap detection_of is;
+      }) (ap size_of is) (ap binary_of is)
 
   -- a fill that ends in the reader's error
-  pub record ReadFault (old : BufferState) (d : DecoderState) (r : R) (e : Error) (new : BufferState)
+  pub record ReadFault (old : BufferState) (d : DecoderState) (r : R) (e : Error)
+      (new : BufferState)
       (d' : DecoderState) (r' : R) : Type 0 where
     pub same : IsSameBuffer old new
     pub within : IsWithin new.limit new.size
@@ -617,11 +535,11 @@ module _ {R : Type 0} (remaining : R → Option (List ℕ)) (step : R → ReadRe
 
   pub HasNone-fault : (old now new : BufferState) (d d1 d2 : DecoderState) (r r1 r2 : R) (e : Error)
       → HasNone old d r now d1 r1 → FailsToRead remaining step d1 r1 e d2 r2 → 0 < now.free
-      → d2.capacity ≡ d1.capacity → new ≡ now
-      → ReadFault old d r e new d2 r2
+      → d2.capacity ≡ d1.capacity → new ≡ now → ReadFault old d r e new d2 r2
   HasNone-fault old now new d d1 d2 r r1 r2 e before failed some capacity is =
       let f = before.filling in
-      let appended : held_bytes now ≡ held_bytes old ++ detected_bytes old.detection old.terminator f.raw =
+      let appended : held_bytes now ≡ held_bytes old ++ detected_bytes old.detection old.terminator
+      f.raw =
       ap (λ l. l ++ now.rest) f.shown ∙ ap (λ l. held_bytes old ++ l) f.came in
       let out = HasRead-failed remaining step d d1 d2 r r1 r2 f.raw e f.read failed capacity in
       subst (λ w. ReadFault old d r e w d2 r2) (sym is) (record {
@@ -642,7 +560,8 @@ module _ {R : Type 0} (remaining : R → Option (List ℕ)) (step : R → ReadRe
           unended = out.after.unended;
           failed = out.after.failed;
         };
-        stream = stream-filled old now now d d1 r r1 f _ appended refl f.same.detection f.same.terminator out.gives;
+        stream = stream-filled old now now d d1 r r1 f _ appended refl f.same.detection
+            f.same.terminator out.gives;
         stays = out.stays;
         line = record { shown = f.shown; none = before.none; unended = f.unended };
         room = omega (arith, f.rolled);
@@ -651,49 +570,66 @@ module _ {R : Type 0} (remaining : R → Option (List ℕ)) (step : R → ReadRe
       })
 
   -- what is shown at the end
-  pub HasNone-end : (old now next new : BufferState) (d d1 d2 : DecoderState) (r r1 r2 : R) (count : ℕ)
-      → HasNone old d r now d1 r1
+  pub HasNone-end : (old now next new : BufferState) (d d1 d2 : DecoderState) (r r1 r2 : R)
+      (count : ℕ) → HasNone old d r now d1 r1
       → Appends remaining step count now d1 r1 next d2 r2 → count ≡ 0 → 0 < now.free
-      → new ≡ record next { shown = held_bytes next; rest = []; has_ended = true } → IsFilled old new
+      → new ≡ record next {
+        shown = held_bytes next;
+        rest = [];
+        has_ended = true;
+      } → IsFilled old new
   HasNone-end old now next new d d1 d2 r r1 r2 count before came zero some is =
       let f = before.filling in
       let empty : came.given ≡ [] = nil_from_length came.given (came.counted ∙ zero) in
       let rest : next.rest ≡ now.rest = ap rest_of came.appended ∙ ap (λ l. now.rest ++ l) empty
       ∙ append-nil now.rest in
       let free : next.free ≡ now.free - count = ap free_of came.appended in
-      let whole : held_bytes next ≡ held_bytes old ++ now.rest = ap (λ l. l ++ next.rest) (ap shown_of came.appended ∙ f.shown)
+      let whole : held_bytes next ≡ held_bytes old ++ now.rest =
+      ap (λ l. l ++ next.rest) (ap shown_of came.appended ∙ f.shown)
       ∙ ap (λ l. held_bytes old ++ l) rest in
-      let held-now : held_bytes now ≡ held_bytes old ++ now.rest = ap (λ l. l ++ now.rest) f.shown in
+      let held-now : held_bytes now ≡ held_bytes old ++ now.rest =
+      ap (λ l. l ++ now.rest) f.shown in
       let last : drop (length (held_bytes old)) (held_bytes next) ≡ now.rest =
       ap (drop (length (held_bytes old))) whole ∙ drop_at (held_bytes old) now.rest _ refl in
       let size : next.size ≡ now.size = ap size_of came.appended in
       let P : List ℕ → Type 0 = Lacks old.terminator in
-      let none : P (drop (length (held_bytes old)) (held_bytes next)) = subst P (sym last) before.none in
+      let none : P (drop (length (held_bytes old)) (held_bytes next)) =
+      subst P (sym last) before.none in
       subst (IsFilled old) (sym is) (inr (inl (record {
         none = none;
         all = refl;
-        room = omega (arith, f.rolled, some, size, ap (λ l. length l) whole, ap (λ l. length l) held-now);
+        room = omega (
+          arith,
+          f.rolled,
+          some,
+          size,
+          ap (λ l. length l) whole,
+          ap (λ l. length l) held-now,
+        );
         ended = refl;
       })))
 
   -- the end of such a read, which gave none
-  pub IsFilling-none : (old now next : BufferState) (d d1 d2 : DecoderState) (r r1 r2 : R) (count : ℕ)
-      → HasNone old d r now d1 r1 → Appends remaining step count now d1 r1 next d2 r2 → count
-      ≡ 0
+  pub IsFilling-none : (old now next : BufferState) (d d1 d2 : DecoderState) (r r1 r2 : R)
+      (count : ℕ)
+      → HasNone old d r now d1 r1 → Appends remaining step count now d1 r1 next d2 r2 → count ≡ 0
       → d2.capacity ≡ d1.capacity → IsFilling old d r next d2 r2
   IsFilling-none old now next d d1 d2 r r1 r2 count before came zero capacity =
       let empty : came.given ≡ [] = nil_from_length came.given (came.counted ∙ zero) in
       let rest : next.rest ≡ now.rest ++ detected_bytes now.detection now.terminator came.given =
-      ap rest_of came.appended ∙ ap (λ l. now.rest ++ l) (empty ∙ sym (detected_bytes-nil now.detection now.terminator)
+      ap rest_of came.appended
+      ∙ ap (λ l. now.rest ++ l) (empty ∙ sym (detected_bytes-nil now.detection now.terminator)
       ∙ ap (detected_bytes now.detection now.terminator) (sym empty)) in
-      let found : next.binary ≡ first_of now.binary (option_map (λ i. now.offset + length (held_bytes now) + i)
+      let found : next.binary
+      ≡ first_of now.binary (option_map (λ i. now.offset + length (held_bytes now) + i)
       (found_in now.detection now.terminator came.given)) =
       ap binary_of came.appended ∙ sym (first_of-none now.binary)
       ∙ ap (λ o. first_of now.binary (option_map (λ i. now.offset + length (held_bytes now) + i) o))
-      (sym (found-nil now.detection now.terminator) ∙ ap (found_in now.detection now.terminator) (sym empty))
-      in
+      (sym (found-nil now.detection now.terminator) ∙ ap (found_in now.detection now.terminator)
+      (sym empty)) in
       let len : length (now.shown ++ (now.rest ++ came.given)) ≡ length (held_bytes now) =
-      ap (λ l. length (now.shown ++ (now.rest ++ l))) empty ∙ ap (λ l. length (now.shown ++ l)) (append-nil now.rest) in
+      ap (λ l. length (now.shown ++ (now.rest ++ l))) empty ∙ ap (λ l. length (now.shown ++ l))
+      (append-nil now.rest) in
       IsFilling-more old now next next d d1 d2 r r1 r2 count before came (record {
         rest = rest;
         binary = found;
@@ -703,39 +639,55 @@ module _ {R : Type 0} (remaining : R → Option (List ℕ)) (step : R → ReadRe
     where
       same-next : next ≡ record now { rest = now.rest ++ came.given; free = now.free - count }
           → next ≡ record now { rest = next.rest; free = next.free; binary = next.binary }
-      same-next is = subst (λ w. w ≡ record now { rest = w.rest; free = w.free; binary = w.binary }) (sym is) refl
+      same-next is = subst (λ w. w ≡ record now {
+        rest = w.rest;
+        free = w.free;
+        binary = w.binary;
+      }) (sym is) refl
 
   -- what is shown once a byte ended the input
-  pub IsFilling-byte : (old now new : BufferState) (d d' : DecoderState) (r r' : R) → IsFilling old d r now d' r'
-      → has_quit now ≡ true
-      → length (held_bytes now) < now.size → new ≡ record now { shown = held_bytes now; rest = []; has_ended = true }
-      → IsFilled old new
+  pub IsFilling-byte : (old now new : BufferState) (d d' : DecoderState) (r r' : R)
+      → IsFilling old d r now d' r' → has_quit now ≡ true
+      → length (held_bytes now) < now.size → new ≡ record now {
+        shown = held_bytes now;
+        rest = [];
+        has_ended = true;
+      } → IsFilled old new
   IsFilling-byte old now new d d' r r' f cut room is =
-      subst (IsFilled old) (sym is) (inr (inr (record { cut = cut; all = refl; room = room; ended = refl })))
+      subst (IsFilled old) (sym is) (inr (inr (record {
+        cut = cut;
+        all = refl;
+        room = room;
+        ended = refl;
+      })))
 
   -- if the input isn't cut, detection keeps the number of bytes
-  pub Comes-counted : (old now made : BufferState) (d d1 d2 : DecoderState) (r r1 r2 : R) (count : ℕ) (given : List ℕ)
-      → HasNone old d r now d1 r1 → Comes count now given made → length given ≡ count → has_quit made ≡ false
-      → length (detected_bytes now.detection now.terminator given) ≡ count
+  pub Comes-counted : (old now made : BufferState) (d d1 d2 : DecoderState) (r r1 r2 : R)
+      (count : ℕ) (given : List ℕ)
+      → HasNone old d r now d1 r1 → Comes count now given made → length given ≡ count
+      → has_quit made ≡ false → length (detected_bytes now.detection now.terminator given) ≡ count
   Comes-counted old now made d d1 d2 r r1 r2 count given before comes counted going =
       length-uncut now.detection now.terminator given
       (λ quits. first-missing now.binary (found_in now.detection now.terminator given)
       (λ i. now.offset + length (held_bytes now) + i)
       (sym comes.binary ∙ uncut-none now.detection made.binary
-      (ap (λ x. is_quit x && is_some made.binary) (sym (ap detection_of comes.others)) ∙ going) quits))
-      ∙ counted
+      (ap (λ x. is_quit x && is_some made.binary) (sym (ap detection_of comes.others)) ∙ going)
+      quits)) ∙ counted
 
   -- what is shown once a line ended
-  pub IsFilling-line : (old now made new : BufferState) (d d1 d2 : DecoderState) (r r1 r2 : R) (count : ℕ)
-      (given : List ℕ)
-      → HasNone old d r now d1 r1 → Comes count now given made → length given ≡ count → has_quit made ≡ false
+  pub IsFilling-line : (old now made new : BufferState) (d d1 d2 : DecoderState) (r r1 r2 : R)
+      (count : ℕ) (given : List ℕ)
+      → HasNone old d r now d1 r1 → Comes count now given made → length given ≡ count
+      → has_quit made ≡ false
       → IsFilling old d r made d2 r2 → ShowsLine made new count → IsFilled old new
   IsFilling-line old now made new d d1 d2 r r1 r2 count given before comes counted going f shows =
-      let kept = Comes-counted old now made d d1 d2 r r1 r2 count given before comes counted going in
+      let kept = Comes-counted old now made d d1 d2 r r1 r2 count given before comes counted
+      going in
       let len : length (held_bytes made) ≡ length (held_bytes old) + (length now.rest + count) =
       ap (λ l. length (l ++ made.rest)) f.shown ∙ length-append (held_bytes old) made.rest
       ∙ ap (λ l. length (held_bytes old) + length l) comes.rest
-      ∙ ap (λ n. length (held_bytes old) + n) (length-append now.rest (detected_bytes now.detection now.terminator given))
+      ∙ ap (λ n. length (held_bytes old) + n)
+      (length-append now.rest (detected_bytes now.detection now.terminator given))
       ∙ ap (λ n. length (held_bytes old) + (length now.rest + n)) kept in
       inl (record {
         came = omega (arith, len, shows.reached);
@@ -745,20 +697,24 @@ module _ {R : Type 0} (remaining : R → Option (List ℕ)) (step : R → ReadRe
       })
 
   -- it goes on if no line ended
-  pub HasNone-more : (old now made new : BufferState) (d d1 d2 : DecoderState) (r r1 r2 : R) (count : ℕ)
-      (given : List ℕ)
-      → HasNone old d r now d1 r1 → Comes count now given made → length given ≡ count → has_quit made ≡ false
-      → IsFilling old d r made d2 r2
-      → Lacks made.terminator (drop (length made.rest - count) made.rest) → made.offset + length (held_bytes made) < 2 ^ 64
+  pub HasNone-more : (old now made new : BufferState) (d d1 d2 : DecoderState) (r r1 r2 : R)
+      (count : ℕ) (given : List ℕ)
+      → HasNone old d r now d1 r1 → Comes count now given made → length given ≡ count
+      → has_quit made ≡ false → IsFilling old d r made d2 r2
+      → Lacks made.terminator (drop (length made.rest - count) made.rest) → made.offset
+      + length (held_bytes made) < 2 ^ 64
       → new ≡ made → (HasReadNothing d → HasWaitedForLine remaining step old d r r2)
-      → (r2 ≡ r) ⊎ HasWaitedForLine remaining step old d r r2
-      → HasNone old d r new d2 r2
-  HasNone-more old now made new d d1 d2 r r1 r2 count given before comes counted going f lacks offset is begun waited =
-      let kept = Comes-counted old now made d d1 d2 r r1 r2 count given before comes counted going in
-      let last = subst (λ t. Lacks t (drop (length made.rest - count) made.rest)) f.same.terminator lacks in
+      → (r2 ≡ r) ⊎ HasWaitedForLine remaining step old d r r2 → HasNone old d r new d2 r2
+  HasNone-more old now made new d d1 d2 r r1 r2 count given before comes counted going f lacks
+      offset is begun waited =
+      let kept = Comes-counted old now made d d1 d2 r r1 r2 count given before comes counted
+      going in
+      let last = subst (λ t. Lacks t (drop (length made.rest - count) made.rest)) f.same.terminator
+      lacks in
       subst (λ w. HasNone old d r w d2 r2) (sym is) (record {
         filling = f;
-        none = Lacks-more old.terminator count now.rest (detected_bytes now.detection now.terminator given) made.rest
+        none = Lacks-more old.terminator count now.rest
+            (detected_bytes now.detection now.terminator given) made.rest
             comes.rest kept before.none last;
         offset = offset;
         going = going;
@@ -767,15 +723,22 @@ module _ {R : Type 0} (remaining : R → Option (List ℕ)) (step : R → ReadRe
       })
 
   -- an offset would be above 2^64 - 1
-  pub IsFilling-past : (old now next : BufferState) (d d1 d2 : DecoderState) (r r1 r2 : R) → HasNone old d r now d1 r1
-      → IsFilling old d r next d2 r2
+  pub IsFilling-past : (old now next : BufferState) (d d1 d2 : DecoderState) (r r1 r2 : R)
+      → HasNone old d r now d1 r1 → IsFilling old d r next d2 r2
       → 2 ^ 64 ≤ next.offset + length (held_bytes next) → PassesOffsets old next
   IsFilling-past old now next d d1 d2 r r1 r2 before f past =
-      let len = ap (λ l. length (l ++ now.rest)) before.filling.shown ∙ length-append (held_bytes old) now.rest in
+      let len = ap (λ l. length (l ++ now.rest)) before.filling.shown
+      ∙ length-append (held_bytes old) now.rest in
       record {
         past = past;
         shown = λ _. f.shown;
-        same = λ passed. absurd (omega (arith, passed, before.offset, before.filling.same.offset, len));
+        same = λ passed. absurd (omega (
+          arith,
+          passed,
+          before.offset,
+          before.filling.same.offset,
+          len,
+        ));
         unended = f.unended;
       }
 
@@ -783,14 +746,24 @@ module _ {R : Type 0} (remaining : R → Option (List ℕ)) (step : R → ReadRe
   pub HasNone-full : (old now new : BufferState) (d d1 : DecoderState) (r r1 : R) (e : FillError)
       → HasNone old d r now d1 r1
       → new ≡ now → now.free ≡ 0 → IsFullFault now.limit now.size e → FillFails old new e
-  HasNone-full old now new d d1 r r1 HeapLimit before is none fault = subst (λ w. HasNoLine old w × IsAtLimit w)
+  HasNone-full old now new d d1 r r1 HeapLimit before is none fault =
+      subst (λ w. HasNoLine old w × IsAtLimit w)
       (sym is) (
-        record { shown = before.filling.shown; none = before.none; unended = before.filling.unended },
+        record {
+          shown = before.filling.shown;
+          none = before.none;
+          unended = before.filling.unended;
+        },
         record { full = omega (arith, before.filling.rolled, none); limit = fault },
       )
-  HasNone-full old now new d d1 r r1 Memory before is none fault = subst (λ w. HasNoLine old w × MayGrow w) (sym is) (
-    record { shown = before.filling.shown; none = before.none; unended = before.filling.unended },
-    record { full = omega (arith, before.filling.rolled, none); limit = fault },
-  )
+  HasNone-full old now new d d1 r r1 Memory before is none fault =
+      subst (λ w. HasNoLine old w × MayGrow w) (sym is) (
+        record {
+          shown = before.filling.shown;
+          none = before.none;
+          unended = before.filling.unended;
+        },
+        record { full = omega (arith, before.filling.rolled, none); limit = fault },
+      )
   HasNone-full old now new d d1 r r1 Offset before is none fault = absurd fault
   HasNone-full old now new d d1 r r1 (Read e) before is none fault = absurd fault

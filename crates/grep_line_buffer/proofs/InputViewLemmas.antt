@@ -1,17 +1,20 @@
 -- What detection makes of a whole input, against what a buffer holds of its parts.
-use Rattle.std.proofs.Common.{◌≡◌, ℕ, ◌+◌, ◌<◌, ◌≤◌, ◌==◌, Bool, true, false, List, [], ◌++◌, length, take, drop, map}
-use Rattle.std.proofs.Common.{Some, None}
-use Rattle.std.proofs.Common.{◌⊎◌, inl, inr, refl, sym, ◌∙◌, ap, arith, append-nil, append_assoc, length-append, ⊎_elim}
-use Rattle.std.proofs.lemmas.List.{take_all, length-map, length-take-le, map-append, take-append-le, take-append-drop}
+use Rattle.std.proofs.Common.{◌≡◌, ℕ, ◌+◌, ◌<◌, ◌≤◌, ◌==◌, Bool, true, false, List, [], ◌++◌}
+use Rattle.std.proofs.Common.{length, take, drop, map, Some, None, ◌⊎◌, inl, inr, refl, sym, ◌∙◌}
+use Rattle.std.proofs.Common.{ap, arith, append-nil, append_assoc, length-append, ⊎_elim}
+use Rattle.std.proofs.lemmas.List.{take_all, length-map, length-take-le, map-append, take-append-le}
+use Rattle.std.proofs.lemmas.List.{take-append-drop}
 use Rattle.std.specs.List.{position, position_or_len}
 use Rattle.std.specs.Option.{option_map}
 use Rattle.std.specs.Prelude.{if◌then◌else◌}
 use Rattle.grep_line_buffer.specs.declared.detection.Detection.{Detection}
-use Rattle.grep_line_buffer.specs.declared.detection.Detection.TheVariants.{None as no_detection, Quit, Convert}
+use Rattle.grep_line_buffer.specs.declared.detection.Detection.TheVariants.{None as no_detection}
+use Rattle.grep_line_buffer.specs.declared.detection.Detection.TheVariants.{Quit, Convert}
 use Rattle.grep_line_buffer.specs.Detections.{detected_bytes, found_in, first_of, is_quit}
-use Rattle.grep_line_buffer.proofs.DetectionLemmas.{all-before, found-append, passes-or-not, position-at}
-use Rattle.grep_line_buffer.proofs.DetectionLemmas.{position-missing}
-use Rattle.grep_line_buffer.proofs.DetectionLemmas.{detected_bytes-append, detected_bytes-cut, first-none, first-same, some-below}
+use Rattle.grep_line_buffer.proofs.DetectionLemmas.{all-before, found-append, passes-or-not}
+use Rattle.grep_line_buffer.proofs.DetectionLemmas.{position-at, position-missing}
+use Rattle.grep_line_buffer.proofs.DetectionLemmas.{detected_bytes-append, detected_bytes-cut}
+use Rattle.grep_line_buffer.proofs.DetectionLemmas.{first-none, first-same, some-below}
 
 -- all bytes of an input, for each byte of `Convert` the byte t
 abbrev pub viewed : Detection → ℕ → List ℕ → List ℕ
@@ -42,8 +45,7 @@ view-none (Convert b) t = refl
 
 -- what a buffer holds of some bytes is their view, if the byte of `Quit` isn't among them
 pub view-held : (d : Detection) (t : ℕ) (xs : List ℕ)
-    → (is_quit d ≡ true → found_in d t xs ≡ None) → detected_bytes d t xs
-    ≡ viewed d t xs
+    → (is_quit d ≡ true → found_in d t xs ≡ None) → detected_bytes d t xs ≡ viewed d t xs
 view-held no_detection t xs none = refl
 view-held (Quit b) t xs none = take_all (position_or_len (λ x. x == b) xs) xs
     (omega (arith, all-before (λ x. x == b) xs (none refl)))
@@ -54,12 +56,13 @@ pub view-front : (d : Detection) (t : ℕ) (xs ys : List ℕ)
     → (back : List ℕ) × (viewed d t (xs ++ ys) ≡ detected_bytes d t xs ++ back)
 view-front no_detection t xs ys = (ys, refl)
 view-front (Quit b) t xs ys =
-    let n = position_or_len (λ x. x == b) xs in
-    (drop n xs ++ ys, ap (λ zs. zs ++ ys) (sym (take-append-drop n xs)) ∙ append_assoc (take n xs) (drop n xs) ys)
+    let n = position_or_len (λ x. x == b) xs in (
+      drop n xs ++ ys,
+      ap (λ zs. zs ++ ys) (sym (take-append-drop n xs)) ∙ append_assoc (take n xs) (drop n xs) ys,
+    )
 view-front (Convert b) t xs ys = (
   map (λ x. if x == b then t else x) ys,
-  map-append (λ x. if x == b then t else x) xs
-      ys,
+  map-append (λ x. if x == b then t else x) xs ys,
 )
 
 -- and the front of what comes before the byte of `Quit`
@@ -75,12 +78,10 @@ before-front (Quit b) t xs ys = ⊎_elim
     (λ all. (
       detected_bytes (Quit b) t ys,
       detected_bytes-append (Quit b) t xs ys (λ _. position-missing (λ x. x == b) xs all),
-    ))
-    (passes-or-not (λ x. x == b) xs)
+    )) (passes-or-not (λ x. x == b) xs)
 before-front (Convert b) t xs ys = (
   map (λ x. if x == b then t else x) ys,
-  map-append (λ x. if x == b then t else x) xs
-      ys,
+  map-append (λ x. if x == b then t else x) xs ys,
 )
 
 -- no byte of what a buffer holds ends a search
@@ -93,11 +94,9 @@ before-held (Quit b) t xs = ⊎_elim
       arith,
       some,
       first-same p front (drop n xs) some,
-      ap (position_or_len p)
-          (take-append-drop n xs),
+      ap (position_or_len p) (take-append-drop n xs),
       count,
-    )))
-    (λ all. take_all (position_or_len p front) front (omega (arith, all)))
+    ))) (λ all. take_all (position_or_len p front) front (omega (arith, all)))
     (passes-or-not p front)
   where
     p : ℕ → Bool
@@ -110,30 +109,30 @@ before-held (Quit b) t xs = ⊎_elim
     front = take n xs
 
     count : length front ≡ n
-    count = length-take-le n xs (⊎_elim (λ some. omega (arith, some)) (λ all. omega (arith, all)) (passes-or-not p xs))
+    count = length-take-le n xs (⊎_elim (λ some. omega (arith, some)) (λ all. omega (arith, all))
+        (passes-or-not p xs))
 
 -- nor does one of a front of such bytes
-pub before-kept : (d : Detection) (xs ys : List ℕ) → unquit d (xs ++ ys) ≡ xs ++ ys → unquit d xs ≡ xs
+pub before-kept : (d : Detection) (xs ys : List ℕ) → unquit d (xs ++ ys) ≡ xs ++ ys → unquit d xs
+    ≡ xs
 before-kept no_detection xs ys same = refl
 before-kept (Convert b) xs ys same = refl
-before-kept (Quit b) xs ys same = ⊎_elim
-    (λ some.
+before-kept (Quit b) xs ys same = ⊎_elim (λ some.
     let at = first-same p xs ys some in
     let count = length-take-le (position_or_len p (xs ++ ys)) (xs ++ ys)
     (omega (arith, at, some, length-append xs ys)) in
     absurd (omega (arith, some, at, count, ap length same, length-append xs ys)))
-    (λ all. take_all (position_or_len p xs) xs (omega (arith, all)))
-    (passes-or-not p xs)
+    (λ all. take_all (position_or_len p xs) xs (omega (arith, all))) (passes-or-not p xs)
   where
     p : ℕ → Bool
     p = λ x. x == b
 
 -- the first binary byte of a front is that of all
 pub first-kept : (d : Detection) (t : ℕ) (xs ys : List ℕ) (offset : ℕ) → found_in d t xs
-    ≡ Some offset
-    → found_in d t (xs ++ ys) ≡ Some offset
+    ≡ Some offset → found_in d t (xs ++ ys) ≡ Some offset
 first-kept d t xs ys offset is =
-    found-append d t xs ys ∙ ap (λ o. first_of o (option_map (λ i. length xs + i) (found_in d t ys))) is
+    found-append d t xs ys
+    ∙ ap (λ o. first_of o (option_map (λ i. length xs + i) (found_in d t ys))) is
 
 -- none is among the first bytes of an input, if none is in the front of it that has them
 pub clear-front : (d : Detection) (t : ℕ) (xs ys : List ℕ) (count : ℕ) → count ≤ length xs
@@ -141,7 +140,8 @@ pub clear-front : (d : Detection) (t : ℕ) (xs ys : List ℕ) (count : ℕ) →
 clear-front d t xs ys count within none =
     ap (found_in d t) (take-append-le count xs ys within)
     ∙ first-none _ (option_map (λ i. length (take count xs) + i) (found_in d t (drop count xs)))
-    (sym (found-append d t (take count xs) (drop count xs)) ∙ (ap (found_in d t) (take-append-drop count xs) ∙ none))
+    (sym (found-append d t (take count xs) (drop count xs))
+    ∙ (ap (found_in d t) (take-append-drop count xs) ∙ none))
 
 -- what wasn't among the first bytes is after them
 pub found-after : (d : Detection) (t : ℕ) (xs ys : List ℕ) (offset : ℕ) → found_in d t xs ≡ None
@@ -155,10 +155,10 @@ found-after d t xs ys offset none is =
 position-is : (p : ℕ → Bool) (xs : List ℕ) (offset : ℕ) → position p xs ≡ Some offset
     → (position_or_len p xs ≡ offset) × (offset < length xs)
 position-is p xs offset is = ⊎_elim
-    (λ some. let same : position_or_len p xs ≡ offset = some-same (sym (position-at p xs some) ∙ is) in
+    (λ some. let same : position_or_len p xs ≡ offset = some-same (sym (position-at p xs some)
+    ∙ is) in
     (same, omega (arith, same, some)))
-    (λ none. absurd (none-some (sym (position-missing p xs none) ∙ is)))
-    (passes-or-not p xs)
+    (λ none. absurd (none-some (sym (position-missing p xs none) ∙ is))) (passes-or-not p xs)
   where
     some-same : {m n : ℕ} → Some m ≡ Some n → m ≡ n
     some-same same = cc
@@ -167,15 +167,19 @@ position-is p xs offset is = ⊎_elim
     none-some same = absurd (cc)
 
 -- the first binary byte is among what a buffer holds, or right after it if the byte ends the input
-pub found-below : (d : Detection) (t : ℕ) (xs : List ℕ) (offset : ℕ) → found_in d t xs
-    ≡ Some offset
+pub found-below : (d : Detection) (t : ℕ) (xs : List ℕ) (offset : ℕ) → found_in d t xs ≡ Some offset
     → (offset < length (detected_bytes d t xs))
     ⊎ ((offset ≤ length (detected_bytes d t xs)) × (is_quit d ≡ true))
 found-below no_detection t xs offset is = absurd (cc)
 found-below (Quit b) t xs offset is =
     let at = position-is (λ x. x == b) xs _ is in
     inr (
-      omega (arith, at.0, at.1, length-take-le (position_or_len (λ x. x == b) xs) xs (omega (arith, at.0, at.1))),
+      omega (
+        arith,
+        at.0,
+        at.1,
+        length-take-le (position_or_len (λ x. x == b) xs) xs (omega (arith, at.0, at.1)),
+      ),
       refl,
     )
 found-below (Convert b) t xs offset is = go (b == t) is
@@ -185,4 +189,9 @@ found-below (Convert b) t xs offset is = go (b == t) is
         ⊎ ((offset ≤ length (map (λ x. if x == b then t else x) xs)) × (false ≡ true))
     go true is = absurd (cc)
     go false is =
-        inl (omega (arith, (position-is (λ x. x == b) xs _ is).1, length-map xs (λ x. if x == b then t else x)))
+        inl (omega (
+          arith,
+          (position-is (λ x. x == b) xs _ is).1,
+          length-map xs (λ x. if x == b
+              then t else x),
+        ))

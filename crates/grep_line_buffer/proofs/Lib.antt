@@ -2,6 +2,7 @@ pub mod BufferStateLemmas
 pub mod ContentsLemmas
 pub mod DetectionLemmas
 pub mod FillLemmas
+pub mod FillPartLemmas
 pub mod FirstPositionLemmas
 pub mod GivenLemmas
 pub mod InputViewLemmas

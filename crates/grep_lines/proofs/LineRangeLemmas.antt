@@ -1,6 +1,7 @@
 -- Lines by their indices: where a line is, and how many lines there are between two positions.
-use Rattle.std.proofs.Common.{◌≡◌, ℕ, ◌+◌, ◌-◌, ◌<◌, ◌≤◌, List, ◌++◌, length, drop, get_or, refl, sym, ◌∙◌, ap, arith, subst}
-use Rattle.std.proofs.Common.{⊎_elim, length-take, length-drop, length-append}
+use Rattle.std.proofs.Common.{◌≡◌, ℕ, ◌+◌, ◌-◌, ◌<◌, ◌≤◌, List, ◌++◌, length, drop, get_or, refl}
+use Rattle.std.proofs.Common.{sym, ◌∙◌, ap, arith, subst, ⊎_elim, length-take, length-drop}
+use Rattle.std.proofs.Common.{length-append}
 use Rattle.std.proofs.lemmas.Bool.{cases_lt}
 use Rattle.std.proofs.lemmas.List.{take-append-drop, get_or-drop, get_or-take, drop-drop, take_all}
 use Rattle.grep_matcher.proofs.LineLemmas.{lines-append, IsClosed}
@@ -11,10 +12,11 @@ use Rattle.grep_matcher.specs.Lines.{lines, line_start}
 use Rattle.grep_matcher.proofs.LineStartLemmas.{line_start-ascends, line_start-last, line_start-le}
 
 -- how many lines there are between the starts of two
-pub lines-between : (t : ℕ) (window : List ℕ) (p q i j : ℕ) → IsLineStart t window p i → IsLineStart t window q j
-    → p ≤ q → q ≤ length window
+pub lines-between : (t : ℕ) (window : List ℕ) (p q i j : ℕ) → IsLineStart t window p i
+    → IsLineStart t window q j → p ≤ q → q ≤ length window
     → i ≤ j → length (lines t (slice_range window p q)) ≡ j - i
-lines-between t window p q i j from to low within ordered = ⊎_elim inner outer (cases_lt q (length window))
+lines-between t window p q i j from to low within ordered =
+    ⊎_elim inner outer (cases_lt q (length window))
   where
     a : drop i (lines t window) ≡ lines t (drop p window)
     a = (IsAt-start t window p i from).rest
@@ -34,21 +36,37 @@ lines-between t window p q i j from to low within ordered = ⊎_elim inner outer
         ap (λ n. get_or (slice_range window p q) (n - 1) 0) count
         ∙ (get_or-take (q - p) (drop p window) ((q - p) - 1) 0 (omega arith)
         ∙ (get_or-drop p window ((q - p) - 1) 0
-        ∙ (ap (λ n. get_or window n 0) last ∙ (IsAt-start t window q j to).closed (omega arith) less)))
+        ∙ (ap (λ n. get_or window n 0) last ∙ (IsAt-start t window q j to).closed (omega arith)
+        less)))
 
     outer : length window ≤ q → length (lines t (slice_range window p q)) ≡ j - i
     outer over =
         let all = all_passed t window q j (IsAt-start t window q j to) over in
         let whole = take_all (q - p) (drop p window) (omega (arith, length-drop p window)) in
-        omega (arith, ap (λ xs. length (lines t xs)) whole, ap length a, length-drop i (lines t window))
+        omega (
+          arith,
+          ap (λ xs. length (lines t xs)) whole,
+          ap length a,
+          length-drop i (lines t window),
+        )
 
     inner : q < length window → length (lines t (slice_range window p q)) ≡ j - i
     inner less =
         let size = length-take (q - p) (drop p window) in
         let split : slice_range window p q ++ drop q window ≡ drop p window =
-        ap (λ xs. slice_range window p q ++ xs) (rest less) ∙ take-append-drop (q - p) (drop p window) in
-        let both = ap (lines t) (sym split) ∙ lines-append t (slice_range window p q) (drop q window) (closed less) in
-        omega (arith, ap length a, ap length b, ap length both, length-append (lines t (slice_range window p q)) (lines t (drop q window)), length-drop i (lines t window), length-drop j (lines t window))
+        ap (λ xs. slice_range window p q ++ xs) (rest less)
+        ∙ take-append-drop (q - p) (drop p window) in
+        let both = ap (lines t) (sym split) ∙ lines-append t (slice_range window p q)
+        (drop q window) (closed less) in
+        omega (
+          arith,
+          ap length a,
+          ap length b,
+          ap length both,
+          length-append (lines t (slice_range window p q)) (lines t (drop q window)),
+          length-drop i (lines t window),
+          length-drop j (lines t window),
+        )
 
 -- a line by its index
 pub line-at : (t : ℕ) (window : List ℕ) (i : ℕ) → i < length (lines t window)
@@ -67,7 +85,8 @@ line-at t window i listed =
     }
 
 -- the end of the bytes is where a line after the last would start
-pub end-start : (t : ℕ) (bytes : List ℕ) → IsLineStart t bytes (length bytes) (length (lines t bytes))
+pub end-start : (t : ℕ) (bytes : List ℕ) → IsLineStart t bytes (length bytes)
+    (length (lines t bytes))
 end-start t bytes = record { listed = omega arith; begins = line_start-last t bytes }
 
 -- where lines start, against the start of one of them
@@ -89,19 +108,22 @@ module _ {t : ℕ} {bytes : List ℕ} {p i : ℕ} (there : IsLineStart t bytes p
 
   -- a line that starts before it comes before it
   pub comes-before : (j : ℕ) → line_start t bytes j < p → j < i
-  comes-before j less = ⊎_elim (λ yes. yes) (λ no. absurd (omega (arith, starts-from j no))) (cases_lt j i)
+  comes-before j less = ⊎_elim (λ yes. yes) (λ no. absurd (omega (arith, starts-from j no)))
+      (cases_lt j i)
 
   -- and one that doesn't comes no earlier
   pub comes-from : (j : ℕ) → p ≤ line_start t bytes j → i ≤ j
-  comes-from j low = ⊎_elim (λ no. absurd (omega (arith, starts-before j no))) (λ yes. yes) (cases_lt j i)
+  comes-from j low = ⊎_elim (λ no. absurd (omega (arith, starts-before j no))) (λ yes. yes)
+      (cases_lt j i)
 
 -- two lines that start at one position are the same
-pub start-same : {t : ℕ} {bytes : List ℕ} {p i j : ℕ} → IsLineStart t bytes p i → IsLineStart t bytes p j → i ≡ j
+pub start-same : {t : ℕ} {bytes : List ℕ} {p i j : ℕ} → IsLineStart t bytes p i
+    → IsLineStart t bytes p j → i ≡ j
 start-same {t} {bytes} {p} {i} {j} first second =
     omega (arith, comes-from first j (omega arith), comes-from second i (omega arith))
 
 -- from where a line starts up to where the next one does it is that line
-pub line-from : {t : ℕ} {bytes : List ℕ} {p q i : ℕ} → IsLineStart t bytes p i → IsLineStart t bytes q (i + 1)
-    → IsLine t bytes i p q
+pub line-from : {t : ℕ} {bytes : List ℕ} {p q i : ℕ} → IsLineStart t bytes p i
+    → IsLineStart t bytes q (i + 1) → IsLine t bytes i p q
 line-from {t} {bytes} {p} {q} {i} from to = subst (λ a. IsLine t bytes i a q) from.begins
     (subst (IsLine t bytes i (line_start t bytes i)) to.begins (line-at t bytes i (omega arith)))

@@ -1,9 +1,11 @@
 -- The lines one after another, by the positions at which they start.
-use Rattle.std.proofs.Common.{◌≡◌, ℕ, zero, suc, ◌+◌, ◌-◌, ◌<◌, ◌≤◌, ◌==◌, cond, List, [], ◌∷◌, ◌++◌, length, take}
-use Rattle.std.proofs.Common.{drop, slice_index, get_or, refl, sym, ◌∙◌, ap, subst, arith, ⊎_elim, length-append}
-use Rattle.std.proofs.Common.{length-take, length-drop, take_all, ap₂}
+use Rattle.std.proofs.Common.{◌≡◌, ℕ, zero, suc, ◌+◌, ◌-◌, ◌<◌, ◌≤◌, ◌==◌, cond, List, [], ◌∷◌}
+use Rattle.std.proofs.Common.{◌++◌, length, take, drop, slice_index, get_or, refl, sym, ◌∙◌, ap}
+use Rattle.std.proofs.Common.{subst, arith, ⊎_elim, length-append, length-take, length-drop}
+use Rattle.std.proofs.Common.{take_all, ap₂}
 use Rattle.std.proofs.lemmas.Bool.{cases_lt}
-use Rattle.std.proofs.lemmas.List.{take_more, drop_more, drop_all, take-take, drop-take, drop-drop, get_or-drop}
+use Rattle.std.proofs.lemmas.List.{take_more, drop_more, drop_all, take-take, drop-take, drop-drop}
+use Rattle.std.proofs.lemmas.List.{get_or-drop}
 use Rattle.std.proofs.lemmas.List.Folds.{concat-append}
 use Rattle.std.proofs.lemmas.List.Sums.{sum_by-append}
 use Rattle.std.proofs.Math.Seq.{take-add}
@@ -16,8 +18,8 @@ use Rattle.grep_matcher.proofs.LineLemmas.{count}
 use Rattle.grep_lines.proofs.LawLemmas.{first_line, lines-first, count-first_line}
 
 -- the element of a list at a position, if the rest of the list is known
-drop-here : {X : Type 0} (xs : List X) (i : ℕ) (x : X) (later : List X) (d : X) → drop i xs ≡ x ∷ later
-    → (i < length xs) × (get_or xs i d ≡ x) × (drop (i + 1) xs ≡ later)
+drop-here : {X : Type 0} (xs : List X) (i : ℕ) (x : X) (later : List X) (d : X) → drop i xs ≡ x
+    ∷ later → (i < length xs) × (get_or xs i d ≡ x) × (drop (i + 1) xs ≡ later)
 drop-here xs i x later d is =
     let inside : i < length xs = omega (arith, length-drop i xs, ap length is) in
     let more = drop_more xs i d inside in
@@ -56,24 +58,28 @@ module _ (t : ℕ) (bytes : List ℕ) where
   }
 
   -- a step over a line, by its first and last position
-  IsStep-first : (position end i : ℕ) → IsAt position i → position < end
-      → end ≤ length bytes
+  IsStep-first : (position end i : ℕ) → IsAt position i → position < end → end ≤ length bytes
       → IsFirstLine t (drop position bytes) (end - position) → IsStep position end i
   IsStep-first position end i walked above within is_first =
       let sum : position + (end - position) ≡ end = omega arith in
-      let later : drop (end - position) (drop position bytes) ≡ drop end bytes = drop-drop (end - position) position bytes
-      ∙ ap (λ n. drop n bytes) sum in
+      let later : drop (end - position) (drop position bytes) ≡ drop end bytes =
+      drop-drop (end - position) position bytes ∙ ap (λ n. drop n bytes) sum in
       let here = drop-here (lines t bytes) i _ _ [] (walked.rest
       ∙ (lines-first t (drop position bytes) (end - position) is_first
       ∙ ap (λ bs. slice_range bytes position end ∷ lines t bs) later)) in
       let begin : line_start t bytes (i + 1) ≡ end =
       rw (
         take_more (lines t bytes) i [] here.0,
-        concat-append (take i (lines t bytes))
-            (get_or (lines t bytes) i [] ∷ []),
+        concat-append (take i (lines t bytes)) (get_or (lines t bytes) i [] ∷ []),
         here.1,
       )
-      (omega (arith, length-append (concat (take i (lines t bytes))) (slice_range bytes position end ++ []), length-append (slice_range bytes position end) [], length-take (end - position) (drop position bytes), length-drop position bytes)) in
+      (omega (
+        arith,
+        length-append (concat (take i (lines t bytes))) (slice_range bytes position end ++ []),
+        length-append (slice_range bytes position end) [],
+        length-take (end - position) (drop position bytes),
+        length-drop position bytes,
+      )) in
       record {
         at = walked;
         above = above;
@@ -90,12 +96,17 @@ module _ (t : ℕ) (bytes : List ℕ) where
               ∙ take-add position (end - position) bytes in
               let one = count-first_line t (drop position bytes) (end - position) is_first
               (omega (arith, length-drop position bytes)) in
-              rw (cut, sum_by-append (λ b. cond (b == t) 1 0) (take position bytes), walked.counted (omega arith), one)
-              refl;
+              rw (
+                cut,
+                sum_by-append (λ b. cond (b == t) 1 0) (take position bytes),
+                walked.counted (omega arith),
+                one,
+              ) refl;
           closed = λ _ below.
               let shut = is_first.closed (omega (arith, length-drop position bytes)) in
               let at : position + ((end - position) - 1) ≡ end - 1 = omega arith in
-              sym (get_or-drop position bytes ((end - position) - 1) 0 ∙ ap (λ n. get_or bytes n 0) at) ∙ shut;
+              sym (get_or-drop position bytes ((end - position) - 1) 0
+              ∙ ap (λ n. get_or bytes n 0) at) ∙ shut;
           few = omega arith;
           listed = omega arith;
         };
@@ -105,7 +116,11 @@ module _ (t : ℕ) (bytes : List ℕ) where
   pub all_passed : (position i : ℕ) → IsAt position i → length bytes ≤ position → i
       ≡ length (lines t bytes)
   all_passed position i here over =
-      omega (arith, length-drop i (lines t bytes), ap length (here.rest ∙ ap (lines t) (drop_all position bytes over)))
+      omega (
+        arith,
+        length-drop i (lines t bytes),
+        ap length (here.rest ∙ ap (lines t) (drop_all position bytes over)),
+      )
 
   -- a step over a line that exists
   IsStep-any : (position i : ℕ) → IsAt position i → i < length (lines t bytes)
@@ -145,8 +160,7 @@ module _ (t : ℕ) (bytes : List ℕ) where
   -- as many t come before a line as there are lines before it
   pub lines-numbered : (i : ℕ) → i < length (lines t bytes)
       → count t (take (line_start t bytes i) bytes) ≡ i
-  lines-numbered i inside = let step = IsStep-line i inside in step.at.counted
-      (omega arith)
+  lines-numbered i inside = let step = IsStep-line i inside in step.at.counted (omega arith)
 
   -- there are at most as many lines as bytes
   pub lines-at-most : length (lines t bytes) ≤ length bytes
@@ -189,13 +203,17 @@ module _ (t : ℕ) (bytes : List ℕ) where
 
   -- the first line of the bytes from a position up to another
   pub slice-first : (start end e : ℕ) → IsFirstLine t (slice_range bytes start end) e
-      → lines t (slice_range bytes start end) ≡ slice_range bytes start (start + e) ∷ lines t (slice_range bytes (start + e) end)
+      → lines t (slice_range bytes start end) ≡ slice_range bytes start (start + e)
+      ∷ lines t (slice_range bytes (start + e) end)
   slice-first start end e is_first =
-      let short : e ≤ end - start = omega (arith, is_first.within, length-take (end - start) (drop start bytes)) in
+      let short : e ≤ end - start =
+      omega (arith, is_first.within, length-take (end - start) (drop start bytes)) in
       let size : (start + e) - start ≡ e = omega arith in
       let rest : end - start ≡ e + (end - (start + e)) = omega arith in
-      let line = take-take e (end - start) (drop start bytes) short ∙ ap (λ n. take n (drop start bytes)) (sym size) in
-      let later = ap (λ n. drop e (take n (drop start bytes))) rest ∙ (drop-take e (end - (start + e)) (drop start bytes)
+      let line = take-take e (end - start) (drop start bytes) short
+      ∙ ap (λ n. take n (drop start bytes)) (sym size) in
+      let later = ap (λ n. drop e (take n (drop start bytes))) rest
+      ∙ (drop-take e (end - (start + e)) (drop start bytes)
       ∙ ap (take (end - (start + e))) (drop-drop e start bytes)) in
       lines-first t (slice_range bytes start end) e is_first ∙ ap₂ ◌∷◌ line (ap (lines t) later)
 
@@ -208,7 +226,8 @@ module _ (t : ℕ) (bytes : List ℕ) where
       take_all (end - start) (drop start bytes) (omega (arith, length-drop start bytes)) in
       let size : e ≡ (start + e) - start = omega arith in
       let first : IsFirstLine t (drop start bytes) ((start + e) - start) =
-      subst (IsFirstLine t (drop start bytes)) size (subst (λ bs. IsFirstLine t bs e) same is_first) in
+      subst (IsFirstLine t (drop start bytes)) size (subst (λ bs. IsFirstLine t bs e) same is_first)
+      in
       IsLine-first start i (start + e) here (omega (arith, is_first.above)) (omega (
         arith,
         is_first.above,

@@ -1,22 +1,22 @@
 -- Where a byte is first, and bytes in which each of them is replaced.
-use Rattle.std.proofs.Common.{◌≡◌, ◌≢◌, ℕ, zero, suc, ◌+◌, ◌-◌, ◌<◌, ◌≤◌, Bool, true, false, List, [], ◌∷◌, ◌++◌}
-use Rattle.std.proofs.Common.{length, map, take, drop}
-use Rattle.std.proofs.Common.{get_or, set, append-nil, length-drop, length-take}
-use Rattle.std.proofs.Common.{Option, None, Some, refl, sym, ap, ◌∙◌, arith, if◌then◌else◌, ◌==◌}
+use Rattle.std.proofs.Common.{◌≡◌, ◌≢◌, ℕ, zero, suc, ◌+◌, ◌-◌, ◌<◌, ◌≤◌, Bool, true, false, List}
+use Rattle.std.proofs.Common.{[], ◌∷◌, ◌++◌, length, map, take, drop, get_or, set, append-nil}
+use Rattle.std.proofs.Common.{length-drop, length-take, Option, None, Some, refl, sym, ap, ◌∙◌}
+use Rattle.std.proofs.Common.{arith, if◌then◌else◌, ◌==◌}
 use Rattle.std.specs.List.{position, position_or_len}
 use Rattle.std.proofs.lemmas.Bool.{eq-eqb, eqb-true, le-ltb, lt-ltb, false_from_ne_true}
-use Rattle.std.proofs.lemmas.List.{take_more, take_more_set, drop-set-lt, map-append, drop_more, get_or-take}
-use Rattle.std.proofs.lemmas.List.{length-map, nil_from_length}
-use Rattle.std.proofs.lemmas.List.{take_all, take-append-drop}
+use Rattle.std.proofs.lemmas.List.{take_more, take_more_set, drop-set-lt, map-append, drop_more}
+use Rattle.std.proofs.lemmas.List.{get_or-take, length-map, nil_from_length, take_all}
+use Rattle.std.proofs.lemmas.List.{take-append-drop}
 use Rattle.std.proofs.lemmas.Grind.{drop_more_same}
-use borrow.Rule.Slice.PartMut.{mid_of, put_mid}
 use Rattle.std.proofs.lemmas.Slice.{drop-put_mid, take-put_mid}
 use Rattle.memchr.specs.Find.{IsFirstByte, is_byte}
+use borrow.Rule.Slice.PartMut.{mid_of, put_mid}
 
 module _ (p : ℕ → Bool) where
   -- no byte passes
-  pub length-none : (xs : List ℕ) → ((k : ℕ) → k < length xs → p (get_or xs k 0) ≡ false) → position_or_len p xs
-      ≡ length xs
+  pub length-none : (xs : List ℕ) → ((k : ℕ) → k < length xs → p (get_or xs k 0) ≡ false)
+      → position_or_len p xs ≡ length xs
   length-none [] none = refl
   length-none (x ∷ xs) none =
       let first : p x ≡ false = none 0 (omega arith) in
@@ -36,7 +36,8 @@ module _ (p : ℕ → Bool) where
 -- a byte that was replaced in bytes whose first ones are: so is the next
 pub replaced-next : (f : ℕ → ℕ) (bytes old : List ℕ) (i y : ℕ) → i < length bytes → i < length old
     → take i bytes ≡ map f (take i old) → drop i bytes ≡ drop i old → y ≡ f (get_or bytes i 0)
-    → (take (i + 1) (set bytes i y) ≡ map f (take (i + 1) old)) × (drop (i + 1) (set bytes i y) ≡ drop (i + 1) old)
+    → (take (i + 1) (set bytes i y) ≡ map f (take (i + 1) old))
+    × (drop (i + 1) (set bytes i y) ≡ drop (i + 1) old)
 replaced-next f bytes old i y some more front back is =
     let same : get_or bytes i 0 ≡ get_or old i 0 =
     ap (λ l. get_or l 0 0) (sym (drop_more bytes i 0 some) ∙ back ∙ drop_more old i 0 more) in (
@@ -58,17 +59,19 @@ pub kept-is : (src new x y : ℕ) → x ≢ src → y ≡ x → y ≡ (if x == s
 kept-is src new x y other is = rw (eqb-ne x src other) is
 
 -- bytes without the one that is replaced stay as they are
-pub map-none : (src new : ℕ) (xs : List ℕ) → ((k : ℕ) → k < length xs → (get_or xs k 0 == src) ≡ false)
-    → map (λ b. if b == src then new else b) xs ≡ xs
+pub map-none : (src new : ℕ) (xs : List ℕ) → ((k : ℕ) → k < length xs → (get_or xs k 0 == src)
+    ≡ false) → map (λ b. if b == src then new else b) xs ≡ xs
 map-none src new [] none = refl
 map-none src new (x ∷ xs) none =
     let first : (x == src) ≡ false = none 0 (omega arith) in
     rw first (ap (λ l. x ∷ l) (map-none src new xs (λ k below. none (suc k) (omega arith))))
 
 -- what a search for the byte found is its first position
-pub position-found : (b : ℕ) (xs : List ℕ) (r : Option ℕ) → IsFirstByte (is_byte b) xs r → position (λ x. x == b) xs ≡ r
+pub position-found : (b : ℕ) (xs : List ℕ) (r : Option ℕ) → IsFirstByte (is_byte b) xs r
+    → position (λ x. x == b) xs ≡ r
 position-found b xs None none =
-    let all = length-none (λ x. x == b) xs (λ k below. false_from_ne_true _ (none k (omega arith) below)) in
+    let all = length-none (λ x. x == b) xs
+    (λ k below. false_from_ne_true _ (none k (omega arith) below)) in
     rw all (rw (le-ltb (length xs) (length xs) (omega arith)) refl)
 position-found b xs (Some i) (first, is) =
     let at = length-first (λ x. x == b) xs i first.high is
@@ -77,21 +80,21 @@ position-found b xs (Some i) (first, is) =
 
 -- bytes in which each byte from the first one on was replaced
 pub replaced-whole : (src new : ℕ) (xs : List ℕ) (i : ℕ) → i ≤ length xs
-    → ((k : ℕ) → k < i → (get_or xs k 0 == src) ≡ false)
-    → put_mid i (length xs - i) xs (map (λ b. if b == src then new else b) (mid_of i (length xs - i) xs))
+    → ((k : ℕ) → k < i → (get_or xs k 0 == src) ≡ false) → put_mid i (length xs - i) xs
+    (map (λ b. if b == src then new else b) (mid_of i (length xs - i) xs))
     ≡ map (λ b. if b == src then new else b) xs
 replaced-whole src new xs i within none =
     let f : ℕ → ℕ = λ b. if b == src then new else b in
     let now = put_mid i (length xs - i) xs (map f (drop i xs)) in
-    let len : length (map f (drop i xs)) ≡ length xs - i = length-map (drop i xs) f ∙ length-drop i xs in
+    let len : length (map f (drop i xs)) ≡ length xs - i = length-map (drop i xs) f
+    ∙ length-drop i xs in
     let back : drop (length xs) now ≡ [] =
     drop-put_mid i (length xs - i) xs (map f (drop i xs)) (length xs) (omega arith) within len
     ∙ nil_from_length (drop (length xs) xs) (length-drop (length xs) xs ∙ (omega arith)) in
     let short : (k : ℕ) → k < length (take i xs) → (get_or (take i xs) k 0 == src) ≡ false =
     λ k below.
     let low : k < i = omega (arith, length-take i xs) in
-    ap (λ x. x == src) (get_or-take i xs k 0 low) ∙ none k low
-    in
+    ap (λ x. x == src) (get_or-take i xs k 0 low) ∙ none k low in
     let mid : mid_of i (length xs - i) xs ≡ drop i xs = take_all (length xs - i) (drop i xs)
     (omega (arith, length-drop i xs)) in
     ap (λ l. put_mid i (length xs - i) xs (map f l)) mid

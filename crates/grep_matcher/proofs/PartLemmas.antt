@@ -1,13 +1,14 @@
 -- A search for a literal in a part of a haystack, where it doesn't occur before that part.
-use Rattle.std.proofs.Common.{◌≡◌, ℕ, ◌+◌, ◌-◌, ◌<◌, ◌≤◌, List, length, drop, Some, None}
-use Rattle.std.proofs.Common.{sym, ◌∙◌, arith, ⊎_elim, length-drop, length-take}
+use Rattle.std.proofs.Common.{◌≡◌, ℕ, ◌+◌, ◌-◌, ◌<◌, ◌≤◌, List, length, drop, Some, None, sym, ◌∙◌}
+use Rattle.std.proofs.Common.{arith, ⊎_elim, length-drop, length-take}
 use Rattle.std.proofs.lemmas.Bool.{cases_lt}
 use Rattle.std.proofs.lemmas.List.{get_or-drop, get_or-take}
 use Rattle.std.specs.Prelude.{slice_range}
 use Rattle.memchr.specs.Find.{FindsNeedle, Nowhere, OccursAt}
 use Rattle.grep_matcher.specs.LiteralFirstMatches.{OccursAt-inner, OccursAt-outer}
 
-module _ (haystack literal : List ℕ) (from end : ℕ) (ordered : from ≤ end) (within : end ≤ length haystack)
+module _ (haystack literal : List ℕ) (from end : ℕ) (ordered : from ≤ end) (within : end
+    ≤ length haystack)
     (passed : Nowhere (OccursAt haystack literal) 0 from) where
   abbrev part : List ℕ
   part = slice_range haystack from end
@@ -23,12 +24,14 @@ module _ (haystack literal : List ℕ) (from end : ℕ) (ordered : from ≤ end)
   }
 
   -- it occurs at a later place only if it does in the part
-  inner : (k : ℕ) → from ≤ k → k + length literal ≤ end → OccursAt haystack literal k → OccursAt part literal (k - from)
+  inner : (k : ℕ) → from ≤ k → k + length literal ≤ end → OccursAt haystack literal k
+      → OccursAt part literal (k - from)
   inner k low high occurs =
       OccursAt-inner haystack part literal from k here occurs low (omega (arith, size))
 
   -- the first occurrence in the part is the first
-  pub found-later : (at : ℕ) → FindsNeedle part literal 0 (Some at) → FindsNeedle haystack literal 0 (Some (from + at))
+  pub found-later : (at : ℕ) → FindsNeedle part literal 0 (Some at) → FindsNeedle haystack literal 0
+      (Some (from + at))
   found-later at found = (
     record {
       low = omega arith;

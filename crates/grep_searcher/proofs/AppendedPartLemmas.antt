@@ -16,14 +16,15 @@ use Rattle.grep_searcher.specs.AppendedParts.{RunsAppendLines, RunsAppendMatches
 use Rattle.grep_searcher.proofs.MatchHandlerLemmas.{runs-handle}
 
 module _ {S E : Type 0} (step : Steps S E) (X : Type 0) where
-  module _ (kept : S → List X) (part : Call → List X) (by : AppendsParts step X kept part) (settings : Settings)
+  module _ (kept : S → List X) (part : Call → List X) (by : AppendsParts step X kept part)
+      (settings : Settings)
       (finish : Finish) (new : S) where
     abbrev last : Call
     last = finishes finish.count finish.binary
 
     made-append : (calls : List Planned) (old : S) (outcome : Outcome E) (mid : S)
-        → AreMade step settings old calls outcome mid → IsFinished step settings outcome mid finish (Ok tt) new
-        → kept new ≡ kept old ++ flat_map part (calls_of calls ++ last ∷ [])
+        → AreMade step settings old calls outcome mid → IsFinished step settings outcome mid finish
+        (Ok tt) new → kept new ≡ kept old ++ flat_map part (calls_of calls ++ last ∷ [])
     made-append [] old outcome mid (is, same) finished =
         let made = subst (λ o. IsFinished step settings o mid finish (Ok tt) new) is finished in
         (by mid settings last true new made).1 ∙ ap (λ s. kept s ++ part last) same
@@ -41,12 +42,14 @@ module _ {S E : Type 0} (step : Steps S E) (X : Type 0) where
 
   pub runs-append : RunsAppend step X
   runs-append kept part by settings old plan new run =
-      made-append kept part by settings plan.finish new plan.calls old run.outcome run.mid run.made run.finished
+      made-append kept part by settings plan.finish new plan.calls old run.outcome run.mid run.made
+      run.finished
 
-module _ {H E : Type 0} (goes : H → Call → Bool) (next : H → Call → H) (fails : H → Call → E → H → Type 0)
+module _ {H E : Type 0} (goes : H → Call → Bool) (next : H → Call → H) (fails : H → Call → E → H
+    → Type 0)
     (X : Type 0) where
-  fold_while-append : (kept : H → List X) (part : Call → List X) → AppendsMatches goes next fails X kept part
-      → (old : H) (calls : List Call)
+  fold_while-append : (kept : H → List X) (part : Call → List X)
+      → AppendsMatches goes next fails X kept part → (old : H) (calls : List Call)
       → kept (fold_while goes next old calls) ≡ kept old ++ flat_map part calls
   fold_while-append kept part by old [] = sym (append-nil (kept old))
   fold_while-append kept part by old (call ∷ later) =
@@ -63,6 +66,6 @@ module _ {H E : Type 0} (goes : H → Call → Bool) (next : H → Call → H) (
   pub runs-append_lines : RunsAppendLines goes next fails X
   runs-append_lines kept part by settings meaning bytes by_line old new run =
       runs-append_matches kept part by settings old _ new run
-      ∙ ap (λ calls. kept old ++ flat_map part calls) (matches-are_matched_lines settings meaning bytes by_line)
-      ∙ ap (λ parts. kept old ++ parts)
+      ∙ ap (λ calls. kept old ++ flat_map part calls)
+      (matches-are_matched_lines settings meaning bytes by_line) ∙ ap (λ parts. kept old ++ parts)
       (flat_map-map part (match_of settings bytes) (matched_lines settings meaning bytes))

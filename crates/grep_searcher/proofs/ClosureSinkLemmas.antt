@@ -18,11 +18,12 @@ use Rattle.grep_searcher.specs.ClosureSinks.{ClosuresAreCalled, KeepsCalls, Clos
 module _ {F : Type 0} (call : F → ℕ → Bor (List ℕ) → Result Bool Error → F → Type 0)
     (is_text : List ℕ → Result (List ℕ) Error → Type 0) where
   -- a call that succeeds calls the closure at a match, and at no other call
-  closure-takes : (old : F) (made : Call) (b : Bool) (new : F) → IsClosureStep call is_text old made (Ok b) new
-      → IsTakenOk (IsCalledAt call is_text) old made b new
+  closure-takes : (old : F) (made : Call) (b : Bool) (new : F) → IsClosureStep call is_text old made
+      (Ok b) new → IsTakenOk (IsCalledAt call is_text) old made b new
   closure-takes old begins b new (is, same) = (cc, same)
   closure-takes old (matches number offset bytes) b new (inl (e, refused, is, same)) = absurd (cc)
-  closure-takes old (matches None offset bytes) b new (inr (text, texts, (e, other, is, same))) = absurd (cc)
+  closure-takes old (matches None offset bytes) b new (inr (text, texts, (e, other, is, same))) =
+      absurd (cc)
   closure-takes old (matches (Some number) offset bytes) b new (inr called) = called
   closure-takes old (context kind number offset bytes) b new (is, same) = (cc, same)
   closure-takes old breaks b new (is, same) = (cc, same)
@@ -34,7 +35,8 @@ module _ {F : Type 0} (call : F → ℕ → Bor (List ℕ) → Result Bool Error
     taken =
         runs-take_matches (ClosureSteps call is_text closure)
         settings plan.finish new closure (IsCalledAt call is_text)
-        (λ from made b after h. closure-takes (closure from) made b (closure after) h) old plan.calls run;
+        (λ from made b after h. closure-takes (closure from) made b (closure after) h) old
+        plan.calls run;
   }
 
 -- What is kept of the calls, if each call that returns adds its number and its text.
@@ -43,13 +45,13 @@ module _ {F : Type 0} (call : F → ℕ → Bor (List ℕ) → Result Bool Error
     (texts : (bytes text : List ℕ) → is_text bytes (Ok text) → text ≡ text_of bytes) where
   module _ (name : F → ℕ) (kept : F → List (ℕ × List ℕ)) (by : KeepsCalls call is_text name kept)
       (settings : Settings) (meaning : Meaning) (bytes : List ℕ) where
-    kept-one : (i : ℕ) (old new : F) (b : Bool) → IsCalledAt call is_text old (match_of settings bytes i) b new
-        → (b ≡ true) × (name new ≡ name old) × (kept new ≡ kept old ++ (i + 1, text_of (line settings bytes i))
-        ∷ [])
+    kept-one : (i : ℕ) (old new : F) (b : Bool)
+        → IsCalledAt call is_text old (match_of settings bytes i) b new
+        → (b ≡ true) × (name new ≡ name old)
+        × (kept new ≡ kept old ++ (i + 1, text_of (line settings bytes i)) ∷ [])
     kept-one i old new b = go settings.line_number
       where
-        go : (has_numbers : Bool)
-            → IsCalledAt call is_text old
+        go : (has_numbers : Bool) → IsCalledAt call is_text old
             (matches (if has_numbers then Some (i + 1) else None) (start settings bytes i)
             (line settings bytes i)) b new
             → (b ≡ true) × (name new ≡ name old) × (kept new ≡ kept old
@@ -73,12 +75,13 @@ module _ {F : Type 0} (call : F → ℕ → Bor (List ℕ) → Result Bool Error
           others.1 ∙ ap (λ k. k ++ more) first.2
               ∙ append_assoc (kept old) ((i + 1, text_of (line settings bytes i)) ∷ []) more,
         )
-    kept-matches (i ∷ later) old new (inr here) = absurd (let never = (kept-one i old new false here).0 in cc)
+    kept-matches (i ∷ later) old new (inr here) =
+        absurd (let never = (kept-one i old new false here).0 in cc)
 
   pub closures-keep : {S : Type 0} (closure : S → F) → ClosuresKeep call is_text closure text_of
   closures-keep closure name kept by settings meaning bytes by_line plan same old new run =
-      kept-matches name kept by settings meaning bytes (matched_lines settings meaning bytes) (closure old)
-      (closure new)
+      kept-matches name kept by settings meaning bytes (matched_lines settings meaning bytes)
+      (closure old) (closure new)
       (subst (λ calls. AreTaken (IsCalledAt call is_text) (closure old) calls (closure new))
       (same ∙ matches-are_matched_lines settings meaning bytes by_line)
       (closures-are_called call is_text closure settings old plan new run).taken)

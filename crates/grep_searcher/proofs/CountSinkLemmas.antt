@@ -12,7 +12,8 @@ use Rattle.grep_searcher.proofs.MatchHandlerLemmas.{runs-fit, runs-handle}
 fold_while-count_after : (old : ℕ) (calls : List Call) → old < 2 ^ 64
     → fold_while (λ _ _. true) count_after old calls ≡ min (old + length calls) (2 ^ 64 - 1)
 fold_while-count_after old [] fits = omega arith
-fold_while-count_after old (call ∷ later) fits = omega (arith, fold_while-count_after (count_after old call) later (omega arith))
+fold_while-count_after old (call ∷ later) fits =
+    omega (arith, fold_while-count_after (count_after old call) later (omega arith))
 
 pub runs-count : (E : Type 0) → RunsCount E
 runs-count E settings old plan new fits run =
@@ -26,6 +27,7 @@ runs-count_all E settings meaning bytes old new is_new run =
       arith,
       is_new,
       (matches-are_within_count settings meaning bytes).0,
-      runs-fit {E = E} (λ _ _. true) count_after (λ _ _ _ _. ⊥) (λ _ _. refl) settings old plan new run,
+      runs-fit {E = E} (λ _ _. true) count_after (λ _ _ _ _. ⊥) (λ _ _. refl) settings old plan new
+          run,
       runs-count E settings old plan new (omega (arith, is_new)) run,
     )

@@ -15,8 +15,9 @@ use Rattle.grep_searcher.specs.HitLines.{is_hit, HitsAreSelected, HitsAreMatched
 use Rattle.grep_searcher.specs.HitLines.{IsUnlimited, PredicatesAreCounted}
 
 -- as many numbers pass as items of a list do, if a number passes exactly if its item does
-count_below-items : {X : Type 0} (f : X → Bool) (p : ℕ → Bool) (d : X) (xs : List X) (n : ℕ) → n ≤ length xs
-    → ((i : ℕ) → i < length xs → p i ≡ f (slice_index_or xs i d)) → count_below p n ≡ count_by f (take n xs)
+count_below-items : {X : Type 0} (f : X → Bool) (p : ℕ → Bool) (d : X) (xs : List X) (n : ℕ) → n
+    ≤ length xs → ((i : ℕ) → i < length xs → p i ≡ f (slice_index_or xs i d)) → count_below p n
+    ≡ count_by f (take n xs)
 count_below-items f p d xs zero fits same = refl
 count_below-items f p d xs (suc n) fits same =
     let below : n < length xs = omega (arith, fits) in
@@ -43,38 +44,46 @@ matched-hit true false true is = refl
 matched-hit true false false is = refl
 matched-hit false hit follows is = absurd (let never = is in cc)
 
-never : {settings : Settings} → IsUnlimited settings → (some : Bool) → stops_next settings some ≡ false
+never : {settings : Settings} → IsUnlimited settings → (some : Bool) → stops_next settings some
+    ≡ false
 never free some = ap (λ b. b && some) free.unstopped
 
 pub hits-are_selected : HitsAreSelected
 hits-are_selected settings meaning bytes i free below =
     rw (ends-none settings meaning bytes (never free) i, free.unlimited)
-    (selected-hit (nat_lt i (line_count settings bytes)) (is_hit settings meaning (line settings bytes i))
-    (lt-ltb i (line_count settings bytes) below))
+    (selected-hit (nat_lt i (line_count settings bytes))
+    (is_hit settings meaning (line settings bytes i)) (lt-ltb i (line_count settings bytes) below))
 
 pub hits-are_matched : HitsAreMatched
 hits-are_matched settings meaning bytes i free below =
     rw (ends-none settings meaning bytes (never free) i, free.unlimited)
-    (matched-hit (nat_lt i (line_count settings bytes)) (is_hit settings meaning (line settings bytes i)) _
+    (matched-hit (nat_lt i (line_count settings bytes))
+    (is_hit settings meaning (line settings bytes i)) _
     (lt-ltb i (line_count settings bytes) below))
 
 -- each line may be reported
-reports_end-whole : (settings : Settings) (meaning : Meaning) (bytes : List ℕ) → IsUnlimited settings
-    → reports_end settings meaning bytes ≡ line_count settings bytes
+reports_end-whole : (settings : Settings) (meaning : Meaning) (bytes : List ℕ)
+    → IsUnlimited settings → reports_end settings meaning bytes ≡ line_count settings bytes
 reports_end-whole settings meaning bytes free =
-    let open_at : (count : ℕ) → has_room settings count ≡ true = λ count. ap (is_below count) free.unlimited in
-    rw (by_stop-none settings meaning bytes (never free), by_limit-none settings meaning bytes open_at) refl
+    let open_at : (count : ℕ) → has_room settings count ≡ true =
+    λ count. ap (is_below count) free.unlimited in
+    rw (
+      by_stop-none settings meaning bytes (never free),
+      by_limit-none settings meaning bytes open_at,
+    ) refl
 
 pub hits-are_counted : HitsAreCounted
 hits-are_counted settings meaning bytes free =
     let all = lines (byte_of settings.line_terminator) bytes in
-    ap (count_below (is_matched settings meaning bytes)) (reports_end-whole settings meaning bytes free)
-    ∙ count_below-items (is_hit settings meaning) (is_matched settings meaning bytes) [] all (length all) (omega arith)
-    (λ i below. hits-are_matched settings meaning bytes i free below)
+    ap (count_below (is_matched settings meaning bytes))
+    (reports_end-whole settings meaning bytes free)
+    ∙ count_below-items (is_hit settings meaning) (is_matched settings meaning bytes) [] all
+    (length all) (omega arith) (λ i below. hits-are_matched settings meaning bytes i free below)
     ∙ ap (count_by (is_hit settings meaning)) (take-length all)
 
 -- as many items pass if the tests agree
-count_by-same : {X : Type 0} (p q : X → Bool) → ((x : X) → p x ≡ q x) → (xs : List X) → count_by p xs ≡ count_by q xs
+count_by-same : {X : Type 0} (p q : X → Bool) → ((x : X) → p x ≡ q x) → (xs : List X)
+    → count_by p xs ≡ count_by q xs
 count_by-same p q same [] = refl
 count_by-same p q same (x ∷ xs) =
     sum_by-cons (λ y. cond (p y) 1 0) x xs

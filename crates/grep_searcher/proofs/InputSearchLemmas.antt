@@ -25,23 +25,25 @@ module _ {S E F : Type 0} (step : Steps S E) (errors : ErrorMakers F E) (matcher
   pub slice-unchanged : is_searched_unchanged state.settings input ≡ true
       → refusal_of state.settings matcher.meaning ≡ None
       → (old : S) (result : Result (Unit {0}) E) (new : S)
-      → (IsLawful matcher state.settings → IsSliceSearch step errors matcher state.settings input old result new)
-      → IsSliceSearched step errors matcher state input old result new
+      → (IsLawful matcher state.settings → IsSliceSearch step errors matcher state.settings input
+      old result new) → IsSliceSearched step errors matcher state input old result new
   slice-unchanged unchanged allowed old result new searched =
-      subst (λ b. IsSliceSearchedIf step errors matcher state input b old result new) (sym unchanged)
+      subst (λ b. IsSliceSearchedIf step errors matcher state input b old result new)
+      (sym unchanged)
       (not-refused errors matcher state.settings allowed old result new (Unit {0}) _ searched)
 
   -- one that is decoded
   pub slice-decoded : is_searched_unchanged state.settings input ≡ false
       → (old : S) (result : Result (Unit {0}) E) (rest : List ℕ) (new : S)
-      → IsReaderSearched (λ all. Some all) IsSliceRead step errors matcher state input old result rest new
-      → IsSliceSearched step errors matcher state input old result new
+      → IsReaderSearched (λ all. Some all) IsSliceRead step errors matcher state input old result
+      rest new → IsSliceSearched step errors matcher state input old result new
   slice-decoded changed old result rest new searched =
-      subst (λ b. IsSliceSearchedIf step errors matcher state input b old result new) (sym changed) (rest, searched)
+      subst (λ b. IsSliceSearchedIf step errors matcher state input b old result new) (sym changed)
+      (rest, searched)
 
   -- one that is refused
-  pub slice-refused : (refusal : ConfigError) → refusal_of state.settings matcher.meaning ≡ Some refusal
-      → (old : S) (e : E) → errors.is_config refusal e
+  pub slice-refused : (refusal : ConfigError) → refusal_of state.settings matcher.meaning
+      ≡ Some refusal → (old : S) (e : E) → errors.is_config refusal e
       → IsSliceSearched step errors matcher state input old (Err e) old
   slice-refused refusal is old e made = go (is_searched_unchanged state.settings input)
     where

@@ -43,7 +43,8 @@ module _ {F : Type 0} (call : F → Bor MatchReport → Result Bool Error → F 
   lent-failed old (finishes count binary) e new (is, same) = absurd (cc)
 
   pub closures-fail_lent : {S : Type 0} (closure : S → F) → ClosuresFailLent call closure
-  closures-fail_lent closure settings old made e new failed = lent-failed (closure old) made e (closure new) failed
+  closures-fail_lent closure settings old made e new failed = lent-failed (closure old) made e
+      (closure new) failed
 
   module _ {X : Type 0} (part : Call → List X) (name : F → ℕ) (kept : F → List X)
       (by : AppendsLent call part name kept) where
@@ -63,20 +64,26 @@ module _ {F : Type 0} (call : F → Bor MatchReport → Result Bool Error → F 
           others.1 ∙ ap (λ k. k ++ flat_map part later) first.2
               ∙ append_assoc (kept old) (part made) (flat_map part later),
         )
-    lent-all (made ∷ later) old new (inr here) = absurd (let never = (lent-one old made false new here).0 in cc)
+    lent-all (made ∷ later) old new (inr here) =
+        absurd (let never = (lent-one old made false new here).0 in cc)
 
-  pub closures-append_matches : {S : Type 0} (X : Type 0) (closure : S → F) → ClosuresAppendMatches call X closure
+  pub closures-append_matches : {S : Type 0} (X : Type 0) (closure : S → F)
+      → ClosuresAppendMatches call X closure
   closures-append_matches X closure part name kept by settings old plan new run =
       lent-all part name kept by (match_calls plan.calls) (closure old) (closure new)
       (closures-are_lent closure settings old plan new run)
 
   -- what is made of each, one after another
-  flat_map-each : (calls : List Call) → flat_map (λ made. kept_of made ∷ []) calls ≡ map kept_of calls
+  flat_map-each : (calls : List Call) → flat_map (λ made. kept_of made ∷ []) calls
+      ≡ map kept_of calls
   flat_map-each [] = refl
   flat_map-each (made ∷ later) = ap (λ kept. kept_of made ∷ kept) (flat_map-each later)
 
   pub closures-keep_matches : {S : Type 0} (closure : S → F) → ClosuresKeepMatches call closure
   closures-keep_matches closure name kept by settings old plan new run =
-      let appended = closures-append_matches KeptReport closure (λ made. kept_of made ∷ []) name kept by settings old plan
-      new run in
-      (appended.0, appended.1 ∙ ap (λ k. kept (closure old) ++ k) (flat_map-each (match_calls plan.calls)))
+      let appended = closures-append_matches KeptReport closure (λ made. kept_of made ∷ []) name
+      kept by settings old plan
+      new run in (
+        appended.0,
+        appended.1 ∙ ap (λ k. kept (closure old) ++ k) (flat_map-each (match_calls plan.calls)),
+      )

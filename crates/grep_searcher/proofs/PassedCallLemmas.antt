@@ -17,30 +17,34 @@ use Rattle.grep_searcher.specs.PassedCalls.{ClosuresArePassed, ClosuresFailPasse
 use Rattle.grep_searcher.specs.PassedCalls.{ClosuresKeepCalls, is_finish, IsPassed, IsPassedStep}
 use Rattle.grep_searcher.specs.PassedCalls.{PassedSteps}
 
-module _ {F : Type 0} (call : F → SinkCall → Result Bool Error → F → Type 0) {S : Type 0} (closure : S → F) where
+module _ {F : Type 0} (call : F → SinkCall → Result Bool Error → F → Type 0) {S : Type 0}
+    (closure : S → F) where
   module _ (settings : Settings) (finish : Finish) (new : S) where
     made-passed : (calls : List Planned) (old : S) (outcome : Outcome Error) (mid : S)
         → AreMade (PassedSteps call closure) settings old calls outcome mid
         → IsFinished (PassedSteps call closure) settings outcome mid finish (Ok tt) new
         → ArePassed call (closure old) calls finish (closure new)
     made-passed [] old outcome mid (is, same) finished =
-        let last = subst (λ o. IsFinished (PassedSteps call closure) settings o mid finish (Ok tt) new) is finished in
+        let last = subst (λ o. IsFinished (PassedSteps call closure) settings o mid finish
+        (Ok tt) new) is finished in
         subst (λ s. ArePassed call (closure s) [] finish (closure new)) same (last.1, last.2)
     made-passed (planned ∷ later) old outcome mid (inl (between, made, rest)) finished =
         inl (closure between, made, made-passed later between outcome mid rest finished)
     made-passed (planned ∷ later) old outcome mid (inr (inl (is, made))) finished =
-        let last = subst (λ o. IsFinished (PassedSteps call closure) settings o mid finish (Ok tt) new) is finished in
+        let last = subst (λ o. IsFinished (PassedSteps call closure) settings o mid finish
+        (Ok tt) new) is finished in
         inr (closure mid, made, (last.1, last.2))
     made-passed (planned ∷ later) old outcome mid (inr (inr (e, is, made))) finished =
-        let last = subst (λ o. IsFinished (PassedSteps call closure) settings o mid finish (Ok tt) new) is finished in
+        let last = subst (λ o. IsFinished (PassedSteps call closure) settings o mid finish
+        (Ok tt) new) is finished in
         absurd (let never = last.0 in cc)
 
   pub closures-are_passed : ClosuresArePassed call closure
   closures-are_passed settings old plan new run =
       made-passed settings plan.finish new plan.calls old run.outcome run.mid run.made run.finished
 
-  passed-failed : (old : F) (made : Call) (e : Error) (new : F) → IsPassedStep call old made (Err e) new
-      → IsPassed call old made (Err e) new
+  passed-failed : (old : F) (made : Call) (e : Error) (new : F)
+      → IsPassedStep call old made (Err e) new → IsPassed call old made (Err e) new
   passed-failed old begins e new h = h
   passed-failed old (matches number offset bytes) e new h = h
   passed-failed old (context kind number offset bytes) e new h = h
@@ -49,9 +53,11 @@ module _ {F : Type 0} (call : F → SinkCall → Result Bool Error → F → Typ
   passed-failed old (finishes count binary) e new h = h
 
   pub closures-fail_passed : ClosuresFailPassed call closure
-  closures-fail_passed settings old made e new failed = passed-failed (closure old) made e (closure new) failed
+  closures-fail_passed settings old made e new failed = passed-failed (closure old) made e
+      (closure new) failed
 
-module _ {F : Type 0} (call : F → SinkCall → Result Bool Error → F → Type 0) {X : Type 0} (part : Call → List X)
+module _ {F : Type 0} (call : F → SinkCall → Result Bool Error → F → Type 0) {X : Type 0}
+    (part : Call → List X)
     (name : F → ℕ) (kept : F → List X) (by : AppendsPassed call part name kept) where
   -- what is kept after a call
   abbrev Appended : F → Call → F → Type 0
@@ -60,8 +66,10 @@ module _ {F : Type 0} (call : F → SinkCall → Result Bool Error → F → Typ
   passed-one : (old : F) (made : Call) (b : Bool) (new : F) → IsPassed call old made (Ok b) new
       → (is_finish made ≡ false → b ≡ true) × Appended old made new
   passed-one old made b new (passed, is, called) =
-      let here = by old passed b new called in
-      ((λ other. here.0 (ap is_finish is ∙ other)), (here.1, here.2 ∙ ap (λ m. kept old ++ part m) is))
+      let here = by old passed b new called in (
+        (λ other. here.0 (ap is_finish is ∙ other)),
+        (here.1, here.2 ∙ ap (λ m. kept old ++ part m) is),
+      )
 
   passed-step : (old : F) (made : Call) (b : Bool) (new : F) → IsPassedStep call old made (Ok b) new
       → (b ≡ true) × Appended old made new
@@ -76,8 +84,8 @@ module _ {F : Type 0} (call : F → SinkCall → Result Bool Error → F → Typ
   passed-step old (finishes count binary) b new (is, returned, h) =
       (is, (passed-one old (finishes count binary) returned new h).1)
 
-  passed-all : (calls : List Planned) (finish : Finish) (old new : F) → ArePassed call old calls finish new
-      → (name new ≡ name old) × (kept new ≡ kept old
+  passed-all : (calls : List Planned) (finish : Finish) (old new : F)
+      → ArePassed call old calls finish new → (name new ≡ name old) × (kept new ≡ kept old
       ++ flat_map part (calls_of calls ++ finishes finish.count finish.binary ∷ []))
   passed-all [] finish old new (returned, h) =
       let last = finishes finish.count finish.binary in
@@ -93,8 +101,8 @@ module _ {F : Type 0} (call : F → SinkCall → Result Bool Error → F → Typ
   passed-all (planned ∷ later) finish old new (inr (mid, made, end)) =
       absurd (false≢true (passed-step old planned.call false mid made).0)
 
-pub closures-append : {F : Type 0} (call : F → SinkCall → Result Bool Error → F → Type 0) {S : Type 0} (X : Type 0)
-    (closure : S → F) → ClosuresAppend call X closure
+pub closures-append : {F : Type 0} (call : F → SinkCall → Result Bool Error → F → Type 0)
+    {S : Type 0} (X : Type 0) (closure : S → F) → ClosuresAppend call X closure
 closures-append call X closure part name kept by settings old plan new run =
     passed-all call part name kept by plan.calls plan.finish (closure old) (closure new)
     (closures-are_passed call closure settings old plan new run)
@@ -104,8 +112,11 @@ flat_map-ones : (calls : List Call) → flat_map (λ made. made ∷ []) calls �
 flat_map-ones [] = refl
 flat_map-ones (made ∷ later) = ap (λ calls. made ∷ calls) (flat_map-ones later)
 
-pub closures-keep_passed : {F : Type 0} (call : F → SinkCall → Result Bool Error → F → Type 0) {S : Type 0}
-    (closure : S → F) → ClosuresKeepCalls call closure
+pub closures-keep_passed : {F : Type 0} (call : F → SinkCall → Result Bool Error → F → Type 0)
+    {S : Type 0} (closure : S → F) → ClosuresKeepCalls call closure
 closures-keep_passed call closure name kept by settings old plan new run =
-    let appended = closures-append call Call closure (λ made. made ∷ []) name kept by settings old plan new run in
-    (appended.0, appended.1 ∙ ap (λ calls. kept (closure old) ++ calls) (flat_map-ones (run_calls plan)))
+    let appended = closures-append call Call closure (λ made. made ∷ []) name kept by settings old
+    plan new run in (
+      appended.0,
+      appended.1 ∙ ap (λ calls. kept (closure old) ++ calls) (flat_map-ones (run_calls plan)),
+    )

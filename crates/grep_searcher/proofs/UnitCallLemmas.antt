@@ -38,13 +38,15 @@ filter-joined : {X : Type 0} (p : X → Bool) (f : ℕ → List X) (i n : ℕ)
     → filter p (joined_from f i n) ≡ joined_from (λ j. filter p (f j)) i n
 filter-joined p f i zero = refl
 filter-joined p f i (suc n) =
-    filter-append p (f i) (joined_from f (i + 1) n) ∙ ap (λ xs. filter p (f i) ++ xs) (filter-joined p f (i + 1) n)
+    filter-append p (f i) (joined_from f (i + 1) n) ∙ ap (λ xs. filter p (f i) ++ xs)
+    (filter-joined p f (i + 1) n)
 
 map-joined : {X Y : Type 0} (g : X → Y) (f : ℕ → List X) (i n : ℕ)
     → map g (joined_from f i n) ≡ joined_from (λ j. map g (f j)) i n
 map-joined g f i zero = refl
 map-joined g f i (suc n) =
-    map-append g (f i) (joined_from f (i + 1) n) ∙ ap (λ xs. map g (f i) ++ xs) (map-joined g f (i + 1) n)
+    map-append g (f i) (joined_from f (i + 1) n)
+    ∙ ap (λ xs. map g (f i) ++ xs) (map-joined g f (i + 1) n)
 
 -- the matches of joined calls
 matches-joined : (f : ℕ → List Planned) (i n : ℕ) → match_calls (joined_from f i n)
@@ -67,22 +69,23 @@ module _ (k : Settings) (meaning : Meaning) (bytes : List ℕ) where
   abbrev unit_at : ℕ → List Call
   unit_at i = if begins_unit k meaning bytes i then unit_of k meaning bytes i ∷ [] else []
 
-  match_calls-kind : (i : ℕ) → i < n → match_calls (report k bytes touched i (kind k bytes touched i)) ≡ unit_at i
+  match_calls-kind : (i : ℕ) → i < n
+      → match_calls (report k bytes touched i (kind k bytes touched i)) ≡ unit_at i
   match_calls-kind i inside =
-      go (selected i) (follows_selected k bytes touched i) (precedes_selected k bytes touched i) k.passthru
+      go (selected i) (follows_selected k bytes touched i) (precedes_selected k bytes touched i)
+      k.passthru
     where
-      one : (later : Bool) (end : ℕ)
-          → match_calls (if later then []
-          else planned (matches (number k bytes i) (start k bytes i) (unit_bytes k meaning bytes i)) end ∷ [])
-          ≡ (if not later then unit_of k meaning bytes i ∷ [] else [])
+      one : (later : Bool) (end : ℕ) → match_calls (if later then []
+          else planned (matches (number k bytes i) (start k bytes i) (unit_bytes k meaning bytes i))
+          end ∷ []) ≡ (if not later then unit_of k meaning bytes i ∷ [] else [])
       one true end = refl
-      one false end = ap (λ number. matches number (start k bytes i) (unit_bytes k meaning bytes i) ∷ [])
-          (number-line k bytes i inside)
+      one false end = ap (λ number. matches number (start k bytes i) (unit_bytes k meaning bytes i)
+          ∷ []) (number-line k bytes i inside)
 
-      go : (a b c d : Bool)
-          → match_calls (report k bytes touched i (if a then Some matched
+      go : (a b c d : Bool) → match_calls (report k bytes touched i (if a then Some matched
           else (if b then Some (in_context After)
-          else (if c then Some (in_context Before) else (if d then Some (in_context Other) else None)))))
+          else (if c then Some (in_context Before)
+          else (if d then Some (in_context Other) else None)))))
           ≡ (if a && not (continues k bytes touched i) then unit_of k meaning bytes i ∷ [] else [])
       go true b c d = one (continues k bytes touched i) (count_at k bytes touched i (Some matched))
       go false true c d = refl
@@ -91,10 +94,11 @@ module _ (k : Settings) (meaning : Meaning) (bytes : List ℕ) where
       go false false false false = refl
 
   match_calls-line : (i : ℕ) → i < n → match_calls (calls_at k bytes touched i) ≡ unit_at i
-  match_calls-line i inside = go (breaks_before k bytes touched i) (count_at k bytes touched i (kind k bytes touched i))
+  match_calls-line i inside = go (breaks_before k bytes touched i)
+      (count_at k bytes touched i (kind k bytes touched i))
     where
-      go : (b : Bool) (end : ℕ)
-          → match_calls (if b then planned breaks end ∷ report k bytes touched i (kind k bytes touched i)
+      go : (b : Bool) (end : ℕ) → match_calls (if b then planned breaks end
+          ∷ report k bytes touched i (kind k bytes touched i)
           else report k bytes touched i (kind k bytes touched i)) ≡ unit_at i
       go true end = match_calls-kind i inside
       go false end = match_calls-kind i inside
@@ -126,7 +130,8 @@ module _ (k : Settings) (meaning : Meaning) (bytes : List ℕ) where
       unbegun : (j : ℕ) → selected j ≡ false → begins_unit k meaning bytes j ≡ false
       unbegun j none = rw none refl
 
-      go : (found : Option ℕ) → first_below selected n ≡ found → first_below (begins_unit k meaning bytes) n ≡ found
+      go : (found : Option ℕ) → first_below selected n ≡ found
+          → first_below (begins_unit k meaning bytes) n ≡ found
       go None is =
           let none = first_below-none selected n is in
           first_below-nowhere (begins_unit k meaning bytes) n
@@ -135,12 +140,14 @@ module _ (k : Settings) (meaning : Meaning) (bytes : List ℕ) where
           let here = first_below-of selected n q is in
           first_below-here (begins_unit k meaning bytes) n q here.0
           (fresh touched.joined (nat_lt 0 q) (selected (q - 1)) (selected q) here.1
-          (λ above. let low = ltb-true 0 q above in first_below-before selected n q (q - 1) is (omega arith)))
+          (λ above. let low = ltb-true 0 q above in first_below-before selected n q (q - 1) is
+          (omega arith)))
           (some_below-none _ q (λ j less. unbegun j (first_below-before selected n q j is less)))
 
 -- the plan of a search, by the mode
 abbrev plan_in : Settings → Meaning → List ℕ → Bool → List Call
-plan_in k meaning bytes across = match_calls (reports_plan k bytes (selection_in k meaning bytes across)).calls
+plan_in k meaning bytes across =
+    match_calls (reports_plan k bytes (selection_in k meaning bytes across)).calls
 
 pub matches-are_units : MatchesAreUnits
 matches-are_units k meaning bytes across =
@@ -160,7 +167,8 @@ first_match-is_first_unit k meaning bytes across =
     (first-passing (begins_unit k meaning bytes) (line_count k bytes) ∙ first-begun k meaning bytes)
 
 -- a line begins no earlier than as many bytes as there are lines before it
-start-high : (t : ℕ) (bytes : List ℕ) (i : ℕ) → i ≤ length (lines t bytes) → i ≤ line_start t bytes i
+start-high : (t : ℕ) (bytes : List ℕ) (i : ℕ) → i ≤ length (lines t bytes) → i
+    ≤ line_start t bytes i
 start-high t bytes zero inside = omega arith
 start-high t bytes (suc i) inside =
     let next : suc i ≡ i + 1 = omega arith in
@@ -178,11 +186,14 @@ matches-are_within_count k meaning bytes = go (is_across k meaning) refl
   where
     -- the byte count is where the lines end that may be reported
     count : (across : Bool) → is_across k meaning ≡ across
-        → (search_plan k meaning bytes).finish.count ≡ start k bytes (selection_in k meaning bytes across).end
-    count across is = ap (λ b. (reports_plan k bytes (selection_in k meaning bytes b)).finish.count) is
+        → (search_plan k meaning bytes).finish.count
+        ≡ start k bytes (selection_in k meaning bytes across).end
+    count across is = ap (λ b. (reports_plan k bytes (selection_in k meaning bytes b)).finish.count)
+        is
 
     go : (across : Bool) → is_across k meaning ≡ across
-        → (length (match_calls (search_plan k meaning bytes).calls) ≤ (search_plan k meaning bytes).finish.count)
+        → (length (match_calls (search_plan k meaning bytes).calls)
+        ≤ (search_plan k meaning bytes).finish.count)
         × ((search_plan k meaning bytes).finish.count ≤ length bytes)
     go false is =
         let end = reports_end k meaning bytes in

@@ -40,9 +40,11 @@ module _ (k : Settings) (meaning : Meaning) (bytes : List ℕ) where
 
   module _ {State E : Type 0} (step : Steps State E) (first : State) where
     abbrev IsCounted : ℕ → Outcome E → State → Type 0
-    IsCounted count outcome new = IsMadeTo step k first (across_plan k meaning bytes) outcome (counted count) new
+    IsCounted count outcome new = IsMadeTo step k first (across_plan k meaning bytes) outcome
+        (counted count) new
 
-    pub counted-unbegun : (new : State) → step first k begins (Ok false) new → IsCounted 0 (stopped (counted 0)) new
+    pub counted-unbegun : (new : State) → step first k begins (Ok false) new
+        → IsCounted 0 (stopped (counted 0)) new
     counted-unbegun new stops = record { made = inr (inl (refl, stops)); ending = refl }
 
     pub reported-begin : (now : State) → step first k begins (Ok true) now
@@ -50,8 +52,10 @@ module _ (k : Settings) (meaning : Meaning) (bytes : List ℕ) where
     reported-begin now goes = inl (now, goes, (refl, refl))
 
     -- more calls
-    pub reported-next : (w : Walk) (v : ℕ) (own : List Planned) (now : State) → front v ≡ front w.next_unreported ++ own
-        → AreMade step k first (front w.next_unreported) all_true now → (outcome : Outcome E) (new : State)
+    pub reported-next : (w : Walk) (v : ℕ) (own : List Planned) (now : State) → front v
+        ≡ front w.next_unreported ++ own
+        → AreMade step k first (front w.next_unreported) all_true now
+        → (outcome : Outcome E) (new : State)
         → AreMade step k now own outcome new → AreMade step k first (front v) outcome new
     reported-next w v own now is reported outcome new later =
         subst (λ ts. AreMade step k first ts outcome new) (sym is)
@@ -59,44 +63,49 @@ module _ (k : Settings) (meaning : Meaning) (bytes : List ℕ) where
 
     -- what ended early ended the whole
     ended-whole : (v : ℕ) (outcome : Outcome E) (new : State) → v ≤ n → (outcome ≡ all_true → ⊥)
-        → AreMade step k first (front v) outcome new → AreMade step k first (across_plan k meaning bytes).calls outcome new
+        → AreMade step k first (front v) outcome new
+        → AreMade step k first (across_plan k meaning bytes).calls outcome new
     ended-whole v outcome new low ended reported =
-        subst (λ ts. AreMade step k first ts outcome new) (sym (calls.front-through k meaning bytes v n low))
+        subst (λ ts. AreMade step k first ts outcome new)
+        (sym (calls.front-through k meaning bytes v n low))
         (AreMade-ended step k (front v) (joined_from T v (n - v)) first outcome new ended reported)
 
-    pub counted-stopped : (w : Walk) (end count : ℕ) (new : State) → IsAcross k meaning bytes w → count ≡ end
-        → AreMade step k first (front w.next_unreported) (stopped (counted end)) new → IsCounted count (stopped (counted
-        end)) new
+    pub counted-stopped : (w : Walk) (end count : ℕ) (new : State) → IsAcross k meaning bytes w
+        → count ≡ end → AreMade step k first (front w.next_unreported) (stopped (counted end)) new
+        → IsCounted count (stopped (counted end)) new
     counted-stopped w end count new across same reported = record {
-      made = ended-whole w.next_unreported (stopped (counted end)) new (passed-few w across) (λ same. cc) reported;
+      made = ended-whole w.next_unreported (stopped (counted end)) new (passed-few w across)
+          (λ same. cc) reported;
       ending = ap counted same;
     }
 
     pub failed-whole : (w : Walk) (e : E) (new : State) → IsAcross k meaning bytes w
         → AreMade step k first (front w.next_unreported) (failed e) new
         → AreMade step k first (across_plan k meaning bytes).calls (failed e) new
-    failed-whole w e new across reported = ended-whole w.next_unreported (failed e) new (passed-few w across)
-        (λ same. cc) reported
+    failed-whole w e new across reported = ended-whole w.next_unreported (failed e) new
+        (passed-few w across) (λ same. cc) reported
 
     -- at the end of the bytes all lines were passed
     all-passed : (w : Walk) → IsAcross k meaning bytes w → w.offset ≡ length bytes → w.line ≡ n
     all-passed w across end =
         omega (arith, comes-from (end-start (byte_of k.line_terminator) bytes) w.line (omega arith))
 
-    pub counted-end : (w : Walk) (new : State) → IsAcross k meaning bytes w → w.offset ≡ length bytes
-        → AreMade step k first (front w.next_unreported) all_true new → IsCounted w.offset all_true new
+    pub counted-end : (w : Walk) (new : State) → IsAcross k meaning bytes w → w.offset
+        ≡ length bytes → AreMade step k first (front w.next_unreported) all_true new
+        → IsCounted w.offset all_true new
     counted-end w new across end reported =
         let all = all-passed w across end in
         record {
           made = subst (λ ts. AreMade step k first ts all_true new)
               (sym (calls.front-done k meaning bytes
-              (subst (λ i. calls.Near k meaning bytes w.next_unreported i w.after_context_left) all across.near)))
-              reported;
+              (subst (λ i. calls.Near k meaning bytes w.next_unreported i w.after_context_left) all
+              across.near))) reported;
           ending = ap counted (sym across.placed.at.begins ∙ ap (start k bytes) all);
         }
 
     -- the lines up to the end are passed unreported
-    pub counted-past : (w : Walk) (p q : ℕ) → w.offset ≡ p → IsAcross k meaning bytes w → IsNext k meaning bytes w p q
+    pub counted-past : (w : Walk) (p q : ℕ) → w.offset ≡ p → IsAcross k meaning bytes w
+        → IsNext k meaning bytes w p q
         → q ≡ length bytes → k.passthru ≡ false → w.after_context_left ≡ 0 → (new : State)
         → AreMade step k first (front w.next_unreported) all_true new → IsCounted q all_true new
     counted-past w p q same across next end plain none new reported =
@@ -107,7 +116,8 @@ module _ (k : Settings) (meaning : Meaning) (bytes : List ℕ) where
         (counted-end (skip_lines k w (slice_range bytes p q)) new past (size ∙ end) reported)
 
 -- how it ends in a fault
-module _ {State E F : Type 0} (step : Steps State E) (errors : ErrorMakers F E) (matcher : MatcherFacts F) (k : Settings)
+module _ {State E F : Type 0} (step : Steps State E) (errors : ErrorMakers F E)
+    (matcher : MatcherFacts F) (k : Settings)
     (bytes : List ℕ) (first : State) where
   abbrev selection : Selection
   selection = touched_lines k matcher.meaning bytes
@@ -115,7 +125,8 @@ module _ {State E F : Type 0} (step : Steps State E) (errors : ErrorMakers F E) 
   abbrev IsFaulty : E → State → Type 0
   IsFaulty e new = IsContentsSearch step errors matcher k nowhere true bytes first (Err e) new
 
-  failed-run : (e : E) (new : State) → AreMade step k first (across_plan k matcher.meaning bytes).calls (failed e) new
+  failed-run : (e : E) (new : State)
+      → AreMade step k first (across_plan k matcher.meaning bytes).calls (failed e) new
       → IsFaulty e new
   failed-run e new reported = plain-ran step errors matcher k bytes first (record {
     outcome = failed e;
@@ -140,7 +151,8 @@ module _ {State E F : Type 0} (step : Steps State E) (errors : ErrorMakers F E) 
       → is_done k w ≡ false → matcher.fails haystack error → errors.is_message error e
       → IsFaulty e now
   fault-matcher w now across reported haystack error e asked goes fails message =
-      plain-asked step errors matcher k bytes first haystack error (calls_before k bytes selection w.next_unreported)
+      plain-asked step errors matcher k bytes first haystack error
+      (calls_before k bytes selection w.next_unreported)
       (record {
         index = w.line;
         question = record {
@@ -149,21 +161,29 @@ module _ {State E F : Type 0} (step : Steps State E) (errors : ErrorMakers F E) 
         };
         before = sym (through-is k matcher.meaning bytes across.near
             (asked-inside k matcher.meaning bytes w.line haystack asked)
-            (subst (λ o. All (λ call. call.if_false.count ≤ o) (calls_before k bytes selection w.next_unreported))
+            (subst (λ o. All (λ call. call.if_false.count ≤ o)
+            (calls_before k bytes selection w.next_unreported))
             (sym across.placed.at.begins) across.ended));
-      })
-      fails message reported
+      }) fails message reported
 
   -- the first question
-  pub fault-first : (now : State) → step first k begins (Ok true) now → (haystack : List ℕ) (error : F) (e : E)
+  pub fault-first : (now : State) → step first k begins (Ok true) now
+      → (haystack : List ℕ) (error : F) (e : E)
       → IsAskedAt k matcher.meaning bytes 0 haystack → matcher.fails haystack error
       → errors.is_message error e → IsFaulty e now
   fault-first now begun haystack error e asked fails message =
       fault-matcher start now (steps.across-start k matcher.meaning bytes)
-      (reported-begin k matcher.meaning bytes step first now begun) haystack error e asked goes fails message
+      (reported-begin k matcher.meaning bytes step first now begun) haystack error e asked goes
+      fails message
     where
       start : Walk
-      start = record { offset = 0; line = 0; next_unreported = 0; after_context_left = 0; match_count = 0 }
+      start = record {
+        offset = 0;
+        line = 0;
+        next_unreported = 0;
+        after_context_left = 0;
+        match_count = 0;
+      }
 
       goes : is_done k start ≡ false
       goes = grind (

@@ -44,24 +44,33 @@ module _ (k : Settings) (meaning : Meaning) (bytes : List ℕ) where
       low = omega arith;
       begins =
           let all : w.line ≡ w.line - 0 = omega arith in
-          subst (IsLineStart t bytes start) all (subst (λ o. IsLineStart t bytes o w.line) same across.placed.at);
+          subst (IsLineStart t bytes start) all
+          (subst (λ o. IsLineStart t bytes o w.line) same across.placed.at);
     };
     kept = omega (arith, across.placed.low);
   }
 
   -- the walk after it, its calls, and the unit that is next
-  pub record IsMoved (start end : ℕ) (w : Walk) (unit : ℕ × ℕ) (blocks : Blocks) (chosen : Bool) : Type 0 where
+  pub record IsMoved (start end : ℕ) (w : Walk) (unit : ℕ × ℕ) (blocks : Blocks) (chosen : Bool) :
+      Type 0 where
     pub across : IsAcross k meaning bytes (after_lines k w (slice_range bytes start end) chosen)
-    pub front : calls_before k bytes (touched_lines k meaning bytes) (after_lines k w (slice_range bytes start end) chosen).next_unreported
-        ≡ calls_before k bytes (touched_lines k meaning bytes) w.next_unreported ++ line_calls k bytes w (slice_range bytes start end) chosen false
-    pub ready : IsAtUnit k meaning bytes end (after_lines k w (slice_range bytes start end) chosen) unit blocks
+    pub front : calls_before k bytes (touched_lines k meaning bytes)
+        (after_lines k w (slice_range bytes start end) chosen).next_unreported
+        ≡ calls_before k bytes (touched_lines k meaning bytes) w.next_unreported
+        ++ line_calls k bytes w (slice_range bytes start end) chosen false
+    pub ready : IsAtUnit k meaning bytes end (after_lines k w (slice_range bytes start end) chosen)
+        unit blocks
     pub offset : (after_lines k w (slice_range bytes start end) chosen).offset ≡ end
     pub end_is : line_end w (slice_range bytes start end) ≡ end
 
-module _ {k : Settings} {meaning : Meaning} {bytes : List ℕ} {start end next : ℕ} {w : Walk} {unit : ℕ × ℕ}
-    {blocks : Blocks} (bare : Bare k meaning bytes) (across : IsAcross k meaning bytes w) (same : w.offset ≡ start)
-    (ready : IsAtUnit k meaning bytes start w unit blocks) (ahead : is_done k w ≡ false → start < unit.1)
-    (is_next : next ≡ next_chosen k bytes start unit w) (below : start < end) (within : end ≤ length bytes) where
+module _ {k : Settings} {meaning : Meaning} {bytes : List ℕ} {start end next : ℕ} {w : Walk}
+    {unit : ℕ × ℕ}
+    {blocks : Blocks} (bare : Bare k meaning bytes) (across : IsAcross k meaning bytes w)
+    (same : w.offset ≡ start)
+    (ready : IsAtUnit k meaning bytes start w unit blocks) (ahead : is_done k w ≡ false → start
+    < unit.1)
+    (is_next : next ≡ next_chosen k bytes start unit w) (below : start < end) (within : end
+    ≤ length bytes) where
   at : IsLineStart (byte_of k.line_terminator) bytes start w.line
   at = subst (λ o. IsLineStart (byte_of k.line_terminator) bytes o w.line) same across.placed.at
 
@@ -74,9 +83,10 @@ module _ {k : Settings} {meaning : Meaning} {bytes : List ℕ} {start end next :
   open-chosen : IsChosen k meaning bytes w end → is_done k w ≡ false
   open-chosen chosen = grind (arith, chosen.room)
 
-  pub reportable : (chosen : Bool) → chosen ≡ (start == next) → (is_joined k chosen ≡ true → end ≡ unit.1)
-      → (is_joined k chosen ≡ false → (i : ℕ) → IsLineStart (byte_of k.line_terminator) bytes start i
-      → IsLine (byte_of k.line_terminator) bytes i start end)
+  pub reportable : (chosen : Bool) → chosen ≡ (start == next)
+      → (is_joined k chosen ≡ true → end ≡ unit.1)
+      → (is_joined k chosen ≡ false → (i : ℕ) → IsLineStart (byte_of k.line_terminator) bytes start
+      i → IsLine (byte_of k.line_terminator) bytes i start end)
       → IsMoved k meaning bytes start end w unit blocks chosen
   reportable true is joined single =
       let there = eqb-true start next (sym is) ∙ is_next in
@@ -92,8 +102,10 @@ module _ {k : Settings} {meaning : Meaning} {bytes : List ℕ} {start end next :
   reportable false is joined single =
       let line = single refl w.line at in
       let later = units.next-is across at ready some ahead in
-      let above : start < next_chosen k bytes start unit w = grind (arith, nat_tests, later.from, is, is_next) in
-      let missed = later.missed w.line (omega arith) (comes-before later.at w.line (omega (arith, at.begins))) in
+      let above : start < next_chosen k bytes start unit w =
+      grind (arith, nat_tests, later.from, is, is_next) in
+      let missed = later.missed w.line (omega arith)
+      (comes-before later.at w.line (omega (arith, at.begins))) in
       record {
         across = steps.across-missed same across bare line missed;
         front = steps.front-missed same across bare line missed;

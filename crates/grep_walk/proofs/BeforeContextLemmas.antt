@@ -28,9 +28,12 @@ module _ (k : Settings) (bytes : List ℕ) (v i end : ℕ) where
   here-is : (q start next : ℕ) → IsLine t bytes q start next
       → before_calls k v q i (number_of k q) start end (slice_range bytes start next) ≡ at_line q
   here-is q start next line =
-      ap (λ m. before_calls k v q i m start end (slice_range bytes start next)) (sym (number-line k bytes q line.listed))
-      ∙ (ap (λ p. before_calls k v q i (number k bytes q) p end (slice_range bytes start next)) (sym line.begins)
-      ∙ ap (λ l. before_calls k v q i (number k bytes q) (line_start t bytes q) end l) (sym line.line))
+      ap (λ m. before_calls k v q i m start end (slice_range bytes start next))
+      (sym (number-line k bytes q line.listed))
+      ∙ (ap (λ p. before_calls k v q i (number k bytes q) p end (slice_range bytes start next))
+      (sym line.begins)
+      ∙ ap (λ l. before_calls k v q i (number k bytes q) (line_start t bytes q) end l)
+      (sym line.line))
 
   -- the lines that the context doesn't reach have no calls
   pub pending-near : (a : ℕ) → v ≤ i → a ≡ i - min k.before_context (i - v)
@@ -39,58 +42,67 @@ module _ (k : Settings) (bytes : List ℕ) (v i end : ℕ) where
       let sum : i - v ≡ (a - v) + (i - a) = omega arith in
       let first : v + (a - v) ≡ a = omega arith in
       ap (λ m. joined_from at_line v m) sum ∙ (joined_from-add at_line v (a - v) (i - a)
-      ∙ (ap (λ xs. xs ++ joined_from at_line (v + (a - v)) (i - a)) (joined_from-none at_line v (a - v) silent)
-      ∙ ap (λ m. joined_from at_line m (i - a)) first))
+      ∙ (ap (λ xs. xs ++ joined_from at_line (v + (a - v)) (i - a))
+      (joined_from-none at_line v (a - v) silent) ∙ ap (λ m. joined_from at_line m (i - a)) first))
     where
       silent : (q : ℕ) → v ≤ q → q < v + (a - v) → at_line q ≡ []
       silent q from below = let far = lt-leb (i - q) k.before_context (omega arith) in rw far refl
 
   -- if it reaches none, there are no calls
-  pub pending-none : v ≤ i → min k.before_context (i - v) ≡ 0 → pending_calls k bytes v i end v (i - v) ≡ []
+  pub pending-none : v ≤ i → min k.before_context (i - v) ≡ 0 → pending_calls k bytes v i end v
+      (i - v) ≡ []
   pending-none low none =
       let rest : i - i ≡ 0 = omega arith in
       pending-near i low (omega arith) ∙ ap (λ m. joined_from at_line i m) rest
 
   -- and no step makes them
-  pub reported-none : {S E : Type 0} (step : Steps S E) (old : S) → v ≤ i → min k.before_context (i - v) ≡ 0
+  pub reported-none : {S E : Type 0} (step : Steps S E) (old : S) → v ≤ i
+      → min k.before_context (i - v) ≡ 0
       → AreMade step k old (pending_calls k bytes v i end v (i - v)) all_true old
   reported-none step old low none =
-      subst (λ calls. AreMade step k old calls all_true old) (sym (pending-none low none)) (refl, refl)
+      subst (λ calls. AreMade step k old calls all_true old) (sym (pending-none low none))
+      (refl, refl)
 
   module _ {S E : Type 0} (step : Steps S E) (old mid new : S) (first q start next offset : ℕ)
-      (line : IsLine t bytes q start next) (own : List ℕ) (bytes_same : slice_range bytes start next ≡ own)
-      (same : offset ≡ start) (low : first ≤ q)
+      (line : IsLine t bytes q start next) (own : List ℕ) (bytes_same : slice_range bytes start next
+      ≡ own) (same : offset ≡ start) (low : first ≤ q)
       (before : AreMade step k old (pending_calls k bytes v i end first (q - first)) all_true mid)
       (outcome : Outcome E)
-      (here : AreMade step k mid (before_calls k v q i (number_of k q) offset end own) outcome new) where
-    through : AreMade step k old (pending_calls k bytes v i end first ((q - first) + 1)) outcome new
-    through =
-        let at : first + (q - first) ≡ q = omega arith in
-        let there : at_line q ≡ at_line (first + (q - first)) = ap at_line (sym at) in
-        subst (λ calls. AreMade step k old calls outcome new) (sym (joined_from-more at_line first (q - first)))
-        (AreMade-append step k (joined_from at_line first (q - first)) (at_line (first + (q - first))) old mid
-        outcome new before
-        (subst (λ calls. AreMade step k mid calls outcome new)
-        (ap (λ o. before_calls k v q i (number_of k q) o end own) same
-        ∙ (ap (before_calls k v q i (number_of k q) start end) (sym bytes_same) ∙ (here-is q start next line ∙ there)))
-        here))
+      (here : AreMade step k mid (before_calls k v q i (number_of k q) offset end own) outcome new)
+    where
+      through : AreMade step k old (pending_calls k bytes v i end first ((q - first) + 1)) outcome
+          new
+      through =
+          let at : first + (q - first) ≡ q = omega arith in
+          let there : at_line q ≡ at_line (first + (q - first)) = ap at_line (sym at) in
+          subst (λ calls. AreMade step k old calls outcome new)
+          (sym (joined_from-more at_line first (q - first)))
+          (AreMade-append step k (joined_from at_line first (q - first))
+          (at_line (first + (q - first))) old mid outcome new before
+          (subst (λ calls. AreMade step k mid calls outcome new)
+          (ap (λ o. before_calls k v q i (number_of k q) o end own) same
+          ∙ (ap (before_calls k v q i (number_of k q) start end) (sym bytes_same)
+          ∙ (here-is q start next line ∙ there))) here))
 
-    -- one more line
-    pub reported-more : AreMade step k old (pending_calls k bytes v i end first ((q + 1) - first)) outcome new
-    reported-more =
-        let sum : (q - first) + 1 ≡ (q + 1) - first = omega arith in
-        subst (λ m. AreMade step k old (pending_calls k bytes v i end first m) outcome new) sum through
+      -- one more line
+      pub reported-more : AreMade step k old (pending_calls k bytes v i end first ((q + 1) - first))
+          outcome new
+      reported-more =
+          let sum : (q - first) + 1 ≡ (q + 1) - first = omega arith in
+          subst (λ m. AreMade step k old (pending_calls k bytes v i end first m) outcome new) sum
+          through
 
-    -- a line whose calls end early ends them all
-    pub reported-ended : q < i → (outcome ≡ all_true → ⊥)
-        → AreMade step k old (pending_calls k bytes v i end first (i - first)) outcome new
-    reported-ended less over =
-        let sum : i - first ≡ ((q - first) + 1) + (i - (q + 1)) = omega arith in
-        let split = ap (λ m. joined_from at_line first m) sum
-        ∙ joined_from-add at_line first ((q - first) + 1) (i - (q + 1)) in
-        subst (λ calls. AreMade step k old calls outcome new) (sym split)
-        (AreMade-ended step k (joined_from at_line first ((q - first) + 1))
-        (joined_from at_line (first + ((q - first) + 1)) (i - (q + 1))) old outcome new over through)
+      -- a line whose calls end early ends them all
+      pub reported-ended : q < i → (outcome ≡ all_true → ⊥)
+          → AreMade step k old (pending_calls k bytes v i end first (i - first)) outcome new
+      reported-ended less over =
+          let sum : i - first ≡ ((q - first) + 1) + (i - (q + 1)) = omega arith in
+          let split = ap (λ m. joined_from at_line first m) sum
+          ∙ joined_from-add at_line first ((q - first) + 1) (i - (q + 1)) in
+          subst (λ calls. AreMade step k old calls outcome new) (sym split)
+          (AreMade-ended step k (joined_from at_line first ((q - first) + 1))
+          (joined_from at_line (first + ((q - first) + 1)) (i - (q + 1))) old outcome new over
+          through)
 
 -- what the calls of the lines before come to after a line of a window, for the walk at `start`
 module _ (k : Settings) (gone window input : List ℕ) (w : Walk) (start : ℕ)
@@ -100,12 +112,12 @@ module _ (k : Settings) (gone window input : List ℕ) (w : Walk) (start : ℕ)
     (line : (j : ℕ) → IsLineStart (byte_of k.line_terminator) window p j
     → IsLine (byte_of k.line_terminator) window j p next)
     (same : offset + start ≡ w.offset + p) (low : first ≤ q)
-    (before : AreMade step k old (pending_calls k input w.next_unreported w.line end first (q - first)) all_true
-    mid)
-    (outcome : Outcome E)
-    (here : AreMade step k mid
-    (before_calls k w.next_unreported q w.line (number_of k q) offset end (slice_range window p next)) outcome new) where
-  own_line : IsLine (byte_of k.line_terminator) window (q - length (lines (byte_of k.line_terminator) gone)) p next
+    (before : AreMade step k old (pending_calls k input w.next_unreported w.line end first
+    (q - first)) all_true mid) (outcome : Outcome E) (here : AreMade step k mid
+    (before_calls k w.next_unreported q w.line (number_of k q) offset end
+    (slice_range window p next)) outcome new) where
+  own_line : IsLine (byte_of k.line_terminator) window
+      (q - length (lines (byte_of k.line_terminator) gone)) p next
   own_line = line (q - length (lines (byte_of k.line_terminator) gone)) at.begins
 
   shown_line : IsLine (byte_of k.line_terminator) input q (length gone + p) (length gone + next)
@@ -115,26 +127,27 @@ module _ (k : Settings) (gone window input : List ℕ) (w : Walk) (start : ℕ)
   shown_bytes = windows.slice-in gone window inside.shown.after input inside.shown.whole p next
       (omega (arith, own_line.above)) own_line.within
 
-  pub window-more : AreMade step k old (pending_calls k input w.next_unreported w.line end first ((q + 1) - first))
-      outcome new
-  window-more = reported-more k input w.next_unreported w.line end step old mid new first q (length gone + p)
-      (length gone + next) offset
+  pub window-more : AreMade step k old (pending_calls k input w.next_unreported w.line end first
+      ((q + 1) - first)) outcome new
+  window-more = reported-more k input w.next_unreported w.line end step old mid new first q
+      (length gone + p) (length gone + next) offset
       shown_line (slice_range window p next) shown_bytes (omega arith) low before outcome here
 
   pub window-ended : q < w.line → (outcome ≡ all_true → ⊥)
-      → AreMade step k old (pending_calls k input w.next_unreported w.line end first (w.line - first)) outcome new
-  window-ended = reported-ended k input w.next_unreported w.line end step old mid new first q (length gone + p)
-      (length gone + next) offset
+      → AreMade step k old (pending_calls k input w.next_unreported w.line end first
+      (w.line - first)) outcome new
+  window-ended = reported-ended k input w.next_unreported w.line end step old mid new first q
+      (length gone + p) (length gone + next) offset
       shown_line (slice_range window p next) shown_bytes (omega arith) low before outcome here
 
 -- a window that has the lines before a walk does not end among them
 pub window-short : (k : Settings) (gone window input : List ℕ) (w : Walk) (start : ℕ)
     → IsInWindow k gone window input start w
-    → {S E : Type 0} (step : Steps S E) (old new : S) (calls : List Planned) (outcome : Outcome E) (q p : ℕ)
-    → IsLineIn k gone window p q
+    → {S E : Type 0} (step : Steps S E) (old new : S) (calls : List Planned) (outcome : Outcome E)
+    (q p : ℕ) → IsLineIn k gone window p q
     → ((i : ℕ) → IsLineStart (byte_of k.line_terminator) window p i → i
     ≡ length (lines (byte_of k.line_terminator) window))
     → q < w.line → AreMade step k old calls outcome new
-window-short k gone window input w start inside step old new calls outcome q p at last below = absurd
-    (let all = last (q - length (lines (byte_of k.line_terminator) gone)) at.begins in
+window-short k gone window input w start inside step old new calls outcome q p at last below =
+    absurd (let all = last (q - length (lines (byte_of k.line_terminator) gone)) at.begins in
     omega arith)

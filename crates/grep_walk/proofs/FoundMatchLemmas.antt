@@ -1,4 +1,5 @@
--- Which matches were found across lines, and which are still to be found, from one match to the next.
+-- Which matches were found across lines, and which are still to be found, from one match to the
+-- next.
 use Rattle.std.proofs.Common.{◌≡◌, ℕ, ◌+◌, ◌-◌, ◌<◌, true, List, [], ◌∷◌, ◌++◌, length, drop, refl}
 use Rattle.std.proofs.Common.{sym, ◌∙◌, ap, arith, append_assoc, length-append, length-drop, ap₂}
 use Rattle.std.proofs.Common.{Option, Some, None}
@@ -24,11 +25,13 @@ left_of-none : (limit : Option ℕ) → limit ≡ left_of limit 0
 left_of-none None = refl
 left_of-none (Some l) = ap Some (omega arith)
 
-left_of-more : (limit : Option ℕ) (n : ℕ) → option_map (λ l. l - 1) (left_of limit n) ≡ left_of limit (n + 1)
+left_of-more : (limit : Option ℕ) (n : ℕ) → option_map (λ l. l - 1) (left_of limit n)
+    ≡ left_of limit (n + 1)
 left_of-more None n = refl
 left_of-more (Some l) n = ap Some (omega arith)
 
-left_of-below : (limit : Option ℕ) (n : ℕ) → is_below 0 (left_of limit n) ≡ true → is_below n limit ≡ true
+left_of-below : (limit : Option ℕ) (n : ℕ) → is_below 0 (left_of limit n) ≡ true → is_below n limit
+    ≡ true
 left_of-below None n is = refl
 left_of-below (Some l) n is = grind (arith, nat_tests)
 
@@ -47,11 +50,11 @@ module _ (k : Settings) (meaning : Meaning) (bytes : List ℕ) where
       → match_from meaning bytes position ≡ Some m → is_below 0 left ≡ true
       → AreFound k meaning bytes (position_after m) (option_map (λ l. l - 1) left) (found ++ m ∷ [])
   found-more position left found m so_far is room = record {
-    all = so_far.all ∙ (ap (λ later. found ++ later) (matches_left-found meaning bytes position left m is room)
+    all = so_far.all ∙ (ap (λ later. found ++ later)
+        (matches_left-found meaning bytes position left m is room)
         ∙ sym (append_assoc found (m ∷ []) (matches_left meaning bytes (position_after m)
         (option_map (λ l. l - 1) left))));
-    room = ap (option_map (λ l. l - 1)) so_far.room
-        ∙ (left_of-more (match_limit k) (length found)
+    room = ap (option_map (λ l. l - 1)) so_far.room ∙ (left_of-more (match_limit k) (length found)
         ∙ ap (left_of (match_limit k)) (sym (length-append found (m ∷ []))));
     at = λ some. position_past-last 0 found m;
   }
@@ -59,7 +62,8 @@ module _ (k : Settings) (meaning : Meaning) (bytes : List ℕ) where
   -- no more
   pub found-none : (position : ℕ) (left : Option ℕ) (found : List (ℕ × ℕ))
       → AreFound k meaning bytes position left found
-      → match_from meaning bytes position ≡ None → AreFound k meaning bytes (length bytes) left found
+      → match_from meaning bytes position ≡ None → AreFound k meaning bytes (length bytes) left
+      found
   found-none position left found so_far is = record {
     all = so_far.all ∙ ap (λ later. found ++ later)
         (matches_left-none meaning bytes position left is
@@ -71,7 +75,8 @@ module _ (k : Settings) (meaning : Meaning) (bytes : List ℕ) where
   -- what is asked for the next match
   pub asked-next : (position : ℕ) (left : Option ℕ) (found : List (ℕ × ℕ))
       → AreFound k meaning bytes position left found
-      → position < length bytes → is_below 0 left ≡ true → IsAskedAfter k meaning bytes found (drop position bytes)
+      → position < length bytes → is_below 0 left ≡ true → IsAskedAfter k meaning bytes found
+      (drop position bytes)
   asked-next position left found so_far below room = record {
     later = matches_left meaning bytes position left;
     all = so_far.all;
@@ -81,7 +86,8 @@ module _ (k : Settings) (meaning : Meaning) (bytes : List ℕ) where
   }
 
   -- what is known if no match is left
-  pub no-more : (b : Blocks) → matches_left meaning bytes b.position b.left ≡ [] → HasNoMore k meaning bytes b b
+  pub no-more : (b : Blocks) → matches_left meaning bytes b.position b.left ≡ []
+      → HasNoMore k meaning bytes b b
   no-more b none = record { left = none; still = none; found = λ found so_far. so_far }
 
   -- the matcher finds none in the rest of the bytes
@@ -96,8 +102,8 @@ module _ (k : Settings) (meaning : Meaning) (bytes : List ℕ) where
       }
 
   -- it finds one
-  pub found-next : (b : Blocks) (m found : ℕ × ℕ) (position : ℕ) (left : Option ℕ) → b.position < length bytes
-      → is_below 0 b.left ≡ true
+  pub found-next : (b : Blocks) (m found : ℕ × ℕ) (position : ℕ) (left : Option ℕ) → b.position
+      < length bytes → is_below 0 b.left ≡ true
       → meaning.first (drop b.position bytes) ≡ Some m → IsWithin (drop b.position bytes) (Some m)
       → found ≡ (m.0 + b.position, m.1 + b.position) → position ≡ position_after found → left
       ≡ option_map (λ l. l - 1) b.left
@@ -114,6 +120,8 @@ module _ (k : Settings) (meaning : Meaning) (bytes : List ℕ) where
         within = omega (arith, length-drop b.position bytes);
         inside = below;
         position = position_is;
-        left = rw (position_is, left_is) (matches_left-found meaning bytes b.position b.left found next room);
-        found = λ asked so_far. rw (position_is, left_is) (found-more b.position b.left asked found so_far next room);
+        left = rw (position_is, left_is) (matches_left-found meaning bytes b.position b.left found
+            next room);
+        found = λ asked so_far. rw (position_is, left_is)
+            (found-more b.position b.left asked found so_far next room);
       }

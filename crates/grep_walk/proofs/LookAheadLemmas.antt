@@ -35,9 +35,10 @@ pub record IsLocated (t : ℕ) (bytes : List ℕ) (position : ℕ) (line : ℕ �
   pub high : position ≤ line.1
 
 -- the whole lines of an empty match are that line
-pub IsLocated-empty : (t u position : ℕ) (bytes part : List ℕ) (m line : ℕ × ℕ) → u ≡ t → part ≡ bytes → m
-    ≡ (position, position)
-    → line ≡ (block_start u part m, block_end u part m) → line.0 ≤ m.0 → m.1 ≤ line.1 → IsLocated t bytes position line
+pub IsLocated-empty : (t u position : ℕ) (bytes part : List ℕ) (m line : ℕ × ℕ) → u ≡ t → part
+    ≡ bytes → m ≡ (position, position)
+    → line ≡ (block_start u part m, block_end u part m) → line.0 ≤ m.0 → m.1 ≤ line.1
+    → IsLocated t bytes position line
 IsLocated-empty t u position bytes part m line same whole empty is low high = record {
   begins = ap (λ (x : ℕ × ℕ). x.0) block;
   ends = grind (arith, nat_tests, ap (λ (x : ℕ × ℕ). x.1) block);
@@ -45,24 +46,27 @@ IsLocated-empty t u position bytes part m line same whole empty is low high = re
   high = omega (arith, high, ap (λ (x : ℕ × ℕ). x.1) empty);
 }
   where
-    block : line ≡ (block_start t bytes (position, position), block_end t bytes (position, position))
+    block : line ≡ (
+      block_start t bytes (position, position),
+      block_end t bytes (position, position),
+    )
     block = rw (same, whole, empty) at is
 
 -- at most as many lines end before a position as there are lines
-before-few : (t : ℕ) (bytes : List ℕ) (position : ℕ) → lines_before t bytes position ≤ length (lines t bytes)
+before-few : (t : ℕ) (bytes : List ℕ) (position : ℕ) → lines_before t bytes position
+    ≤ length (lines t bytes)
 before-few t bytes position = ⊎_elim
-    (λ closed. omega (arith, fewer, lines-closed t bytes (λ some. closed)))
-    (λ other. ⊎_elim
+    (λ closed. omega (arith, fewer, lines-closed t bytes (λ some. closed))) (λ other. ⊎_elim
     (λ some. omega (arith, fewer, lines-unclosed t bytes some other))
     (λ none. omega (arith, fewer, lines-closed t bytes (λ some. absurd (omega arith))))
-    (cases_lt 0 (length bytes)))
-    (cases_eq (slice_index bytes (length bytes - 1)) t)
+    (cases_lt 0 (length bytes))) (cases_eq (slice_index bytes (length bytes - 1)) t)
   where
     fewer : lines_before t bytes position ≤ count t bytes
     fewer = sum_by-take-le (λ b. cond (b == t) 1 0) bytes position
 
 -- which lines hold a position
-module _ (terminator : LineTerminator) (meaning : Meaning) (bytes : List ℕ) (position : ℕ) (line : ℕ × ℕ)
+module _ (terminator : LineTerminator) (meaning : Meaning) (bytes : List ℕ) (position : ℕ) (line : ℕ
+    × ℕ)
     (at : IsLocated (byte_of terminator) bytes position line) where
   abbrev byte : ℕ
   byte = byte_of terminator
@@ -76,9 +80,14 @@ module _ (terminator : LineTerminator) (meaning : Meaning) (bytes : List ℕ) (p
 
   -- a line before its line doesn't
   unheld : (i : ℕ) → i < holder → HoldsPosition terminator meaning bytes i position → ⊥
-  unheld i before (low, inl below) = omega (arith, line_start-le byte bytes (i + 1) holder (omega arith))
+  unheld i before (low, inl below) =
+      omega (arith, line_start-le byte bytes (i + 1) holder (omega arith))
   unheld i before (low, inr (last, end, other)) =
-      omega (arith, before-all end, lines-unclosed byte bytes (omega (arith, lines-at-most byte bytes)) other)
+      omega (
+        arith,
+        before-all end,
+        lines-unclosed byte bytes (omega (arith, lines-at-most byte bytes)) other,
+      )
 
   -- its line does, if there is one
   held : holder < length (lines byte bytes) → HoldsPosition terminator meaning bytes holder position
@@ -88,8 +97,7 @@ module _ (terminator : LineTerminator) (meaning : Meaning) (bytes : List ℕ) (p
         (λ more. absurd (omega (
           arith,
           lines-numbered byte bytes (holder + 1) more,
-          ap (λ p. count byte (take p bytes))
-              (same over),
+          ap (λ p. count byte (take p bytes)) (same over),
         )))
         (λ last. inr (
           omega arith,
@@ -99,15 +107,16 @@ module _ (terminator : LineTerminator) (meaning : Meaning) (bytes : List ℕ) (p
             before-all (end over last),
             lines-closed byte bytes (λ some. closed),
           ),
-        ))
-        (cases_lt (holder + 1) (length (lines byte bytes)))) (cases_lt position (line_start byte bytes (holder + 1))),
+        )) (cases_lt (holder + 1) (length (lines byte bytes))))
+        (cases_lt position (line_start byte bytes (holder + 1))),
   )
     where
-      same : line_start byte bytes (holder + 1) ≤ position → position ≡ line_start byte bytes (holder + 1)
+      same : line_start byte bytes (holder + 1) ≤ position → position
+          ≡ line_start byte bytes (holder + 1)
       same over = omega arith
 
-      end : line_start byte bytes (holder + 1) ≤ position → length (lines byte bytes) ≤ holder + 1 → position
-          ≡ length bytes
+      end : line_start byte bytes (holder + 1) ≤ position → length (lines byte bytes) ≤ holder + 1
+          → position ≡ length bytes
       end over last =
           let all : holder + 1 ≡ length (lines byte bytes) = omega arith in
           same over ∙ (ap (line_start byte bytes) all ∙ line_start-last byte bytes)
@@ -143,9 +152,12 @@ module _ (t : ℕ) (bytes : List ℕ) (start first : ℕ) (here : IsLineStart t 
   IsLater-line : (i p q : ℕ) → IsLine t bytes i p q → start ≤ p → IsLater p q (i - first)
   IsLater-line i p q line low =
       let after : first ≤ i = ⊎_elim
-      (λ less. absurd (omega (arith, line_start-le t bytes (i + 1) first (omega arith), line.ends, line.above)))
-      (λ over. over)
-      (cases_lt i first) in
+      (λ less. absurd (omega (
+        arith,
+        line_start-le t bytes (i + 1) first (omega arith),
+        line.ends,
+        line.above,
+      ))) (λ over. over) (cases_lt i first) in
       let sum : first + (i - first) ≡ i = omega arith in
       record {
         listed = omega (arith, line.listed, later-count);
@@ -166,12 +178,17 @@ module _ (k : Settings) (meaning : Meaning) (window : List ℕ) (start first : �
 
   -- a line of the window matches if it does among the lines of those bytes
   matches-later : (p q j : ℕ) → IsLater t window start first here p q j
-      → matches_line k meaning (slice_range window p q) ≡ matches_at k.line_terminator meaning asked j
-  matches-later p q j inside = ap (λ l. is_some (meaning.first (strip k.line_terminator l))) (sym inside.line)
+      → matches_line k meaning (slice_range window p q) ≡ matches_at k.line_terminator meaning asked
+      j
+  matches-later p q j inside = ap (λ l. is_some (meaning.first (strip k.line_terminator l)))
+      (sym inside.line)
 
   -- if nothing was found, no line matches
   pub known-none : IsLawfulResult k.line_terminator meaning asked None
-      → IsKnown k meaning window start (record { candidate = length window; match_end = length window })
+      → IsKnown k meaning window start (record {
+        candidate = length window;
+        match_end = length window;
+      })
   known-none lawful = record {
     index = length (lines t window);
     at = end-start t window;
@@ -183,15 +200,19 @@ module _ (k : Settings) (meaning : Meaning) (window : List ℕ) (start first : �
   }
 
   -- if a line was found
-  module _ (found : LineMatchKind) (lawful : IsLawfulResult k.line_terminator meaning asked (Some found))
-      (line : ℕ × ℕ) (at : IsLocated t asked (position_of found) line) (candidate : ℕ)
+  module _ (found : LineMatchKind) (lawful : IsLawfulResult k.line_terminator meaning asked
+      (Some found)) (line : ℕ × ℕ) (at : IsLocated t asked (position_of found) line) (candidate : ℕ)
       (begins : candidate ≡ start + line.0) where
     abbrev located : ℕ
     located = lines_before t asked (position_of found)
 
     start-located : IsLineStart t window candidate (first + located)
     start-located = record {
-      listed = omega (arith, later-count t window start first here, before-few t asked (position_of found));
+      listed = omega (
+        arith,
+        later-count t window start first here,
+        before-few t asked (position_of found),
+      );
       begins = omega (arith, later-start t window start first here located, begins);
     }
 
@@ -210,7 +231,10 @@ module _ (k : Settings) (meaning : Meaning) (window : List ℕ) (start first : �
         )
 
     -- if it isn't known whether it matches
-    pub known-candidate : IsKnown k meaning window start (record { candidate = candidate; match_end = candidate })
+    pub known-candidate : IsKnown k meaning window start (record {
+      candidate = candidate;
+      match_end = candidate;
+    })
     known-candidate = record {
       index = first + located;
       at = start-located;
@@ -229,7 +253,8 @@ module _ (k : Settings) (meaning : Meaning) (window : List ℕ) (start first : �
           let listed : located < length (lines t asked) = ⊎_elim (λ less. less)
           (λ over. absurd (omega (arith, begins, ends, none-after over)))
           (cases_lt located (length (lines t asked))) in
-          let next : first + (located + 1) ≡ i + 1 = omega (arith, start-same begun start-located) in
+          let next : first + (located + 1) ≡ i + 1 =
+          omega (arith, start-same begun start-located) in
           line-from begun (subst (IsLineStart t window match_end) next (record {
             listed = omega (arith, listed, later-count t window start first here);
             begins = later-start t window start first here (located + 1) ∙ omega (arith, ends);
@@ -240,13 +265,15 @@ module _ (k : Settings) (meaning : Meaning) (window : List ℕ) (start first : �
           let same = only (i - first) (IsStep-line t asked (i - first) inside.listed).above
           (omega (arith, begins)) (omega (arith, ends)) in
           let listed : located < length (lines t asked) = omega (arith, same) in
-          matches-later p q (i - first) inside ∙ (ap (matches_at k.line_terminator meaning asked) same
-          ∙ lawful.1 located listed (held k.line_terminator meaning asked (position_of found) line at listed)
-          confirmed);
+          matches-later p q (i - first) inside
+          ∙ (ap (matches_at k.line_terminator meaning asked) same
+          ∙ lawful.1 located listed (held k.line_terminator meaning asked (position_of found) line
+          at listed) confirmed);
     }
       where
         -- after the last line none begins
-        none-after : length (lines t asked) ≤ located → line_start t asked (located + 1) ≡ line_start t asked located
+        none-after : length (lines t asked) ≤ located → line_start t asked (located + 1)
+            ≡ line_start t asked located
         none-after over =
             ap (λ ls. length (concat ls)) (take_all (located + 1) (lines t asked) (omega arith)
             ∙ sym (take_all located (lines t asked) over))
@@ -255,4 +282,8 @@ module _ (k : Settings) (meaning : Meaning) (window : List ℕ) (start first : �
         only : (j : ℕ) → line_start t asked j < line_start t asked (j + 1)
             → line_start t asked located ≤ line_start t asked j
             → line_start t asked j < line_start t asked (located + 1) → j ≡ located
-        only j above low high = grind (arith, line_start-le t asked (j + 1) located, line_start-le t asked (located + 1) j)
+        only j above low high = grind (
+          arith,
+          line_start-le t asked (j + 1) located,
+          line_start-le t asked (located + 1) j,
+        )

@@ -6,8 +6,8 @@ use Rattle.grep_walk.specs.Origins.{AreMadeFrom, Origin, fresh}
 
 module _ {S E : Type 0} (step : Steps S E) (k : Settings) where
   -- calls after calls that all returned true
-  pub from-append : (first : Origin S) (front back : List Planned) (mid : S) (outcome : Outcome E) (new : S)
-      → AreMadeFrom step k first front all_true mid → AreMade step k mid back outcome new
+  pub from-append : (first : Origin S) (front back : List Planned) (mid : S) (outcome : Outcome E)
+      (new : S) → AreMadeFrom step k first front all_true mid → AreMade step k mid back outcome new
       → AreMadeFrom step k first (front ++ back) outcome new
   from-append first front back mid outcome new so_far made = record {
     later = so_far.later ++ back;

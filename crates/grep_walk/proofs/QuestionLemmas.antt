@@ -1,4 +1,5 @@
--- At which line a search across lines asks for the next match, by the lines that the matches so far touch.
+-- At which line a search across lines asks for the next match, by the lines that the matches so far
+-- touch.
 use Rattle.std.proofs.Common.{◌≡◌, ℕ, ◌-◌, ◌+◌, ◌<◌, ◌≤◌, false, ◌&&◌, List, [], ◌∷◌, length, Some}
 use Rattle.std.proofs.Common.{sym, ◌∙◌, ap, arith, ⊎_elim}
 use Rattle.std.proofs.Math.Bool.{and-false}
@@ -33,23 +34,21 @@ module _ (k : Settings) (meaning : Meaning) (bytes : List ℕ) where
 
   -- the line of a question is one of the lines
   pub asked-inside : (i : ℕ) (haystack : List ℕ) → IsAskedAt k meaning bytes i haystack → i < n
-  asked-inside i haystack asked = ⊎_elim
-      (λ above.
+  asked-inside i haystack asked = ⊎_elim (λ above.
       let some : 0 < length asked.found = ⊎_elim
-      (λ yes. yes)
-      (λ none. absurd (clash (asked.after above) (untouched asked.found none)))
+      (λ yes. yes) (λ none. absurd (clash (asked.after above) (untouched asked.found none)))
       (cases_lt 0 (length asked.found)) in
       let less = asked.some some in
       let here = asked.run asked.first asked.low
-      ∙ and_from _ _ (le-leb asked.first asked.first (omega arith)) (lt-ltb asked.first asked.last less) in
+      ∙ and_from _ _ (le-leb asked.first asked.first (omega arith))
+      (lt-ltb asked.first asked.last less) in
       let inside = ltb-true asked.first n (and_parts _ _ here).0 in
-      omega arith)
-      (λ none.
+      omega arith) (λ none.
       let some = first-line (omega arith) in
-      omega arith)
-      (cases_lt 0 i)
+      omega arith) (cases_lt 0 i)
     where
-      untouched : (found : List (ℕ × ℕ)) → length found ≤ 0 → is_touched k meaning bytes found (i - 1) ≡ false
+      untouched : (found : List (ℕ × ℕ)) → length found ≤ 0 → is_touched k meaning bytes found
+          (i - 1) ≡ false
       untouched [] none = and-false (nat_lt (i - 1) n)
       untouched (m ∷ found) none = absurd (omega arith)
 
@@ -65,8 +64,8 @@ module _ (k : Settings) (meaning : Meaning) (bytes : List ℕ) where
     last = 0;
     low = omega arith;
     some = λ above. absurd (omega arith);
-    run = λ j low. and-false (nat_lt j n) ∙ sym (ap (λ b. nat_le 0 j && b) (le-ltb j 0 (omega arith))
-        ∙ and-false (nat_le 0 j));
+    run = λ j low. and-false (nat_lt j n)
+        ∙ sym (ap (λ b. nat_le 0 j && b) (le-ltb j 0 (omega arith)) ∙ and-false (nat_le 0 j));
   }
 
   -- while a unit is put together, at the line after the one before it
@@ -88,12 +87,16 @@ module _ (k : Settings) (meaning : Meaning) (bytes : List ℕ) where
       starts-from touched.range.ends j,
     )
 
-    run-is : (j : ℕ) → i ≤ j
-        → is_touched k meaning bytes found j ≡ (nat_le touched.range.first j && nat_lt j touched.range.last)
+    run-is : (j : ℕ) → i ≤ j → is_touched k meaning bytes found j
+        ≡ (nat_le touched.range.first j && nat_lt j touched.range.last)
     run-is j low = ⊎_elim
-        (λ inside. grind (arith, nat_tests, inside, touched.same j inside (starts-from at j low), in-unit j inside))
-        (λ past. grind (arith, nat_tests, past, touched.range.ends.listed))
-        (cases_lt j n)
+        (λ inside. grind (
+          arith,
+          nat_tests,
+          inside,
+          touched.same j inside (starts-from at j low),
+          in-unit j inside,
+        )) (λ past. grind (arith, nat_tests, past, touched.range.ends.listed)) (cases_lt j n)
 
     low-is : i ≤ touched.range.first
     low-is = comes-from at touched.range.first (omega arith)
@@ -107,13 +110,13 @@ module _ (k : Settings) (meaning : Meaning) (bytes : List ℕ) where
           let back : (i - 1) + 1 ≡ i = omega arith in
           let inside : i - 1 < n = omega arith in
           and_from (nat_lt (i - 1) n) _ (lt-ltb (i - 1) n inside)
-          (touched.before (omega (arith, begins-inside)) (i - 1) inside
-          (ap from back ∙ at.begins));
+          (touched.before (omega (arith, begins-inside)) (i - 1) inside (ap from back ∙ at.begins));
       apart = λ above.
           let some = starts-before at 0 above in
           let over = touched.range.apart (omega arith) (omega (arith, begins-inside)) in
           let later = comes-before touched.range.begins i (omega arith) in
-          run-is i (omega arith) ∙ ap (λ b. b && nat_lt i touched.range.last) (lt-leb touched.range.first i later);
+          run-is i (omega arith) ∙ ap (λ b. b && nat_lt i touched.range.last)
+          (lt-leb touched.range.first i later);
       first = touched.range.first;
       last = touched.range.last;
       low = low-is;

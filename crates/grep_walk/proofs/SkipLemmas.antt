@@ -51,7 +51,8 @@ module _ (k : Settings) (meaning : Meaning) (window : List ℕ) where
   }
 
   -- what is known from a position on is known from a later one on
-  pub known-later : (p r : ℕ) (a : Ahead) → p ≤ r → IsKnown k meaning window p a → IsKnown k meaning window r a
+  pub known-later : (p r : ℕ) (a : Ahead) → p ≤ r → IsKnown k meaning window p a
+      → IsKnown k meaning window r a
   known-later p r a low known = record {
     index = known.index;
     at = known.at;
@@ -70,7 +71,8 @@ module _ (k : Settings) (meaning : Meaning) (window : List ℕ) where
           → IfSome (if b then Some false else (if c then Some true else None))
           (λ m. m ≡ matches_line k meaning (slice_range window p q))
       go true c is_b is_c = sym (known.miss i p q line (omega arith) (ltb-true p a.candidate is_b))
-      go false true is_b is_c = sym (known.hit i p q line (ltb-false p a.candidate is_b) (ltb-true p a.match_end is_c))
+      go false true is_b is_c =
+          sym (known.hit i p q line (ltb-false p a.candidate is_b) (ltb-true p a.match_end is_c))
       go false false is_b is_c = tt
 
 module _ {S E : Type 0} (step : Steps S E) (k : Settings) (meaning : Meaning)
@@ -83,15 +85,16 @@ module _ {S E : Type 0} (step : Steps S E) (k : Settings) (meaning : Meaning)
 
   -- the lines from one position up to another don't match
   abbrev Misses : ℕ → ℕ → Type 0
-  Misses p q = (i a b : ℕ) → IsLine t window i a b → p ≤ a → a < q → matches_line k meaning (slice_range window a b)
-      ≡ false
+  Misses p q = (i a b : ℕ) → IsLine t window i a b → p ≤ a → a < q
+      → matches_line k meaning (slice_range window a b) ≡ false
 
   abbrev moved : Walk → ℕ → ℕ → Walk
   moved w bytes count = record w { offset = w.offset + bytes; line = w.line + count }
 
   -- the line that a walk is at
   line-there : (w : Walk) (p : ℕ) → Walked p w → p < length window
-      → (q : ℕ) × (p < q) × (q ≤ length window) × ((i : ℕ) → IsLineStart t window p i → IsLine t window i p q)
+      → (q : ℕ) × (p < q) × (q ≤ length window)
+      × ((i : ℕ) → IsLineStart t window p i → IsLine t window i p q)
   line-there w p so_far less =
       let i = w.line - length (lines t gone) in
       let from = so_far.inside.line.begins in
@@ -100,7 +103,8 @@ module _ {S E : Type 0} (step : Steps S E) (k : Settings) (meaning : Meaning)
         line_start t window (i + 1),
         line.above,
         line.within,
-        λ j start. subst (λ m. IsLine t window m p (line_start t window (i + 1))) (start-same from start) line,
+        λ j start. subst (λ m. IsLine t window m p (line_start t window (i + 1)))
+            (start-same from start) line,
       )
 
   -- one line is skipped
@@ -147,7 +151,8 @@ module _ {S E : Type 0} (step : Steps S E) (k : Settings) (meaning : Meaning)
       )
 
   -- many lines are skipped
-  walked-lines : (n : ℕ) (w : Walk) (p q i : ℕ) → Walked p w → IsSkipping k w → IsLineStart t window p i
+  walked-lines : (n : ℕ) (w : Walk) (p q i : ℕ) → Walked p w → IsSkipping k w
+      → IsLineStart t window p i
       → IsLineStart t window q (i + n) → Misses p q → Walked q (moved w (q - p) n)
   walked-lines zero w p q i so_far skipping from to misses =
       let plain : i ≡ i + zero = omega arith in
@@ -167,13 +172,10 @@ module _ {S E : Type 0} (step : Steps S E) (k : Settings) (meaning : Meaning)
         selects = skipping.selects;
         none_left = skipping.none_left;
         unstopped = skipping.unstopped;
-      })
-      (record { listed = omega arith; begins = refl })
+      }) (record { listed = omega arith; begins = refl })
       (subst (IsLineStart t window q) (sym sum) to)
       (λ j a b line low high. misses j a b line (omega arith) high) in
-      subst (Walked q)
-      (grind (arith, line.above, within))
-      later
+      subst (Walked q) (grind (arith, line.above, within)) later
 
   -- the lines that don't match are passed, if the walk may skip them
   pub walked-past : (w : Walk) (p : ℕ) (a : Ahead) → Walked p w → a.candidate ≤ length window
@@ -185,16 +187,24 @@ module _ {S E : Type 0} (step : Steps S E) (k : Settings) (meaning : Meaning)
       let from = so_far.inside.line.begins in
       let ordered = comes-from from known.index (omega arith) in
       let sum : i + (known.index - i) ≡ known.index = omega arith in
-      let many = lines-between t window p a.candidate i known.index from known.at (omega arith) within
-      ordered in
+      let many = lines-between t window p a.candidate i known.index from known.at (omega arith)
+      within ordered in
       subst (Walked a.candidate)
-      (grind (arith, length-take (a.candidate - p) (drop p window), length-drop p window, many, within))
-      (walked-lines (known.index - i) w p a.candidate i so_far (is_skipping k w (grind (arith, is))) from
-      (subst (IsLineStart t window a.candidate) (sym sum) known.at) known.miss)
+      (grind (
+        arith,
+        length-take (a.candidate - p) (drop p window),
+        length-drop p window,
+        many,
+        within,
+      ))
+      (walked-lines (known.index - i) w p a.candidate i so_far (is_skipping k w (grind (arith, is)))
+      from (subst (IsLineStart t window a.candidate) (sym sum) known.at) known.miss)
 
 -- the matcher's error for the lines from where a walk is on
-pub failed-ahead : {S E F : Type 0} {step : Steps S E} {k : Settings} {gone window input : List ℕ} {first : Origin S}
-    {p : ℕ} {w : Walk} {now : S} (errors : ErrorMakers F E) (matcher : MatcherFacts F) → Bare k matcher.meaning input
+pub failed-ahead : {S E F : Type 0} {step : Steps S E} {k : Settings} {gone window input : List ℕ}
+    {first : Origin S}
+    {p : ℕ} {w : Walk} {now : S} (errors : ErrorMakers F E) (matcher : MatcherFacts F)
+    → Bare k matcher.meaning input
     → HasWalked step k matcher.meaning gone window input first p w now → p < length window
     → MayAskAhead k matcher.meaning w → (error : F) (e : E) → errors.is_message error e
     → matcher.fails (drop p window) error → IsWalkFault step errors matcher k input first e now

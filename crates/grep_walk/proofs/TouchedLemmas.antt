@@ -17,8 +17,9 @@ use Rattle.grep_lines.specs.Positions.{IsLineStart}
 use Rattle.grep_definitions.specs.Plans.{line_count, start, touches, position_after, Settings}
 use Rattle.grep_definitions.specs.SuccessiveMatches.{counted_matches}
 use Rattle.grep_definitions.proofs.MatchBlockLemmas.{within-block, block_start-edge, block_end-edge}
-use Rattle.grep_definitions.proofs.MatchBlockLemmas.{block_start-le, block_start-low, block_end-within}
-use Rattle.grep_definitions.proofs.MatchBlockLemmas.{block-some, block_start-part, block_end-part}
+use Rattle.grep_definitions.proofs.MatchBlockLemmas.{block_start-le, block_start-low}
+use Rattle.grep_definitions.proofs.MatchBlockLemmas.{block_end-within, block-some, block_start-part}
+use Rattle.grep_definitions.proofs.MatchBlockLemmas.{block_end-part}
 use Rattle.grep_lines.proofs.LineRangeLemmas.{comes-before, end-start, starts-before, starts-until}
 use Rattle.grep_definitions.proofs.TouchLemmas.{rises}
 use Rattle.grep_definitions.proofs.SuccessiveMatchLemmas.{position_after-start}
@@ -64,18 +65,19 @@ module _ (k : Settings) (meaning : Meaning) (bytes : List ℕ) where
       → touched_of (found ++ m ∷ []) j ≡ (touched_of found j || is_in (Some (block m)) (from j))
   touches-more found m j inside =
       list_any-append (touches k meaning bytes j) found (m ∷ [])
-      ∙ ap (λ b. touched_of found j || b) (or-false (touches k meaning bytes j m) ∙ within-block t bytes j m inside)
+      ∙ ap (λ b. touched_of found j || b) (or-false (touches k meaning bytes j m)
+      ∙ within-block t bytes j m inside)
 
   -- whether a line is touched, by the matches that were found and those after them
-  hit-of : (found later : List (ℕ × ℕ)) → counted_matches k meaning bytes ≡ found ++ later → (j : ℕ) → j < n
-      → is_counted k meaning bytes j ≡ (touched_of found j || touched_of later j)
+  hit-of : (found later : List (ℕ × ℕ)) → counted_matches k meaning bytes ≡ found ++ later → (j : ℕ)
+      → j < n → is_counted k meaning bytes j ≡ (touched_of found j || touched_of later j)
   hit-of found later all j inside =
       let yes = lt-ltb j n inside in
       rw (yes, all) (list_any-append (touches k meaning bytes j) found later)
 
   -- matches whose blocks start after a line starts don't touch it
-  missed-before : (later : List (ℕ × ℕ)) (j : ℕ) → All (λ m. from j < block_start t bytes m) later → touched_of later j
-      ≡ false
+  missed-before : (later : List (ℕ × ℕ)) (j : ℕ) → All (λ m. from j < block_start t bytes m) later
+      → touched_of later j ≡ false
   missed-before later j after =
       list_any_none (touches k meaning bytes j) later
       (All-weaker (λ m. from j < block_start t bytes m) (λ m. touches k meaning bytes j m ≡ false)
@@ -103,23 +105,20 @@ module _ (k : Settings) (meaning : Meaning) (bytes : List ℕ) where
     same = λ j inside past. touched.same j inside (omega arith)
         ∙ not-in u (from j) (λ _ less. omega arith);
     range = tt;
-    before = λ below j inside at. ⊎_elim
-        (λ early.
+    before = λ below j inside at. ⊎_elim (λ early.
         let here = touched.range.some (omega arith) in
         let after = comes-before touched.range.begins j early in
-        absurd (omega (arith, starts-until touched.range.begins (j + 1) (omega arith))))
-        (λ late.
+        absurd (omega (arith, starts-until touched.range.begins (j + 1) (omega arith)))) (λ late.
         touched.same j inside (omega arith)
-        ∙ in-range u (from j) late (omega (arith, rises t bytes j inside)))
-        (cases_lt (from j) u.0);
+        ∙ in-range u (from j) late (omega (arith, rises t bytes j inside))) (cases_lt (from j) u.0);
     later = tt;
   }
 
   -- the lines of the first match after that
   pub touched-first : (e position : ℕ) (found : List (ℕ × ℕ)) (m u : ℕ × ℕ)
       → AreTouched k meaning bytes e position found None
-      → u ≡ block m → e ≤ u.0 → (0 < e → e < u.0) → u.0 ≤ m.0 → m.0 ≤ m.1 → m.1 ≤ u.1 → u.1 ≤ length bytes
-      → AreTouched k meaning bytes e (position_after m) (found ++ m ∷ []) (Some u)
+      → u ≡ block m → e ≤ u.0 → (0 < e → e < u.0) → u.0 ≤ m.0 → m.0 ≤ m.1 → m.1 ≤ u.1 → u.1
+      ≤ length bytes → AreTouched k meaning bytes e (position_after m) (found ++ m ∷ []) (Some u)
   touched-first e position found m u touched is after apart low order high within =
       let start_is : u.0 ≡ block_start t bytes m = ap (λ x. x.0) is in
       let end_is : u.1 ≡ block_end t bytes m = ap (λ x. x.1) is in
@@ -128,8 +127,8 @@ module _ (k : Settings) (meaning : Meaning) (bytes : List ℕ) where
       record {
         same = λ j inside over.
             let none = touched.same j inside over in
-            touches-more found m j inside
-            ∙ (ap (λ b. b || is_in (Some (block m)) (from j)) none ∙ ap (λ x. is_in (Some x) (from j)) (sym is));
+            touches-more found m j inside ∙ (ap (λ b. b || is_in (Some (block m)) (from j)) none
+            ∙ ap (λ x. is_in (Some x) (from j)) (sym is));
         range = record {
           first = first.0;
           begins = rw start_is first.1;
@@ -144,8 +143,13 @@ module _ (k : Settings) (meaning : Meaning) (bytes : List ℕ) where
               (omega arith) in
               omega arith;
         };
-        before = λ below j inside at. touched-still found m j inside (touched.before below j inside at);
-        later = omega (arith, block_start-le t bytes m (position_after m, position_after m) (position_after-start m order));
+        before = λ below j inside at. touched-still found m j inside
+            (touched.before below j inside at);
+        later = omega (
+          arith,
+          block_start-le t bytes m (position_after m, position_after m)
+              (position_after-start m order),
+        );
       }
 
   -- a match whose lines are in the range
@@ -166,22 +170,20 @@ module _ (k : Settings) (meaning : Meaning) (bytes : List ℕ) where
     absorbed : ((j : ℕ) → j < n → from j < block_end t bytes m → from j < u.1)
         → AreTouched k meaning bytes low (position_after m) (found ++ m ∷ []) (Some u)
     absorbed early = record {
-      same = λ j inside over.
-          touches-more found m j inside
-          ∙ (or-absorbs (touched_of found j) (is_in (Some (block m)) (from j))
-          (λ is.
+      same = λ j inside over. touches-more found m j inside
+          ∙ (or-absorbs (touched_of found j) (is_in (Some (block m)) (from j)) (λ is.
           let parts = range-in (block m) (from j) is in
           touched.same j inside over ∙ in-range u (from j) (omega (arith, starts-later))
-          (early j inside parts.1))
-          ∙ touched.same j inside over);
+          (early j inside parts.1)) ∙ touched.same j inside over);
       range = touched.range;
-      before = λ below j inside at. touched-still found m j inside (touched.before below j inside at);
+      before = λ below j inside at. touched-still found m j inside
+          (touched.before below j inside at);
       later = still-later;
     }
 
     -- a match that starts before the end of the range, and ends no later
-    pub touched-inside : m.0 < u.1 → m.1 ≤ u.1 → AreTouched k meaning bytes low (position_after m) (found ++ m ∷ [])
-        (Some u)
+    pub touched-inside : m.0 < u.1 → m.1 ≤ u.1 → AreTouched k meaning bytes low (position_after m)
+        (found ++ m ∷ []) (Some u)
     touched-inside starts ends =
         absorbed (λ j inside less.
         omega (
@@ -191,13 +193,13 @@ module _ (k : Settings) (meaning : Meaning) (bytes : List ℕ) where
         ))
 
     -- a match whose lines lead on from the range
-    touched-joined : block_start t bytes m ≤ u.1 → u.1 ≤ block_end t bytes m → block_end t bytes m ≤ length bytes
-        → AreTouched k meaning bytes low (position_after m) (found ++ m ∷ []) (Some (u.0, block_end t bytes m))
+    touched-joined : block_start t bytes m ≤ u.1 → u.1 ≤ block_end t bytes m → block_end t bytes m
+        ≤ length bytes → AreTouched k meaning bytes low (position_after m) (found ++ m ∷ [])
+        (Some (u.0, block_end t bytes m))
     touched-joined starts ends within =
         let last = block_end-edge t bytes m in
         record {
-          same = λ j inside over.
-              touches-more found m j inside
+          same = λ j inside over. touches-more found m j inside
               ∙ (ap (λ b. b || is_in (Some (block m)) (from j)) (touched.same j inside over)
               ∙ or-joins u (block m) (from j) starts-later starts ends);
           range = record {
@@ -211,7 +213,8 @@ module _ (k : Settings) (meaning : Meaning) (bytes : List ℕ) where
             apart = touched.range.apart;
             some = λ below. omega (arith, touched.range.some below, ends);
           };
-          before = λ below j inside at. touched-still found m j inside (touched.before below j inside at);
+          before = λ below j inside at. touched-still found m j inside
+              (touched.before below j inside at);
           later = still-later;
         }
 
@@ -219,26 +222,22 @@ module _ (k : Settings) (meaning : Meaning) (bytes : List ℕ) where
   starts-inside : (j : ℕ) → j < n → from j < length bytes
   starts-inside = starts-before (end-start t bytes)
 
-  -- a unit is the range of the matches that were found, if the lines of those after them are after it
+  -- a unit is the range of the matches that were found, if the lines of those after them are after
+  -- it
   pub unit-of : (low position : ℕ) (found later : List (ℕ × ℕ)) (u : ℕ × ℕ)
       → AreTouched k meaning bytes low position found (Some u)
-      → counted_matches k meaning bytes ≡ found ++ later → All (λ m. u.1 < block_start t bytes m) later
-      → IsUnit k meaning bytes low u
+      → counted_matches k meaning bytes ≡ found ++ later → All (λ m. u.1 < block_start t bytes m)
+      later → IsUnit k meaning bytes low u
   unit-of low position found later u touched all after = record {
     range = touched.range;
-    miss = λ j inside over before.
-        hit-of found later all j inside
+    miss = λ j inside over before. hit-of found later all j inside
         ∙ or_from _ _ (touched.same j inside over ∙ not-in u (from j) (λ more _. omega arith))
         (missed j (omega arith));
-    hit = λ j inside over before.
-        hit-of found later all j inside
-        ∙ or_left _ _ (touched.same j inside (omega arith)
-        ∙ in-range u (from j) over before);
-    past = λ j inside at.
-        hit-of found later all j inside
+    hit = λ j inside over before. hit-of found later all j inside
+        ∙ or_left _ _ (touched.same j inside (omega arith) ∙ in-range u (from j) over before);
+    past = λ j inside at. hit-of found later all j inside
         ∙ or_from _ _ (touched.same j inside (omega arith)
-        ∙ not-in u (from j) (λ _ less. omega arith))
-        (missed j (omega arith));
+        ∙ not-in u (from j) (λ _ less. omega arith)) (missed j (omega arith));
   }
     where
       missed : (j : ℕ) → from j ≤ u.1 → touched_of later j ≡ false
@@ -247,7 +246,8 @@ module _ (k : Settings) (meaning : Meaning) (bytes : List ℕ) where
           (λ m high. omega arith) later after)
 
   -- if there are no more matches, there is no other unit
-  pub unit-none : (low position : ℕ) (found : List (ℕ × ℕ)) → AreTouched k meaning bytes low position found None
+  pub unit-none : (low position : ℕ) (found : List (ℕ × ℕ))
+      → AreTouched k meaning bytes low position found None
       → counted_matches k meaning bytes ≡ found → low ≤ length bytes
       → IsUnit k meaning bytes low (length bytes, length bytes)
   unit-none low position found touched all inside = record {
@@ -271,7 +271,8 @@ module _ (k : Settings) (meaning : Meaning) (bytes : List ℕ) where
   }
 
   -- the end of the bytes is after all lines
-  pub touched-end : (low position : ℕ) (found : List (ℕ × ℕ)) → AreTouched k meaning bytes low position found None
+  pub touched-end : (low position : ℕ) (found : List (ℕ × ℕ))
+      → AreTouched k meaning bytes low position found None
       → AreTouched k meaning bytes (length bytes) position found None
   touched-end low position found touched = record {
     same = λ j inside over. absurd (omega (arith, starts-inside j inside));
@@ -281,7 +282,8 @@ module _ (k : Settings) (meaning : Meaning) (bytes : List ℕ) where
   }
 
   -- the whole lines of a match from a line start on
-  module _ (e a : ℕ) (here : IsLineStart t bytes e a) (m p : ℕ × ℕ) (part : IsPart t bytes e m p) (order : m.0 ≤ m.1)
+  module _ (e a : ℕ) (here : IsLineStart t bytes e a) (m p : ℕ × ℕ) (part : IsPart t bytes e m p)
+      (order : m.0 ≤ m.1)
       (reach : e ≤ m.1) where
     -- if the match starts before it, they start there
     part-before : m.0 < e → p.0 ≡ e
@@ -299,7 +301,8 @@ module _ (k : Settings) (meaning : Meaning) (bytes : List ℕ) where
     -- they end with it
     part-end : e < length bytes → (m.0 < e → e < m.1) → p.1 ≡ block_end t bytes m
     part-end below over =
-        part.ends ∙ block_end-part t bytes e a here below m (m.0 - e, m.1 - e) reach inner refl alike
+        part.ends ∙ block_end-part t bytes e a here below m (m.0 - e, m.1 - e) reach inner refl
+        alike
       where
         inner : m.0 < m.1 → e < m.1
         inner some = ⊎_elim over (λ after. omega arith) (cases_lt m.0 e)
@@ -309,38 +312,35 @@ module _ (k : Settings) (meaning : Meaning) (bytes : List ℕ) where
 
     -- if they start later, so does the match, and they are its block
     pub starts-there : e < p.0 → e ≤ m.0
-    starts-there apart = ⊎_elim
-        (λ before. absurd (omega (arith, part-before before)))
-        (λ after. after)
-        (cases_lt m.0 e)
+    starts-there apart = ⊎_elim (λ before. absurd (omega (arith, part-before before)))
+        (λ after. after) (cases_lt m.0 e)
 
     pub part-apart : e < p.0 → p ≡ block m
     part-apart apart =
         let after = starts-there apart in
         let below : e < length bytes = omega (arith, part.before after) in
-        ap₂ (λ x y. (x, y)) (part-start below after) (part-end below (λ before. absurd (omega arith)))
+        ap₂ (λ x y. (x, y)) (part-start below after)
+        (part-end below (λ before. absurd (omega arith)))
 
   -- a match whose lines lead on from the range
   pub touched-part : (low position : ℕ) (found : List (ℕ × ℕ)) (u m p : ℕ × ℕ)
       → AreTouched k meaning bytes low position found (Some u)
       → position ≤ m.0 → m.0 ≤ m.1 → (m.0 < u.1 → u.1 < m.1) → IsPart t bytes u.1 m p → p.0 ≤ u.1
       → AreTouched k meaning bytes low (position_after m) (found ++ m ∷ []) (Some (u.0, p.1))
-  touched-part low position found u m p touched next order over part joins = ⊎_elim
-      (λ below.
+  touched-part low position found u m p touched next order over part joins = ⊎_elim (λ below.
       let stop = part-end u.1 last ends m p part order reach below over in
       let start : block_start t bytes m ≤ u.1 = ⊎_elim
       (λ before. omega (arith, block_start-low t bytes m (omega (arith, before, below))))
       (λ after. omega (arith, part-start u.1 last ends m p part order reach below after))
       (cases_lt m.0 u.1) in
-      subst (λ x. AreTouched k meaning bytes low (position_after m) (found ++ m ∷ []) (Some (u.0, x))) (sym stop)
+      subst (λ x. AreTouched k meaning bytes low (position_after m) (found ++ m ∷ [])
+      (Some (u.0, x))) (sym stop)
       (touched-joined low position found u m touched next order start (omega (arith, reach))
-      (omega arith)))
-      (λ all.
+      (omega arith))) (λ all.
       let same : u.1 ≡ p.1 = omega (arith, reach) in
-      subst (λ x. AreTouched k meaning bytes low (position_after m) (found ++ m ∷ []) (Some (u.0, x))) same
-      (absorbed low position found u m touched next order
-      (λ j inside less. omega (arith, starts-inside j inside))))
-      (cases_lt u.1 (length bytes))
+      subst (λ x. AreTouched k meaning bytes low (position_after m) (found ++ m ∷ [])
+      (Some (u.0, x))) same (absorbed low position found u m touched next order
+      (λ j inside less. omega (arith, starts-inside j inside)))) (cases_lt u.1 (length bytes))
     where
       last : ℕ
       last = touched.range.last

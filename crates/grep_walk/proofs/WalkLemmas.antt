@@ -46,16 +46,18 @@ use Rattle.grep_walk.specs.Walks.{IsDecided, IsPlaced, IsWalk, HasReported, can_
 use Rattle.grep_walk.specs.Walks.{line_calls, after_line, is_over}
 use Rattle.grep_walk.proofs.OriginLemmas.{from-append, from-ended, from-fresh, fresh-made}
 
--- if the counts of the calls so far are at most a walk's offset, those with the calls of its line are at most the line's end
-pub ended-next : (k : Settings) (window : List ℕ) (w : Walk) (line : List ℕ) (chosen trailing : Bool) (made : List
-    Planned)
+-- if the counts of the calls so far are at most a walk's offset, those with the calls of its line
+-- are at most the line's end
+pub ended-next : (k : Settings) (window : List ℕ) (w : Walk) (line : List ℕ)
+    (chosen trailing : Bool) (made : List Planned)
     → All (λ call. call.if_false.count ≤ w.offset) made
-    → All (λ call. call.if_false.count ≤ line_end w line) (made ++ line_calls k window w line chosen trailing)
+    → All (λ call. call.if_false.count ≤ line_end w line)
+    (made ++ line_calls k window w line chosen trailing)
 ended-next k window w line chosen trailing made ended =
-    All-append (λ call. call.if_false.count ≤ line_end w line) made (line_calls k window w line chosen trailing)
-    (All-weaker (λ call. call.if_false.count ≤ w.offset) (λ call. call.if_false.count ≤ line_end w line) (λ call low.
-    omega (arith, low)) made
-    ended)
+    All-append (λ call. call.if_false.count ≤ line_end w line) made
+    (line_calls k window w line chosen trailing)
+    (All-weaker (λ call. call.if_false.count ≤ w.offset) (λ call. call.if_false.count
+    ≤ line_end w line) (λ call low. omega (arith, low)) made ended)
     (All-weaker E (λ call. call.if_false.count ≤ line_end w line) (λ call is. omega (arith, is))
     (line_calls k window w line chosen trailing)
     (go chosen trailing (nat_lt 0 w.after_context_left) k.passthru))
@@ -68,14 +70,18 @@ ended-next k window w line chosen trailing made ended =
         (w.line - w.next_unreported)
         ++ selected_calls k w.next_unreported w.line w.offset (line_end w line) line
         else (if a then after_calls k r w.next_unreported w.line w.offset (line_end w line) line
-        else (if p then context_calls Other (number_of k w.line) w.offset (line_end w line) line else [])))
+        else (if p then context_calls Other (number_of k w.line) w.offset (line_end w line) line
+        else [])))
     go true r a p = All-append E _ _
         (ends-pending k window w.next_unreported w.line (line_end w line) w.next_unreported
         (w.line - w.next_unreported))
         (ends-match k window w.next_unreported w.line (line_end w line) w.offset line)
-    go false true true p = ends-match k window w.next_unreported w.line (line_end w line) w.offset line
-    go false false true p = ends-one (context After (number_of k w.line) w.offset line) (line_end w line)
-    go false r false true = ends-one (context Other (number_of k w.line) w.offset line) (line_end w line)
+    go false true true p = ends-match k window w.next_unreported w.line (line_end w line) w.offset
+        line
+    go false false true p = ends-one (context After (number_of k w.line) w.offset line)
+        (line_end w line)
+    go false r false true = ends-one (context Other (number_of k w.line) w.offset line)
+        (line_end w line)
     go false r false false = All-nil E
 
 module _ (k : Settings) (meaning : Meaning) (bytes : List ℕ) where
@@ -105,7 +111,13 @@ module _ (k : Settings) (meaning : Meaning) (bytes : List ℕ) where
   front i = planned begins 0 ∷ joined_from T 0 i
 
   abbrev pub start_walk : Walk
-  start_walk = record { offset = 0; line = 0; next_unreported = 0; after_context_left = 0; match_count = 0 }
+  start_walk = record {
+    offset = 0;
+    line = 0;
+    next_unreported = 0;
+    after_context_left = 0;
+    match_count = 0;
+  }
 
   pub placed-start : IsPlaced k meaning bytes start_walk
   placed-start = record {
@@ -132,7 +144,8 @@ module _ (k : Settings) (meaning : Meaning) (bytes : List ℕ) where
   front-through = headed-through (planned begins 0) T
 
   -- the line that a walk is at
-  module _ (w : Walk) {start end : ℕ} (same : w.offset ≡ start) (line : IsLine t bytes w.line start end) where
+  module _ (w : Walk) {start end : ℕ} (same : w.offset ≡ start)
+      (line : IsLine t bytes w.line start end) where
     abbrev pub here : List ℕ
     here = slice_range bytes start end
 
@@ -173,17 +186,30 @@ module _ (k : Settings) (meaning : Meaning) (bytes : List ℕ) where
       hits-here : hits k meaning bytes w.line ≡ hits_if k (matches_line k meaning here)
       hits-here = let inside = lt-ltb w.line n line.listed in rw (inside, line.line) refl
 
-      pub chosen-here : (b r : Bool) → IsDecided k meaning w here b r → is_chosen k meaning bytes w.line ≡ b
-      chosen-here b r decided = grind (arith, chosen-is k meaning bytes walk.opened, hits-here, decided.chosen_is)
+      pub chosen-here : (b r : Bool) → IsDecided k meaning w here b r
+          → is_chosen k meaning bytes w.line ≡ b
+      chosen-here b r decided = grind (
+        arith,
+        chosen-is k meaning bytes walk.opened,
+        hits-here,
+        decided.chosen_is,
+      )
 
       pub trailing-here : (b r : Bool) → IsDecided k meaning w here b r → 0 < w.after_context_left
           → is_trailing k meaning bytes w.line ≡ r
-      trailing-here b r decided some = grind (arith, hits-here, walk.opened.below, decided.trailing_is some)
+      trailing-here b r decided some =
+          grind (arith, hits-here, walk.opened.below, decided.trailing_is some)
 
-      -- the matcher is asked about it only if the limit has room, or in the context after a selected line
+      -- the matcher is asked about it only if the limit has room, or in the context after a
+      -- selected line
       pub room-here : can_hit k w ≡ true
           → (is_open_at k meaning bytes w.line || follows_selected k bytes selection w.line) ≡ true
-      room-here can = grind (arith, walk.opened.below, follows-selected k meaning bytes walk.near, can)
+      room-here can = grind (
+        arith,
+        walk.opened.below,
+        follows-selected k meaning bytes walk.near,
+        can,
+      )
 
       selected : (b : Bool) → is_chosen k meaning bytes w.line ≡ b
           → is_selected k meaning bytes w.line ≡ b
@@ -193,14 +219,13 @@ module _ (k : Settings) (meaning : Meaning) (bytes : List ℕ) where
           → joined_from T w.next_unreported (w.line - w.next_unreported)
           ≡ pending_calls k bytes w.next_unreported w.line (line_end w here) w.next_unreported
           (w.line - w.next_unreported)
-      pending-is hit = joined_from-equal T _ w.next_unreported (w.line - w.next_unreported) (λ j low high.
-          calls_at-passed k meaning bytes walk.near line.listed has hit
+      pending-is hit = joined_from-equal T _ w.next_unreported (w.line - w.next_unreported)
+          (λ j low high. calls_at-passed k meaning bytes walk.near line.listed has hit
           j _ (line_end w here) _ low (omega arith) refl start-after refl)
 
       hit-is : is_selected k meaning bytes w.line ≡ true → T w.line
           ≡ selected_calls k w.next_unreported w.line w.offset (line_end w here) here
-      hit-is hit = calls_at-hit k meaning bytes walk.near line.listed has
-          hit
+      hit-is hit = calls_at-hit k meaning bytes walk.near line.listed has hit
           w.offset (line_end w here) _ number-is start-is start-after line.line
 
       -- the calls of the line
@@ -210,50 +235,50 @@ module _ (k : Settings) (meaning : Meaning) (bytes : List ℕ) where
           ≡ front w.next_unreported ++ line_calls k bytes w here chosen trailing
       front-step true trailing is late =
           let hit = selected true is in
-          let pending = pending_calls k bytes w.next_unreported w.line (line_end w here) w.next_unreported
-          (w.line - w.next_unreported) in
+          let pending = pending_calls k bytes w.next_unreported w.line (line_end w here)
+          w.next_unreported (w.line - w.next_unreported) in
           headed-many (planned begins 0) T w.next_unreported w.line walk.near.low
           ∙ (ap (λ xs. front w.next_unreported ++ (xs ++ T w.line)) (pending-is hit)
           ∙ ap (λ xs. front w.next_unreported ++ (pending ++ xs)) (hit-is hit))
       front-step false trailing is late =
-          headed-missed walk.near
-          (planned begins 0) T _ _ after_is other_is
+          headed-missed walk.near (planned begins 0) T _ _ after_is other_is
         where
           miss : is_selected k meaning bytes w.line ≡ false
           miss = selected false is
 
           after_is : 0 < w.after_context_left
-              → T w.line ≡ after_calls k trailing w.next_unreported w.line w.offset (line_end w here) here
+              → T w.line ≡ after_calls k trailing w.next_unreported w.line w.offset
+              (line_end w here) here
           after_is some =
               calls_at-after k meaning bytes walk.near line.listed has
               w.offset (line_end w here) _ miss some number-is start-is start-after line.line
-              ∙ ap (λ r. after_calls k r w.next_unreported w.line w.offset (line_end w here) here) (late some)
+              ∙ ap (λ r. after_calls k r w.next_unreported w.line w.offset (line_end w here) here)
+              (late some)
 
           other_is : w.after_context_left ≡ 0 → k.passthru ≡ true
               → T w.line ≡ context_calls Other (number_of k w.line) w.offset (line_end w here) here
           other_is none is_p =
               calls_at-other k meaning bytes walk.near line.listed has
-              w.offset (line_end w here) _ miss none is_p (bare is_p).1 number-is start-is start-after line.line
+              w.offset (line_end w here) _ miss none is_p (bare is_p).1 number-is start-is
+              start-after line.line
 
       pub near-next : (chosen : Bool) → is_chosen k meaning bytes w.line ≡ chosen
           → IsNear k bytes selection (after_line k w here chosen).next_unreported (w.line + 1)
           (after_line k w here chosen).after_context_left
-      near-next true is = IsNear-hit k meaning bytes walk.near line.listed
-          has
-          (selected true is)
+      near-next true is = IsNear-hit k meaning bytes walk.near line.listed has (selected true is)
       near-next false is =
           IsNear-missed k meaning bytes walk.near line.listed has
           (λ is_p. (bare is_p).1) (selected false is)
 
       open-next : (chosen : Bool) → is_chosen k meaning bytes w.line ≡ chosen
-          → is_over k (after_line k w here chosen) chosen
-          ≡ false
+          → is_over k (after_line k w here chosen) chosen ≡ false
           → IsOpen k meaning bytes (w.line + 1) (after_line k w here chosen).after_context_left
           (after_line k w here chosen).match_count
       open-next true is goes = IsOpen-chosen k meaning bytes walk.opened line.listed is
           (λ plain full. grind (arith, nat_tests, goes, plain, full))
       open-next false is goes = IsOpen-missed k meaning bytes walk.opened line.listed is
-          (grind (arith, nat_tests, goes)) (λ plain full. grind (arith, nat_tests, goes, plain, full))
+          (grind (arith, nat_tests, goes))
+          (λ plain full. grind (arith, nat_tests, goes, plain, full))
 
       pub walk-next : (chosen trailing : Bool) → is_chosen k meaning bytes w.line ≡ chosen
           → (0 < w.after_context_left → is_trailing k meaning bytes w.line ≡ trailing)
@@ -263,7 +288,8 @@ module _ (k : Settings) (meaning : Meaning) (bytes : List ℕ) where
         placed = placed-next walk.placed chosen;
         near = near-next chosen is;
         opened = open-next chosen is goes;
-        ended = subst (All (λ call. call.if_false.count ≤ line_end w here)) (sym (front-step chosen trailing is late))
+        ended = subst (All (λ call. call.if_false.count ≤ line_end w here))
+            (sym (front-step chosen trailing is late))
             (ended-next k bytes w here chosen trailing (front w.next_unreported) walk.ended);
       }
 
@@ -271,20 +297,25 @@ module _ (k : Settings) (meaning : Meaning) (bytes : List ℕ) where
           → is_over k (after_line k w here chosen) chosen ≡ true
           → IsDone k meaning bytes (w.line + 1)
       done-next true is over = IsDone-chosen k meaning bytes walk.opened line.listed is
-          (grind (arith, nat_tests, over)) (grind (arith, nat_tests, over)) (grind (arith, nat_tests, over))
+          (grind (arith, nat_tests, over)) (grind (arith, nat_tests, over))
+          (grind (arith, nat_tests, over))
       done-next false is over = ⊎_elim
-          (λ (stop : stops_next k (nat_lt 0 w.match_count) ≡ true). IsDone-stop k meaning bytes walk.opened
-          line.listed is stop)
-          (λ (on : stops_next k (nat_lt 0 w.match_count) ≡ false). IsDone-limit k meaning bytes walk.opened
+          (λ (stop : stops_next k (nat_lt 0 w.match_count) ≡ true). IsDone-stop k meaning bytes
+          walk.opened line.listed is stop)
+          (λ (on : stops_next k (nat_lt 0 w.match_count) ≡ false). IsDone-limit k meaning bytes
+          walk.opened
           line.listed is (grind (arith, nat_tests, on, over)) (grind (arith, nat_tests, on, over))
-          (grind (arith, nat_tests, on, over)))
-          (cases_Bool (stops_next k (nat_lt 0 w.match_count)))
+          (grind (arith, nat_tests, on, over))) (cases_Bool (stops_next k (nat_lt 0 w.match_count)))
 
       -- just the calls so far end at or before the start of the line
-      through-is : through (starts w.line) (line_plan k meaning bytes).calls ≡ front w.next_unreported
-      through-is = ap (through (starts w.line)) (front-through w.next_unreported reportable (omega (arith, has, walk.near.low)))
-          ∙ ended-by (starts w.line) (front w.next_unreported) T w.next_unreported (reportable - w.next_unreported)
-          (subst (λ o. All (λ call. call.if_false.count ≤ o) (front w.next_unreported)) (sym start-is) walk.ended)
+      through-is : through (starts w.line) (line_plan k meaning bytes).calls
+          ≡ front w.next_unreported
+      through-is = ap (through (starts w.line)) (front-through w.next_unreported reportable
+          (omega (arith, has, walk.near.low)))
+          ∙ ended-by (starts w.line) (front w.next_unreported) T w.next_unreported (reportable
+          - w.next_unreported)
+          (subst (λ o. All (λ call. call.if_false.count ≤ o) (front w.next_unreported))
+          (sym start-is) walk.ended)
           (λ j low high. All-weaker (λ call. starts (w.line + 1) ≤ call.if_false.count)
           (λ call. starts w.line < call.if_false.count) (λ call low. omega arith) (T j)
           (⊎_elim (ends-passed k meaning bytes walk.near j low) (ends-late k meaning bytes w.line j)
@@ -294,7 +325,8 @@ module _ (k : Settings) (meaning : Meaning) (bytes : List ℕ) where
   done-end : (w : Walk) → IsWalk k meaning bytes w → w.line ≡ n → IsDone k meaning bytes w.line
   done-end w walk all = record {
     last = reportable-all k meaning bytes
-        (subst (λ i. IsOpen k meaning bytes i w.after_context_left w.match_count) all walk.opened) ∙ sym all;
+        (subst (λ i. IsOpen k meaning bytes i w.after_context_left w.match_count) all walk.opened)
+        ∙ sym all;
     silent = λ q low below. absurd (omega arith);
   }
 
@@ -302,33 +334,37 @@ module _ (k : Settings) (meaning : Meaning) (bytes : List ℕ) where
   rest-is : (w : Walk) → IsNear k bytes selection w.next_unreported w.line w.after_context_left
       → IsDone k meaning bytes w.line
       → joined_from T w.next_unreported (reportable - w.next_unreported) ≡ []
-  rest-is w near done = joined_from-none T w.next_unreported (reportable - w.next_unreported) (λ j low high.
-      calls_at-done k meaning bytes near done.silent j low
-      (omega arith))
+  rest-is w near done = joined_from-none T w.next_unreported (reportable - w.next_unreported)
+      (λ j low high. calls_at-done k meaning bytes near done.silent j low (omega arith))
 
   module _ {S E : Type 0} (step : Steps S E) (old : Origin S) where
     -- what ended early ended the whole
-    AreMade-whole : (i : ℕ) (outcome : Outcome E) (new : S) → i ≤ reportable → (outcome ≡ all_true → ⊥)
-        → AreMadeFrom step k old (front i) outcome new → AreMadeFrom step k old (line_plan k meaning bytes).calls outcome new
+    AreMade-whole : (i : ℕ) (outcome : Outcome E) (new : S) → i ≤ reportable
+        → (outcome ≡ all_true → ⊥) → AreMadeFrom step k old (front i) outcome new
+        → AreMadeFrom step k old (line_plan k meaning bytes).calls outcome new
     AreMade-whole i outcome new inside ended reported =
-        subst (λ ts. AreMadeFrom step k old ts outcome new) (sym (front-through i reportable inside))
-        (from-ended step k old (front i) (joined_from T i (reportable - i)) outcome new ended reported)
+        subst (λ ts. AreMadeFrom step k old ts outcome new)
+        (sym (front-through i reportable inside))
+        (from-ended step k old (front i) (joined_from T i (reportable - i)) outcome new ended
+        reported)
 
     abbrev IsCounted : ℕ → Outcome E → S → Type 0
-    IsCounted count outcome new = IsMadeToFrom step k old (line_plan k meaning bytes) outcome (counted count) new
+    IsCounted count outcome new = IsMadeToFrom step k old (line_plan k meaning bytes) outcome
+        (counted count) new
 
     -- no more calls are to come
     counted-done : (w : Walk) (new : S) → IsLineStart t bytes w.offset w.line
-        → IsNear k bytes selection w.next_unreported w.line w.after_context_left → IsDone k meaning bytes w.line
-        → AreMadeFrom step k old (front w.next_unreported) all_true new → IsCounted w.offset all_true new
+        → IsNear k bytes selection w.next_unreported w.line w.after_context_left
+        → IsDone k meaning bytes w.line
+        → AreMadeFrom step k old (front w.next_unreported) all_true new
+        → IsCounted w.offset all_true new
     counted-done w new at near done reported = record {
       made = subst (λ ts. AreMadeFrom step k old ts all_true new)
           (sym (front-through w.next_unreported reportable (omega arith)))
           (from-append step k old (front w.next_unreported)
-          (joined_from T w.next_unreported (reportable - w.next_unreported)) new
-          all_true
-          new reported
-          (subst (λ ts. AreMade step k new ts all_true new) (sym (rest-is w near done)) (refl, refl)));
+          (joined_from T w.next_unreported (reportable - w.next_unreported)) new all_true
+          new reported (subst (λ ts. AreMade step k new ts all_true new) (sym (rest-is w near done))
+          (refl, refl)));
       ending = ap counted (sym at.begins ∙ ap starts (sym done.last));
     }
 
@@ -337,21 +373,26 @@ module _ (k : Settings) (meaning : Meaning) (bytes : List ℕ) where
     counted-end w new so_far all = counted-done w new so_far.walk.placed.at so_far.walk.near
         (done-end w so_far.walk all) so_far.reported
 
-    -- what comes of the calls of a line, by their outcome: a fault, or the count where the line ends, at which no more
-    -- are to come, or something goes on from there
+    -- what comes of the calls of a line, by their outcome: a fault, or the count where the line
+    -- ends, at which no more are to come, or something goes on from there
     abbrev pub Comes : ℕ → Bool → (S → Type 0) → Outcome E → S → Type 0
-    Comes end over On (failed e) new = AreMadeFrom step k old (line_plan k meaning bytes).calls (failed e) new
-    Comes end over On (stopped finish) new = counted end ≡ finish → IsCounted end (stopped finish) new
-    Comes end over On all_true new = (over ≡ true → IsCounted end all_true new) × (over ≡ false → On new)
+    Comes end over On (failed e) new = AreMadeFrom step k old (line_plan k meaning bytes).calls
+        (failed e) new
+    Comes end over On (stopped finish) new = counted end ≡ finish
+        → IsCounted end (stopped finish) new
+    Comes end over On all_true new = (over ≡ true → IsCounted end all_true new)
+        × (over ≡ false → On new)
 
     pub comes-on : (end : ℕ) (over : Bool) (On On' : S → Type 0) → ((new : S) → On new → On' new)
-        → (outcome : Outcome E) (new : S) → Comes end over On outcome new → Comes end over On' outcome new
+        → (outcome : Outcome E) (new : S) → Comes end over On outcome new
+        → Comes end over On' outcome new
     comes-on end over On On' on (failed e) new comes = comes
     comes-on end over On On' on (stopped finish) new comes = comes
     comes-on end over On On' on all_true new comes = (comes.0, λ goes_on. on new (comes.1 goes_on))
 
     -- one line
-    module _ (bare : Bare) {w : Walk} {mid : S} (so_far : HasReported k meaning bytes step old w mid) {start end : ℕ}
+    module _ (bare : Bare) {w : Walk} {mid : S} (so_far : HasReported k meaning bytes step old w
+        mid) {start end : ℕ}
         (same : w.offset ≡ start) (line : IsLine t bytes w.line start end) {chosen trailing : Bool}
         (decided : IsDecided k meaning w (slice_range bytes start end) chosen trailing) where
       abbrev text : List ℕ
@@ -371,21 +412,24 @@ module _ (k : Settings) (meaning : Meaning) (bytes : List ℕ) where
 
       pub line-comes : (outcome : Outcome E) (new : S)
           → AreMade step k mid (line_calls k bytes w text chosen trailing) outcome new
-          → Comes (line_end w text) (is_over k next chosen) (HasReported k meaning bytes step old next) outcome new
+          → Comes (line_end w text) (is_over k next chosen)
+          (HasReported k meaning bytes step old next) outcome new
       line-comes outcome new made = go outcome (subst (λ ts. AreMadeFrom step k old ts outcome new)
           (sym (front-step w same line bare so_far.walk chosen trailing is late))
-          (from-append step k old (front w.next_unreported) (line_calls k bytes w text chosen trailing) mid outcome new
-          so_far.reported made))
+          (from-append step k old (front w.next_unreported)
+          (line_calls k bytes w text chosen trailing) mid outcome new so_far.reported made))
         where
-          go : (outcome : Outcome E) → AreMadeFrom step k old (front next.next_unreported) outcome new
-              → Comes (line_end w text) (is_over k next chosen) (HasReported k meaning bytes step old next) outcome new
+          go : (outcome : Outcome E) → AreMadeFrom step k old (front next.next_unreported) outcome
+              new → Comes (line_end w text) (is_over k next chosen)
+              (HasReported k meaning bytes step old next) outcome new
           go (failed e) reported = AreMade-whole _ (failed e) new few (λ x. cc) reported
           go (stopped finish) reported = λ ends. record {
             made = AreMade-whole _ (stopped finish) new few (λ x. cc) reported;
             ending = ends;
           }
           go all_true reported = (
-            λ over. counted-done next new (after w same line) (near-next w same line bare so_far.walk chosen is)
+            λ over. counted-done next new (after w same line)
+                (near-next w same line bare so_far.walk chosen is)
                 (done-next w same line bare so_far.walk chosen is over) reported,
             λ goes_on. record {
               walk = walk-next w same line bare so_far.walk chosen trailing is late goes_on;
@@ -396,7 +440,8 @@ module _ (k : Settings) (meaning : Meaning) (bytes : List ℕ) where
     -- only `begin` was called, and no line may be reported
     pub counted-idle : (new : S) → reports_nothing k ≡ true
         → AreMadeFrom step k old (front 0) all_true new → IsCounted 0 all_true new
-    counted-idle new idle begun = counted-done start_walk new (placed-start).at (IsNear-none k meaning bytes)
+    counted-idle new idle begun = counted-done start_walk new (placed-start).at
+        (IsNear-none k meaning bytes)
         (IsDone-none k meaning bytes (grind (arith, idle)) (grind (arith, idle))) begun
 
   -- of a sink that had no call
@@ -404,14 +449,16 @@ module _ (k : Settings) (meaning : Meaning) (bytes : List ℕ) where
     pub counted-unbegun : (new : S) → step old k begins (Ok false) new
         → IsCounted step (fresh old) 0 (stopped (counted 0)) new
     counted-unbegun new stops = record {
-      made = from-ended step k (fresh old) (front 0) (joined_from T 0 reportable) (stopped (counted 0)) new (λ is. cc)
+      made = from-ended step k (fresh old) (front 0) (joined_from T 0 reportable)
+          (stopped (counted 0)) new (λ is. cc)
           (from-fresh step k old (front 0) (stopped (counted 0)) new (inr (inl (refl, stops))));
       ending = refl;
     }
 
     pub reported-begin : (new : S) → step old k begins (Ok true) new
         → AreMadeFrom step k (fresh old) (front 0) all_true new
-    reported-begin new goes = from-fresh step k old (front 0) all_true new (inl (new, goes, (refl, refl)))
+    reported-begin new goes = from-fresh step k old (front 0) all_true new
+        (inl (new, goes, (refl, refl)))
 
     pub reported-start : (new : S) → reports_nothing k ≡ false → step old k begins (Ok true) new
         → HasReported k meaning bytes step (fresh old) start_walk new
@@ -421,22 +468,28 @@ module _ (k : Settings) (meaning : Meaning) (bytes : List ℕ) where
     }
 
 -- how a search ends in a fault
-module _ {S E F : Type 0} (step : Steps S E) (errors : ErrorMakers F E) (matcher : MatcherFacts F) (k : Settings)
+module _ {S E F : Type 0} (step : Steps S E) (errors : ErrorMakers F E) (matcher : MatcherFacts F)
+    (k : Settings)
     (bytes : List ℕ) where
   pub fault-begin : (old : S) (e : E) (new : S) → step old k begins (Err e) new
       → IsContentsSearch step errors matcher k nowhere false bytes old (Err e) new
   fault-begin old e new fails = plain-ran step errors matcher k bytes old
-      (record { outcome = failed e; mid = new; made = inr (inr (e, refl, fails)); finished = (refl, refl) })
+      (record {
+        outcome = failed e;
+        mid = new;
+        made = inr (inr (e, refl, fails));
+        finished = (refl, refl);
+      })
 
-  pub fault-matcher : (old : Origin S) (w : Walk) (new : S) → HasReported k matcher.meaning bytes step old w new
-      → {start end : ℕ} (same : w.offset ≡ start) (line : IsLine (byte_of k.line_terminator) bytes w.line start end)
+  pub fault-matcher : (old : Origin S) (w : Walk) (new : S)
+      → HasReported k matcher.meaning bytes step old w new
+      → {start end : ℕ} (same : w.offset ≡ start) (line : IsLine (byte_of k.line_terminator) bytes
+      w.line start end)
       → Bare k matcher.meaning bytes → can_hit k w ≡ true → (haystack : List ℕ) (error : F) (e : E)
       → IsAskedFrom k matcher.meaning bytes w.line haystack → errors.is_message error e
       → matcher.fails haystack error → IsWalkFault step errors matcher k bytes old e new
-  fault-matcher old w new so_far same line bare room haystack error e asked message fails = at_question
-      haystack
-      error
-      (front k matcher.meaning bytes w.next_unreported)
+  fault-matcher old w new so_far same line bare room haystack error e asked message fails =
+      at_question haystack error (front k matcher.meaning bytes w.next_unreported)
       (joined_from (T k matcher.meaning bytes) w.next_unreported
       (reportable k matcher.meaning bytes - w.next_unreported))
       (record {
@@ -453,20 +506,26 @@ module _ {S E F : Type 0} (step : Steps S E) (errors : ErrorMakers F E) (matcher
       fails message so_far.reported
 
   -- such a fault is one of the search by line
-  pub fault-by_line : (old : S) (e : E) (new : S) → IsWalkFault step errors matcher k bytes (fresh old) e new
-      → IsContentsSearch step errors matcher k nowhere false bytes old (Err e) new
+  pub fault-by_line : (old : S) (e : E) (new : S) → IsWalkFault step errors matcher k bytes
+      (fresh old) e new → IsContentsSearch step errors matcher k nowhere false bytes old (Err e) new
   fault-by_line old e new (at_call reported) = plain-ran step errors matcher k bytes old (record {
     outcome = failed e;
     mid = new;
     made = fresh-made step k old (line_plan k matcher.meaning bytes).calls (failed e) new reported;
     finished = (refl, refl);
   })
-  fault-by_line old e new (at_question haystack error made later asked first fails message reported) =
-      plain-asked step errors matcher k bytes old haystack error made asked fails message (fresh-made step k old made all_true new reported)
+  fault-by_line old e new (at_question haystack error made later asked first fails message
+      reported) =
+      plain-asked step errors matcher k bytes old haystack error made asked fails message
+      (fresh-made step k old made all_true new reported)
 
 -- what was counted of a sink that had no call
-pub counted-fresh : {S E : Type 0} (step : Steps S E) (k : Settings) (old : S) (plan : Plan) (finish : Finish)
+pub counted-fresh : {S E : Type 0} (step : Steps S E) (k : Settings) (old : S) (plan : Plan)
+    (finish : Finish)
     (outcome : Outcome E) (new : S) → IsMadeToFrom step k (fresh old) plan outcome finish new
     → IsMadeTo step k old plan outcome finish new
 counted-fresh step k old plan finish outcome new counted =
-    record { made = fresh-made step k old plan.calls outcome new counted.made; ending = counted.ending }
+    record {
+      made = fresh-made step k old plan.calls outcome new counted.made;
+      ending = counted.ending;
+    }

@@ -1,4 +1,5 @@
--- A window of an input: where its lines are in the input, and which of them are kept when the next window is shown.
+-- A window of an input: where its lines are in the input, and which of them are kept when the next
+-- window is shown.
 use Rattle.std.proofs.Common.{◌≡◌, ℕ, ◌+◌, ◌-◌, ◌<◌, ◌≤◌, min, List, [], ◌∷◌, ◌++◌, length, take}
 use Rattle.std.proofs.Common.{drop, arith, refl, sym, ◌∙◌, ap, subst, ⊎_elim, append-nil}
 use Rattle.std.proofs.Common.{append_assoc, length-append, length-drop, slice_index}
@@ -29,19 +30,21 @@ own-window t bytes = record {
       let zero_start : start ≡ 0 + start = omega arith in
       let zero_end : end ≡ 0 + end = omega arith in
       subst (λ j. IsLine t bytes j (0 + start) (0 + end)) zero_i
-      (subst (λ p. IsLine t bytes i p (0 + end)) zero_start (subst (IsLine t bytes i start) zero_end line));
+      (subst (λ p. IsLine t bytes i p (0 + end)) zero_start
+      (subst (IsLine t bytes i start) zero_end line));
 }
 
 -- bytes of a window are bytes of the input
-pub slice-in : (gone window after input : List ℕ) → input ≡ gone ++ (window ++ after) → (p q : ℕ) → p ≤ q
-    → q ≤ length window
+pub slice-in : (gone window after input : List ℕ) → input ≡ gone ++ (window ++ after) → (p q : ℕ)
+    → p ≤ q → q ≤ length window
     → slice_range input (length gone + p) (length gone + q) ≡ slice_range window p q
 slice-in gone window after input whole p q low high =
     let size : (length gone + q) - (length gone + p) ≡ q - p = omega arith in
     let rest = ap (drop (length gone + p)) whole
     ∙ (drop-append-add gone (window ++ after) p ∙ drop-append-le p window after (omega arith)) in
     ap (λ n. take n (drop (length gone + p) input)) size
-    ∙ (ap (take (q - p)) rest ∙ take-append-le (q - p) (drop p window) after (omega (arith, length-drop p window)))
+    ∙ (ap (take (q - p)) rest ∙ take-append-le (q - p) (drop p window) after
+    (omega (arith, length-drop p window)))
 
 -- a line of the input that extends from p up to q of the window
 module _ (k : Settings) (gone window input : List ℕ) (i p q : ℕ) (at : IsLineIn k gone window p i)
@@ -57,8 +60,8 @@ module _ (k : Settings) (gone window input : List ℕ) (i p q : ℕ) (at : IsLin
       → IsLine (byte_of k.line_terminator) input i (length gone + p) (length gone + q)
   input-line shown =
       let sum : before + (i - before) ≡ i = omega arith in
-      subst (λ j. IsLine (byte_of k.line_terminator) input j (length gone + p) (length gone + q)) sum
-      (shown.line (i - before) p q own)
+      subst (λ j. IsLine (byte_of k.line_terminator) input j (length gone + p) (length gone + q))
+      sum (shown.line (i - before) p q own)
 
   -- the line after it
   pub next-line : IsLineIn k gone window q (i + 1)
@@ -78,22 +81,24 @@ module _ {t : ℕ} (window : List ℕ) (r : ℕ) where
   start-count : {i : ℕ} → r ≤ length window → IsClosed t (take r window) → IsLineStart t window r i
       → length (lines t (take r window)) ≡ i
   start-count within shut here = start-same
-      (subst (λ bs. IsLineStart t bs r (length (lines t (take r window)))) (take-append-drop r window)
-      (subst (λ p. IsLineStart t (take r window ++ drop r window) p (length (lines t (take r window))))
+      (subst (λ bs. IsLineStart t bs r (length (lines t (take r window))))
+      (take-append-drop r window) (subst (λ p. IsLineStart t (take r window ++ drop r window) p
+      (length (lines t (take r window))))
       (length-take-le r window within) (start-there t (take r window) (drop r window) shut))) here
 
   -- and how many there are in all
   split-count : IsClosed t (take r window)
-      → length (lines t window) ≡ length (lines t (take r window)) + length (lines t (drop r window))
+      → length (lines t window) ≡ length (lines t (take r window))
+      + length (lines t (drop r window))
   split-count shut = ap (λ bs. length (lines t bs)) (sym (take-append-drop r window))
       ∙ count-after t (take r window) (drop r window) shut
 
   -- from a position `near` lines before the end there are no more lines than that
-  pub rest-few : (near : ℕ) → r ≤ length window → (0 < r → r < length window → slice_index window (r - 1) ≡ t)
+  pub rest-few : (near : ℕ) → r ≤ length window
+      → (0 < r → r < length window → slice_index window (r - 1) ≡ t)
       → ((i : ℕ) → IsLineStart t window (length window) i → IsLineStart t window r (i - near))
       → length (lines t (drop r window)) ≤ near
-  rest-few near within ends back = ⊎_elim
-      (λ less.
+  rest-few near within ends back = ⊎_elim (λ less.
       let shut = closed-take t window r within (λ some. ends some less) in
       let count = start-count within shut (back _ (end-start t window)) in
       omega (arith, split-count shut))
@@ -101,7 +106,8 @@ module _ {t : ℕ} (window : List ℕ) (r : ℕ) where
       (cases_lt r (length window))
 
 -- between closed bytes, or before the end of the input, a window shows lines of the input
-module _ (t : ℕ) (gone window after : List ℕ) (opens : IsClosed t gone) (closes : 0 < length after → IsClosed t window)
+module _ (t : ℕ) (gone window after : List ℕ) (opens : IsClosed t gone) (closes : 0 < length after
+    → IsClosed t window)
   where
     abbrev input : List ℕ
     input = gone ++ (window ++ after)
@@ -117,16 +123,23 @@ module _ (t : ℕ) (gone window after : List ℕ) (opens : IsClosed t gone) (clo
     start-in : (position i : ℕ) → IsLineStart t window position i
         → IsLineStart t input (length gone + position) (length (lines t gone) + i)
     start-in position i here = record {
-      listed = omega (arith, count-after t gone (window ++ after) opens, ap length both, length-append (lines t window) (lines t after));
+      listed = omega (
+        arith,
+        count-after t gone (window ++ after) opens,
+        ap length both,
+        length-append (lines t window) (lines t after),
+      );
       begins = start-after t gone (window ++ after) opens i ∙ ap (λ n. length gone + n)
           (ap (λ ls. length (concat (take i ls))) both
-          ∙ (ap (λ ls. length (concat ls)) (take-append-le i (lines t window) (lines t after) here.listed) ∙ here.begins));
+          ∙ (ap (λ ls. length (concat ls)) (take-append-le i (lines t window) (lines t after)
+          here.listed) ∙ here.begins));
     }
 
     line-in : (i p q : ℕ) → IsLine t window i p q
         → IsLine t input (length (lines t gone) + i) (length gone + p) (length gone + q)
     line-in i p q line =
-        let next : length (lines t gone) + (i + 1) ≡ (length (lines t gone) + i) + 1 = omega arith in
+        let next : length (lines t gone) + (i + 1) ≡ (length (lines t gone) + i) + 1 =
+        omega arith in
         line-from (start-in p i (record { listed = omega arith; begins = line.begins }))
         (subst (IsLineStart t input (length gone + q)) next
         (start-in q (i + 1) (record { listed = omega arith; begins = line.ends })))
@@ -146,7 +159,8 @@ roll-input gone window more after r =
 -- the next window, if lines are kept from a position `near` lines before the end
 module _ (k : Settings) (gone window : List ℕ) (r near : ℕ) (within : r ≤ length window)
     (ends : 0 < r → r < length window → slice_index window (r - 1) ≡ byte_of k.line_terminator)
-    (opens : IsClosed (byte_of k.line_terminator) gone) (closed : IsClosed (byte_of k.line_terminator) window) where
+    (opens : IsClosed (byte_of k.line_terminator) gone)
+    (closed : IsClosed (byte_of k.line_terminator) window) where
   abbrev t : ℕ
   t = byte_of k.line_terminator
 
@@ -159,17 +173,18 @@ module _ (k : Settings) (gone window : List ℕ) (r near : ℕ) (within : r ≤ 
   shut : IsClosed t front
   shut = closed-take t window r within (λ some. ⊎_elim (ends some)
       (λ over. let all : r ≡ length window = omega arith in
-      ap (λ n. slice_index window (n - 1)) all ∙ closed (omega arith))
-      (cases_lt r (length window)))
+      ap (λ n. slice_index window (n - 1)) all ∙ closed (omega arith)) (cases_lt r (length window)))
 
   pub gone-closed : IsClosed t (gone ++ front)
   gone-closed = closed-append t gone front opens shut
 
-  pub rolled : (more after : List ℕ) (w : Walk) → near ≡ min k.before_context (w.line - w.next_unreported)
+  pub rolled : (more after : List ℕ) (w : Walk) → near
+      ≡ min k.before_context (w.line - w.next_unreported)
       → (0 < length after → IsClosed t (rest ++ more))
       → ((i : ℕ) → IsLineStart t window (length window) i → IsLineStart t window r (i - near))
       → IsInWindow k gone window (gone ++ (window ++ (more ++ after))) (length window) w
-      → IsInWindow k (gone ++ front) (rest ++ more) (gone ++ (window ++ (more ++ after))) (length window - r) w
+      → IsInWindow k (gone ++ front) (rest ++ more) (gone ++ (window ++ (more ++ after)))
+      (length window - r) w
   rolled more after w is closes back inside =
       let before = length (lines t gone) in
       let all = start-same inside.line.begins (end-start t window) in
@@ -179,13 +194,14 @@ module _ (k : Settings) (gone window : List ℕ) (r near : ℕ) (within : r ≤ 
       let index : length (lines t rest) ≡ w.line - length (lines t (gone ++ front)) =
       omega arith in
       record {
-        shown = subst (IsWindow t (gone ++ front) (rest ++ more)) (sym (roll-input gone window more after r))
+        shown = subst (IsWindow t (gone ++ front) (rest ++ more))
+            (sym (roll-input gone window more after r))
             (shown t (gone ++ front) (rest ++ more) after gone-closed closes);
         at = omega (arith, length-append gone front, length-take-le r window within);
         line = record {
           low = omega arith;
-          begins = subst (λ p. IsLineStart t (rest ++ more) p (w.line - length (lines t (gone ++ front))))
-              (length-drop r window)
+          begins = subst (λ p. IsLineStart t (rest ++ more) p
+              (w.line - length (lines t (gone ++ front)))) (length-drop r window)
               (subst (IsLineStart t (rest ++ more) (length rest)) index
               (start-there t rest more (closed-drop t window r closed)));
         };

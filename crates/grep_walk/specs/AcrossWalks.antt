@@ -65,7 +65,8 @@ module _ (settings : Settings) (meaning : Meaning) (bytes : List ℕ) where
     pub after : low ≤ start
     pub before : start ≤ unit.1
     pub whole : selects_free settings ≡ false → start ≤ unit.0
-    pub alone : 0 < is_unit.range.first → is_counted settings meaning bytes (is_unit.range.first - 1) ≡ false
+    pub alone : 0 < is_unit.range.first
+        → is_counted settings meaning bytes (is_unit.range.first - 1) ≡ false
 
   -- a walk at `start` has come to a unit or is in it, or is at its end. Nothing is known of it if
   -- no more lines are chosen

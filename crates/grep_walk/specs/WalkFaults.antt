@@ -13,7 +13,8 @@ pub data IsWalkFault {S E F : Type 0} (step : Steps S E) (errors : ErrorMakers F
     (matcher : MatcherFacts F) (settings : Settings) (bytes : List ℕ) (first : Origin S) : E → S
     → Type 0 where
   at_call : {e : E} {new : S}
-      → AreMadeFrom step settings first (line_plan settings matcher.meaning bytes).calls (failed e) new
+      → AreMadeFrom step settings first (line_plan settings matcher.meaning bytes).calls
+      (failed e) new
       → IsWalkFault step errors matcher settings bytes first e new
   at_question : {e : E} {new : S} (haystack : List ℕ) (error : F) (made later : List Planned)
       → IsAskedIn settings matcher.meaning bytes false haystack made

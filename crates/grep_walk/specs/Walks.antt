@@ -128,7 +128,8 @@ module _ (settings : Settings) (meaning : Meaning) (bytes : List ℕ) where
   -- counts of the calls so far are at most its offset
   pub record IsWalk (w : Walk) : Type 0 where
     pub placed : IsPlaced w
-    pub near : IsNear settings bytes (selected_lines settings meaning bytes) w.next_unreported w.line w.after_context_left
+    pub near : IsNear settings bytes (selected_lines settings meaning bytes) w.next_unreported
+        w.line w.after_context_left
     pub opened : IsOpen settings meaning bytes w.line w.after_context_left w.match_count
     pub ended : All (λ call. call.if_false.count ≤ w.offset)
         (calls_before settings bytes (selected_lines settings meaning bytes) w.next_unreported)
@@ -138,4 +139,5 @@ module _ (settings : Settings) (meaning : Meaning) (bytes : List ℕ) where
       (now : S) : Type 0 where
     pub walk : IsWalk w
     pub reported : AreMadeFrom step settings first
-        (calls_before settings bytes (selected_lines settings meaning bytes) w.next_unreported) all_true now
+        (calls_before settings bytes (selected_lines settings meaning bytes) w.next_unreported)
+        all_true now

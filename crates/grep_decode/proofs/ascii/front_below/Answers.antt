@@ -8,7 +8,12 @@ pub returns-clause-within : goal.returns-clause-within
 returns-clause-within c =
     let count : c.first_set.result ≡ prefix_len (λ b. not (leb c.args.bound b)) c.args.bytes =
     c.first_set.ensures ∙ front-length c.args.bound c.args.bytes _ c.fits-bytes.0 refl in
-    omega (arith, count, c.fits-bytes.0, prefix_len-le-length (λ b. not (leb c.args.bound b)) c.args.bytes)
+    omega (
+      arith,
+      count,
+      c.fits-bytes.0,
+      prefix_len-le-length (λ b. not (leb c.args.bound b)) c.args.bytes,
+    )
 
 pub returns-clause-below : goal.returns-clause-below
 returns-clause-below c = λ n within.

@@ -5,4 +5,5 @@ use Rattle.grep_decode.proofs.label.is_one_of.Given as goal
 
 abbrev pub invariant-loop-spelling : goal.invariant-loop-spelling
 invariant-loop-spelling l =
-    list_any (λ s. str_eq_ignore_ascii_case s.now l.name) (take l.spelling-index l.spellings) ≡ false
+    list_any (λ s. str_eq_ignore_ascii_case s.now l.name) (take l.spelling-index l.spellings)
+    ≡ false

@@ -1,4 +1,5 @@
-use Rattle.std.proofs.Common.{◌≡◌, ◌+◌, ◌-◌, ◌<◌, ◌≤◌, ◌++◌, true, ℕ, List, [], length, take, drop, IsTrue}
+use Rattle.std.proofs.Common.{◌≡◌, ◌+◌, ◌-◌, ◌<◌, ◌≤◌, ◌++◌, true, ℕ, List, [], length, take, drop}
+use Rattle.std.proofs.Common.{IsTrue}
 use Rattle.grep_decode.specs.Decoded.{utf16_text}
 use Rattle.grep_decode.proofs.utf16.decode_few.Given as goal
 

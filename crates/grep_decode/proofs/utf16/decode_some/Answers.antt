@@ -11,8 +11,9 @@ returns-then-step-gt0 c =
     record {
       taken_within = omega (arith, made.taken);
       written_within = search rules;
-      text = λ more when. text-front (utf16_text c.args.order) c.args.input.now c.put_block-step.new.output
-          (drop 64 c.args.output.now) more 32 step.taken step.written (omega (arith, made.length, made.written))
+      text = λ more when. text-front (utf16_text c.args.order) c.args.input.now
+          c.put_block-step.new.output (drop 64 c.args.output.now) more 32 step.taken step.written
+          (omega (arith, made.length, made.written))
           (omega (arith, made.taken, length-take-le 32 c.args.input.now (omega arith))) made.text;
       stops = λ none. absurd (omega (arith, none));
       unfinished = λ none. absurd (omega (arith, none));

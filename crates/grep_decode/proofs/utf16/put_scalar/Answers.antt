@@ -1,10 +1,12 @@
 use Rattle.std.proofs.Common.{arith}
-use Rattle.grep_decode.proofs.EncodeLemmas.{encode-two, encode-three, encode-four, put-two, put-three, put-four}
+use Rattle.grep_decode.proofs.EncodeLemmas.{encode-two, encode-three, encode-four, put-two}
+use Rattle.grep_decode.proofs.EncodeLemmas.{put-three, put-four}
 use Rattle.grep_decode.proofs.utf16.put_scalar.Goals as goal
 
 pub returns-then-code-lt2048-clause-bytes : goal.returns-then-code-lt2048-clause-bytes
 returns-then-code-lt2048-clause-bytes c =
-    rw (encode-two c.args.code (omega arith) (omega arith)) (put-two c.args.output.now c.args.at _ _ (omega arith))
+    rw (encode-two c.args.code (omega arith) (omega arith)) (put-two c.args.output.now c.args.at _ _
+    (omega arith))
 
 pub returns-then-code-lt65536-clause-bytes : goal.returns-then-code-lt65536-clause-bytes
 returns-then-code-lt65536-clause-bytes c =

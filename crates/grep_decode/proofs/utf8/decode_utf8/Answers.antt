@@ -18,8 +18,8 @@ loop-written-preserved c =
       text = λ more when. text-replaced _ input more _ _ taken front.well_formed front.ill_formed
           (c.scan_within-front.ensures.ill_formed (omega arith) more when)
           (text-copied _ input more _ c.put.new.output taken written front.well_formed
-          (omega arith) c.scan_within-front.ensures.well_formed (c.loop-written.invariant.text more when)
-          c.put.ensures.bytes)
+          (omega arith) c.scan_within-front.ensures.well_formed
+          (c.loop-written.invariant.text more when) c.put.ensures.bytes)
           c.put-in-loop-written.ensures.bytes;
       progress = λ none. absurd (omega arith);
     }

@@ -1,12 +1,13 @@
-use Rattle.std.proofs.Common.{◌≡◌, length, take, drop, sym, ap, subst, ◌∙◌, arith, take_all, length-take, []}
+use Rattle.std.proofs.Common.{◌≡◌, length, take, drop, sym, ap, subst, ◌∙◌, arith, take_all}
+use Rattle.std.proofs.Common.{length-take, []}
 use Rattle.std.proofs.lemmas.List.{with_items_is}
 use Rattle.std.proofs.lemmas.Result.{err_from_is_err_and}
 use Rattle.grep_decode.proofs.DecoderLemmas.{Decodes-none, reads-fail}
 use Rattle.grep_line_buffer.specs.BufferStates.{IsWithin}
 use Rattle.grep_line_buffer.specs.Room.{IsLarge}
-use Rattle.grep_line_buffer.proofs.ContentsLemmas.{below-within, contents-full, HasRead-last, IsReading-first}
-use Rattle.grep_line_buffer.proofs.ContentsLemmas.{IsReading-room, IsReading-more}
-use Rattle.grep_line_buffer.proofs.FillLemmas.{if-read-full, unless-read}
+use Rattle.grep_line_buffer.proofs.ContentsLemmas.{below-within, contents-full, HasRead-last}
+use Rattle.grep_line_buffer.proofs.ContentsLemmas.{IsReading-first, IsReading-room, IsReading-more}
+use Rattle.grep_line_buffer.proofs.FillPartLemmas.{if-read-full, unless-read}
 use Rattle.grep_line_buffer.proofs.ReadLemmas.{HasRead, HasRead-failed}
 use Rattle.grep_line_buffer.proofs.contents.read_contents.Goals as goal
 
@@ -21,9 +22,10 @@ returns-in_err-make_room g c =
     let items = c.make_room.new.contents.items in
     let all : take c.reads.len c.reads.contents.items ≡ items =
     take_all c.reads.len c.reads.contents.items (omega (arith, full.full.1)) ∙ sym full.full.0 in
-    let out : HasRead rem step c.args.decoder.now c.args.reader.now items c.reads.decoder c.reads.reader =
-    subst (λ l. HasRead rem step c.args.decoder.now c.args.reader.now l c.reads.decoder c.reads.reader) all
-    before.read in
+    let out : HasRead rem step c.args.decoder.now c.args.reader.now items c.reads.decoder
+    c.reads.reader =
+    subst (λ l. HasRead rem step c.args.decoder.now c.args.reader.now l c.reads.decoder
+    c.reads.reader) all before.read in
     rw (p.1, p.2) (record {
       capacity = out.capacity;
       kept = omega (arith, before.kept, full.kept);
@@ -33,9 +35,11 @@ returns-in_err-make_room g c =
       done = tt;
       end = tt;
       below = tt;
-      error = contents-full c.args.limit c.reads.len c.args.contents.now.cap c.reads.contents.cap items e
-          (ap length full.full.0 ∙ full.full.1) (subst (IsWithin c.args.limit) full.full.1 before.within)
-          (subst (IsLarge c.args.limit) full.full.1 before.large) before.kept full.error full.memory;
+      error = contents-full c.args.limit c.reads.len c.args.contents.now.cap c.reads.contents.cap
+          items e (ap length full.full.0 ∙ full.full.1)
+          (subst (IsWithin c.args.limit) full.full.1 before.within)
+          (subst (IsLarge c.args.limit) full.full.1 before.large) before.kept full.error
+          full.memory;
       fault = if-read-full (Unit {0}) c.args.limit c.reads.len e _ full.error;
       ahead = unless-read (Unit {0}) e out.ahead;
       settled = tt;
@@ -54,17 +58,18 @@ returns-in-Ok-eq0 g c =
     let bytes = c.read_after.new.bytes in
     let whole : length bytes ≡ w.len = omega arith in
     let same : length bytes ≡ length w.items = omega arith in
-    let room = IsReading-room rem step c.args.limit c.args.contents.now.cap c.reads.contents.cap w.cap len
-    c.args.decoder.now c.reads.decoder c.args.reader.now c.reads.reader c.reads.contents.items w.items c.reads.invariant
-    made.front made.room
-    made.within made.large made.kept in
+    let room = IsReading-room rem step c.args.limit c.args.contents.now.cap c.reads.contents.cap
+    w.cap len
+    c.args.decoder.now c.reads.decoder c.args.reader.now c.reads.reader c.reads.contents.items
+    w.items c.reads.invariant made.front made.room made.within made.large made.kept in
     let all = c.truncate.ensures.items ∙ ap (take len) (with_items_is w bytes whole) in
     let read = c.in-Ok-eq0.ensures.reads in
     let front = c.read_after.ensures.front ∙ ap (take len) c.deref_mut.ensures.value in
-    let out : HasRead rem step c.args.decoder.now c.args.reader.now c.truncate.new.self.items c.read_after.new.decoder
+    let out : HasRead rem step c.args.decoder.now c.args.reader.now c.truncate.new.self.items
+    c.read_after.new.decoder
     c.read_after.new.reader =
-    HasRead-last rem step c.args.decoder.now c.reads.decoder c.read_after.new.decoder c.args.reader.now c.reads.reader
-    c.read_after.new.reader
+    HasRead-last rem step c.args.decoder.now c.reads.decoder c.read_after.new.decoder
+    c.args.reader.now c.reads.reader c.read_after.new.reader
     len c.in-Ok-eq0.field-0 w.items bytes c.truncate.new.self.items room.read front all
     c.in-Ok-eq0.field-0-test read c.read_after.ensures.capacity in
     let none : take c.in-Ok-eq0.field-0 (drop len bytes)
@@ -97,20 +102,20 @@ returns-in-Err g c =
     let w = c.make_room.new.contents in
     let bytes = c.read_after.new.bytes in
     let whole : length bytes ≡ w.len = omega arith in
-    let room = IsReading-room rem step c.args.limit c.args.contents.now.cap c.reads.contents.cap w.cap len
-    c.args.decoder.now c.reads.decoder c.args.reader.now c.reads.reader c.reads.contents.items w.items c.reads.invariant
-    made.front made.room
-    made.within made.large made.kept in
+    let room = IsReading-room rem step c.args.limit c.args.contents.now.cap c.reads.contents.cap
+    w.cap len
+    c.args.decoder.now c.reads.decoder c.args.reader.now c.reads.reader c.reads.contents.items
+    w.items c.reads.invariant made.front made.room made.within made.large made.kept in
     let all = c.truncate-in-Err.ensures.items ∙ ap (take len) (with_items_is w bytes whole) in
     let front = c.read_after.ensures.front ∙ ap (take len) c.deref_mut.ensures.value in
     let given = c.truncate-in-Err.new.self.items in
     let failed = c.in-Err.ensures.failed in
-    let before : HasRead rem step c.args.decoder.now c.args.reader.now given c.reads.decoder c.reads.reader =
-    subst (λ l. HasRead rem step c.args.decoder.now c.args.reader.now l c.reads.decoder c.reads.reader)
-    (sym (all ∙ front)) room.read in
-    let out = HasRead-failed rem step c.args.decoder.now c.reads.decoder c.read_after.new.decoder c.args.reader.now
-    c.reads.reader
-    c.read_after.new.reader given c.in-Err.e before failed
+    let before : HasRead rem step c.args.decoder.now c.args.reader.now given c.reads.decoder
+    c.reads.reader =
+    subst (λ l. HasRead rem step c.args.decoder.now c.args.reader.now l c.reads.decoder
+    c.reads.reader) (sym (all ∙ front)) room.read in
+    let out = HasRead-failed rem step c.args.decoder.now c.reads.decoder c.read_after.new.decoder
+    c.args.reader.now c.reads.reader c.read_after.new.reader given c.in-Err.e before failed
     c.read_after.ensures.capacity in
     record {
       capacity = out.capacity;
@@ -123,7 +128,8 @@ returns-in-Err g c =
       below = tt;
       error = below-within c.args.limit _ (length w.items)
           (omega (arith, made.room, ap length all, length-take len bytes)) made.within;
-      fault = reads-fail g.R.Source.remaining g.R.Source.step _ _ _ _ _ _ given _ before.decodes failed.failed;
+      fault = reads-fail g.R.Source.remaining g.R.Source.step _ _ _ _ _ _ given _ before.decodes
+          failed.failed;
       ahead = tt;
       settled = tt;
       stays = out.stays;
@@ -132,11 +138,11 @@ returns-in-Err g c =
     }
 
 pub reads-init : goal.reads-init
-reads-init g c = IsReading-first g.R.Source.remaining g.R.Source.step c.args.limit c.args.contents.now.cap
-    c.clear.new.self.cap
+reads-init g c = IsReading-first g.R.Source.remaining g.R.Source.step c.args.limit
+    c.args.contents.now.cap c.clear.new.self.cap
     c.args.decoder.now c.args.reader.now c.clear.new.self.items
-    (Decodes-none g.R.Source.remaining g.R.Source.step c.args.decoder.now c.args.reader.now) c.clear.ensures.items
-    (omega (arith, c.clear.ensures.capacity))
+    (Decodes-none g.R.Source.remaining g.R.Source.step c.args.decoder.now c.args.reader.now)
+    c.clear.ensures.items (omega (arith, c.clear.ensures.capacity))
 
 pub reads-preserved : goal.reads-preserved
 reads-preserved g c =
@@ -145,15 +151,14 @@ reads-preserved g c =
     let bytes = c.read_after.new.bytes in
     let whole : length bytes ≡ w.len = omega arith in
     let same : length bytes ≡ length w.items = omega arith in
-    let room = IsReading-room g.R.Source.remaining g.R.Source.step c.args.limit c.args.contents.now.cap
-    c.reads.contents.cap w.cap c.reads.len
-    c.args.decoder.now c.reads.decoder c.args.reader.now c.reads.reader c.reads.contents.items w.items c.reads.invariant
-    made.front made.room
-    made.within made.large made.kept in
-    IsReading-more g.R.Source.remaining g.R.Source.step c.args.limit c.args.contents.now.cap w.cap c.reads.len
-    c.in-Ok.count
-    c.args.decoder.now c.reads.decoder c.read_after.new.decoder c.args.reader.now c.reads.reader c.read_after.new.reader
-    w.items bytes _
-    room (c.read_after.ensures.front ∙ ap (take c.reads.len) c.deref_mut.ensures.value)
-    same
-    (with_items_is w bytes whole) c.in-Ok.ensures.bound c.in-Ok.ensures.reads c.read_after.ensures.capacity
+    let room = IsReading-room g.R.Source.remaining g.R.Source.step c.args.limit
+    c.args.contents.now.cap c.reads.contents.cap w.cap c.reads.len
+    c.args.decoder.now c.reads.decoder c.args.reader.now c.reads.reader c.reads.contents.items
+    w.items c.reads.invariant made.front made.room made.within made.large made.kept in
+    IsReading-more g.R.Source.remaining g.R.Source.step c.args.limit c.args.contents.now.cap w.cap
+    c.reads.len c.in-Ok.count
+    c.args.decoder.now c.reads.decoder c.read_after.new.decoder c.args.reader.now c.reads.reader
+    c.read_after.new.reader w.items bytes _
+    room (c.read_after.ensures.front ∙ ap (take c.reads.len) c.deref_mut.ensures.value) same
+    (with_items_is w bytes whole) c.in-Ok.ensures.bound c.in-Ok.ensures.reads
+    c.read_after.ensures.capacity

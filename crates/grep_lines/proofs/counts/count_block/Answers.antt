@@ -14,8 +14,7 @@ loop-rest-init c = record {
 pub add_equal-lanes-requires : goal.add_equal-lanes-requires
 add_equal-lanes-requires c =
     let now = c.loop-rest.invariant in
-    Each1-weaker (λ n. n ≤ now.most) (λ n. n ≤ 254)
-    (λ n low. omega arith) c.loop-rest.lanes now.few
+    Each1-weaker (λ n. n ≤ now.most) (λ n. n ≤ 254) (λ n low. omega arith) c.loop-rest.lanes now.few
 
 pub loop-rest-preserved : goal.loop-rest-preserved
 loop-rest-preserved c =
@@ -23,7 +22,13 @@ loop-rest-preserved c =
     let equals : ℕ → _ = λ (b : ℕ). b == c.args.terminator in
     let part = c.split_at.result.0.now in
     record {
-      counted = omega (arith, count-split equals 64 c.loop-rest.rest.now, ap (count_by equals) c.split_at.ensures.front, ap (count_by equals) c.split_at.ensures.back, ap (count_by equals) (take_all 64 part (omega (arith, c.split_at.ensures.front_len))));
+      counted = omega (
+        arith,
+        count-split equals 64 c.loop-rest.rest.now,
+        ap (count_by equals) c.split_at.ensures.front,
+        ap (count_by equals) c.split_at.ensures.back,
+        ap (count_by equals) (take_all 64 part (omega (arith, c.split_at.ensures.front_len))),
+      );
       most = now.most + 1;
       few = c.add_equal-lanes.ensures.grown now.most now.few;
       left = omega arith;

@@ -1,4 +1,5 @@
-use Rattle.std.proofs.Common.{◌≡◌, ◌==◌, ◌+◌, ◌-◌, ℕ, length, drop, count_by, arith, ap, drop-drop, ◌∙◌}
+use Rattle.std.proofs.Common.{◌≡◌, ◌==◌, ◌+◌, ◌-◌, ℕ, length, drop, count_by, arith, ap, drop-drop}
+use Rattle.std.proofs.Common.{◌∙◌}
 use Rattle.grep_lines.proofs.LaneLemmas.{count-split}
 use Rattle.grep_lines.proofs.counts.count_narrow_parts.Goals as goal
 
@@ -12,7 +13,12 @@ loop-rest-preserved c =
     let sum : (length bytes - length rest) + 16 ≡ length bytes - length others =
     omega arith in
     record {
-      counted = omega (arith, count-split equals 16 rest, ap (count_by equals) c.split_at.ensures.front, ap (count_by equals) c.split_at.ensures.back);
+      counted = omega (
+        arith,
+        count-split equals 16 rest,
+        ap (count_by equals) c.split_at.ensures.front,
+        ap (count_by equals) c.split_at.ensures.back,
+      );
       within = omega arith;
       end = c.split_at.ensures.back ∙ (ap (drop 16) now.end
           ∙ (drop-drop 16 (length bytes - length rest) bytes ∙ ap (λ k. drop k bytes) sum));

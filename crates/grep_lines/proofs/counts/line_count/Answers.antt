@@ -10,4 +10,7 @@ returns-then-bytes-terminator c =
 pub returns-else-bytes-terminator : goal.returns-else-bytes-terminator
 returns-else-bytes-terminator c =
     let some : 0 < length c.args.bytes.now = search rules in
-    omega (arith, lines-unclosed c.args.terminator c.args.bytes.now some c.if-bytes-terminator.false)
+    omega (
+      arith,
+      lines-unclosed c.args.terminator c.args.bytes.now some c.if-bytes-terminator.false,
+    )

@@ -1,10 +1,10 @@
 use Rattle.std.proofs.Common.{◌+◌, arith, ap, subst, sym, ◌∙◌}
 use Rattle.std.proofs.lemmas.List.{map-id}
 use Rattle.std.proofs.lemmas.Simd.{bytes_below, fold-sum, sum_bound, sum_fits}
+use Rattle.grep_lines.proofs.counts.sum_lanes.Goals as goal
 use lib.Lanes.{Steps, fold_l}
 use mir.Syntax.{w16}
 use mir.Val.{Fits}
-use Rattle.grep_lines.proofs.counts.sum_lanes.Goals as goal
 
 pub overflow_add-result : goal.overflow_add-result
 overflow_add-result c =
@@ -13,4 +13,5 @@ overflow_add-result c =
     (sum_fits w16 0 c.args.lanes (omega arith))
 
 pub returns : goal.returns
-returns c = ap (fold_l (λ s x. s + x) 0) (map-id c.args.lanes) ∙ omega (arith, fold-sum 0 c.args.lanes)
+returns c = ap (fold_l (λ s x. s + x) 0) (map-id c.args.lanes)
+    ∙ omega (arith, fold-sum 0 c.args.lanes)

@@ -8,7 +8,8 @@ overflow_sub-result c = omega (arith, shl_one c.args.count c.requires, pow_pos c
 
 pub returns : goal.returns
 returns c =
-    let same = λ (k : ℕ). ap (λ x. bit_at (bit_and c.args.mask (x - 1)) k) (shl_one c.args.count c.requires) in
+    let same = λ (k : ℕ). ap (λ x. bit_at (bit_and c.args.mask (x - 1)) k)
+    (shl_one c.args.count c.requires) in
     record {
       kept = λ k less. same k ∙ bit_at_low_kept c.args.mask c.args.count k less;
       below = λ k set. bit_at_low_only c.args.mask c.args.count k (sym (same k) ∙ set);

@@ -10,19 +10,20 @@ loop-left-init c =
     record {
       few = omega arith;
       within = ⊎_elim (λ some. omega (arith, start.ensures.below some))
-          (λ over. omega (arith, start.ensures.zero (omega arith)))
-          (cases_lt 0 c.args.pos);
+          (λ over. omega (arith, start.ensures.zero (omega arith))) (cases_lt 0 c.args.pos);
       closed = λ more. ⊎_elim (λ some. (start.ensures.last some).closed more)
-          (λ over. absurd (omega (arith, start.ensures.zero (omega arith)))) (cases_lt 0 c.args.pos);
+          (λ over. absurd (omega (arith, start.ensures.zero (omega arith))))
+          (cases_lt 0 c.args.pos);
       back = subst (IsBack c.args.terminator c.args.bytes.now c.args.pos start.result) none
-          (IsBack-first c.args.terminator c.args.bytes.now c.args.pos start.result start.ensures.zero
-          start.ensures.last);
+          (IsBack-first c.args.terminator c.args.bytes.now c.args.pos start.result
+          start.ensures.zero start.ensures.last);
     }
 
 pub loop-left-preserved : goal.loop-left-preserved
 loop-left-preserved c =
     let start = c.start_before-start-in-loop-left in
-    let one : (c.args.count - c.loop-left.left) + 1 ≡ c.args.count - (c.loop-left.left - 1) = omega arith in
+    let one : (c.args.count - c.loop-left.left) + 1 ≡ c.args.count - (c.loop-left.left - 1) =
+    omega arith in
     record {
       few = omega arith;
       within = omega (arith, start.ensures.below c.if-start-gt0.true);

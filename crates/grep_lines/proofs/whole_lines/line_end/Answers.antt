@@ -5,7 +5,8 @@ use Rattle.grep_lines.proofs.whole_lines.line_end.Goals as goal
 pub returns-in-Some-clause-end : goal.returns-in-Some-clause-end
 returns-in-Some-clause-end c =
     let found = rw (take_rest c.args.bytes.now c.args.position) at c.in-Some.ensures in
-    end-found c.args.terminator c.args.bytes.now c.args.position c.in-Some.at c.requires found.0 found.1
+    end-found c.args.terminator c.args.bytes.now c.args.position c.in-Some.at c.requires found.0
+    found.1
 
 pub returns-in-None-clause-end : goal.returns-in-None-clause-end
 returns-in-None-clause-end c =

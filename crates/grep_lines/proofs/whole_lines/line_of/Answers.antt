@@ -15,14 +15,14 @@ returns-in-Some-clause-value c =
     let near = c.in-Some.ensures.0 in
     let bare : (i : ℕ) → 0 ≤ i → i < c.in-Some.at → slice_index bytes i ≢ t = λ i low high same.
     near.before i low high (eq-eqb _ _ same) in
-    let start = block_start-is t bytes (c.args.position, c.args.position) c.args.position 0 c.requires refl
+    let start = block_start-is t bytes (c.args.position, c.args.position) c.args.position 0
+    c.requires refl
     (record {
       high = omega arith;
       inner = λ i low high. bare i low (omega arith);
       closed = λ some. absurd (omega arith);
     }) in
     let end = end-count t bytes c.args.position c.in-Some.at c.if-at-position.true near.high
-    (eqb-true _ _ c.in-Some.ensures.1)
-    (λ i low high. bare i (omega arith) high) in
-    c.new.ensures ∙ ap₂ pair start (block_end-open t bytes (c.args.position, c.args.position) (c.in-Some.at + 1)
-    (λ less. absurd (omega arith)) end)
+    (eqb-true _ _ c.in-Some.ensures.1) (λ i low high. bare i (omega arith) high) in
+    c.new.ensures ∙ ap₂ pair start (block_end-open t bytes (c.args.position, c.args.position)
+    (c.in-Some.at + 1) (λ less. absurd (omega arith)) end)

@@ -6,5 +6,5 @@ use Rattle.grep_matcher.proofs.lanes.highest_bits.Goals as goal
 pub returns : goal.returns
 returns c k =
     let v = c.args.lanes in
-    subst (λ m. (bit_at m k ≡ 1) ↔ (128 ≤ get_or v k 0)) (sym (top_bitmask v 32 c.fits-lanes.0 (omega arith)))
-    (bit_at-mask_l v k)
+    subst (λ m. (bit_at m k ≡ 1) ↔ (128 ≤ get_or v k 0))
+    (sym (top_bitmask v 32 c.fits-lanes.0 (omega arith))) (bit_at-mask_l v k)

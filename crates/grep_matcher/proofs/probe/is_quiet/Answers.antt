@@ -15,8 +15,7 @@ returns g c quiet =
     let front = IsLow-either c.marks.result c.marks-2.result c.either-front.ensures halves.0 in
     let back = IsLow-either c.marks-3.result c.marks-4.result c.either-back.ensures halves.1 in
     let at = c.args.position in
-    λ k low high.
-    ⊎_elim (λ below. Nowhere-low c.marks.ensures front.0 k low below) (λ from1.
+    λ k low high. ⊎_elim (λ below. Nowhere-low c.marks.ensures front.0 k low below) (λ from1.
     ⊎_elim (λ below. Nowhere-low c.marks-2.ensures front.1 k from1 (omega arith)) (λ from2.
     ⊎_elim (λ below. Nowhere-low c.marks-3.ensures back.0 k from2 (omega arith))
     (λ from3. Nowhere-low c.marks-4.ensures back.1 k from3 (omega arith))

@@ -2,10 +2,13 @@ use Rattle.grep_searcher.proofs.MatchHandlerLemmas.{runs-fail_at, runs-fit, runs
 use Rattle.grep_searcher.proofs.laws.runs_handle_matches.Goals as goal
 
 pub returns-clause-handled : goal.returns-clause-handled
-returns-clause-handled g c = runs-handle g.H.MatchHandler.goes g.H.MatchHandler.next g.H.MatchHandler.fails
+returns-clause-handled g c = runs-handle g.H.MatchHandler.goes g.H.MatchHandler.next
+    g.H.MatchHandler.fails
 
 pub returns-clause-failed : goal.returns-clause-failed
-returns-clause-failed g c = runs-fail_at g.H.MatchHandler.goes g.H.MatchHandler.next g.H.MatchHandler.fails
+returns-clause-failed g c = runs-fail_at g.H.MatchHandler.goes g.H.MatchHandler.next
+    g.H.MatchHandler.fails
 
 pub returns-clause-fits : goal.returns-clause-fits
-returns-clause-fits g c = runs-fit g.H.MatchHandler.goes g.H.MatchHandler.next g.H.MatchHandler.fails
+returns-clause-fits g c = runs-fit g.H.MatchHandler.goes g.H.MatchHandler.next
+    g.H.MatchHandler.fails

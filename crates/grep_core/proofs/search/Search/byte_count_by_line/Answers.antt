@@ -12,9 +12,7 @@ use Rattle.grep_core.proofs.search.Search.byte_count_by_line.Goals as goal
 pub returns-in_err-begin-clause-fault : goal.returns-in_err-begin-clause-fault
 returns-in_err-begin-clause-fault g c =
     let p = err_from_is_err_and c.from_residual.result c.from_residual.ensures.1 in
-    rw (p.1, p.2) (λ lawful. walks.fault-begin _ _ _ _ _
-    _ _ _
-    c.in_err-begin.ensures.step)
+    rw (p.1, p.2) (λ lawful. walks.fault-begin _ _ _ _ _ _ _ _ c.in_err-begin.ensures.step)
 
 pub returns-then-not-branch-clause-reported : goal.returns-then-not-branch-clause-reported
 returns-then-not-branch-clause-reported g c = λ lawful.
@@ -44,12 +42,9 @@ returns-in_err-search_window-clause-fault g c =
     let idle = c.reports_nothing.ensures in
     let goes : c.in_ok-begin.field-0 ≡ true = search rules in
     let begun = rw goes at c.in_ok-begin.ensures.step in
-    rw (p.1, p.2) (λ lawful. walks.fault-by_line _ _ _ _ _
-    _ _ _
+    rw (p.1, p.2) (λ lawful. walks.fault-by_line _ _ _ _ _ _ _ _
     (c.in_err-search_window.ensures.fault lawful [] c.args.bytes.now (fresh c.args.sink.now)
-    (search.searched-start _ _ _
-    _ _
-    _ _ (own-window _ _)
+    (search.searched-start _ _ _ _ _ _ _ (own-window _ _)
     (sym idle ∙ c.if-reports_nothing.false) begun)))
 
 pub returns-clause-reported : goal.returns-clause-reported
@@ -58,16 +53,12 @@ returns-clause-reported g c = λ lawful.
     let goes : c.in_ok-begin.field-0 ≡ true = search rules in
     let begun = rw goes at c.in_ok-begin.ensures.step in
     let start = search.searched-start _ _ _
-    _
-    _ _ _ (own-window _
-    _) (sym idle ∙ c.if-reports_nothing.false) begun in
+    _ _ _ _ (own-window _ _) (sym idle ∙ c.if-reports_nothing.false) begun in
     let counted = search.counted-either g.C.Calls.step
     (makers_of g.M.Error.Display.output g.C.Error.SinkError.makers)
-    (g.M.Matcher.facts c.args.matcher.now)
-    _ [] _ _ _
-    _ _ _
-    (λ on. c.in_ok-search_window.ensures.goes_on lawful on [] c.args.bytes.now (fresh c.args.sink.now) start)
-    (λ off.
+    (g.M.Matcher.facts c.args.matcher.now) _ [] _ _ _ _ _ _
+    (λ on. c.in_ok-search_window.ensures.goes_on lawful on [] c.args.bytes.now
+    (fresh c.args.sink.now) start) (λ off.
     let ends = c.in_ok-search_window.ensures.ends lawful off in
     (ends.0, ends.1 [] c.args.bytes.now (fresh c.args.sink.now) start)) (omega arith) in (
       counted.0,
@@ -77,8 +68,7 @@ returns-clause-reported g c = λ lawful.
 pub returns-in_err-begin-clause-in_order : goal.returns-in_err-begin-clause-in_order
 returns-in_err-begin-clause-in_order g c =
     let p = err_from_is_err_and c.from_residual.result c.from_residual.ensures.1 in
-    rw (p.1, p.2) (order.failed-begin _ _ _ _ _ _ _
-    c.in_err-begin.ensures.step)
+    rw (p.1, p.2) (order.failed-begin _ _ _ _ _ _ _ c.in_err-begin.ensures.step)
 
 pub returns-then-not-branch-clause-in_order : goal.returns-then-not-branch-clause-in_order
 returns-then-not-branch-clause-in_order g c =
@@ -99,8 +89,7 @@ returns-in_err-search_window-clause-in_order g c =
 pub returns-clause-in_order : goal.returns-clause-in_order
 returns-clause-in_order g c =
     let goes : c.in_ok-begin.field-0 ≡ true = search rules in
-    order.begun-to _ _ _ _ _ _ (rw goes at c.in_ok-begin.ensures.step)
-    (order.called-to _ _
+    order.begun-to _ _ _ _ _ _ (rw goes at c.in_ok-begin.ensures.step) (order.called-to _ _
     (makers_of g.M.Error.Display.output g.C.Error.SinkError.makers)
     (g.M.Matcher.facts c.args.matcher.now)
     _ _ c.in_ok-search_window.field-0 _ c.in_ok-search_window.ensures.in_order)

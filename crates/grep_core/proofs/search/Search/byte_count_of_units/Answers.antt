@@ -25,36 +25,34 @@ returns-in-Err-unit_at-clause-fault g c =
     let fault = c.in-Err-unit_at.ensures.fault in
     λ first begun. ends.fault-matcher _ _ _ _ _ first _
     _ c.lines.invariant.walk (c.lines.invariant.reported first begun)
-    _ _ _ fault.1 c.in-Err-unit_at.ensures.open fault.2
-    c.error_message-in-Err-unit_at.ensures
+    _ _ _ fault.1 c.in-Err-unit_at.ensures.open fault.2 c.error_message-in-Err-unit_at.ensures
 
 pub returns-then-next-bytes-clause-reported : goal.returns-then-next-bytes-clause-reported
 returns-then-next-bytes-clause-reported g c = λ first begun.
     let k = c.args.self.now.config in
-    let at = subst (λ o. IsLineStart (byte_of k.line_terminator) c.args.bytes.now o c.lines.walk.line)
-    c.lines.invariant.same
-    c.lines.invariant.walk.placed.at in
-    let next = subst (units.IsNext k (g.M.Matcher.facts c.args.matcher.now).meaning c.args.bytes.now c.lines.walk c.lines.start)
-    (sym c.next_chosen-next.ensures)
-    (units.next-is c.lines.invariant.walk at c.in-Ok-unit_at.ensures.ready c.lines-test.true c.in-Ok-unit_at.ensures.ahead) in
+    let at = subst (λ o. IsLineStart (byte_of k.line_terminator) c.args.bytes.now o
+    c.lines.walk.line) c.lines.invariant.same c.lines.invariant.walk.placed.at in
+    let next = subst (units.IsNext k (g.M.Matcher.facts c.args.matcher.now).meaning c.args.bytes.now
+    c.lines.walk c.lines.start) (sym c.next_chosen-next.ensures)
+    (units.next-is c.lines.invariant.walk at c.in-Ok-unit_at.ensures.ready c.lines-test.true
+    c.in-Ok-unit_at.ensures.ahead) in
     let plain : k.passthru ≡ false = search rules in (
       all_true,
-      ends.counted-past k _ _ _ first _ _
-          _
-          c.lines.invariant.same c.lines.invariant.walk next c.if-next-bytes.true plain c.if-walk-eq0.true _
-          (c.lines.invariant.reported first begun),
+      ends.counted-past k _ _ _ first _ _ _
+          c.lines.invariant.same c.lines.invariant.walk next c.if-next-bytes.true plain
+          c.if-walk-eq0.true _ (c.lines.invariant.reported first begun),
     )
 
 pub lines-preserved-then-walk-eq0 : goal.lines-preserved-then-walk-eq0
 lines-preserved-then-walk-eq0 g c =
     let k = c.args.self.now.config in
     let past = c.skip_lines-walk.ensures.walk in
-    let at = subst (λ o. IsLineStart (byte_of k.line_terminator) c.args.bytes.now o c.lines.walk.line)
-    c.lines.invariant.same
-    c.lines.invariant.walk.placed.at in
-    let next = subst (units.IsNext k (g.M.Matcher.facts c.args.matcher.now).meaning c.args.bytes.now c.lines.walk c.lines.start)
-    (sym c.next_chosen-next.ensures)
-    (units.next-is c.lines.invariant.walk at c.in-Ok-unit_at.ensures.ready c.lines-test.true c.in-Ok-unit_at.ensures.ahead) in
+    let at = subst (λ o. IsLineStart (byte_of k.line_terminator) c.args.bytes.now o
+    c.lines.walk.line) c.lines.invariant.same c.lines.invariant.walk.placed.at in
+    let next = subst (units.IsNext k (g.M.Matcher.facts c.args.matcher.now).meaning c.args.bytes.now
+    c.lines.walk c.lines.start) (sym c.next_chosen-next.ensures)
+    (units.next-is c.lines.invariant.walk at c.in-Ok-unit_at.ensures.ready c.lines-test.true
+    c.in-Ok-unit_at.ensures.ahead) in
     let plain : k.passthru ≡ false = search rules in
     rw past (record {
       within = next.within;
@@ -69,10 +67,9 @@ lines-preserved-then-walk-eq0 g c =
       );
       ordered = rw past at c.skip_lines-walk.ensures.ordered;
       ready = units.ready-past
-          c.lines.invariant.walk at c.in-Ok-unit_at.ensures.ready c.lines-test.true c.in-Ok-unit_at.ensures.ahead _
-          c.next_chosen-next.result c.next_chosen-next.ensures refl;
-      walk = steps.across-past
-          c.lines.invariant.same
+          c.lines.invariant.walk at c.in-Ok-unit_at.ensures.ready c.lines-test.true
+          c.in-Ok-unit_at.ensures.ahead _ c.next_chosen-next.result c.next_chosen-next.ensures refl;
+      walk = steps.across-past c.lines.invariant.same
           c.lines.invariant.walk next plain c.if-walk-eq0.true;
       reported = c.lines.invariant.reported;
       called = c.lines.invariant.called;
@@ -85,15 +82,17 @@ returns-in_err-sink_line-clause-fault g c =
     let reported = rw (c.of-verdict.ensures.chosen, c.of-verdict.ensures.trailing) at
     c.in_err-sink_line.ensures.reported in
     let p = err_from_is_err_and c.from_residual.result c.from_residual.ensures.1 in
-    let reportable = calls.reportable c.requires.configured.bare c.lines.invariant.walk c.lines.invariant.same
-    c.in-Ok-unit_at.ensures.ready c.in-Ok-unit_at.ensures.ahead c.next_chosen-next.ensures c.end_across-end.ensures.low
-    c.end_across-end.ensures.within _ refl c.end_across-end.ensures.unit c.end_across-end.ensures.line in
+    let reportable = calls.reportable c.requires.configured.bare c.lines.invariant.walk
+    c.lines.invariant.same
+    c.in-Ok-unit_at.ensures.ready c.in-Ok-unit_at.ensures.ahead c.next_chosen-next.ensures
+    c.end_across-end.ensures.low
+    c.end_across-end.ensures.within _ refl c.end_across-end.ensures.unit
+    c.end_across-end.ensures.line in
     rw (p.1, p.2) (λ first begun. ends.fault-sink _ _ _ k _ first _ _ _ reportable.across
-    (ends.reported-next k (g.M.Matcher.facts c.args.matcher.now).meaning _ g.C.Calls.step first c.lines.walk _ _ c.lines.sink reportable.front
-    (c.lines.invariant.reported first begun) (failed _) _
-    (reported [] c.args.bytes.now
-    (λ _. calls.in-window k _ _ _ _ c.lines.invariant.same
-    c.lines.invariant.walk))))
+    (ends.reported-next k (g.M.Matcher.facts c.args.matcher.now).meaning _ g.C.Calls.step first
+    c.lines.walk _ _ c.lines.sink reportable.front
+    (c.lines.invariant.reported first begun) (failed _) _ (reported [] c.args.bytes.now
+    (λ _. calls.in-window k _ _ _ _ c.lines.invariant.same c.lines.invariant.walk))))
 
 pub returns-then-not-branch-clause-reported : goal.returns-then-not-branch-clause-reported
 returns-then-not-branch-clause-reported g c = λ first begun.
@@ -101,18 +100,20 @@ returns-then-not-branch-clause-reported g c = λ first begun.
     let stops : c.in_ok-sink_line.field-0 ≡ false = search rules in
     let reported = rw (c.of-verdict.ensures.chosen, c.of-verdict.ensures.trailing, stops) at
     c.in_ok-sink_line.ensures.reported in
-    let reportable = calls.reportable c.requires.configured.bare c.lines.invariant.walk c.lines.invariant.same
-    c.in-Ok-unit_at.ensures.ready c.in-Ok-unit_at.ensures.ahead c.next_chosen-next.ensures c.end_across-end.ensures.low
-    c.end_across-end.ensures.within _ refl c.end_across-end.ensures.unit c.end_across-end.ensures.line in
-    let stop = line_end c.lines.walk (slice_range c.args.bytes.now c.lines.start c.end_across-end.result) in (
+    let reportable = calls.reportable c.requires.configured.bare c.lines.invariant.walk
+    c.lines.invariant.same
+    c.in-Ok-unit_at.ensures.ready c.in-Ok-unit_at.ensures.ahead c.next_chosen-next.ensures
+    c.end_across-end.ensures.low
+    c.end_across-end.ensures.within _ refl c.end_across-end.ensures.unit
+    c.end_across-end.ensures.line in
+    let stop = line_end c.lines.walk
+    (slice_range c.args.bytes.now c.lines.start c.end_across-end.result) in (
       stopped (counted stop),
-      ends.counted-stopped k _ _ _ first _ _ _ _
-          reportable.across
-          (sym reportable.end_is)
-          (ends.reported-next k (g.M.Matcher.facts c.args.matcher.now).meaning _ g.C.Calls.step first c.lines.walk _ _ c.lines.sink reportable.front
+      ends.counted-stopped k _ _ _ first _ _ _ _ reportable.across (sym reportable.end_is)
+          (ends.reported-next k (g.M.Matcher.facts c.args.matcher.now).meaning _ g.C.Calls.step
+          first c.lines.walk _ _ c.lines.sink reportable.front
           (c.lines.invariant.reported first begun) (stopped (counted stop)) _
-          (reported [] c.args.bytes.now
-          (λ _. calls.in-window k _ _ _ _ c.lines.invariant.same
+          (reported [] c.args.bytes.now (λ _. calls.in-window k _ _ _ _ c.lines.invariant.same
           c.lines.invariant.walk))),
     )
 
@@ -124,23 +125,24 @@ lines-preserved g c =
     let reported = rw (c.of-verdict.ensures.chosen, c.of-verdict.ensures.trailing, goes) at
     c.in_ok-sink_line.ensures.reported in
     let here = rw goes at c.in_ok-sink_line.ensures.called in
-    let reportable = calls.reportable c.requires.configured.bare c.lines.invariant.walk c.lines.invariant.same
-    c.in-Ok-unit_at.ensures.ready c.in-Ok-unit_at.ensures.ahead c.next_chosen-next.ensures c.end_across-end.ensures.low
-    c.end_across-end.ensures.within _ refl c.end_across-end.ensures.unit c.end_across-end.ensures.line in
+    let reportable = calls.reportable c.requires.configured.bare c.lines.invariant.walk
+    c.lines.invariant.same
+    c.in-Ok-unit_at.ensures.ready c.in-Ok-unit_at.ensures.ahead c.next_chosen-next.ensures
+    c.end_across-end.ensures.low
+    c.end_across-end.ensures.within _ refl c.end_across-end.ensures.unit
+    c.end_across-end.ensures.line in
     rw after (record {
       within = c.end_across-end.ensures.within;
       same = reportable.offset;
       ordered = calls.ordered-across k _ _ _ reportable.across;
       ready = reportable.ready;
       walk = reportable.across;
-      reported = λ first begun. ends.reported-next k (g.M.Matcher.facts c.args.matcher.now).meaning _ g.C.Calls.step first c.lines.walk _ _
-          c.lines.sink
+      reported = λ first begun. ends.reported-next k (g.M.Matcher.facts c.args.matcher.now).meaning
+          _ g.C.Calls.step first c.lines.walk _ _ c.lines.sink
           reportable.front (c.lines.invariant.reported first begun) all_true _
-          (reported [] c.args.bytes.now
-          (λ _. calls.in-window k _ _ _ _ c.lines.invariant.same
+          (reported [] c.args.bytes.now (λ _. calls.in-window k _ _ _ _ c.lines.invariant.same
           c.lines.invariant.walk));
-      called = called-then _ k _ _ _ _
-          c.lines.invariant.called (here 0);
+      called = called-then _ k _ _ _ _ c.lines.invariant.called (here 0);
       may_call = c.in_ok-sink_line.ensures.may_call;
     })
 
@@ -159,8 +161,8 @@ returns-in-Err-clause-in_order g c =
 
 pub returns-in-Err-unit_at-clause-in_order : goal.returns-in-Err-unit_at-clause-in_order
 returns-in-Err-unit_at-clause-in_order g c =
-    of_question _ c.in-Err-unit_at.error c.in-Err-unit_at.ensures.fault.2 c.error_message-in-Err-unit_at.ensures
-    c.lines.invariant.called
+    of_question _ c.in-Err-unit_at.error c.in-Err-unit_at.ensures.fault.2
+    c.error_message-in-Err-unit_at.ensures c.lines.invariant.called
 
 pub returns-then-next-bytes-clause-in_order : goal.returns-then-next-bytes-clause-in_order
 returns-then-next-bytes-clause-in_order g c = record {
@@ -183,10 +185,12 @@ returns-then-not-branch-clause-in_order g c =
     record {
       outcome = stopped (counted c.end_across-end.result);
       ends = refl;
-      called = called-then _ _ _ _
-          _
-          _ c.lines.invariant.called (here c.end_across-end.result);
+      called = called-then _ _ _ _ _ _ c.lines.invariant.called (here c.end_across-end.result);
     }
 
 pub returns-clause-in_order : goal.returns-clause-in_order
-returns-clause-in_order g c = record { outcome = all_true; ends = tt; called = c.lines.invariant.called }
+returns-clause-in_order g c = record {
+  outcome = all_true;
+  ends = tt;
+  called = c.lines.invariant.called;
+}

@@ -11,11 +11,12 @@ invariant-lines g l = record {
   within : l.start ≤ length l.bytes;
   same : l.walk.offset ≡ l.start;
   ordered : IsOrdered l.walk;
-  ready : IsAtUnit l.self.config (g.M.Matcher.facts l.matcher).meaning l.bytes l.start l.walk l.unit l.blocks;
+  ready : IsAtUnit l.self.config (g.M.Matcher.facts l.matcher).meaning l.bytes l.start l.walk l.unit
+      l.blocks;
   walk : IsAcross l.self.config (g.M.Matcher.facts l.matcher).meaning l.bytes l.walk;
-  reported : (first : g.row.C-Sink.Denot) → g.C.Calls.step first l.self.config begins (Ok true) l.fn.sink
-      → AreMade g.C.Calls.step l.self.config first
-      (calls_before l.self.config l.bytes (touched_lines l.self.config (g.M.Matcher.facts l.matcher).meaning l.bytes)
+  reported : (first : g.row.C-Sink.Denot) → g.C.Calls.step first l.self.config begins (Ok true)
+      l.fn.sink → AreMade g.C.Calls.step l.self.config first (calls_before l.self.config l.bytes
+      (touched_lines l.self.config (g.M.Matcher.facts l.matcher).meaning l.bytes)
       l.walk.next_unreported) all_true l.sink;
   called : HasCalled g.C.Calls.step l.self.config 0 l.fn.sink all_true l.sink;
   may_call : g.C.Calls.may_call l.sink;

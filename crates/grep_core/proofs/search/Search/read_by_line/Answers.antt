@@ -34,7 +34,8 @@ abbrev meaning-of : (g : Over) → g.row.M.Denot → Meaning
 meaning-of g matcher = (g.M.Matcher.facts matcher).meaning
 
 -- the search, and the laws
-abbrev stream : (g : Over) (c : goal.After-questions-questions g) → IsStream g.R.Source.remaining g.R.Source.step c.args.self.now.config
+abbrev stream : (g : Over) (c : goal.After-questions-questions g)
+    → IsStream g.R.Source.remaining g.R.Source.step c.args.self.now.config
     (meaning-of g c.args.matcher.now) c.args.decoder.now
 stream g c = record {
   by_line = c.requires.by_line;
@@ -42,14 +43,16 @@ stream g c = record {
   begun = c.requires.started;
 }
 
-abbrev streamed : (g : Over) (c : goal.After-passes_binary g) → IsStream g.R.Source.remaining g.R.Source.step
+abbrev streamed : (g : Over) (c : goal.After-passes_binary g)
+    → IsStream g.R.Source.remaining g.R.Source.step
     c.args.self.now.config (meaning-of g c.args.matcher.now) c.args.decoder.now
 streamed g c = stream g (goal.at.After-passes_binary g c).After-questions-questions
 
 -- a fill that succeeded
-abbrev filled : (g : Over) (c : goal.After-passes_binary g) → HasFilled g.R.Source.remaining g.R.Source.step
-    c.args.self.now.config c.fills.lines c.fills.decoder c.fills.reader c.fill.new.self c.fill.new.decoder
-    c.fill.new.reader
+abbrev filled : (g : Over) (c : goal.After-passes_binary g)
+    → HasFilled g.R.Source.remaining g.R.Source.step
+    c.args.self.now.config c.fills.lines c.fills.decoder c.fills.reader c.fill.new.self
+    c.fill.new.decoder c.fill.new.reader
 filled g c =
     let fill = c.in_default.ensures in
     record {
@@ -66,26 +69,30 @@ filled g c =
     }
 
 -- it finds no byte if none is looked for
-unfound : (g : Over) (c : goal.After-passes_binary g) → is_detecting c.args.self.now.config.binary_detection ≡ false
-    → c.fill.new.self.binary ≡ None
-unfound g c = passed.clear-filled _ c.fills.lines c.fill.new.self _ c.in_default.ensures.reads.found c.fills.invariant.detects
-    c.fills.invariant.clear
+unfound : (g : Over) (c : goal.After-passes_binary g)
+    → is_detecting c.args.self.now.config.binary_detection ≡ false → c.fill.new.self.binary ≡ None
+unfound g c = passed.clear-filled _ c.fills.lines c.fill.new.self _ c.in_default.ensures.reads.found
+    c.fills.invariant.detects c.fills.invariant.clear
 
 -- a byte that it finds is the one of which the sink is passed
-exact : (g : Over) (c : goal.After-passes_binary g) → c.binary_byte_offset.result ≡ c.fill.new.self.binary
+exact : (g : Over) (c : goal.After-passes_binary g) → c.binary_byte_offset.result
+    ≡ c.fill.new.self.binary
 exact g c = c.binary_byte_offset.ensures.exact c.in_default.ensures.fits
 
 -- after that no offset is known if no byte is looked for
 clear : (g : Over) (c : goal.After-passes_binary g) (goes : Bool)
-    → PassesBinary g.C.Calls.step c.args.self.now.config c.binary_byte_offset.result (noted c.fills.sink c.fills.binary)
+    → PassesBinary g.C.Calls.step c.args.self.now.config c.binary_byte_offset.result
+    (noted c.fills.sink c.fills.binary)
     goes (noted c.passes_binary.new.sink c.passes_binary.new.binary)
-    → is_detecting c.args.self.now.config.binary_detection ≡ false → c.passes_binary.new.binary ≡ None
-clear g c goes passes = passed.clear-passed g.C.Calls.step c.args.self.now.config c.binary_byte_offset.result
-    (λ none. exact g c ∙ unfound g c none) _
+    → is_detecting c.args.self.now.config.binary_detection ≡ false → c.passes_binary.new.binary
+    ≡ None
+clear g c goes passes = passed.clear-passed g.C.Calls.step c.args.self.now.config
+    c.binary_byte_offset.result (λ none. exact g c ∙ unfound g c none) _
     _ goes c.fills.invariant.noted_clear passes
 
 -- the search goes on after it
-passes : (g : Over) (c : goal.Else-not-branch g) → PassesBinary g.C.Calls.step c.args.self.now.config
+passes : (g : Over) (c : goal.Else-not-branch g)
+    → PassesBinary g.C.Calls.step c.args.self.now.config
     c.fill.new.self.binary (noted c.fills.sink c.fills.binary) true
     (noted c.passes_binary.new.sink c.passes_binary.new.binary)
 passes g c =
@@ -93,30 +100,37 @@ passes g c =
     rw (exact g _, goes) at c.in_ok-passes_binary.ensures.passes
 
 called : (g : Over) (c : goal.Else-not-branch g) → HasCalled g.C.Calls.step c.args.self.now.config
-    (passed.known_count c.passes_binary.new.binary) c.args.sink.now all_true c.passes_binary.new.sink
+    (passed.known_count c.passes_binary.new.binary) c.args.sink.now all_true
+    c.passes_binary.new.sink
 called g c = passed.passes-on _ _ _ (unfound g (goal.at.Else-not-branch g c).After-passes_binary)
     _ _ _ c.fills.invariant.calls (passes g c)
 
 there : (g : Over) (c : goal.Else-not-branch g) → IsLawful (g.M.Matcher.facts c.args.matcher.now)
     c.args.self.now.config → (first : g.row.C-Sink.Denot)
     → g.C.Calls.step first c.args.self.now.config begins (Ok true) c.args.sink.now
-    → cuts.GoesOn g.C.Calls.step c.args.self.now.config (meaning-of g c.args.matcher.now) g.R.Source.remaining
-    g.R.Source.step c.args.decoder.now c.args.reader.now first c.fills.lines c.fills.decoder c.fills.reader c.fills.walk
-    c.in_default.ensures.reads.given c.fill.new.self (noted c.passes_binary.new.sink c.passes_binary.new.binary)
+    → cuts.GoesOn g.C.Calls.step c.args.self.now.config (meaning-of g c.args.matcher.now)
+    g.R.Source.remaining
+    g.R.Source.step c.args.decoder.now c.args.reader.now first c.fills.lines c.fills.decoder
+    c.fills.reader c.fills.walk c.in_default.ensures.reads.given c.fill.new.self
+    (noted c.passes_binary.new.sink c.passes_binary.new.binary)
 there g c lawful first begun =
     let here = (goal.at.Else-not-branch g c).After-passes_binary in
     cuts.goes-on (streamed g here) (filled g here)
     (c.fills.invariant.rolling lawful first begun) (c.fills.invariant.noted lawful) (passes g c)
 
 -- why no more is read
-short : (g : Over) (c : goal.After-error_io g) → (lawful : IsLawful (g.M.Matcher.facts c.args.matcher.now)
+short : (g : Over) (c : goal.After-error_io g)
+    → (lawful : IsLawful (g.M.Matcher.facts c.args.matcher.now)
     c.args.self.now.config) (first : g.row.C-Sink.Denot)
-    (begun : g.C.Calls.step first c.args.self.now.config begins (Ok true) c.args.sink.now) (has_buffers : Bool)
-    → IsShort g.R.Source.remaining g.R.Source.step
-    (record { settings = c.args.self.now.config; has_buffers = has_buffers }) (meaning-of g c.args.matcher.now)
+    (begun : g.C.Calls.step first c.args.self.now.config begins (Ok true) c.args.sink.now)
+    (has_buffers : Bool) → IsShort g.R.Source.remaining g.R.Source.step
+    (record {
+      settings = c.args.self.now.config;
+      has_buffers = has_buffers;
+    }) (meaning-of g c.args.matcher.now)
     c.args.reader.now (c.fills.invariant.rolling lawful first begun).rolling.given
-    ((c.fills.invariant.rolling lawful first begun).rolling.gone ++ c.fills.lines.shown) c.fill.new.reader
-    c.io_error.result
+    ((c.fills.invariant.rolling lawful first begun).rolling.gone ++ c.fills.lines.shown)
+    c.fill.new.reader c.io_error.result
 short g c lawful first begun has_buffers =
     let fill = c.in-Err.ensures in
     short-filled _ (stream g (goal.at.After-error_io g c).After-questions-questions)
@@ -135,8 +149,10 @@ short g c lawful first begun has_buffers =
     })
 
 -- a search that may report nothing has read for one line
-read-once : (g : Over) (c : goal.After-passes_binary g) → reports_nothing c.args.self.now.config ≡ true
-    → IsReadForLine g.R.Source.remaining g.R.Source.step c.args.self.now.config c.args.reader.now c.fill.new.reader
+read-once : (g : Over) (c : goal.After-passes_binary g) → reports_nothing c.args.self.now.config
+    ≡ true
+    → IsReadForLine g.R.Source.remaining g.R.Source.step c.args.self.now.config c.args.reader.now
+    c.fill.new.reader
 read-once g c idle = reading.read-once c.requires.fitting
     c.requires.empty c.requires.started (c.fills.invariant.fresh idle) c.in_default.ensures.begins
 
@@ -149,7 +165,10 @@ fills-init g c =
       below = omega arith;
       ordered = record { few = omega arith; low = omega arith; chosen = omega arith };
       may_call = c.requires.may_call;
-      decoded = ([], Decodes-none g.R.Source.remaining g.R.Source.step c.args.decoder.now c.args.reader.now);
+      decoded = (
+        [],
+        Decodes-none g.R.Source.remaining g.R.Source.step c.args.decoder.now c.args.reader.now,
+      );
       detects = ap (λ b. b.detection) empty;
       clear = λ _. ap (λ b. b.binary) empty;
       noted_clear = λ _. c.requires.binary;
@@ -158,11 +177,13 @@ fills-init g c =
       noted = λ lawful. c.requires.binary ∙ sym (ap (λ b. b.binary) empty);
       rolling = λ lawful first begun.
           let rolls = rolling.rolling-start empty c.requires.fitting.terminator
-          (Decodes-none g.R.Source.remaining g.R.Source.step c.args.decoder.now c.args.reader.now) c.requires.busy begun in
+          (Decodes-none g.R.Source.remaining g.R.Source.step c.args.decoder.now c.args.reader.now)
+          c.requires.busy begun in
           record {
             start = fresh first;
             rolling = rolls;
-            passed = subst (IsStartAt g.C.Calls.step c.args.self.now.config (meaning-of g c.args.matcher.now) rolls.given 0
+            passed = subst (IsStartAt g.C.Calls.step c.args.self.now.config
+                (meaning-of g c.args.matcher.now) rolls.given 0
                 first (fresh first)) (sym c.requires.binary) (not_passed refl);
           };
     }
@@ -170,14 +191,16 @@ fills-init g c =
 pub returns-in-Err-clause-fault : goal.returns-in-Err-clause-fault
 returns-in-Err-clause-fault g c = λ lawful first begun has_buffers.
     let at = (goal.at.returns-in-Err-clause-fault g c).After-error_io in
-    inr (cuts.cut-short (stream g (goal.at.returns-in-Err-clause-fault g c).After-questions-questions)
+    inr (cuts.cut-short (stream g
+    (goal.at.returns-in-Err-clause-fault g c).After-questions-questions)
     (c.fills.invariant.rolling lawful first begun) c.fills.invariant.fitting.terminator
-    (c.fills.invariant.noted lawful) (g.M.Matcher.facts c.args.matcher.now) (short g at lawful first begun has_buffers)
-    c.error_io.ensures)
+    (c.fills.invariant.noted lawful) (g.M.Matcher.facts c.args.matcher.now)
+    (short g at lawful first begun has_buffers) c.error_io.ensures)
 
 pub returns-in-Err-clause-succeeds : goal.returns-in-Err-clause-succeeds
 returns-in-Err-clause-succeeds g c = λ _ _ lawful first begun has_buffers.
-    let why = short g (goal.at.returns-in-Err-clause-succeeds g c).After-error_io lawful first begun _ in
+    let why = short g (goal.at.returns-in-Err-clause-succeeds g c).After-error_io lawful first begun
+    _ in
     (true, _, c.io_error.result, (why.mid, why.taken, why.cause), c.error_io.ensures)
 
 pub returns-in_err-passes_binary-clause-fault : goal.returns-in_err-passes_binary-clause-fault
@@ -187,7 +210,8 @@ returns-in_err-passes_binary-clause-fault g c =
     rw (p.1, p.2) (λ lawful first begun has_buffers.
     inl (cuts.fault-cut (streamed g at) (filled g at)
     (c.fills.invariant.rolling lawful first begun) (c.fills.invariant.noted lawful)
-    (g.M.Matcher.facts c.args.matcher.now) (noted c.passes_binary.new.sink c.passes_binary.new.binary)
+    (g.M.Matcher.facts c.args.matcher.now)
+    (noted c.passes_binary.new.sink c.passes_binary.new.binary)
     (rw (exact g at) at c.in_err-passes_binary.ensures.fails)))
 
 pub returns-then-not-branch-clause-counted : goal.returns-then-not-branch-clause-counted
@@ -233,25 +257,27 @@ fills-preserved g c =
     let busy = sym c.reports_nothing.ensures ∙ c.if-reports_nothing.false in
     let reads = c.in_default.ensures.reads in
     record {
-      fitting = c.search_shown.ensures.fitting _ _ (rolling.fitting-filled c.fills.invariant.fitting c.fill.ensures.same
-          c.fill.ensures.grows c.fill.ensures.within);
+      fitting = c.search_shown.ensures.fitting _ _ (rolling.fitting-filled c.fills.invariant.fitting
+          c.fill.ensures.same c.fill.ensures.grows c.fill.ensures.within);
       at = c.in_ok-search_shown.ensures.at moves;
       below = c.in_ok-search_shown.ensures.below moves;
       ordered = c.in_ok-search_shown.ensures.ordered;
       may_call = c.search_shown.ensures.may_call;
       decoded = (
         c.fills.invariant.decoded.0 ++ reads.given,
-        Decodes-append g.R.Source.remaining g.R.Source.step _ c.fills.decoder _ _ c.fills.reader _ _ _ c.fills.invariant.decoded.1
-            reads.decodes,
+        Decodes-append g.R.Source.remaining g.R.Source.step _ c.fills.decoder _ _ c.fills.reader _ _
+            _ c.fills.invariant.decoded.1 reads.decodes,
       );
-      detects = c.in_ok-search_shown.ensures.detection ∙ (c.fill.ensures.same.detection ∙ c.fills.invariant.detects);
+      detects = c.in_ok-search_shown.ensures.detection
+          ∙ (c.fill.ensures.same.detection ∙ c.fills.invariant.detects);
       clear = λ none. c.in_ok-search_shown.ensures.binary ∙ unfound g at none;
-      noted_clear = clear g (goal.at.fills-preserved g c).After-passes_binary _ c.in_ok-passes_binary.ensures.passes;
+      noted_clear = clear g (goal.at.fills-preserved g c).After-passes_binary _
+          c.in_ok-passes_binary.ensures.passes;
       fresh = λ idle. absurd (false≢true (sym busy ∙ idle));
       calls = order.called-then _ k _ _ _ _ (called g on)
           (rw moves at c.in_ok-search_shown.ensures.in_order);
-      noted = λ lawful. noting.noted-passed g.C.Calls.step k c.fills.lines.binary _ _ (noted c.fills.sink c.fills.binary)
-          _ reads.found (c.fills.invariant.noted lawful)
+      noted = λ lawful. noting.noted-passed g.C.Calls.step k c.fills.lines.binary _ _
+          (noted c.fills.sink c.fills.binary) _ reads.found (c.fills.invariant.noted lawful)
           (passes g on) ∙ sym c.in_ok-search_shown.ensures.binary;
       rolling = λ lawful first begun. cuts.reads-on (streamed g at) (filled g at)
           (there g on lawful first begun) busy (c.in_ok-search_shown.ensures.goes_on lawful moves)
@@ -265,10 +291,11 @@ returns-in-Err-clause-in_order g c = inr (
   passed.reading-error _ _ _ _ _ _ (λ e is.
       let fails = subst (λ fault. IfRead {X = Bool} (Err fault)
       (λ e. FailsToFill g.R.Source.remaining g.R.Source.step e c.fills.lines
-      c.fills.decoder c.fills.reader c.fill.new.self c.fill.new.decoder c.fill.new.reader)) is c.in-Err.ensures.read in
+      c.fills.decoder c.fills.reader c.fill.new.self c.fill.new.decoder c.fill.new.reader)) is
+      c.in-Err.ensures.read in
       passed.failed-read _ _ _ (ap (λ d. d.has_ended) c.requires.started)
-      (Decodes-append g.R.Source.remaining g.R.Source.step _ c.fills.decoder _ _ c.fills.reader _ _ _ c.fills.invariant.decoded.1
-      fails.fills.decodes)
+      (Decodes-append g.R.Source.remaining g.R.Source.step _ c.fills.decoder _ _ c.fills.reader _ _
+      _ c.fills.invariant.decoded.1 fails.fills.decodes)
       fails.unended fails.failed) c.io_error.ensures,
   c.error_io.ensures,
   order.called-most _ _ (passed.once _) _ _ _ c.fills.invariant.calls,
@@ -278,22 +305,20 @@ pub returns-in_err-passes_binary-clause-in_order : goal.returns-in_err-passes_bi
 returns-in_err-passes_binary-clause-in_order g c =
     let p = err_from_is_err_and c.from_residual.result c.from_residual.ensures.1 in
     let at = (goal.at.returns-in_err-passes_binary-clause-in_order g c).After-passes_binary in
-    rw (p.1, p.2) (inl (of_call (passed.fails-at _ _ _
-    (λ none. exact g at ∙ unfound g at none) _
+    rw (p.1, p.2) (inl (of_call (passed.fails-at _ _ _ (λ none. exact g at ∙ unfound g at none) _
     (noted c.passes_binary.new.sink c.passes_binary.new.binary)
     _ c.fills.invariant.calls _ c.in_err-passes_binary.ensures.fails)))
 
 pub returns-then-not-branch-clause-in_order : goal.returns-then-not-branch-clause-in_order
 returns-then-not-branch-clause-in_order g c =
     let at = (goal.at.returns-then-not-branch-clause-in_order g c).After-passes_binary in
-    passed.passes-off _ _ _ (unfound g at)
-    _ _
-    _ c.fills.invariant.calls
+    passed.passes-off _ _ _ (unfound g at) _ _ _ c.fills.invariant.calls
     (rw (exact g at, c.if-not-branch.true) at c.in_ok-passes_binary.ensures.passes)
 
 pub returns-then-not-branch-clause-noted : goal.returns-then-not-branch-clause-noted
 returns-then-not-branch-clause-noted g c =
-    clear g (goal.at.returns-then-not-branch-clause-noted g c).After-passes_binary _ c.in_ok-passes_binary.ensures.passes
+    clear g (goal.at.returns-then-not-branch-clause-noted g c).After-passes_binary _
+    c.in_ok-passes_binary.ensures.passes
 
 pub returns-then-reports_nothing-clause-in_order : goal.returns-then-reports_nothing-clause-in_order
 returns-then-reports_nothing-clause-in_order g c = record {
@@ -305,7 +330,8 @@ returns-then-reports_nothing-clause-in_order g c = record {
 
 pub returns-then-reports_nothing-clause-noted : goal.returns-then-reports_nothing-clause-noted
 returns-then-reports_nothing-clause-noted g c =
-    clear g (goal.at.returns-then-reports_nothing-clause-noted g c).After-passes_binary _ c.in_ok-passes_binary.ensures.passes
+    clear g (goal.at.returns-then-reports_nothing-clause-noted g c).After-passes_binary _
+    c.in_ok-passes_binary.ensures.passes
 
 pub returns-in_err-search_shown-clause-in_order : goal.returns-in_err-search_shown-clause-in_order
 returns-in_err-search_shown-clause-in_order g c =
@@ -325,7 +351,8 @@ returns-then-not-branch-2-clause-in_order g c =
 
 pub returns-then-not-branch-2-clause-noted : goal.returns-then-not-branch-2-clause-noted
 returns-then-not-branch-2-clause-noted g c =
-    clear g (goal.at.returns-then-not-branch-2-clause-noted g c).After-passes_binary _ c.in_ok-passes_binary.ensures.passes
+    clear g (goal.at.returns-then-not-branch-2-clause-noted g c).After-passes_binary _
+    c.in_ok-passes_binary.ensures.passes
 
 pub returns-then-not-branch-clause-once : goal.returns-then-not-branch-clause-once
 returns-then-not-branch-clause-once g c =

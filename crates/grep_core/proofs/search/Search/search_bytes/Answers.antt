@@ -13,18 +13,20 @@ errors-of g = makers_of g.M.Error.Display.output g.C.Error.SinkError.makers
 
 pub returns-in-Some-clause-searched : goal.returns-in-Some-clause-searched
 returns-in-Some-clause-searched g c = λ lawful.
-    search-at g.C.Calls.step (errors-of g) (g.M.Matcher.facts c.args.matcher.now) c.args.self.now.config c.args.bytes.now
-    c.args.sink.now (look-quit _ _ (sym c.quit_byte.ensures ∙ c.in-Some.is)) (sym c.is_across-is_across.ensures)
+    search-at g.C.Calls.step (errors-of g) (g.M.Matcher.facts c.args.matcher.now)
+    c.args.self.now.config c.args.bytes.now
+    c.args.sink.now (look-quit _ _ (sym c.quit_byte.ensures ∙ c.in-Some.is))
+    (sym c.is_across-is_across.ensures)
     _ c.search_until.new.sink (c.search_until.ensures.searched (λ _. lawful))
 
 pub returns-clause-searched : goal.returns-clause-searched
 returns-clause-searched g c = λ lawful.
     let reported = c.in_ok-count.ensures.reported (λ _. lawful) in
-    search-at g.C.Calls.step (errors-of g) (g.M.Matcher.facts c.args.matcher.now) c.args.self.now.config c.args.bytes.now
+    search-at g.C.Calls.step (errors-of g) (g.M.Matcher.facts c.args.matcher.now)
+    c.args.self.now.config c.args.bytes.now
     c.args.sink.now (look-plain _ (λ b is. c.in_default.not-Some b (c.quit_byte.ensures ∙ is)))
     (sym c.is_across-is_across.ensures) _ _
-    (searched-finish _ (errors-of g) (g.M.Matcher.facts c.args.matcher.now) _
-    c.args.bytes.now _
+    (searched-finish _ (errors-of g) (g.M.Matcher.facts c.args.matcher.now) _ c.args.bytes.now _
     _ _ _ _ _ reported.1 (rw c.new.ensures at c.finish.ensures.step))
 
 pub search_until-requires-clause-detecting : goal.search_until-requires-clause-detecting
@@ -34,18 +36,12 @@ search_until-requires-clause-detecting g c =
 pub returns-in_err-count-clause-in_order : goal.returns-in_err-count-clause-in_order
 returns-in_err-count-clause-in_order g c =
     let p = err_from_is_err_and c.from_residual.result c.from_residual.ensures.1 in
-    rw (p.1, p.2) (order.order-failed _ _ _
-    _ _ (omega arith)
-    _ _ _ c.in_err-count.ensures.in_order)
+    rw (p.1, p.2) (order.order-failed _ _ _ _ _ (omega arith) _ _ _ c.in_err-count.ensures.in_order)
 
 pub returns-clause-in_order : goal.returns-clause-in_order
 returns-clause-in_order g c =
-    order.order-finished _ _ _ _ _
-    (omega arith)
-    _
-    _ _ None _ _ (λ none. refl)
-    c.in_ok-count.ensures.in_order
-    (rw c.new.ensures at c.finish.ensures.step)
+    order.order-finished _ _ _ _ _ (omega arith) _ _ _ None _ _ (λ none. refl)
+    c.in_ok-count.ensures.in_order (rw c.new.ensures at c.finish.ensures.step)
 
 pub returns-in-Some-clause-in_order : goal.returns-in-Some-clause-in_order
 returns-in-Some-clause-in_order g c =
@@ -54,8 +50,8 @@ returns-in-Some-clause-in_order g c =
 pub returns-in_err-count-clause-searched : goal.returns-in_err-count-clause-searched
 returns-in_err-count-clause-searched g c = λ lawful.
     let p = err_from_is_err_and c.from_residual.result c.from_residual.ensures.1 in
-    rw (p.1, p.2)
-    (search-at g.C.Calls.step (errors-of g) (g.M.Matcher.facts c.args.matcher.now) c.args.self.now.config c.args.bytes.now
+    rw (p.1, p.2) (search-at g.C.Calls.step (errors-of g) (g.M.Matcher.facts c.args.matcher.now)
+    c.args.self.now.config c.args.bytes.now
     c.args.sink.now (look-plain _ (λ b is. c.in_default.not-Some b (c.quit_byte.ensures ∙ is)))
     (sym c.is_across-is_across.ensures) (Err c.in_err-count.field-0.0) c.byte_count_of.new.sink
     (c.in_err-count.ensures.fault (λ _. lawful)))

@@ -28,15 +28,15 @@ unread : (g : Over) (c : goal.After-error_io g) (has_buffers : Bool)
     c.read_contents.new.reader
 unread g c has_buffers across =
     let failed = c.in-Err.ensures in
-    whole.unread-read _ _ _ _ _ _ _ across _ _
-    _ c.requires.started _ c.io_error.ensures _
-    (subst (λ limit. ContentsFail limit (vec_capacity c.args.contents.now) c.read_contents.new.contents.items
-    c.in-Err.error) c.heap_limit.ensures failed.error)
+    whole.unread-read _ _ _ _ _ _ _ across _ _ _ c.requires.started _ c.io_error.ensures _
+    (subst (λ limit. ContentsFail limit (vec_capacity c.args.contents.now)
+    c.read_contents.new.contents.items c.in-Err.error) c.heap_limit.ensures failed.error)
     failed.reads failed.read failed.empty failed.waits
 
 pub returns-in-Err-clause-searched : goal.returns-in-Err-clause-searched
 returns-in-Err-clause-searched g c = λ across has_buffers.
-    inr (contents-cut _ _ _ _ _ _ _ across c.io_error.result _ (unread g c has_buffers across) c.error_io.ensures)
+    inr (contents-cut _ _ _ _ _ _ _ across c.io_error.result _ (unread g c has_buffers across)
+    c.error_io.ensures)
 
 pub returns-in-Err-clause-succeeds : goal.returns-in-Err-clause-succeeds
 returns-in-Err-clause-succeeds g c = λ never infallible across has_buffers.
@@ -53,30 +53,32 @@ errors-of g = makers_of g.M.Error.Display.output g.C.Error.SinkError.makers
 
 pub returns-in-Some-clause-searched : goal.returns-in-Some-clause-searched
 returns-in-Some-clause-searched g c = λ across has_buffers.
-    let searched = rw c.deref.ensures.value at (c.search_until.ensures.searched (λ never. absurd (true≢false never))) in
+    let searched = rw c.deref.ensures.value at
+    (c.search_until.ensures.searched (λ never. absurd (true≢false never))) in
     let facts = g.M.Matcher.facts c.args.matcher.now in
     let given = c.read_contents.new.contents.items in
     whole.contents-read-all c.args.self.now.config c.requires.started
     c.in_default.ensures.reads c.in_default.ensures.done
-    (below g (goal.at.returns-in-Some-clause-searched g c).After-quit_byte) g.C.Calls.step (errors-of g) facts has_buffers
+    (below g (goal.at.returns-in-Some-clause-searched g c).After-quit_byte) g.C.Calls.step
+    (errors-of g) facts has_buffers
     c.args.sink.now across c.search_until.result c.search_until.new.sink
     (search-at g.C.Calls.step (errors-of g) facts c.args.self.now.config given c.args.sink.now
-    (look-quit _ _ (sym c.quit_byte.ensures ∙ c.in-Some.is)) across c.search_until.result c.search_until.new.sink searched)
+    (look-quit _ _ (sym c.quit_byte.ensures ∙ c.in-Some.is)) across c.search_until.result
+    c.search_until.new.sink searched)
 
 pub returns-in_err-count-clause-searched : goal.returns-in_err-count-clause-searched
 returns-in_err-count-clause-searched g c = λ across has_buffers.
     let error = err_from_is_err_and c.from_residual.result c.from_residual.ensures.1 in
     let facts = g.M.Matcher.facts c.args.matcher.now in
     let given = c.read_contents.new.contents.items in
-    rw (error.1, error.2)
-    (whole.contents-read-all c.args.self.now.config c.requires.started
+    rw (error.1, error.2) (whole.contents-read-all c.args.self.now.config c.requires.started
     c.in_default.ensures.reads c.in_default.ensures.done
-    (below g (goal.at.returns-in_err-count-clause-searched g c).After-quit_byte) g.C.Calls.step (errors-of g) facts
+    (below g (goal.at.returns-in_err-count-clause-searched g c).After-quit_byte) g.C.Calls.step
+    (errors-of g) facts
     has_buffers c.args.sink.now across (Err c.in_err-count.field-0.0) c.byte_count_across.new.sink
     (search-at g.C.Calls.step (errors-of g) facts c.args.self.now.config given c.args.sink.now
     (look-plain _ (λ b is. c.in_default-quit_byte.not-Some b (c.quit_byte.ensures ∙ is))) across _
-    c.byte_count_across.new.sink
-    (rw c.deref-2.ensures.value at c.in_err-count.ensures.fault)))
+    c.byte_count_across.new.sink (rw c.deref-2.ensures.value at c.in_err-count.ensures.fault)))
 
 pub returns-clause-searched : goal.returns-clause-searched
 returns-clause-searched g c = λ across has_buffers.
@@ -85,12 +87,12 @@ returns-clause-searched g c = λ across has_buffers.
     let given = c.read_contents.new.contents.items in
     whole.contents-read-all c.args.self.now.config c.requires.started
     c.in_default.ensures.reads c.in_default.ensures.done
-    (below g (goal.at.returns-clause-searched g c).After-quit_byte) g.C.Calls.step (errors-of g) facts has_buffers
-    c.args.sink.now across c.finish.result c.finish.new.sink
+    (below g (goal.at.returns-clause-searched g c).After-quit_byte) g.C.Calls.step (errors-of g)
+    facts has_buffers c.args.sink.now across c.finish.result c.finish.new.sink
     (search-at g.C.Calls.step (errors-of g) facts c.args.self.now.config given c.args.sink.now
     (look-plain _ (λ b is. c.in_default-quit_byte.not-Some b (c.quit_byte.ensures ∙ is))) across _ _
-    (searched-finish g.C.Calls.step (errors-of g) facts c.args.self.now.config given c.args.sink.now _ _ _
-    c.finish.result _ reported.1 (rw c.new.ensures at c.finish.ensures.step)))
+    (searched-finish g.C.Calls.step (errors-of g) facts c.args.self.now.config given c.args.sink.now
+    _ _ _ c.finish.result _ reported.1 (rw c.new.ensures at c.finish.ensures.step)))
 
 pub search_until-requires-clause-detecting : goal.search_until-requires-clause-detecting
 search_until-requires-clause-detecting g c =
@@ -98,39 +100,25 @@ search_until-requires-clause-detecting g c =
 
 pub returns-in-Err-clause-in_order : goal.returns-in-Err-clause-in_order
 returns-in-Err-clause-in_order g c =
-    read_in_order c.io_error.result
-    (reading-error _ _ _ _ _
-    _
-    (λ e is.
+    read_in_order c.io_error.result (reading-error _ _ _ _ _ _ (λ e is.
     let fails = subst (λ fault. IfRead {X = Unit {0}} (Err fault)
     (λ e. FailsAfter g.R.Source.remaining g.R.Source.step e
-    c.args.decoder.now c.args.reader.now c.read_contents.new.contents.items c.read_contents.new.decoder
-    c.read_contents.new.reader))
-    is c.in-Err.ensures.read in
-    failed-read _ _ _ (ap (λ d. d.has_ended) c.requires.started)
-    fails.decodes
-    fails.unended fails.failed)
-    c.io_error.ensures) c.error_io.ensures (inl refl)
+    c.args.decoder.now c.args.reader.now c.read_contents.new.contents.items
+    c.read_contents.new.decoder c.read_contents.new.reader)) is c.in-Err.ensures.read in
+    failed-read _ _ _ (ap (λ d. d.has_ended) c.requires.started) fails.decodes
+    fails.unended fails.failed) c.io_error.ensures) c.error_io.ensures (inl refl)
 
 pub returns-in-Some-clause-in_order : goal.returns-in-Some-clause-in_order
 returns-in-Some-clause-in_order g c =
-    order.in_order-each _ _ _ _ _ _
-    (λ error never. absurd never)
-    _
+    order.in_order-each _ _ _ _ _ _ (λ error never. absurd never) _
     _ _ c.search_until.ensures.in_order
 
 pub returns-in_err-count-clause-in_order : goal.returns-in_err-count-clause-in_order
 returns-in_err-count-clause-in_order g c =
     let p = err_from_is_err_and c.from_residual.result c.from_residual.ensures.1 in
-    rw (p.1, p.2) (order.order-failed _ _ _
-    _ _ (omega arith)
-    _ _ _ c.in_err-count.ensures.in_order)
+    rw (p.1, p.2) (order.order-failed _ _ _ _ _ (omega arith) _ _ _ c.in_err-count.ensures.in_order)
 
 pub returns-clause-in_order : goal.returns-clause-in_order
 returns-clause-in_order g c =
-    order.order-finished _ _ _ _ _
-    (omega arith)
-    _
-    _ _ None _ _ (λ none. refl)
-    c.in_ok-count.ensures.in_order
-    (rw c.new.ensures at c.finish.ensures.step)
+    order.order-finished _ _ _ _ _ (omega arith) _ _ _ None _ _ (λ none. refl)
+    c.in_ok-count.ensures.in_order (rw c.new.ensures at c.finish.ensures.step)

@@ -8,11 +8,7 @@ use Rattle.grep_core.proofs.search.Search.search_reader.Goals as goal
 pub returns-then-is_across-clause-searched : goal.returns-then-is_across-clause-searched
 returns-then-is_across-clause-searched g c = λ lawful has_buffers.
     let mode = (sym c.is_across.ensures ∙ c.if-is_across.true) in
-    read-across _ _ _ _
-    _
-    _ _ _ _
-    _
-    _ mode (c.search_contents.ensures.searched mode has_buffers)
+    read-across _ _ _ _ _ _ _ _ _ _ _ mode (c.search_contents.ensures.searched mode has_buffers)
 
 pub returns-then-is_across-clause-succeeds : goal.returns-then-is_across-clause-succeeds
 returns-then-is_across-clause-succeeds g c = λ never infallible lawful.
@@ -22,25 +18,15 @@ returns-then-is_across-clause-succeeds g c = λ never infallible lawful.
 pub returns-clause-searched : goal.returns-clause-searched
 returns-clause-searched g c = λ lawful has_buffers.
     let mode = (sym c.is_across.ensures ∙ c.if-is_across.false) in
-    read-by_line _ _ _ _
-    _
-    _ _ _ _
-    _
-    _ mode (stream-finished _ _ (g.M.Matcher.facts c.args.matcher.now) _ _ _ _
-    mode _ _ _
-    _
-    _ _
-    c.in_ok-finish.ensures.begun
-    (c.in_ok-finish.ensures.counted lawful) c.finish.ensures.step)
+    read-by_line _ _ _ _ _ _ _ _ _ _
+    _ mode (stream-finished _ _ (g.M.Matcher.facts c.args.matcher.now) _ _ _ _ mode _ _ _ _ _ _
+    c.in_ok-finish.ensures.begun (c.in_ok-finish.ensures.counted lawful) c.finish.ensures.step)
 
 pub returns-in_err-finish-clause-searched : goal.returns-in_err-finish-clause-searched
 returns-in_err-finish-clause-searched g c = λ lawful has_buffers.
     let mode = (sym c.is_across.ensures ∙ c.if-is_across.false) in
     let error = err_from_is_err_and c.from_residual.result c.from_residual.ensures.1 in
-    read-by_line _ _ _ _
-    _
-    _ _ _ _
-    _
+    read-by_line _ _ _ _ _ _ _ _ _ _
     _ mode (rw (error.1, error.2) (c.in_err-finish.ensures.fault lawful has_buffers))
 
 pub returns-then-is_across-clause-in_order : goal.returns-then-is_across-clause-in_order
@@ -49,12 +35,7 @@ returns-then-is_across-clause-in_order g c =
 
 pub returns-clause-in_order : goal.returns-clause-in_order
 returns-clause-in_order g c =
-    order-finished _ _
-    _
-    _ _
-    (omega arith)
-    _ _ _ _
-    _
+    order-finished _ _ _ _ _ (omega arith) _ _ _ _ _
     _ c.in_ok-finish.ensures.noted c.in_ok-finish.ensures.in_order c.finish.ensures.step
 
 pub returns-in_err-finish-clause-succeeds : goal.returns-in_err-finish-clause-succeeds

@@ -11,23 +11,22 @@ use Rattle.grep_core.proofs.search.Search.search_shown.Goals as goal
 use Rattle.grep_core.proofs.search.Search.search_shown.Goals.{After-search_window}
 
 -- where the search of the window begins
-start : (g : Over) (c : goal.After-search_window g) → c.args.walk.now.offset - c.absolute_byte_offset.result
-    ≡ c.args.walk.now.offset - c.args.lines.now.offset
+start : (g : Over) (c : goal.After-search_window g) → c.args.walk.now.offset
+    - c.absolute_byte_offset.result ≡ c.args.walk.now.offset - c.args.lines.now.offset
 start g c = ap (λ o. c.args.walk.now.offset - o) c.absolute_byte_offset.ensures
 
 pub returns-then-start-window-clause-ends : goal.returns-then-start-window-clause-ends
-returns-then-start-window-clause-ends g c = λ lawful _.
-    rolls.ended-nothing
+returns-then-start-window-clause-ends g c = λ lawful _. rolls.ended-nothing
     (ap (λ o. c.args.walk.now.offset - o) (sym c.absolute_byte_offset.ensures)
-    ∙ (c.if-start-window.true ∙ ap (λ xs. length xs) c.buffer-window.ensures.value))
-    c.requires.low
+    ∙ (c.if-start-window.true ∙ ap (λ xs. length xs) c.buffer-window.ensures.value)) c.requires.low
 
 pub returns-in_err-search_window-clause-fault : goal.returns-in_err-search_window-clause-fault
 returns-in_err-search_window-clause-fault g c =
     let p = err_from_is_err_and c.from_residual.result c.from_residual.ensures.1 in
     let fault = rw (c.buffer-window.ensures.value, c.absolute_byte_offset.ensures) at
     c.in_err-search_window.ensures.fault in
-    rw (p.1, p.2) (λ lawful gone first ready after closes. fault lawful gone _ first (ready after closes))
+    rw (p.1, p.2) (λ lawful gone first ready after closes. fault lawful gone _ first
+    (ready after closes))
 
 pub returns-then-not-branch-clause-ends : goal.returns-then-not-branch-clause-ends
 returns-then-not-branch-clause-ends g c = λ lawful _.
@@ -56,8 +55,7 @@ returns-then-not-is_terminated-clause-ends g c = λ lawful _.
       ap (λ xs. length xs) c.buffer-window.ensures.value,
       c.absolute_byte_offset.ensures,
       c.requires.low,
-    ))
-    (rw c.buffer-window.ensures.value at c.if-not-is_terminated.ensures)
+    )) (rw c.buffer-window.ensures.value at c.if-not-is_terminated.ensures)
 
 pub returns-clause-goes_on : goal.returns-clause-goes_on
 returns-clause-goes_on g c = λ lawful _.
@@ -80,14 +78,23 @@ returns-clause-goes_on g c = λ lawful _.
         c.absolute_byte_offset.ensures,
       );
       at = omega (arith, searched.moved goes, same, c.absolute_byte_offset.ensures, c.requires.low);
-      below = omega (arith, searched.moved goes, same, shown.offset, c.absolute_byte_offset.ensures, c.requires.low);
-      moved = c.widen.ensures.same ∙ ap (λ (b : BufferState). record b { size = c.widen.new.self.size; free = c.widen.new.self.free })
-          c.consume.ensures;
+      below = omega (
+        arith,
+        searched.moved goes,
+        same,
+        shown.offset,
+        c.absolute_byte_offset.ensures,
+        c.requires.low,
+      );
+      moved = c.widen.ensures.same ∙ ap (λ (b : BufferState). record b {
+        size = c.widen.new.self.size;
+        free = c.widen.new.self.free;
+      }) c.consume.ensures;
       closed = closed;
       few = first.few;
       next = rolls.next-rolled c.args.lines.now shown.value
-          (start g (goal.at.returns-clause-goes_on g c).After-search_window) (searched.goes_on lawful goes)
-          _ closed (λ gone opens. first.closed gone opens closed)
+          (start g (goal.at.returns-clause-goes_on g c).After-search_window)
+          (searched.goes_on lawful goes) _ closed (λ gone opens. first.closed gone opens closed)
           (λ gone more after opens closes. first.kept gone more after opens closed closes);
     }
 
@@ -96,12 +103,18 @@ returns-then-start-window-clause-in_order g c =
     record { outcome = all_true; ends = tt; called = called-none _ _ _ }
 
 pub returns-then-not-branch-clause-in_order : goal.returns-then-not-branch-clause-in_order
-returns-then-not-branch-clause-in_order g c = rw c.if-not-branch.true at c.in_ok-search_window.ensures.in_order
+returns-then-not-branch-clause-in_order g c =
+    rw c.if-not-branch.true at c.in_ok-search_window.ensures.in_order
 
-pub returns-then-not-is_terminated-clause-in_order : goal.returns-then-not-is_terminated-clause-in_order
+pub returns-then-not-is_terminated-clause-in_order :
+    goal.returns-then-not-is_terminated-clause-in_order
 returns-then-not-is_terminated-clause-in_order g c =
     let goes : c.in_ok-search_window.field-0 ≡ true = search rules in
-    record { outcome = all_true; ends = tt; called = rw goes at c.in_ok-search_window.ensures.in_order }
+    record {
+      outcome = all_true;
+      ends = tt;
+      called = rw goes at c.in_ok-search_window.ensures.in_order;
+    }
 
 pub returns-clause-in_order : goal.returns-clause-in_order
 returns-clause-in_order g c =

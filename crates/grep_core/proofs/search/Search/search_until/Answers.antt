@@ -13,23 +13,22 @@ errors-of g = makers_of g.M.Error.Display.output g.C.Error.SinkError.makers
 
 pub search_quitting-requires-clause-none : goal.search_quitting-requires-clause-none
 search_quitting-requires-clause-none g c =
-    rw c.new-quitting.ensures.byte (first-found _ _ c.min.ensures
-    c.in-None.ensures)
+    rw c.new-quitting.ensures.byte (first-found _ _ c.min.ensures c.in-None.ensures)
 
 pub returns-in-Some-clause-searched : goal.returns-in-Some-clause-searched
 returns-in-Some-clause-searched g c = λ lawful.
-    quit-searched (errors-of g) (g.M.Matcher.facts c.args.matcher.now) c.args.byte (quit-is _ _ c.requires.detecting)
-    c.args.bytes.now
-    c.args.is_across _
+    quit-searched (errors-of g) (g.M.Matcher.facts c.args.matcher.now) c.args.byte
+    (quit-is _ _ c.requires.detecting) c.args.bytes.now c.args.is_across _
     (first-found _ _ c.min.ensures c.in-Some.ensures) c.quit_first.ensures.quits
 
 pub returns-in-None-clause-searched : goal.returns-in-None-clause-searched
 returns-in-None-clause-searched g c = λ lawful.
     subst (λ s. IsContentsSearch g.C.Calls.step (errors-of g) (g.M.Matcher.facts c.args.matcher.now)
-    c.args.self.now.config (in_contents c.args.byte) c.args.is_across c.args.bytes.now c.args.sink.now
-    c.search_quitting.result s)
-    (sym (c.sink-1.given.1 (sym (c.search_quitting.ensures.same_sink ∙ c.new-quitting.ensures.same_sink))))
-    (rw (c.new-quitting.ensures.byte, c.new-quitting.ensures.sink) at (c.search_quitting.ensures.searched lawful))
+    c.args.self.now.config (in_contents c.args.byte) c.args.is_across c.args.bytes.now
+    c.args.sink.now c.search_quitting.result s) (sym (c.sink-1.given.1
+    (sym (c.search_quitting.ensures.same_sink ∙ c.new-quitting.ensures.same_sink))))
+    (rw (c.new-quitting.ensures.byte, c.new-quitting.ensures.sink) at
+    (c.search_quitting.ensures.searched lawful))
 
 pub returns-in-Some-clause-in_order : goal.returns-in-Some-clause-in_order
 returns-in-Some-clause-in_order g c =
@@ -38,9 +37,10 @@ returns-in-Some-clause-in_order g c =
 
 pub returns-in-None-clause-in_order : goal.returns-in-None-clause-in_order
 returns-in-None-clause-in_order g c =
-    subst (λ s. IsInOrder g.C.Calls.step (errors-of g) (g.M.Matcher.facts c.args.matcher.now) c.args.self.now.config (λ _. ⊥)
-    c.args.sink.now c.search_quitting.result s)
-    (sym (c.sink-1.given.1 (sym (c.search_quitting.ensures.same_sink ∙ c.new-quitting.ensures.same_sink))))
+    subst (λ s. IsInOrder g.C.Calls.step (errors-of g) (g.M.Matcher.facts c.args.matcher.now)
+    c.args.self.now.config (λ _. ⊥) c.args.sink.now c.search_quitting.result s)
+    (sym (c.sink-1.given.1
+    (sym (c.search_quitting.ensures.same_sink ∙ c.new-quitting.ensures.same_sink))))
     (rw c.new-quitting.ensures.sink at c.search_quitting.ensures.in_order)
 
 pub search_quitting-requires-clause-detecting : goal.search_quitting-requires-clause-detecting

@@ -21,20 +21,23 @@ use Rattle.grep_core.proofs.search.Search.search_window.Goals as goal
 use Rattle.grep_core.proofs.search.Search.search_window.Goals.{After-known_at-known}
 
 -- the line that a walk decides, after those that it skipped
-reached : (g : Over) (c : goal.After-known_at-known g) → IsLawful (g.M.Matcher.facts c.args.matcher.now) c.args.self.now.config
+reached : (g : Over) (c : goal.After-known_at-known g)
+    → IsLawful (g.M.Matcher.facts c.args.matcher.now) c.args.self.now.config
     → (gone input : List ℕ) (first : Origin g.row.C-Sink.Denot)
-    → HasSearched g.C.Calls.step c.args.self.now.config (g.M.Matcher.facts c.args.matcher.now).meaning gone c.args.window.now input
+    → HasSearched g.C.Calls.step c.args.self.now.config
+    (g.M.Matcher.facts c.args.matcher.now).meaning gone c.args.window.now input
     first c.args.start c.args.walk.now c.args.sink.now
-    → uncounted.HasLine g.C.Calls.step c.args.self.now.config (g.M.Matcher.facts c.args.matcher.now).meaning gone
-    c.args.window.now input first c.skip_unmatched-start.result c.in-Some.end c.skip_unmatched-start.new.walk
-    c.lines.sink c.known_at-known.result
+    → uncounted.HasLine g.C.Calls.step c.args.self.now.config
+    (g.M.Matcher.facts c.args.matcher.now).meaning gone
+    c.args.window.now input first c.skip_unmatched-start.result c.in-Some.end
+    c.skip_unmatched-start.new.walk c.lines.sink c.known_at-known.result
 reached g c lawful gone input first so_far =
     let now = c.lines.invariant.searched lawful gone input first so_far in
     uncounted.line-reached c.requires.configured.bare now c.in-Ok.ensures.bounded
     (c.in-Ok.ensures.known lawful _ now.walked.inside.line.begins
     (c.lines.invariant.known lawful gone input first so_far)) c.skip_unmatched-start.ensures.low
-    c.skip_unmatched-start.ensures.position c.skip_unmatched-start.ensures.walk c.terminator-terminator.ensures
-    c.in-Some.ensures.line c.known_at-known.ensures
+    c.skip_unmatched-start.ensures.position c.skip_unmatched-start.ensures.walk
+    c.terminator-terminator.ensures c.in-Some.ensures.line c.known_at-known.ensures
 
 pub lines-init : goal.lines-init
 lines-init g c = record {
@@ -43,9 +46,7 @@ lines-init g c = record {
   ahead = omega arith;
   ordered = c.requires.ordered;
   bounded = record { ordered = omega arith; within = omega arith };
-  known = λ lawful gone input first so_far. skips.known-nothing _
-      _
-      _ _;
+  known = λ lawful gone input first so_far. skips.known-nothing _ _ _ _;
   searched = λ lawful gone input first so_far. so_far;
   called = called-none _ _ _;
   may_call = c.requires.may_call;
@@ -54,11 +55,10 @@ lines-init g c = record {
 pub returns-in-Err-clause-fault : goal.returns-in-Err-clause-fault
 returns-in-Err-clause-fault g c =
     let ahead = c.in-Err.ensures in
-    λ lawful gone input first so_far. uncounted.failed-ahead
-    _ _
+    λ lawful gone input first so_far. uncounted.failed-ahead _ _
     (λ passthru. absurd (false≢true (sym ahead.allowed.allowed.selects ∙ passthru)))
-    (c.lines.invariant.searched lawful gone input first so_far) ahead.some ahead.allowed c.in-Err.error _
-    c.error_message.ensures ahead.fault
+    (c.lines.invariant.searched lawful gone input first so_far) ahead.some ahead.allowed
+    c.in-Err.error _ c.error_message.ensures ahead.fault
 
 pub returns-in_default-clause-goes_on : goal.returns-in_default-clause-goes_on
 returns-in_default-clause-goes_on g c = λ lawful goes gone input first so_far.
@@ -73,25 +73,27 @@ returns-in_default-clause-goes_on g c = λ lawful goes gone input first so_far.
     let terminator = c.terminator-terminator.ensures in
     search.passed-all _ _ _ _ _ _ _ _ _ _ here c.in_default.ensures.end
     (subst (λ b. (i : ℕ) → IsLineStart b c.args.window.now c.skip_unmatched-start.result i → i
-    ≡ length (lines b c.args.window.now)) terminator
-    c.in_default.ensures.last)
+    ≡ length (lines b c.args.window.now)) terminator c.in_default.ensures.last)
 
 pub returns-in-Err-judge-clause-fault : goal.returns-in-Err-judge-clause-fault
 returns-in-Err-judge-clause-fault g c =
     let below = c.in-Err-judge.ensures.open in
     λ lawful gone input first so_far.
-    let call = reached g (goal.at.returns-in-Err-judge-clause-fault g c).After-known_at-known lawful _ _ _ so_far in
-    uncounted.failed-asked _ _ c.requires.configured.bare call c.in-Some.ensures.within.1 below c.in-Err-judge.error _ c.error_message-in-Err-judge.ensures
-    c.in-Err-judge.ensures.fault
+    let call = reached g (goal.at.returns-in-Err-judge-clause-fault g c).After-known_at-known lawful
+    _ _ _ so_far in
+    uncounted.failed-asked _ _ c.requires.configured.bare call c.in-Some.ensures.within.1 below
+    c.in-Err-judge.error _ c.error_message-in-Err-judge.ensures c.in-Err-judge.ensures.fault
 
 pub returns-in_err-sink_line-clause-fault : goal.returns-in_err-sink_line-clause-fault
 returns-in_err-sink_line-clause-fault g c =
     let decided = c.in-Ok-judge.ensures.decided in
     let p = err_from_is_err_and c.from_residual.result c.from_residual.ensures.1 in
     rw (p.1, p.2) (λ lawful gone input first so_far.
-    let call = reached g (goal.at.returns-in_err-sink_line-clause-fault g c).After-known_at-known lawful _ _ _ so_far in
-    at_call (uncounted.line-comes c.requires.configured.bare call c.in-Some.ensures.within.1 (decided call.agrees)
-    (failed _) _ (c.in_err-sink_line.ensures.reported gone input (uncounted.inside-counted call.here))))
+    let call = reached g (goal.at.returns-in_err-sink_line-clause-fault g c).After-known_at-known
+    lawful _ _ _ so_far in
+    at_call (uncounted.line-comes c.requires.configured.bare call c.in-Some.ensures.within.1
+    (decided call.agrees) (failed _) _ (c.in_err-sink_line.ensures.reported gone input
+    (uncounted.inside-counted call.here))))
 
 pub returns-then-not-branch-clause-ends : goal.returns-then-not-branch-clause-ends
 returns-then-not-branch-clause-ends g c = λ lawful ends.
@@ -101,8 +103,11 @@ returns-then-not-branch-clause-ends g c = λ lawful ends.
       stopped (counted (line_end c.skip_unmatched-start.new.walk
           (slice_range c.args.window.now c.skip_unmatched-start.result c.in-Some.end))),
       λ gone input first so_far.
-          let call = reached g (goal.at.returns-then-not-branch-clause-ends g c).After-known_at-known lawful _ _ _ so_far in
-          uncounted.line-comes c.requires.configured.bare call c.in-Some.ensures.within.1 (decided call.agrees)
+          let call = reached g
+          (goal.at.returns-then-not-branch-clause-ends g c).After-known_at-known lawful _ _ _
+          so_far in
+          uncounted.line-comes c.requires.configured.bare call c.in-Some.ensures.within.1
+          (decided call.agrees)
           (stopped _) _ (reported gone input (uncounted.inside-counted call.here)) refl,
     )
 
@@ -117,12 +122,15 @@ returns-then-is_over-clause-ends g c = λ lawful ends.
     let goes : c.in_ok-sink_line.field-0 ≡ true = search rules in
     let reported = rw goes at c.in_ok-sink_line.ensures.reported in
     let over = ap (λ p. is_over c.args.self.now.config p (chooses c.in-Ok-judge.verdict)) (sym next)
-    ∙ (ap (is_over c.args.self.now.config c.after_line.result) (sym chosen) ∙ rw over_is at c.if-is_over.true) in
+    ∙ (ap (is_over c.args.self.now.config c.after_line.result) (sym chosen)
+    ∙ rw over_is at c.if-is_over.true) in
     rw next (
       all_true,
       λ gone input first so_far.
-          let call = reached g (goal.at.returns-then-is_over-clause-ends g c).After-known_at-known lawful _ _ _ so_far in
-          (uncounted.line-comes c.requires.configured.bare call c.in-Some.ensures.within.1 (decided call.agrees)
+          let call = reached g (goal.at.returns-then-is_over-clause-ends g c).After-known_at-known
+          lawful _ _ _ so_far in
+          (uncounted.line-comes c.requires.configured.bare call c.in-Some.ensures.within.1
+          (decided call.agrees)
           all_true _ (reported gone input (uncounted.inside-counted call.here))).0 over,
     )
 
@@ -139,7 +147,8 @@ lines-preserved g c =
     let reported = rw goes at c.in_ok-sink_line.ensures.reported in
     let here = rw goes at c.in_ok-sink_line.ensures.called in
     let on = ap (λ p. is_over c.args.self.now.config p (chooses c.in-Ok-judge.verdict)) (sym next)
-    ∙ (ap (is_over c.args.self.now.config c.after_line.result) (sym chosen) ∙ rw over_is at c.if-is_over.false) in
+    ∙ (ap (is_over c.args.self.now.config c.after_line.result) (sym chosen)
+    ∙ rw over_is at c.if-is_over.false) in
     let size = length-take (c.in-Some.end - c.skip_unmatched-start.result)
     (drop c.skip_unmatched-start.result c.args.window.now) in
     rw next (record {
@@ -153,7 +162,12 @@ lines-preserved g c =
         c.skip_unmatched-start.ensures.moved,
         c.lines.invariant.same,
       );
-      ahead = omega (arith, c.lines.invariant.ahead, c.skip_unmatched-start.ensures.low, c.in-Some.ensures.within.0);
+      ahead = omega (
+        arith,
+        c.lines.invariant.ahead,
+        c.skip_unmatched-start.ensures.low,
+        c.in-Some.ensures.within.0,
+      );
       ordered = ordered-next c.args.self.now.config _ c.skip_unmatched-start.result
           c.in-Some.end c.args.window.now
           (chooses c.in-Ok-judge.verdict) c.in-Some.ensures.within.0 c.in-Some.ensures.within.1
@@ -161,28 +175,29 @@ lines-preserved g c =
       bounded = c.in-Ok.ensures.bounded;
       known = λ lawful gone input first so_far.
           let now = c.lines.invariant.searched lawful gone input first so_far in
-          skips.known-later _ _ _
-          _
+          skips.known-later _ _ _ _
           _ _ (omega (arith, c.skip_unmatched-start.ensures.low, c.in-Some.ensures.within.0))
-          (learns lawful _ now.walked.inside.line.begins (c.lines.invariant.known lawful gone input first so_far));
+          (learns lawful _ now.walked.inside.line.begins
+          (c.lines.invariant.known lawful gone input first so_far));
       searched = λ lawful gone input first so_far.
-          let call = reached g (goal.at.lines-preserved g c).After-known_at-known lawful _ _ _ so_far in
-          (uncounted.line-comes c.requires.configured.bare call c.in-Some.ensures.within.1 (decided call.agrees)
+          let call = reached g (goal.at.lines-preserved g c).After-known_at-known lawful _ _ _
+          so_far in
+          (uncounted.line-comes c.requires.configured.bare call c.in-Some.ensures.within.1
+          (decided call.agrees)
           all_true _ (reported gone input (uncounted.inside-counted call.here))).1 on;
-      called = called-then _ _ _ _ _
-          _
-          c.lines.invariant.called (here 0);
+      called = called-then _ _ _ _ _ _ c.lines.invariant.called (here 0);
       may_call = c.in_ok-sink_line.ensures.may_call;
     })
 
 pub returns-in-Err-clause-in_order : goal.returns-in-Err-clause-in_order
 returns-in-Err-clause-in_order g c =
-    of_question _ c.in-Err.error c.in-Err.ensures.fault c.error_message.ensures c.lines.invariant.called
+    of_question _ c.in-Err.error c.in-Err.ensures.fault c.error_message.ensures
+    c.lines.invariant.called
 
 pub returns-in-Err-judge-clause-in_order : goal.returns-in-Err-judge-clause-in_order
 returns-in-Err-judge-clause-in_order g c =
-    of_question _ c.in-Err-judge.error c.in-Err-judge.ensures.fault c.error_message-in-Err-judge.ensures
-    c.lines.invariant.called
+    of_question _ c.in-Err-judge.error c.in-Err-judge.ensures.fault
+    c.error_message-in-Err-judge.ensures c.lines.invariant.called
 
 pub returns-in_err-sink_line-clause-in_order : goal.returns-in_err-sink_line-clause-in_order
 returns-in_err-sink_line-clause-in_order g c =
@@ -198,9 +213,7 @@ returns-then-not-branch-clause-in_order g c =
       outcome = stopped (counted (c.skip_unmatched-start.new.walk.offset + length
           (slice_range c.args.window.now c.skip_unmatched-start.result c.in-Some.end)));
       ends = refl;
-      called = called-then _ _ _ _ _
-          _
-          c.lines.invariant.called (here _);
+      called = called-then _ _ _ _ _ _ c.lines.invariant.called (here _);
     }
 
 pub returns-then-is_over-clause-in_order : goal.returns-then-is_over-clause-in_order
@@ -210,7 +223,5 @@ returns-then-is_over-clause-in_order g c =
     record {
       outcome = all_true;
       ends = tt;
-      called = called-then _ _ _ _ _
-          _
-          c.lines.invariant.called (here 0);
+      called = called-then _ _ _ _ _ _ c.lines.invariant.called (here 0);
     }

@@ -7,12 +7,9 @@ pub returns-in-Trailing-clause-called : goal.returns-in-Trailing-clause-called
 returns-in-Trailing-clause-called g c = λ stop.
     let w = c.args.walk.now in
     called-match _ _ w.next_unreported w.line w.offset stop
-    (slice_range c.args.window.now c.args.start c.args.end) _ _
-    _
+    (slice_range c.args.window.now c.args.start c.args.end) _ _ _
     (c.sink_matched.ensures.reported stop)
 
 pub returns-in_default-clause-called : goal.returns-in_default-clause-called
-returns-in_default-clause-called g c = λ stop.
-    called-one _ _ _ stop _ _
-    _
+returns-in_default-clause-called g c = λ stop. called-one _ _ _ stop _ _ _
     c.sink_context.ensures.step refl refl

@@ -9,8 +9,8 @@ use Rattle.grep_core.proofs.search.Search.sink_before_context.Goals as goal
 pub returns-then-near-eq0-clause-reported : goal.returns-then-near-eq0-clause-reported
 returns-then-near-eq0-clause-reported g c =
     let w = c.args.walk.now in
-    λ gone input inside end. before.reported-none c.args.self.now.config input w.next_unreported w.line end
-    g.C.Calls.step c.args.sink.now
+    λ gone input inside end. before.reported-none c.args.self.now.config input w.next_unreported
+    w.line end g.C.Calls.step c.args.sink.now
     c.requires.low ((sym c.lines_before-near.ensures ∙ c.if-near-eq0.true))
 
 pub returns-clause-reported : goal.returns-clause-reported
@@ -23,13 +23,13 @@ returns-clause-reported g c =
     λ gone input shown end.
     let inside = shown (counts-before k (omega (arith, near_is, c.if-near-eq0.false))) in
     let gone_lines = length (lines (byte_of k.line_terminator) gone) in
-    let first : IsLineIn k gone c.args.window.now c.step_back-first.result (w.line - near) = record {
+    let first : IsLineIn k gone c.args.window.now c.step_back-first.result (w.line - near) =
+    record {
       low = omega (arith, near_is, inside.kept);
       begins =
           let same : (w.line - gone_lines) - near ≡ (w.line - near) - gone_lines = omega arith in
-          subst (IsLineStart (byte_of k.line_terminator) c.args.window.now c.step_back-first.result) same
-          (back (w.line - gone_lines) inside.line.begins);
+          subst (IsLineStart (byte_of k.line_terminator) c.args.window.now c.step_back-first.result)
+          same (back (w.line - gone_lines) inside.line.begins);
     } in
-    rw (before.pending-near k input _ _ end
-    (w.line - near) c.requires.low (omega (arith, near_is)))
+    rw (before.pending-near k input _ _ end (w.line - near) c.requires.low (omega (arith, near_is)))
     (c.sink_before_lines.ensures.reported gone input inside first end)

@@ -9,24 +9,20 @@ pub returns-then-not-branch-clause-reported : goal.returns-then-not-branch-claus
 returns-then-not-branch-clause-reported g c =
     let w = c.args.walk.now in
     let gap = c.is_gap-is_gap.ensures in
-    let near = le-leb (w.line - c.args.index) c.args.self.now.config.before_context c.requires.near in
+    let near = le-leb (w.line - c.args.index) c.args.self.now.config.before_context
+    c.requires.near in
     let stops : c.in_ok-sink_break.field-0 ≡ false = search rules in
     let reported = rw (stops, gap) at c.in_ok-sink_break.ensures.reported in
-    rw near (λ end. AreMade-unbroken g.C.Calls.step c.args.self.now.config
-    _
-    _ end c.args.sink.now
+    rw near (λ end. AreMade-unbroken g.C.Calls.step c.args.self.now.config _ _ end c.args.sink.now
     (stopped (counted end)) c.sink_break.new.sink (λ x. cc) (reported end))
 
 pub returns-clause-reported : goal.returns-clause-reported
 returns-clause-reported g c =
     let w = c.args.walk.now in
     let gap = c.is_gap-is_gap.ensures in
-    let near = le-leb (w.line - c.args.index) c.args.self.now.config.before_context c.requires.near in
+    let near = le-leb (w.line - c.args.index) c.args.self.now.config.before_context
+    c.requires.near in
     let goes : c.in_ok-sink_break.field-0 ≡ true = search rules in
     let reported = rw (goes, gap) at c.in_ok-sink_break.ensures.reported in
-    rw near (λ end. AreMade-broken g.C.Calls.step _
-    (is_gap c.args.self.now.config w.next_unreported
-    c.args.index w.line)
-    _ end c.args.sink.now
-    _
-    _ _ (reported end) c.sink_context.ensures.step)
+    rw near (λ end. AreMade-broken g.C.Calls.step _ (is_gap c.args.self.now.config w.next_unreported
+    c.args.index w.line) _ end c.args.sink.now _ _ _ (reported end) c.sink_context.ensures.step)

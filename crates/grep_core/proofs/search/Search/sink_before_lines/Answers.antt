@@ -8,7 +8,8 @@ use Rattle.grep_walk.proofs.WindowLemmas as windows
 use Rattle.grep_definitions.proofs.CallOrderLemmas.{called-before, called-then}
 use Rattle.grep_core.proofs.search.Search.sink_before_lines.Goals as goal
 
-pub returns-in_err-sink_before_line-clause-reported : goal.returns-in_err-sink_before_line-clause-reported
+pub returns-in_err-sink_before_line-clause-reported :
+    goal.returns-in_err-sink_before_line-clause-reported
 returns-in_err-sink_before_line-clause-reported g c =
     let p = err_from_is_err_and c.from_residual.result c.from_residual.ensures.1 in
     let line = c.in-Some.ensures.line in
@@ -19,7 +20,8 @@ returns-in_err-sink_before_line-clause-reported g c =
     before.window-ended k _ _ _ w _ inside end g.C.Calls.step c.args.sink.now c.loop-at.sink
     c.sink_before_line.new.sink
     c.args.index _ _ _ c.loop-at.offset (c.loop-at.invariant.at gone from) line
-    c.loop-at.invariant.same c.loop-at.invariant.low (c.loop-at.invariant.reported gone input inside from end)
+    c.loop-at.invariant.same c.loop-at.invariant.low
+    (c.loop-at.invariant.reported gone input inside from end)
     (failed _) (c.in_err-sink_before_line.ensures.reported end) c.loop-at-test.true (λ x. cc))
 
 pub returns-then-not-branch-clause-reported : goal.returns-then-not-branch-clause-reported
@@ -32,27 +34,25 @@ returns-then-not-branch-clause-reported g c =
     let window = c.args.window.now in
     let w = c.args.walk.now in
     before.window-ended k _ _ _ w _ inside end g.C.Calls.step c.args.sink.now c.loop-at.sink
-    c.sink_before_line.new.sink
-    _ _ _ _ _ (c.loop-at.invariant.at gone from) line
-    c.loop-at.invariant.same c.loop-at.invariant.low (c.loop-at.invariant.reported gone input inside from end)
+    c.sink_before_line.new.sink _ _ _ _ _ (c.loop-at.invariant.at gone from) line
+    c.loop-at.invariant.same c.loop-at.invariant.low
+    (c.loop-at.invariant.reported gone input inside from end)
     (stopped (counted end)) (here end) c.loop-at-test.true (λ x. cc)
 
 pub returns-in_default-clause-reported : goal.returns-in_default-clause-reported
 returns-in_default-clause-reported g c = λ gone input inside from end.
     let last = c.in_default.ensures.last in
-    before.window-short _ _ _ _ _ _ inside
-    g.C.Calls.step
-    c.args.sink.now
-    c.loop-at.sink _ all_true _ _ (c.loop-at.invariant.at gone from) last
-    c.loop-at-test.true
+    before.window-short _ _ _ _ _ _ inside g.C.Calls.step c.args.sink.now
+    c.loop-at.sink _ all_true _ _ (c.loop-at.invariant.at gone from) last c.loop-at-test.true
 
 pub returns-clause-reported : goal.returns-clause-reported
 returns-clause-reported g c = λ gone input inside from end.
     let w = c.args.walk.now in
-    let all : c.loop-at.at ≡ w.line = omega (arith, c.loop-at.invariant.below, c.loop-at-test.false) in
+    let all : c.loop-at.at ≡ w.line =
+    omega (arith, c.loop-at.invariant.below, c.loop-at-test.false) in
     subst (λ m. AreMade g.C.Calls.step c.args.self.now.config c.args.sink.now
-    (pending_calls c.args.self.now.config input w.next_unreported w.line end c.args.index (m - c.args.index)) all_true
-    c.loop-at.sink) all
+    (pending_calls c.args.self.now.config input w.next_unreported w.line end c.args.index
+    (m - c.args.index)) all_true c.loop-at.sink) all
     (c.loop-at.invariant.reported gone input inside from end)
 
 pub loop-at-preserved : goal.loop-at-preserved
@@ -78,38 +78,24 @@ loop-at-preserved g c =
       at = λ gone from. windows.next-line k _ _ window _ _ _
           (c.loop-at.invariant.at gone from) line;
       reported = λ gone input inside from end. before.window-more k _ _ _ w _ inside end
-          g.C.Calls.step
-          c.args.sink.now c.loop-at.sink c.sink_before_line.new.sink
-          _ _ _ _ _
-          (c.loop-at.invariant.at gone from) line
-          c.loop-at.invariant.same c.loop-at.invariant.low (c.loop-at.invariant.reported gone input inside from end)
-          all_true (here end);
-      called = called-then _ k _ _ _ _
-          c.loop-at.invariant.called (called-before _ k _ _ _
-          _
-          _ 0 _ _ _
-          _
-          (here 0));
+          g.C.Calls.step c.args.sink.now c.loop-at.sink c.sink_before_line.new.sink _ _ _ _ _
+          (c.loop-at.invariant.at gone from) line c.loop-at.invariant.same c.loop-at.invariant.low
+          (c.loop-at.invariant.reported gone input inside from end) all_true (here end);
+      called = called-then _ k _ _ _ _ c.loop-at.invariant.called (called-before _ k _ _ _ _
+          _ 0 _ _ _ _ (here 0));
       may_call = c.in_ok-sink_before_line.ensures.may_call;
     }
 
-pub returns-in_err-sink_before_line-clause-called : goal.returns-in_err-sink_before_line-clause-called
+pub returns-in_err-sink_before_line-clause-called :
+    goal.returns-in_err-sink_before_line-clause-called
 returns-in_err-sink_before_line-clause-called g c =
     let p = err_from_is_err_and c.from_residual.result c.from_residual.ensures.1 in
-    rw (p.1, p.2) (λ end. called-then _ _ _ _ _
-    _ c.loop-at.invariant.called (called-before _ _
-    _ _ _ _
-    _
-    end _ _ _ _
-    (c.in_err-sink_before_line.ensures.reported end)))
+    rw (p.1, p.2) (λ end. called-then _ _ _ _ _ _ c.loop-at.invariant.called (called-before _ _
+    _ _ _ _ _ end _ _ _ _ (c.in_err-sink_before_line.ensures.reported end)))
 
 pub returns-then-not-branch-clause-called : goal.returns-then-not-branch-clause-called
 returns-then-not-branch-clause-called g c = λ end.
     let stops : c.in_ok-sink_before_line.field-0 ≡ false = search rules in
     let here = rw stops at c.in_ok-sink_before_line.ensures.reported in
-    called-then _ _ _ _ _
-    _ c.loop-at.invariant.called (called-before _ _
-    _ _ _ _
-    _
-    end _ _ _
+    called-then _ _ _ _ _ _ c.loop-at.invariant.called (called-before _ _ _ _ _ _ _ end _ _ _
     _ (here end))

@@ -9,7 +9,8 @@ use Rattle.grep_walk.specs.Walks.{chooses, line_end}
 use Rattle.grep_definitions.proofs.CallOrderLemmas.{called-match, called-one, called-then}
 use Rattle.grep_core.proofs.search.Search.sink_line.Goals as goal
 
-pub returns-in_err-sink_before_context-clause-reported : goal.returns-in_err-sink_before_context-clause-reported
+pub returns-in_err-sink_before_context-clause-reported :
+    goal.returns-in_err-sink_before_context-clause-reported
 returns-in_err-sink_before_context-clause-reported g c =
     let w = c.args.walk.now in
     let chosen : chooses c.args.verdict ≡ true = search rules in
@@ -19,9 +20,10 @@ returns-in_err-sink_before_context-clause-reported g c =
     rw (p.1, p.2, chosen) (λ gone input inside. AreMade-ended g.C.Calls.step c.args.self.now.config
     (pending_calls c.args.self.now.config input w.next_unreported w.line stop w.next_unreported
     (w.line - w.next_unreported))
-    (selected_calls c.args.self.now.config w.next_unreported w.line w.offset stop here) c.args.sink.now
-    (failed c.in_err-sink_before_context.field-0.0)
-    c.sink_before_context.new.sink (λ e. cc) (c.in_err-sink_before_context.ensures.reported gone input inside stop))
+    (selected_calls c.args.self.now.config w.next_unreported w.line w.offset stop here)
+    c.args.sink.now (failed c.in_err-sink_before_context.field-0.0)
+    c.sink_before_context.new.sink (λ e. cc) (c.in_err-sink_before_context.ensures.reported gone
+    input inside stop))
 
 pub returns-then-not-branch-clause-reported : goal.returns-then-not-branch-clause-reported
 returns-then-not-branch-clause-reported g c =
@@ -34,8 +36,8 @@ returns-then-not-branch-clause-reported g c =
     rw chosen (λ gone input inside. AreMade-ended g.C.Calls.step c.args.self.now.config
     (pending_calls c.args.self.now.config input w.next_unreported w.line stop w.next_unreported
     (w.line - w.next_unreported))
-    (selected_calls c.args.self.now.config w.next_unreported w.line w.offset stop here) c.args.sink.now (stopped (counted
-    stop))
+    (selected_calls c.args.self.now.config w.next_unreported w.line w.offset stop here)
+    c.args.sink.now (stopped (counted stop))
     c.sink_before_context.new.sink (λ e. cc) (reported gone input inside stop))
 
 pub returns-in-Ok-clause-reported : goal.returns-in-Ok-clause-reported
@@ -46,10 +48,8 @@ returns-in-Ok-clause-reported g c =
     let stop = line_end w here in
     let goes : c.in_ok-sink_before_context.field-0 ≡ true = search rules in
     let reported = rw goes at c.in_ok-sink_before_context.ensures.reported in
-    rw chosen (λ gone input inside. AreMade-append g.C.Calls.step c.args.self.now.config
-    _
-    _ c.args.sink.now
-    c.sink_before_context.new.sink
+    rw chosen (λ gone input inside. AreMade-append g.C.Calls.step c.args.self.now.config _
+    _ c.args.sink.now c.sink_before_context.new.sink
     (outcome_of stop (Ok c.in-Ok.goes_on)) c.sink_matched.new.sink (reported gone input inside stop)
     (c.in-Ok.ensures.reported stop))
 
@@ -61,10 +61,8 @@ returns-in-Err-clause-reported g c =
     let stop = line_end w here in
     let goes : c.in_ok-sink_before_context.field-0 ≡ true = search rules in
     let reported = rw goes at c.in_ok-sink_before_context.ensures.reported in
-    rw chosen (λ gone input inside. AreMade-append g.C.Calls.step c.args.self.now.config
-    _
-    _ c.args.sink.now
-    c.sink_before_context.new.sink
+    rw chosen (λ gone input inside. AreMade-append g.C.Calls.step c.args.self.now.config _
+    _ c.args.sink.now c.sink_before_context.new.sink
     (outcome_of stop (Err c.in-Err.error)) c.sink_matched.new.sink (reported gone input inside stop)
     (c.in-Err.ensures.reported stop))
 
@@ -78,11 +76,8 @@ returns-in-Ok-clause-called g c = λ stop.
     let w = c.args.walk.now in
     let goes : c.in_ok-sink_before_context.field-0 ≡ true = search rules in
     let first = rw goes at c.in_ok-sink_before_context.ensures.called in
-    called-then _ _ _ _
-    _
-    _ (first stop) (called-match _ _ w.next_unreported w.line
-    w.offset stop (slice_range c.args.window.now c.args.start c.args.end) _
-    _
+    called-then _ _ _ _ _ _ (first stop) (called-match _ _ w.next_unreported w.line
+    w.offset stop (slice_range c.args.window.now c.args.start c.args.end) _ _
     _ (c.in-Ok.ensures.reported stop))
 
 pub returns-in-Err-clause-called : goal.returns-in-Err-clause-called
@@ -90,19 +85,14 @@ returns-in-Err-clause-called g c = λ stop.
     let w = c.args.walk.now in
     let goes : c.in_ok-sink_before_context.field-0 ≡ true = search rules in
     let first = rw goes at c.in_ok-sink_before_context.ensures.called in
-    called-then _ _ _ _
-    _
-    _ (first stop) (called-match _ _ w.next_unreported w.line
-    w.offset stop (slice_range c.args.window.now c.args.start c.args.end) _
-    _
+    called-then _ _ _ _ _ _ (first stop) (called-match _ _ w.next_unreported w.line
+    w.offset stop (slice_range c.args.window.now c.args.start c.args.end) _ _
     _ (c.in-Err.ensures.reported stop))
 
 pub returns-in-Ok-sink_context-clause-called : goal.returns-in-Ok-sink_context-clause-called
-returns-in-Ok-sink_context-clause-called g c = λ stop.
-    called-one _ _ _ stop _ _
+returns-in-Ok-sink_context-clause-called g c = λ stop. called-one _ _ _ stop _ _
     _ c.in-Ok-sink_context.ensures.step refl refl
 
 pub returns-in-Err-sink_context-clause-called : goal.returns-in-Err-sink_context-clause-called
-returns-in-Err-sink_context-clause-called g c = λ stop.
-    called-one _ _ _ stop _ _
+returns-in-Err-sink_context-clause-called g c = λ stop. called-one _ _ _ stop _ _
     _ c.in-Err-sink_context.ensures.step refl refl

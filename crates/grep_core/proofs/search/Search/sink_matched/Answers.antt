@@ -11,9 +11,7 @@ returns-then-not-branch-clause-reported g c =
     let gap = c.is_gap_before_match-is_gap.ensures in
     let stops : c.in_ok-sink_break.field-0 ≡ false = search rules in
     let reported = rw (stops, gap) at c.in_ok-sink_break.ensures.reported in
-    λ stop. AreMade-unbroken g.C.Calls.step c.args.self.now.config
-    _
-    _ stop
+    λ stop. AreMade-unbroken g.C.Calls.step c.args.self.now.config _ _ stop
     c.args.sink.now (stopped (counted stop)) c.sink_break.new.sink (λ x. cc) (reported stop)
 
 pub returns-in-Ok-clause-reported : goal.returns-in-Ok-clause-reported
@@ -24,9 +22,8 @@ returns-in-Ok-clause-reported g c =
     let reported = rw (goes, gap) at c.in_ok-sink_break.ensures.reported in
     let number = c.number-number.ensures in
     let step = rw (c.new-found.ensures, number) at c.in-Ok.ensures.step in
-    λ stop. AreMade-broken g.C.Calls.step _
-    (nat_lt 0 c.args.self.now.config.after_context && is_gap c.args.self.now.config w.next_unreported w.line w.line)
-    _ stop
+    λ stop. AreMade-broken g.C.Calls.step _ (nat_lt 0 c.args.self.now.config.after_context
+    && is_gap c.args.self.now.config w.next_unreported w.line w.line) _ stop
     c.args.sink.now _ _ _ (reported stop) step
 
 pub returns-in-Err-clause-reported : goal.returns-in-Err-clause-reported
@@ -37,7 +34,6 @@ returns-in-Err-clause-reported g c =
     let reported = rw (goes, gap) at c.in_ok-sink_break.ensures.reported in
     let number = c.number-number.ensures in
     let step = rw (c.new-found.ensures, number) at c.in-Err.ensures.step in
-    λ stop. AreMade-broken g.C.Calls.step _
-    (nat_lt 0 c.args.self.now.config.after_context && is_gap c.args.self.now.config w.next_unreported w.line w.line)
-    _ stop
+    λ stop. AreMade-broken g.C.Calls.step _ (nat_lt 0 c.args.self.now.config.after_context
+    && is_gap c.args.self.now.config w.next_unreported w.line w.line) _ stop
     c.args.sink.now _ _ _ (reported stop) step

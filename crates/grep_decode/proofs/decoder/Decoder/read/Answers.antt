@@ -1,4 +1,5 @@
-use Rattle.grep_decode.proofs.DecoderLemmas.{result-gives, result-ends, result-fault, result-keeps}
+use Rattle.grep_decode.proofs.ReadResultLemmas.{result-gives, result-ends, result-fault}
+use Rattle.grep_decode.proofs.ReadResultLemmas.{result-keeps}
 use Rattle.grep_decode.proofs.decoder.Decoder.read.Goals as goal
 
 pub returns : goal.returns

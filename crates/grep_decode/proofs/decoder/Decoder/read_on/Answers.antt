@@ -9,4 +9,5 @@ returns-then-not-is_empty-clause-decodes g c =
     rw (← c.self.view_is) (Decodes-ready g.R.Source.remaining g.R.Source.step d.ready
     (take c.give.result c.give.new.buffer) c.give.new.self
     d.held.bytes d.mode d.held.has_ended d.held.capacity c.args.reader.now
-    (subst IsSettled (sym (ap (λ s. s.mode) c.self.view_is)) c.requires.settled) c.give.ensures.bytes)
+    (subst IsSettled (sym (ap (λ s. s.mode) c.self.view_is)) c.requires.settled)
+    c.give.ensures.bytes)

@@ -8,6 +8,5 @@ returns-clause-bytes c =
     let count = c.min-count.result in
     let same : (start + count) - start ≡ count = omega arith in
     rw (← c.self.view_is)
-    (window-given start c.self.inside.end count ((start + count) - start) c.self.inside.bytes c.copy_from_slice.new.self
-    _ (omega arith)
-    (omega arith) same c.copy_from_slice.ensures.after)
+    (window-given start c.self.inside.end count ((start + count) - start) c.self.inside.bytes
+    c.copy_from_slice.new.self _ (omega arith) (omega arith) same c.copy_from_slice.ensures.after)

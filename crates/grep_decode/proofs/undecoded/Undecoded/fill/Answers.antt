@@ -1,16 +1,18 @@
-use Rattle.std.proofs.Common.{◌≡◌, ◌≤◌, ◌<◌, ◌+◌, ◌-◌, ◌++◌, [], refl, length, ap, ◌∙◌, length-append, sym, subst}
-use Rattle.std.proofs.Common.{arith, inl, inr, ⊎_elim}
+use Rattle.std.proofs.Common.{◌≡◌, ◌≤◌, ◌<◌, ◌+◌, ◌-◌, ◌++◌, [], refl, length, ap, ◌∙◌}
+use Rattle.std.proofs.Common.{length-append, sym, subst, arith, inl, inr, ⊎_elim}
 use Rattle.std.proofs.lemmas.Bool.{false≢true}
 use Rattle.std.proofs.KnownBytes.{Consumes-nil, Consumes-trans}
-use Rattle.grep_decode.proofs.DecoderLemmas.{Decodes-none, Grows-smaller, few-wait, hold-more}
+use Rattle.grep_decode.proofs.DecoderLemmas.{Decodes-none, Grows-smaller, hold-more}
+use Rattle.grep_decode.proofs.ReadResultLemmas.{few-wait}
 use Rattle.grep_decode.specs.UndecodedBytes.{holding}
 use Rattle.grep_decode.proofs.undecoded.Undecoded.fill.Goals as goal
 
 pub loop-self-smaller : goal.loop-self-smaller
 loop-self-smaller g c =
-    let few : length c.loop-self.self.bytes < 3 = subst (λ l. length l < 3) c.bytes.ensures c.loop-self-test.true in
-    Grows-smaller g.R.Source.remaining g.R.Source.step _ _ _ _ _ 3 (sym c.if-not-has_ended.ensures) few
-    c.in-Ok.ensures.grows
+    let few : length c.loop-self.self.bytes < 3 = subst (λ l. length l < 3) c.bytes.ensures
+    c.loop-self-test.true in
+    Grows-smaller g.R.Source.remaining g.R.Source.step _ _ _ _ _ 3 (sym c.if-not-has_ended.ensures)
+    few c.in-Ok.ensures.grows
 
 pub loop-self-init : goal.loop-self-init
 loop-self-init g c = record {
@@ -29,12 +31,13 @@ loop-self-preserved g c =
     let all : length c.pull.new.self.bytes ≡ length now.bytes + length grows.piece =
     ap length grows.appended ∙ length-append now.bytes grows.piece in
     let within : c.in-Ok.field-0 ≤ 3 - length now.bytes =
-    subst (λ l. c.in-Ok.field-0 ≤ 3 - length l) c.bytes-in-loop-self.ensures c.in-Ok.ensures.bound in
+    subst (λ l. c.in-Ok.field-0 ≤ 3 - length l) c.bytes-in-loop-self.ensures
+    c.in-Ok.ensures.bound in
     record {
       capacity = grows.capacity ∙ c.loop-self.invariant.capacity;
       few = omega (arith, all, grows.counted, within, c.loop-self.invariant.few);
-      decodes = λ mode. hold-more g.R.Source.remaining g.R.Source.step mode c.args.self.now now c.pull.new.self
-          c.args.reader.now
+      decodes = λ mode. hold-more g.R.Source.remaining g.R.Source.step mode c.args.self.now now
+          c.pull.new.self c.args.reader.now
           c.loop-self.reader c.pull.new.reader c.in-Ok.field-0 (sym c.if-not-has_ended.ensures)
           (c.loop-self.invariant.decodes mode) grows;
       last = λ mode looks. inr (record {
@@ -71,8 +74,7 @@ returns-after-loop-self-clause-begins g c = λ few unended mode looks.
       ap (λ u. length u.bytes) same.0,
       ap length c.bytes.ensures,
       c.loop-self-test.false,
-    )))
-    (λ waited. waited) (c.loop-self.invariant.last mode looks)
+    ))) (λ waited. waited) (c.loop-self.invariant.last mode looks)
 
 pub returns-else-not-has_ended-clause-begins : goal.returns-else-not-has_ended-clause-begins
 returns-else-not-has_ended-clause-begins g c = λ few unended mode looks.

@@ -11,10 +11,11 @@ invariant-loop-self g l = record {
   capacity : l.self.capacity ≡ l.fn.self.capacity;
   few : length l.self.bytes ≤ 3;
   decodes : (mode : Mode)
-      → Decodes g.R.Source.remaining g.R.Source.step (holding mode l.fn.self) l.fn.reader [] (holding mode l.self)
-      l.reader;
+      → Decodes g.R.Source.remaining g.R.Source.step (holding mode l.fn.self) l.fn.reader []
+      (holding mode l.self) l.reader;
   last : (mode : Mode) → LooksForMark mode → ((l.self ≡ l.fn.self) × (l.reader ≡ l.fn.reader))
-      ⊎ HasWaited g.R.Source.remaining g.R.Source.step (holding mode l.fn.self) l.fn.reader l.reader;
+      ⊎ HasWaited g.R.Source.remaining g.R.Source.step (holding mode l.fn.self) l.fn.reader
+      l.reader;
   came : (came : List ℕ) × (length l.self.bytes ≡ length l.fn.self.bytes + length came)
       × Consumes (g.R.Source.remaining l.fn.reader) (g.R.Source.remaining l.reader) came;
 }

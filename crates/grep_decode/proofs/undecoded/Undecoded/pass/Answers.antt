@@ -16,10 +16,10 @@ returns-in-Err-clause-failed g c =
 pub returns-in-Ok-clause-decodes : goal.returns-in-Ok-clause-decodes
 returns-in-Ok-clause-decodes g c =
     let empty = ap (λ u. u.bytes) c.self.view_is ∙ c.requires.empty in
-    rw (← c.self.view_is) (Decodes-pass g.R.Source.remaining g.R.Source.step _ _ c.args.reader.now c.pull.new.self
-    c.in-Ok.count
-    (take c.in-Ok.count c.pull.new.buffer) empty empty c.if-self.false refl (sym c.in-Ok.ensures.bound.1)
-    c.in-Ok.ensures.step
+    rw (← c.self.view_is) (Decodes-pass g.R.Source.remaining g.R.Source.step _ _ c.args.reader.now
+    c.pull.new.self c.in-Ok.count
+    (take c.in-Ok.count c.pull.new.buffer) empty empty c.if-self.false refl
+    (sym c.in-Ok.ensures.bound.1) c.in-Ok.ensures.step
     c.in-Ok.ensures.bytes.0 (λ none. c.in-Ok.ensures.bytes.1 none (grind (arith, places))))
 
 pub returns-in-Ok-clause-begins : goal.returns-in-Ok-clause-begins

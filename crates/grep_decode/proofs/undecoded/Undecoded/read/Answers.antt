@@ -22,14 +22,15 @@ loop-label-preserved g c =
     let mid = c.decode-count.new.self in
     let same = c.decode-count.ensures.stays (omega (arith, c.if-count-gt0.false)) in
     let P : UndecodedBytes → Type 0 = λ u.
-    Decodes g.R.Source.remaining g.R.Source.step (holding mode first) c.args.reader.now [] (holding mode u)
-    c.loop-label.reader in
+    Decodes g.R.Source.remaining g.R.Source.step (holding mode first) c.args.reader.now []
+    (holding mode u) c.loop-label.reader in
     let grows = c.in-Ok.ensures.grows in
     record {
-      capacity = grows.capacity ∙ (c.decode-count.ensures.capacity ∙ c.loop-label.invariant.capacity);
+      capacity = grows.capacity
+          ∙ (c.decode-count.ensures.capacity ∙ c.loop-label.invariant.capacity);
       room = omega (arith, c.decode-count.ensures.same_room, c.loop-label.invariant.room);
-      decodes = hold-more g.R.Source.remaining g.R.Source.step mode first mid c.pull.new.self c.args.reader.now
-          c.loop-label.reader
+      decodes = hold-more g.R.Source.remaining g.R.Source.step mode first mid c.pull.new.self
+          c.args.reader.now c.loop-label.reader
           c.pull.new.reader c.in-Ok.field-0 (sym c.if-has_ended.ensures)
           (subst P (sym same) c.loop-label.invariant.decodes) grows;
       last = inr (record {
@@ -50,17 +51,18 @@ returns-then-count-gt0-clause-decodes g c =
     let before = c.loop-label.self in
     let after = c.decode-count.new.self in
     let given = take c.decode-count.result c.decode-count.new.output in
-    Decodes-append g.R.Source.remaining g.R.Source.step (holding mode c.args.self.now) (holding mode before)
-    (holding mode after)
-    c.args.reader.now c.loop-label.reader c.loop-label.reader [] given c.loop-label.invariant.decodes
-    (Decodes-text g.R.Source.remaining g.R.Source.step c.args.label before after c.loop-label.reader given
-    c.decode-count.ensures.ended
-    c.decode-count.ensures.text c.decode-count.ensures.last)
+    Decodes-append g.R.Source.remaining g.R.Source.step (holding mode c.args.self.now)
+    (holding mode before) (holding mode after)
+    c.args.reader.now c.loop-label.reader c.loop-label.reader [] given
+    c.loop-label.invariant.decodes
+    (Decodes-text g.R.Source.remaining g.R.Source.step c.args.label before after c.loop-label.reader
+    given c.decode-count.ensures.ended c.decode-count.ensures.text c.decode-count.ensures.last)
 
 pub returns-then-count-gt0-clause-done : goal.returns-then-count-gt0-clause-done
 returns-then-count-gt0-clause-done g c = λ none.
     let ended : c.decode-count.new.self.has_ended ≡ true = elim c.then-count-gt0.branch [
       | then-count-gt0-via-then-count-gt0 w ↦ absurd (omega (arith, none, w.if-count-gt0.true))
-      | then-count-gt0-via-else-count-gt0+then-has_ended w ↦ sym w.has_ended.ensures ∙ w.if-has_ended.true
+      | then-count-gt0-via-else-count-gt0+then-has_ended w ↦ sym w.has_ended.ensures
+          ∙ w.if-has_ended.true
     ] in
     record { ended = ended; ready = refl {a = []}; held = c.decode-count.ensures.all none ended }

@@ -9,10 +9,11 @@ abbrev pub invariant-loop-label : goal.invariant-loop-label
 invariant-loop-label g l = record {
   capacity : l.self.capacity ≡ l.fn.self.capacity;
   room : 4 ≤ length l.output;
-  decodes : Decodes g.R.Source.remaining g.R.Source.step (holding (Decoding l.label) l.fn.self) l.fn.reader []
-      (holding (Decoding l.label) l.self) l.reader;
+  decodes : Decodes g.R.Source.remaining g.R.Source.step (holding (Decoding l.label) l.fn.self)
+      l.fn.reader [] (holding (Decoding l.label) l.self) l.reader;
   last : (l.reader ≡ l.fn.reader)
-      ⊎ HasWaited g.R.Source.remaining g.R.Source.step (holding (Decoding l.label) l.fn.self) l.fn.reader l.reader;
+      ⊎ HasWaited g.R.Source.remaining g.R.Source.step (holding (Decoding l.label) l.fn.self)
+      l.fn.reader l.reader;
 }
 
 abbrev pub decreases-loop-label : goal.decreases-loop-label

@@ -7,13 +7,11 @@ pub returns : goal.returns
 returns g c =
     let u = c.self.inside in
     let P : UndecodedBytes → Type 0 = λ now. c.args.count ≤ length now.bytes in
-    let fits : c.args.count ≤ length (take (u.end - u.start) (drop u.start u.buffer.items)) = subst P
-    (sym c.self.view_is) c.requires in
+    let fits : c.args.count ≤ length (take (u.end - u.start) (drop u.start u.buffer.items)) =
+    subst P (sym c.self.view_is) c.requires in
     rw (← c.self.view_is) (ap (λ bytes. record {
       bytes = bytes;
       has_ended = u.has_ended;
-      capacity = length
-          u.buffer.items;
-    })
-    (window-skipped u.start u.end c.args.count u.buffer.items
+      capacity = length u.buffer.items;
+    }) (window-skipped u.start u.end c.args.count u.buffer.items
     (omega (arith, fits, length-take (u.end - u.start) (drop u.start u.buffer.items)))))

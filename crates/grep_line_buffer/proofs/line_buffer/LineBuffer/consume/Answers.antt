@@ -11,4 +11,5 @@ returns g c =
     let fits = subst P (sym c.self.view_is) c.requires in
     rw (← c.self.view_is) (window-same _ _ _ _ _ _ _ _ _ _ _ _ _ _
     (sym (drop-slice b.bytes.items b.start b.line_end c.args.count
-    (omega (arith, fits, length-slice b.bytes.items b.start b.line_end (omega arith))))) refl refl refl)
+    (omega (arith, fits, length-slice b.bytes.items b.start b.line_end (omega arith))))) refl refl
+    refl)

@@ -1,24 +1,29 @@
-use Rattle.std.proofs.Common.{◌≡◌, ◌<◌, inl, Bool, length, true, false, refl, sym, ap, ◌∙◌, rules, arith}
+use Rattle.std.proofs.Common.{◌≡◌, ◌<◌, inl, Bool, length, true, false, refl, sym, ap, ◌∙◌, rules}
+use Rattle.std.proofs.Common.{arith}
 use Rattle.std.proofs.lemmas.Bool.{false≢true}
 use Rattle.std.proofs.lemmas.List.{nil_from_length}
 use Rattle.std.proofs.lemmas.Result.{err_from_is_err_and}
 use Rattle.grep_decode.proofs.DecoderLemmas.{Decodes-none, reads-fail}
 use Rattle.grep_line_buffer.specs.BufferStates.{held_bytes, has_quit, HasNoLine}
 use Rattle.grep_line_buffer.specs.Fills.{PassesOffsets}
-use Rattle.grep_line_buffer.proofs.FillLemmas.{Fills-none, only-limit, Outcome-none, IsFilling-stopped, IsFilling-shown}
-use Rattle.grep_line_buffer.proofs.FillLemmas.{Comes-detected, IsFilling-byte, IsFilling-ended, IsFilling-line}
-use Rattle.grep_line_buffer.proofs.FillLemmas.{IsFilling-more, IsFilling-none, IsFilling-past}
-use Rattle.grep_line_buffer.proofs.FillLemmas.{HasNone-first, HasNone-room, HasNone-fault, HasNone-end, HasNone-more}
-use Rattle.grep_line_buffer.proofs.FillLemmas.{HasNone-full, filled-before, unless-read, if-read-full, ended_of}
-use Rattle.grep_line_buffer.proofs.FillLemmas.{HasNone-begun, HasNone-waited, size_of}
+use Rattle.grep_line_buffer.proofs.FillLemmas.{Fills-none, Outcome-none, IsFilling-stopped}
+use Rattle.grep_line_buffer.proofs.FillLemmas.{IsFilling-shown, Comes-detected, IsFilling-byte}
+use Rattle.grep_line_buffer.proofs.FillLemmas.{IsFilling-ended, IsFilling-line, IsFilling-more}
+use Rattle.grep_line_buffer.proofs.FillLemmas.{IsFilling-none, IsFilling-past, HasNone-first}
+use Rattle.grep_line_buffer.proofs.FillLemmas.{HasNone-room, HasNone-fault, HasNone-end}
+use Rattle.grep_line_buffer.proofs.FillLemmas.{HasNone-more, HasNone-full, HasNone-begun}
+use Rattle.grep_line_buffer.proofs.FillLemmas.{HasNone-waited}
+use Rattle.grep_line_buffer.proofs.FillPartLemmas.{only-limit, filled-before, unless-read}
+use Rattle.grep_line_buffer.proofs.FillPartLemmas.{if-read-full, ended_of, size_of}
 use Rattle.grep_line_buffer.proofs.line_buffer.LineBuffer.fill.Goals as goal
 
 pub returns-then-has_ended : goal.returns-then-has_ended
 returns-then-has_ended g c =
-    let was : c.args.self.now.has_ended ≡ true = sym c.has_ended.ensures.value ∙ c.if-has_ended.true in
+    let was : c.args.self.now.has_ended ≡ true = sym c.has_ended.ensures.value
+    ∙ c.if-has_ended.true in
     let shown = c.has_ended.ensures.shown c.if-has_ended.true in
-    let out = Outcome-none g.R.Source.remaining g.R.Source.step c.args.self.now _ _ (Decodes-none g.R.Source.remaining g.R.Source.step _ _)
-    c.has_ended.ensures.within in
+    let out = Outcome-none g.R.Source.remaining g.R.Source.step c.args.self.now _ _
+    (Decodes-none g.R.Source.remaining g.R.Source.step _ _) c.has_ended.ensures.within in
     let filled = filled-before c.args.self.now was shown.0 shown.1 in
     record {
       same = out.same;
@@ -50,17 +55,17 @@ returns-then-has_ended g c =
 
 pub returns-then-not-has_offsets : goal.returns-then-not-has_offsets
 returns-then-not-has_offsets g c =
-    let was : c.args.self.now.has_ended ≡ false = sym c.has_ended.ensures.value ∙ c.if-has_ended.false in
+    let was : c.args.self.now.has_ended ≡ false = sym c.has_ended.ensures.value
+    ∙ c.if-has_ended.false in
     let past = c.if-not-has_offsets.ensures in
     let error : PassesOffsets c.args.self.now c.args.self.now = record {
       past = past;
       shown = λ fits. absurd (omega (arith, past, fits));
       same = λ passed. refl;
       unended = was;
-    }
-    in
-    let out = Outcome-none g.R.Source.remaining g.R.Source.step c.args.self.now _ _ (Decodes-none g.R.Source.remaining g.R.Source.step _ _)
-    c.has_ended.ensures.within in
+    } in
+    let out = Outcome-none g.R.Source.remaining g.R.Source.step c.args.self.now _ _
+    (Decodes-none g.R.Source.remaining g.R.Source.step _ _) c.has_ended.ensures.within in
     record {
       same = out.same;
       within = out.within;
@@ -93,13 +98,15 @@ pub returns-in_err-make_room : goal.returns-in_err-make_room
 returns-in_err-make_room g c =
     let p = err_from_is_err_and c.from_residual.result c.from_residual.ensures.1 in
     let e = c.in_err-make_room.field-0.0 in
-    let was : c.args.self.now.has_ended ≡ false = sym c.has_ended.ensures.value ∙ c.if-has_ended.false in
+    let was : c.args.self.now.has_ended ≡ false = sym c.has_ended.ensures.value
+    ∙ c.if-has_ended.false in
     let before = c.reads.invariant in
     let full = c.in_err-make_room.ensures.err in
     let unended = ap ended_of full.0 ∙ before.filling.unended in
-    let out = IsFilling-stopped g.R.Source.remaining g.R.Source.step _ _ _ _ _ _ _ before.filling full.0 in
-    let error = HasNone-full g.R.Source.remaining g.R.Source.step _ _ _ _ _ _ _ e before full.0 full.1
-    full.2 in
+    let out = IsFilling-stopped g.R.Source.remaining g.R.Source.step _ _ _ _ _ _ _ before.filling
+    full.0 in
+    let error = HasNone-full g.R.Source.remaining g.R.Source.step _ _ _ _ _ _ _ e before full.0
+    full.1 full.2 in
     rw (p.1, p.2) (record {
       same = out.same;
       within = out.within;
@@ -130,13 +137,14 @@ returns-in_err-make_room g c =
 
 pub returns-in-Err : goal.returns-in-Err
 returns-in-Err g c =
-    let was : c.args.self.now.has_ended ≡ false = sym c.has_ended.ensures.value ∙ c.if-has_ended.false in
+    let was : c.args.self.now.has_ended ≡ false = sym c.has_ended.ensures.value
+    ∙ c.if-has_ended.false in
     let made = c.make_room.ensures in
-    let room = HasNone-room _ _ _ _ _ _ _ _ _ _ _ c.reads.invariant made.same made.free made.within made.grows in
+    let room = HasNone-room _ _ _ _ _ _ _ _ _ _ _ c.reads.invariant made.same made.free made.within
+    made.grows in
     let failed = c.in-Err.ensures.failed in
     let out = HasNone-fault _ _ _ _ _ _ _ _ _ _ _ c.in-Err.e room failed
-    c.in_ok-make_room.ensures.ok
-    c.read.ensures.capacity c.in-Err.ensures.same in
+    c.in_ok-make_room.ensures.ok c.read.ensures.capacity c.in-Err.ensures.same in
     let error : HasNoLine c.args.self.now c.read.new.self
     × (length (held_bytes c.read.new.self) < c.read.new.self.size) = (out.line, out.room) in
     record {
@@ -151,7 +159,8 @@ returns-in-Err g c =
       filled = tt;
       error = error;
       limit = only-limit _ _ _ error tt;
-      fault = reads-fail g.R.Source.remaining g.R.Source.step _ _ _ _ _ _ _ _ room.filling.read.decodes failed.failed;
+      fault = reads-fail g.R.Source.remaining g.R.Source.step _ _ _ _ _ _ _ _
+          room.filling.read.decodes failed.failed;
       uncut = out.uncut;
       fits = tt;
       begins = λ _ _ _. tt;
@@ -169,16 +178,18 @@ returns-in-Err g c =
 
 pub returns-then-count-eq0 : goal.returns-then-count-eq0
 returns-then-count-eq0 g c =
-    let was : c.args.self.now.has_ended ≡ false = sym c.has_ended.ensures.value ∙ c.if-has_ended.false in
+    let was : c.args.self.now.has_ended ≡ false = sym c.has_ended.ensures.value
+    ∙ c.if-has_ended.false in
     let made = c.make_room.ensures in
-    let room = HasNone-room _ _ _ _ _ _ _ _ _ _ _ c.reads.invariant made.same made.free made.within made.grows in
+    let room = HasNone-room _ _ _ _ _ _ _ _ _ _ _ c.reads.invariant made.same made.free made.within
+    made.grows in
     let came = c.in-Ok.ensures.reads in
     let next = IsFilling-none _ _ _ _ _ _ _ _ _ _ _ _ room came c.if-count-eq0.true
     c.read.ensures.capacity in
     let none = nil_from_length came.given (came.counted ∙ c.if-count-eq0.true) in
     let out = IsFilling-ended _ _ _ _ _ _ _ _ _ next c.end-then-count-eq0.ensures.same in
-    let filled = HasNone-end _ _ _ _ _ _ _ _ _ _ _ _ _ room came c.if-count-eq0.true c.in_ok-make_room.ensures.ok
-    c.end-then-count-eq0.ensures.same in
+    let filled = HasNone-end _ _ _ _ _ _ _ _ _ _ _ _ _ room came c.if-count-eq0.true
+    c.in_ok-make_room.ensures.ok c.end-then-count-eq0.ensures.same in
     record {
       same = out.same;
       within = out.within;
@@ -211,9 +222,11 @@ returns-then-count-eq0 g c =
 
 pub returns-then-not-has_offsets-2 : goal.returns-then-not-has_offsets-2
 returns-then-not-has_offsets-2 g c =
-    let was : c.args.self.now.has_ended ≡ false = sym c.has_ended.ensures.value ∙ c.if-has_ended.false in
+    let was : c.args.self.now.has_ended ≡ false = sym c.has_ended.ensures.value
+    ∙ c.if-has_ended.false in
     let made = c.make_room.ensures in
-    let room = HasNone-room _ _ _ _ _ _ _ _ _ _ _ c.reads.invariant made.same made.free made.within made.grows in
+    let room = HasNone-room _ _ _ _ _ _ _ _ _ _ _ c.reads.invariant made.same made.free made.within
+    made.grows in
     let came = c.in-Ok.ensures.reads in
     let comes = Comes-detected _ _ _ _ _ _ _ _ _ _ came c.detect.ensures.detects in
     let next = IsFilling-more _ _ _ _ _ _ _ _ _ _ _ _ _ room came comes
@@ -250,9 +263,11 @@ returns-then-not-has_offsets-2 g c =
 
 pub returns-then-show_lines : goal.returns-then-show_lines
 returns-then-show_lines g c =
-    let was : c.args.self.now.has_ended ≡ false = sym c.has_ended.ensures.value ∙ c.if-has_ended.false in
+    let was : c.args.self.now.has_ended ≡ false = sym c.has_ended.ensures.value
+    ∙ c.if-has_ended.false in
     let made = c.make_room.ensures in
-    let room = HasNone-room _ _ _ _ _ _ _ _ _ _ _ c.reads.invariant made.same made.free made.within made.grows in
+    let room = HasNone-room _ _ _ _ _ _ _ _ _ _ _ c.reads.invariant made.same made.free made.within
+    made.grows in
     let came = c.in-Ok.ensures.reads in
     let comes = Comes-detected _ _ _ _ _ _ _ _ _ _ came c.detect.ensures.detects in
     let next = IsFilling-more _ _ _ _ _ _ _ _ _ _ _ _ _ room came comes
@@ -261,7 +276,8 @@ returns-then-show_lines g c =
     let shows = c.if-show_lines.ensures in
     let out = IsFilling-shown _ _ _ _ _ _ _ _ _ _ next shows in
     let unended = ap ended_of shows.others ∙ next.unended in
-    let filled = IsFilling-line _ _ _ _ _ _ _ _ _ _ _ _ _ _ room comes came.counted going next shows in
+    let filled = IsFilling-line _ _ _ _ _ _ _ _ _ _ _ _ _ _ room comes came.counted going next
+    shows in
     record {
       same = out.same;
       within = out.within;
@@ -293,33 +309,37 @@ returns-then-show_lines g c =
     }
 
 pub reads-init : goal.reads-init
-reads-init g c = HasNone-first g.R.Source.remaining g.R.Source.step _ _ _ _ _ (Decodes-none g.R.Source.remaining g.R.Source.step _ _)
-    c.roll.ensures.same
-    (c.roll.ensures.free ∙ ap size_of c.roll.ensures.same) (sym c.has_ended.ensures.value ∙ c.if-has_ended.false)
-    c.has_ended.ensures.within c.if-not-has_offsets.ensures
+reads-init g c = HasNone-first g.R.Source.remaining g.R.Source.step _ _ _ _ _
+    (Decodes-none g.R.Source.remaining g.R.Source.step _ _) c.roll.ensures.same
+    (c.roll.ensures.free ∙ ap size_of c.roll.ensures.same) (sym c.has_ended.ensures.value
+    ∙ c.if-has_ended.false) c.has_ended.ensures.within c.if-not-has_offsets.ensures
     (ap has_quit (sym c.roll.ensures.same) ∙ (sym c.has_quit.ensures.value ∙ c.if-has_quit.false))
 
 pub reads-preserved : goal.reads-preserved
 reads-preserved g c =
     let made = c.make_room.ensures in
-    let room = HasNone-room _ _ _ _ _ _ _ _ _ _ _ c.reads.invariant made.same made.free made.within made.grows in
+    let room = HasNone-room _ _ _ _ _ _ _ _ _ _ _ c.reads.invariant made.same made.free made.within
+    made.grows in
     let came = c.in-Ok.ensures.reads in
     let comes = Comes-detected _ _ _ _ _ _ _ _ _ _ came c.detect.ensures.detects in
     let next = IsFilling-more _ _ _ _ _ _ _ _ _ _ _ _ _ room came comes
     c.read.ensures.capacity in
     let going = sym c.has_quit-in-reads.ensures.value ∙ c.if-has_quit-2.false in
     let shows = c.if-show_lines.ensures in
-    HasNone-more _ _ _ _ _ _ _ _ _ _ _ _ _ _ room comes came.counted going next shows.1 c.if-not-has_offsets-2.ensures
-    shows.0
-    (HasNone-begun g.R.Source.remaining g.R.Source.step _ _ _ _ _ _ _ room c.in_ok-make_room.ensures.ok came.reads.begins
-    came.reads.last)
-    (HasNone-waited g.R.Source.remaining g.R.Source.step _ _ _ _ _ _ _ room c.in_ok-make_room.ensures.ok came.reads.last)
+    HasNone-more _ _ _ _ _ _ _ _ _ _ _ _ _ _ room comes came.counted going next shows.1
+    c.if-not-has_offsets-2.ensures shows.0
+    (HasNone-begun g.R.Source.remaining g.R.Source.step _ _ _ _ _ _ _ room
+    c.in_ok-make_room.ensures.ok came.reads.begins came.reads.last)
+    (HasNone-waited g.R.Source.remaining g.R.Source.step _ _ _ _ _ _ _ room
+    c.in_ok-make_room.ensures.ok came.reads.last)
 
 pub returns-then-has_quit-2 : goal.returns-then-has_quit-2
 returns-then-has_quit-2 g c =
-    let was : c.args.self.now.has_ended ≡ false = sym c.has_ended.ensures.value ∙ c.if-has_ended.false in
+    let was : c.args.self.now.has_ended ≡ false = sym c.has_ended.ensures.value
+    ∙ c.if-has_ended.false in
     let made = c.make_room.ensures in
-    let room = HasNone-room _ _ _ _ _ _ _ _ _ _ _ c.reads.invariant made.same made.free made.within made.grows in
+    let room = HasNone-room _ _ _ _ _ _ _ _ _ _ _ c.reads.invariant made.same made.free made.within
+    made.grows in
     let came = c.in-Ok.ensures.reads in
     let comes = Comes-detected _ _ _ _ _ _ _ _ _ _ came c.detect.ensures.detects in
     let next = IsFilling-more _ _ _ _ _ _ _ _ _ _ _ _ _ room came comes
@@ -327,8 +347,8 @@ returns-then-has_quit-2 g c =
     let cut = sym c.has_quit-in-reads.ensures.value ∙ c.if-has_quit-2.true in
     let still = ap has_quit c.end-then-has_quit-2.ensures.same ∙ cut in
     let out = IsFilling-ended _ _ _ _ _ _ _ _ _ next c.end-then-has_quit-2.ensures.same in
-    let filled = IsFilling-byte _ _ _ _ _ _ _ _ _ next cut (c.has_quit-in-reads.ensures.room c.if-has_quit-2.true)
-    c.end-then-has_quit-2.ensures.same in
+    let filled = IsFilling-byte _ _ _ _ _ _ _ _ _ next cut
+    (c.has_quit-in-reads.ensures.room c.if-has_quit-2.true) c.end-then-has_quit-2.ensures.same in
     record {
       same = out.same;
       within = out.within;
@@ -361,5 +381,5 @@ returns-then-has_quit-2 g c =
 
 pub returns-then-has_quit-clause-reads : goal.returns-then-has_quit-clause-reads
 returns-then-has_quit-clause-reads g c =
-    Fills-none g.R.Source.remaining g.R.Source.step c.args.self.now _ _ _ _ _ (Decodes-none g.R.Source.remaining g.R.Source.step _ _)
-    c.roll.ensures.same c.end.ensures.same
+    Fills-none g.R.Source.remaining g.R.Source.step c.args.self.now _ _ _ _ _
+    (Decodes-none g.R.Source.remaining g.R.Source.step _ _) c.roll.ensures.same c.end.ensures.same

@@ -1,4 +1,5 @@
-use Rattle.std.proofs.Common.{◌≡◌, ◌+◌, ◌-◌, ◌≤◌, length, take, drop, length-take-le, length-drop, ap, ◌∙◌, arith}
+use Rattle.std.proofs.Common.{◌≡◌, ◌+◌, ◌-◌, ◌≤◌, length, take, drop, length-take-le, length-drop}
+use Rattle.std.proofs.Common.{ap, ◌∙◌, arith}
 use Rattle.std.proofs.lemmas.List.{with_items_is}
 use Rattle.std.proofs.lemmas.Result.{err_from_is_err_and}
 use Rattle.grep_line_buffer.proofs.SliceLemmas.{slice-kept, slice-grown}
@@ -15,7 +16,8 @@ returns-clause-reads g c =
     let len : length now ≡ length items = omega arith in
     let whole : length now ≡ b.bytes.len = omega arith in
     let within : b.end + n ≤ length now = c.in_ok-count.ensures.bound in
-    let front : take b.end now ≡ take b.end items = c.in_ok-count.ensures.front ∙ ap (take b.end) c.deref_mut.ensures.value in
+    let front : take b.end now ≡ take b.end items = c.in_ok-count.ensures.front
+    ∙ ap (take b.end) c.deref_mut.ensures.value in
     let left : n ≤ length (drop b.end now) = rw length-drop (omega arith) in
     let free : length now - (b.end + n) ≡ (length items - b.end) - n = omega arith in
     rw (← c.self.view_is) (record {
@@ -38,6 +40,8 @@ returns-in_err-count-clause-same g c =
     let whole : length now ≡ b.bytes.len = omega arith in
     let front : take b.end now ≡ take b.end items = c.in_err-count.ensures.front
     ∙ ap (take b.end) c.deref_mut.ensures.value in
-    rw (p.1, ← c.self.view_is) (rw (with_items_is b.bytes now whole) (window-same _ _ _ _ _ _ _ _ _ _ _ _ _ _
+    rw (p.1, ← c.self.view_is)
+    (rw (with_items_is b.bytes now whole) (window-same _ _ _ _ _ _ _ _ _ _ _ _ _ _
     (slice-kept items now b.start b.line_end b.end front (omega arith))
-    (slice-kept items now b.line_end b.end b.end front (omega arith)) len (ap (λ k. k - b.end) len)))
+    (slice-kept items now b.line_end b.end b.end front (omega arith)) len
+    (ap (λ k. k - b.end) len)))

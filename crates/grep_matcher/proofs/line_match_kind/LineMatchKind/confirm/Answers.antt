@@ -6,8 +6,8 @@ pub returns-in-Some : goal.returns-in-Some
 returns-in-Some c = record {
   value = rw (c.in-Some.is, c.end.ensures.value) refl;
   inside = λ haystack within. rw c.end.ensures.value (rw c.in-Some.is at within).1;
-  trusted = λ meaning haystack is within.
-      rw c.end.ensures.value (rw c.in-Some.is at (trusted-by-line meaning haystack c.args.found is within));
+  trusted = λ meaning haystack is within. rw c.end.ensures.value
+      (rw c.in-Some.is at (trusted-by-line meaning haystack c.args.found is within));
 }
 
 pub returns-in-None : goal.returns-in-None

@@ -13,7 +13,8 @@ pub returns-in-Some-clause-avoids : goal.returns-in-Some-clause-avoids
 returns-in-Some-clause-avoids c =
     let size : length c.needle.result.now ≡ length c.args.self.now = cc in
     let found = c.in-Some.ensures in
-    rw (c.new.ensures, size) (match-avoids c.args.haystack.now c.args.self.now c.in-Some.start found.1)
+    rw (c.new.ensures, size) (match-avoids c.args.haystack.now c.args.self.now c.in-Some.start
+    found.1)
 
 pub returns-in-None-clause-value : goal.returns-in-None-clause-value
 returns-in-None-clause-value c = match-none c.args.haystack.now c.args.self.now c.in-None.ensures

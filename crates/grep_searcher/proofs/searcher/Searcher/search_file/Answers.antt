@@ -12,14 +12,17 @@ returns-clause-in_order g c = λ allowed.
     let errors = makers_of g.M.Error.Display.output g.S.Error.SinkError.makers in
     let facts = g.M.Matcher.facts c.args.matcher in
     in_order-each g.S.Sink.step c.args.self.now.settings errors facts _ _
-    (IsReadingError-seen (λ (reader : Opened g.row.F.Denot). reader.file.now) (λ reader. reader.file.ghost_name)
+    (IsReadingError-seen (λ (reader : Opened g.row.F.Denot). reader.file.now)
+    (λ reader. reader.file.ghost_name)
     g.F.Read.remaining _ (IsFileRead g.F.Read.remaining) (λ s result t read. read)
     c.args.self.now _ c.search_reader.new.reader c.file-1.given.0 c.file-1.given.1)
-    c.args.sink.now c.search_reader.result c.search_reader.new.sink (c.search_reader.ensures.in_order allowed)
+    c.args.sink.now c.search_reader.result c.search_reader.new.sink
+    (c.search_reader.ensures.in_order allowed)
 
 pub returns-clause-searched : goal.returns-clause-searched
 returns-clause-searched g c =
-    IsReaderSearched-seen (λ (reader : Opened g.row.F.Denot). reader.file.now) (λ reader. reader.file.ghost_name)
+    IsReaderSearched-seen (λ (reader : Opened g.row.F.Denot). reader.file.now)
+    (λ reader. reader.file.ghost_name)
     g.F.Read.remaining _ (IsFileRead g.F.Read.remaining) (λ s result t read. read)
     c.args.self.now _ c.search_reader.new.reader c.file-1.given.0 c.file-1.given.1 g.S.Sink.step
     (makers_of g.M.Error.Display.output g.S.Error.SinkError.makers)
@@ -32,10 +35,10 @@ returns-clause-succeeds g c = λ never_fails infallible lawful allowed.
       unread.0,
       unread.1,
       unread.2,
-      IsUnread-seen (λ (reader : Opened g.row.F.Denot). reader.file.now) (λ reader. reader.file.ghost_name)
+      IsUnread-seen (λ (reader : Opened g.row.F.Denot). reader.file.now)
+          (λ reader. reader.file.ghost_name)
           g.F.Read.remaining _ (IsFileRead g.F.Read.remaining) (λ s result t read. read)
           c.args.self.now _ c.search_reader.new.reader c.file-1.given.0 c.file-1.given.1
-          (g.M.Matcher.facts c.args.matcher).meaning
-          unread.0 unread.1 unread.2 unread.3,
+          (g.M.Matcher.facts c.args.matcher).meaning unread.0 unread.1 unread.2 unread.3,
       unread.4,
     )) (c.search_reader.ensures.succeeds never_fails infallible lawful allowed)

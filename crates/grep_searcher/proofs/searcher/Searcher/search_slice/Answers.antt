@@ -9,8 +9,10 @@ returns-in-Some-clause-searched g c =
     let errors = makers_of g.M.Error.Display.output g.S.Error.SinkError.makers in
     let facts = g.M.Matcher.facts c.args.matcher in
     slice-refused g.S.Sink.step errors facts c.args.self.now c.args.bytes.now _
-    (rw (settings_is c.self.view_is) at (sym c.refusal.ensures ∙ c.in-Some.is)) c.args.sink.now _ c.error_config.ensures
+    (rw (settings_is c.self.view_is) at (sym c.refusal.ensures ∙ c.in-Some.is)) c.args.sink.now _
+    c.error_config.ensures
 
 pub returns-clause-searched : goal.returns-clause-searched
 returns-clause-searched g c =
-    c.search_input.ensures.searched (rw (settings_is c.self.view_is) at (sym c.refusal.ensures ∙ c.in-None.is))
+    c.search_input.ensures.searched (rw (settings_is c.self.view_is) at (sym c.refusal.ensures
+    ∙ c.in-None.is))

@@ -11,7 +11,8 @@ returns-in-Err-clause-searched g c = λ lawful.
     let errors = makers_of g.M.Error.Display.output g.S.Error.SinkError.makers in
     let facts = g.M.Matcher.facts c.args.matcher.now in
     fault-buffers g.R.Source.remaining g.R.Source.step g.S.Sink.step errors facts c.args.self.now
-    (look_of c.args.self.now.settings facts.meaning false) c.args.reader.now c.args.sink.now c.in-Err.error
+    (look_of c.args.self.now.settings facts.meaning false) c.args.reader.now c.args.sink.now
+    c.in-Err.error
     c.error_io.result c.in-Err.ensures.none c.in-Err.ensures.memory c.error_io.ensures
 
 pub returns-in-Err-clause-succeeds : goal.returns-in-Err-clause-succeeds
@@ -20,8 +21,8 @@ returns-in-Err-clause-succeeds g c = λ never infallible lawful.
       false,
       [],
       c.in-Err.error,
-      unread-buffers g.R.Source.remaining g.R.Source.step facts c.args.self.now c.args.reader.now c.in-Err.error
-          c.in-Err.ensures.none c.in-Err.ensures.memory,
+      unread-buffers g.R.Source.remaining g.R.Source.step facts c.args.self.now c.args.reader.now
+          c.in-Err.error c.in-Err.ensures.none c.in-Err.ensures.memory,
       c.error_io.ensures,
     )
 
@@ -30,25 +31,26 @@ returns-clause-searched g c = λ lawful.
     let errors = makers_of g.M.Error.Display.output g.S.Error.SinkError.makers in
     let facts = g.M.Matcher.facts c.args.matcher.now in
     let same = sym c.search-search.ensures.configured.same ∙ c.in-Ok.ensures.settings in
-    searched-same g.R.Source.remaining g.R.Source.step g.S.Sink.step errors facts c.search-search.result.config
-    c.args.self.now c.args.reader.now c.args.sink.now c.search_reader-result.result c.search_reader-result.new.reader
-    c.search_reader-result.new.sink same
-    (c.search_reader-result.ensures.searched (subst (λ k. IsLawful facts k) (sym same)
-    lawful))
+    searched-same g.R.Source.remaining g.R.Source.step g.S.Sink.step errors facts
+    c.search-search.result.config
+    c.args.self.now c.args.reader.now c.args.sink.now c.search_reader-result.result
+    c.search_reader-result.new.reader c.search_reader-result.new.sink same
+    (c.search_reader-result.ensures.searched (subst (λ k. IsLawful facts k) (sym same) lawful))
 
 pub returns-clause-succeeds : goal.returns-clause-succeeds
 returns-clause-succeeds g c = λ never infallible lawful.
     let errors = makers_of g.M.Error.Display.output g.S.Error.SinkError.makers in
     let facts = g.M.Matcher.facts c.args.matcher.now in
     let same = sym c.search-search.ensures.configured.same ∙ c.in-Ok.ensures.settings in
-    unread-same g.R.Source.remaining g.R.Source.step g.S.Sink.step errors facts c.search-search.result.config
-    c.args.self.now c.args.reader.now c.search_reader-result.result c.search_reader-result.new.reader same
-    (c.search_reader-result.ensures.succeeds never infallible
+    unread-same g.R.Source.remaining g.R.Source.step g.S.Sink.step errors facts
+    c.search-search.result.config c.args.self.now c.args.reader.now c.search_reader-result.result
+    c.search_reader-result.new.reader same (c.search_reader-result.ensures.succeeds never infallible
     (subst (λ k. IsLawful facts k) (sym same) lawful))
 
 pub returns-in-Err-clause-in_order : goal.returns-in-Err-clause-in_order
 returns-in-Err-clause-in_order g c =
-    read_in_order c.in-Err.error (inr (inr (inr c.in-Err.ensures.memory))) c.error_io.ensures (inl refl)
+    read_in_order c.in-Err.error (inr (inr (inr c.in-Err.ensures.memory))) c.error_io.ensures
+    (inl refl)
 
 pub returns-clause-in_order : goal.returns-clause-in_order
 returns-clause-in_order g c =
@@ -57,6 +59,6 @@ returns-clause-in_order g c =
     let same = sym c.search-search.ensures.configured.same ∙ c.in-Ok.ensures.settings in
     let of_reading = IsReadingError g.R.Source.remaining g.R.Source.step c.args.reader.now
     c.search_reader-result.new.reader in
-    subst (λ k. IsInOrder g.S.Sink.step errors facts k of_reading c.args.sink.now c.search_reader-result.result
-    c.search_reader-result.new.sink) same
+    subst (λ k. IsInOrder g.S.Sink.step errors facts k of_reading c.args.sink.now
+    c.search_reader-result.result c.search_reader-result.new.sink) same
     c.search_reader-result.ensures.in_order

@@ -4,7 +4,8 @@ use Rattle.grep_searcher.proofs.sinks.UTF8Sink.matched.Goals as goal
 pub returns-in_err-number_of-in-Ok-clause-step : goal.returns-in_err-number_of-in-Ok-clause-step
 returns-in_err-number_of-in-Ok-clause-step g c = search rules
 
-pub returns-in_err-number_of-in-Ok-clause-may_call : goal.returns-in_err-number_of-in-Ok-clause-may_call
+pub returns-in_err-number_of-in-Ok-clause-may_call :
+    goal.returns-in_err-number_of-in-Ok-clause-may_call
 returns-in_err-number_of-in-Ok-clause-may_call g c = search rules
 
 pub returns-in_ok-number_of-in-Ok-clause-step : goal.returns-in_ok-number_of-in-Ok-clause-step

@@ -22,9 +22,15 @@ returns c =
     (ap (λ x. x - low) c.end.ensures.value) in
     let from_start : part.0 ≡ found.0 - low = ap (λ x. x.0) part_is in
     let from_end : part.1 ≡ found.1 - low = ap (λ x. x.1) part_is in
-    let start : block_start c.as_byte.result shown part ≡ block_start t rest (found.0 - low, found.1 - low) =
+    let start : block_start c.as_byte.result shown part ≡ block_start t rest (
+      found.0 - low,
+      found.1 - low,
+    ) =
     rw (terminator, whole, part_is) refl in
-    let end : block_end c.as_byte.result shown part ≡ block_end t rest (found.0 - low, found.1 - low) =
+    let end : block_end c.as_byte.result shown part ≡ block_end t rest (
+      found.0 - low,
+      found.1 - low,
+    ) =
     rw (terminator, whole, part_is) refl in
     let at = c.locate.ensures in
     let at_start : c.offset.result.0 ≡ c.locate.result.0 + low = ap (λ x. x.0) c.offset.ensures in

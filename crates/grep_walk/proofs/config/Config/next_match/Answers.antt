@@ -7,9 +7,11 @@ use Rattle.grep_walk.proofs.FoundMatchLemmas.{no-more, no-more-missed, found-nex
 use Rattle.grep_walk.proofs.config.Config.next_match.Goals as goal
 
 -- the bytes from a position on, as a slice of them is
-rest-is : (bytes : List ℕ) (position : ℕ) → take (length bytes - position) (drop position bytes) ≡ drop position bytes
+rest-is : (bytes : List ℕ) (position : ℕ) → take (length bytes - position) (drop position bytes)
+    ≡ drop position bytes
 rest-is bytes position =
-    take_all (length bytes - position) (drop position bytes) (omega (arith, length-drop position bytes))
+    take_all (length bytes - position) (drop position bytes)
+    (omega (arith, length-drop position bytes))
 
 pub returns-then-blocks-bytes-clause-none : goal.returns-then-blocks-bytes-clause-none
 returns-then-blocks-bytes-clause-none g c =
@@ -39,10 +41,11 @@ returns-clause-some g c =
     let bytes = c.args.bytes.now in
     let meaning = (g.M.Matcher.facts c.args.matcher.now).meaning in
     let whole = rest-is bytes b.position in
-    let some : meaning.first (take (length bytes - b.position) (drop b.position bytes)) ≡ Some c.in-Some.found =
+    let some : meaning.first (take (length bytes - b.position) (drop b.position bytes))
+    ≡ Some c.in-Some.found =
     sym c.in_ok-found.ensures.value ∙ c.in-Some.is in
-    let inside = subst (IsWithin (take (length bytes - b.position) (drop b.position bytes))) c.in-Some.is
-    c.in_ok-found.ensures.within in
+    let inside = subst (IsWithin (take (length bytes - b.position) (drop b.position bytes)))
+    c.in-Some.is c.in_ok-found.ensures.within in
     found-next c.args.self.now meaning bytes b c.in-Some.found
     c.offset-found.result c.position_after-blocks.result c.one_less-blocks.result
     (omega arith) (search rules)
@@ -58,7 +61,8 @@ returns-in_err-found-clause-fault g c =
     let meaning = (g.M.Matcher.facts c.args.matcher.now).meaning in
     rw (p.1, p.2) (λ asked so_far. (
       drop b.position bytes,
-      asked-next c.args.self.now meaning bytes b.position b.left asked so_far (omega arith) (search rules),
+      asked-next c.args.self.now meaning bytes b.position b.left asked so_far (omega arith)
+          (search rules),
       subst (λ rest. (g.M.Matcher.facts c.args.matcher.now).fails rest c.in_err-found.field-0.0)
           (rest-is bytes b.position) c.in_err-found.ensures.error,
     ))

@@ -4,7 +4,8 @@ use Rattle.grep_walk.proofs.config.Config.next_unit.Given as goal
 
 abbrev pub invariant-matches : goal.invariant-matches
 invariant-matches g l = record {
-  reached : IsReached l.self (g.M.Matcher.facts l.matcher).meaning l.bytes l.fn.blocks.end l.blocks l.unit;
+  reached : IsReached l.self (g.M.Matcher.facts l.matcher).meaning l.bytes l.fn.blocks.end l.blocks
+      l.unit;
 }
 
 abbrev pub decreases-matches : goal.decreases-matches
