@@ -1,4 +1,4 @@
--- Calls in order of a sink that passes them on: one to which the first binary byte is noted, and
+-- ReadsSince in order of a sink that passes them on: one to which the first binary byte is noted, and
 -- one that looks for a byte in each report.
 use Rattle.std.proofs.Common.{◌≡◌, ℕ, Bool, true, false, Option, Some, None, length, List, [], refl}
 use Rattle.std.proofs.Common.{sym, ap, subst, ◌∙◌, inl, inr, ◌+◌, ◌∷◌, ◌≤◌, arith}
@@ -9,7 +9,7 @@ use Rattle.std.proofs.lemmas.Option.{none-some}
 use Rattle.std.proofs.lemmas.Bool.{false≢true}
 use Rattle.std.proofs.lemmas.List.Elements.{All-nil, All-cons}
 use Rattle.std.specs.declared.io.Error.{Error}
-use Rattle.grep_decode.specs.DecoderStates.{Calls, DecoderState, Decodes}
+use Rattle.grep_decode.specs.DecoderStates.{ReadsSince, DecoderState, Decodes}
 use Rattle.grep_decode.specs.Source.{ReadResult}
 use Rattle.grep_definitions.specs.Searches.{is_detecting, planned_binary, IsReadingError, IsInOrder}
 use Rattle.grep_definitions.specs.Searches.{ran_in_order, comes_between, HasFailedRead}
@@ -58,8 +58,8 @@ module _ {R : Type 0} (remaining : R → Option (List ℕ)) (read_step : R → R
     record {
       ended = false;
       pieces = decodes.pieces;
-      calls = subst (λ b. Calls remaining read_step false b reader decodes.pieces mid) unended
-          (subst (λ b. Calls remaining read_step b new.has_ended reader decodes.pieces mid) started
+      calls = subst (λ b. ReadsSince remaining read_step false b reader decodes.pieces mid) unended
+          (subst (λ b. ReadsSince remaining read_step b new.has_ended reader decodes.pieces mid) started
           decodes.calls);
       takes = decodes.takes;
     },

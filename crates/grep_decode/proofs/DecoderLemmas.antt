@@ -19,11 +19,11 @@ use Rattle.grep_decode.specs.Decoded.{decoded, units_of, has_odd_byte, scalars_o
 use Rattle.grep_decode.specs.UndecodedBytes.{UndecodedBytes, Grows, holding}
 use Rattle.grep_decode.specs.Source.{ReadResult, Pulls}
 use Rattle.grep_decode.specs.Reading.{FailsWith}
-use Rattle.grep_decode.specs.DecoderStates.{DecoderState, Calls, Decodes, FailsToDecode, IsDecoded}
+use Rattle.grep_decode.specs.DecoderStates.{DecoderState, ReadsSince, Decodes, FailsToDecode, IsDecoded}
 use Rattle.grep_decode.specs.DecoderStates.{IsDone, IsSettled, LooksForMark, decode_by, mode_after}
 use Rattle.grep_decode.specs.DecoderStates.{still_to_give, HasWaited, IsWaiting, next_mode, started}
 use Rattle.grep_decode.specs.DecoderStates.{unread, yet}
-use Rattle.grep_decode.proofs.SourceRunLemmas.{Calls-none, Calls-append, Calls-ended, Calls-nothing}
+use Rattle.grep_decode.proofs.SourceRunLemmas.{ReadsSince-none, ReadsSince-append, ReadsSince-ended, ReadsSince-nothing}
 use Rattle.grep_decode.proofs.SourceRunLemmas.{FailsWith-after}
 
 -- at most so many calls are left, until the reader has ended
@@ -83,7 +83,7 @@ module _ {R : Type 0} (remaining : R → Option (List ℕ)) (step : R → ReadRe
   pub Decodes-none : (d : DecoderState) (r : R) → Decodes remaining step d r [] d r
   Decodes-none d r = record {
     pieces = [];
-    calls = Calls-none remaining step d.has_ended r;
+    calls = ReadsSince-none remaining step d.has_ended r;
     last = ([], append-nil d.held);
     takes = Consumes-nil (remaining r);
     gives = λ more end. refl;
@@ -105,7 +105,7 @@ module _ {R : Type 0} (remaining : R → Option (List ℕ)) (step : R → ReadRe
       → Decodes remaining step d1 r1 later d2 r2 → Decodes remaining step d r (given ++ later) d2 r2
   Decodes-append d d1 d2 r r1 r2 given later first second = record {
     pieces = first.pieces ++ second.pieces;
-    calls = Calls-append remaining step d.has_ended d1.has_ended d2.has_ended r r1 r2 first.pieces
+    calls = ReadsSince-append remaining step d.has_ended d1.has_ended d2.has_ended r r1 r2 first.pieces
         second.pieces first.calls second.calls;
     last = (
       first.last.0 ++ second.last.0,
@@ -122,12 +122,12 @@ module _ {R : Type 0} (remaining : R → Option (List ℕ)) (step : R → ReadRe
         (concat second.pieces) first.takes second.takes);
     gives = λ more end. ap (still_to_give d) (joined first.pieces second.pieces more)
         ∙ (first.gives (concat second.pieces ++ more)
-        (Calls-nothing remaining step d1.has_ended d2.has_ended r1 r2 second.pieces more
+        (ReadsSince-nothing remaining step d1.has_ended d2.has_ended r1 r2 second.pieces more
         second.calls end) ∙ (ap (λ l. given ++ l) (second.gives more end)
         ∙ sym (append_assoc given later (still_to_give d2 more))));
     settles = λ more end. ap (next_mode d) (joined first.pieces second.pieces more)
         ∙ (first.settles (concat second.pieces ++ more)
-        (Calls-nothing remaining step d1.has_ended d2.has_ended r1 r2 second.pieces more
+        (ReadsSince-nothing remaining step d1.has_ended d2.has_ended r1 r2 second.pieces more
         second.calls end) ∙ second.settles more end);
     stays = λ settled. second.stays (subst IsSettled (sym (first.stays settled)) settled)
         ∙ first.stays settled;
@@ -142,8 +142,8 @@ module _ {R : Type 0} (remaining : R → Option (List ℕ)) (step : R → ReadRe
               ∙ ap (λ xs. d.held ++ xs) (sym (concat-append first.pieces second.pieces)))),
         );
     enough = λ looks settled. ⊎_elim (λ was. ⊎_elim (λ long. inl (omega (arith, long, taken)))
-        (λ ended. inr (Calls-ended remaining step d2.has_ended r1 r2 second.pieces
-        (subst (λ b. Calls remaining step b d2.has_ended r1 second.pieces r2) ended second.calls)))
+        (λ ended. inr (ReadsSince-ended remaining step d2.has_ended r1 r2 second.pieces
+        (subst (λ b. ReadsSince remaining step b d2.has_ended r1 second.pieces r2) ended second.calls)))
         (first.enough looks was)) (λ fresh.
         let waits = first.unsettled fresh in
         ⊎_elim
@@ -192,8 +192,8 @@ module _ {R : Type 0} (remaining : R → Option (List ℕ)) (step : R → ReadRe
       → (front : List ℕ) × (d.held ≡ front ++ d1.held) → Decodes remaining step d r given d1 r
   Decodes-within d d1 r given ended same next settled kept few enough last = record {
     pieces = [];
-    calls = subst (λ b. Calls remaining step d.has_ended b r [] r) (sym ended)
-        (Calls-none remaining step d.has_ended r);
+    calls = subst (λ b. ReadsSince remaining step d.has_ended b r [] r) (sym ended)
+        (ReadsSince-none remaining step d.has_ended r);
     last = (last.0, append-nil d.held ∙ last.1);
     takes = Consumes-nil (remaining r);
     gives = λ more end. same more;
@@ -336,8 +336,8 @@ module _ {R : Type 0} (remaining : R → Option (List ℕ)) (step : R → ReadRe
       r
   Decodes-text label old new r given ended same last = record {
     pieces = [];
-    calls = subst (λ b. Calls remaining step old.has_ended b r [] r) (sym ended)
-        (Calls-none remaining step old.has_ended r);
+    calls = subst (λ b. ReadsSince remaining step old.has_ended b r [] r) (sym ended)
+        (ReadsSince-none remaining step old.has_ended r);
     last = (last.0, append-nil old.bytes ∙ last.1);
     takes = Consumes-nil (remaining r);
     gives = λ more end. same more;
@@ -489,36 +489,36 @@ module _ {R : Type 0} (remaining : R → Option (List ℕ)) (step : R → ReadRe
       inr (waited-some d d1 r r1 r2 first waited later)
   waited-after d d1 r r1 r2 first before (inr waited) = inr (waited-then d d1 r r1 r2 first waited)
 
-  Calls-pulls : (was is : Bool) (old new : R) (pieces : List (List ℕ))
-      → Calls remaining step was is old pieces new → is ≡ false → Pulls step old pieces new
-  Calls-pulls false false old new pieces calls unended = calls
-  Calls-pulls false true old new pieces calls unended = absurd (false≢true (sym unended))
-  Calls-pulls true is old new pieces calls unended = absurd (false≢true (sym unended ∙ calls.0))
+  ReadsSince-pulls : (was is : Bool) (old new : R) (pieces : List (List ℕ))
+      → ReadsSince remaining step was is old pieces new → is ≡ false → Pulls step old pieces new
+  ReadsSince-pulls false false old new pieces calls unended = calls
+  ReadsSince-pulls false true old new pieces calls unended = absurd (false≢true (sym unended))
+  ReadsSince-pulls true is old new pieces calls unended = absurd (false≢true (sym unended ∙ calls.0))
 
   pub FailsToDecode-reader : (d d1 : DecoderState) (r r1 : R) (e : Error)
       → FailsToDecode remaining step d r e d1 r1 → FailsWith step r e r1
   FailsToDecode-reader d d1 r r1 e fails = (
     fails.decodes.pieces,
     fails.mid,
-    Calls-pulls d.has_ended d1.has_ended r fails.mid fails.decodes.pieces fails.decodes.calls
+    ReadsSince-pulls d.has_ended d1.has_ended r fails.mid fails.decodes.pieces fails.decodes.calls
         fails.unended,
     fails.failed,
   )
 
-  Calls-unended : (was is : Bool) (old new : R) (pieces : List (List ℕ))
-      → Calls remaining step was is old pieces new → is ≡ false → was ≡ false
-  Calls-unended false is old new pieces calls unended = refl
-  Calls-unended true is old new pieces calls unended = absurd (false≢true (sym unended ∙ calls.0))
+  ReadsSince-unended : (was is : Bool) (old new : R) (pieces : List (List ℕ))
+      → ReadsSince remaining step was is old pieces new → is ≡ false → was ≡ false
+  ReadsSince-unended false is old new pieces calls unended = refl
+  ReadsSince-unended true is old new pieces calls unended = absurd (false≢true (sym unended ∙ calls.0))
 
   pub reads-fail : (d d1 d2 : DecoderState) (r r1 r2 : R) (given : List ℕ) (e : Error)
       → Decodes remaining step d r given d1 r1
       → FailsToDecode remaining step d1 r1 e d2 r2 → FailsWith step r e r2
   reads-fail d d1 d2 r r1 r2 given e first fails =
       let unended : d1.has_ended ≡ false =
-      Calls-unended d1.has_ended d2.has_ended r1 fails.mid fails.decodes.pieces fails.decodes.calls
+      ReadsSince-unended d1.has_ended d2.has_ended r1 fails.mid fails.decodes.pieces fails.decodes.calls
       fails.unended in
       FailsWith-after step first.pieces r r1 r2 e
-      (Calls-pulls d.has_ended d1.has_ended r r1 first.pieces first.calls unended)
+      (ReadsSince-pulls d.has_ended d1.has_ended r r1 first.pieces first.calls unended)
       (FailsToDecode-reader d1 d2 r1 r2 e fails)
 
   -- ---- a reader that says which bytes remain
@@ -529,7 +529,7 @@ module _ {R : Type 0} (remaining : R → Option (List ℕ)) (step : R → ReadRe
 
   yet-from : (d d1 : DecoderState) (was is : Bool) (old new : R) (before after : Option (List ℕ))
       (pieces : List (List ℕ)) (given : List ℕ) → d.has_ended ≡ was → d1.has_ended ≡ is
-      → Calls remaining step was is old pieces new → before ≡ remaining old → after ≡ remaining new
+      → ReadsSince remaining step was is old pieces new → before ≡ remaining old → after ≡ remaining new
       → Consumes before after (concat pieces) → ((more : List ℕ) → (d1.has_ended ≡ true → more ≡ [])
       → still_to_give d (concat pieces ++ more) ≡ given ++ still_to_give d1 more)
       → Consumes (yet d before) (yet d1 after) given
@@ -591,7 +591,7 @@ module _ {R : Type 0} (remaining : R → Option (List ℕ)) (step : R → ReadRe
 
   all-given : (label : Option Label) (sniff : Bool) (capacity : ℕ) (d : DecoderState) (is : Bool)
       (r r1 : R) (given : List ℕ)
-      (pieces : List (List ℕ)) → is ≡ true → Calls remaining step false is r pieces r1
+      (pieces : List (List ℕ)) → is ≡ true → ReadsSince remaining step false is r pieces r1
       → Consumes (remaining r) (remaining r1) (concat pieces)
       → still_to_give (started capacity label sniff) (concat pieces ++ []) ≡ given
       ++ still_to_give d [] → IsDone d → IsDecoded remaining step label sniff r given r1

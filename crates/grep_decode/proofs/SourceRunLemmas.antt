@@ -6,7 +6,7 @@ use Rattle.std.specs.List.{concat}
 use Rattle.std.specs.declared.io.Error.{Error}
 use Rattle.grep_decode.specs.Source.{ReadResult, Pulls}
 use Rattle.grep_decode.specs.Reading.{FailsWith}
-use Rattle.grep_decode.specs.DecoderStates.{Calls}
+use Rattle.grep_decode.specs.DecoderStates.{ReadsSince}
 
 module _ {S : Type 0} (step : S → ReadResult → S → Type 0) where
   -- two runs, one after the other
@@ -23,38 +23,38 @@ module _ {S : Type 0} (step : S → ReadResult → S → Type 0) where
       (pieces ++ later, last, Pulls-append pieces later old mid last run rest, failed)
 
 module _ {S : Type 0} (remaining : S → Option (List ℕ)) (step : S → ReadResult → S → Type 0) where
-  pub Calls-none : (ended : Bool) (s : S) → Calls remaining step ended ended s [] s
-  Calls-none true s = (refl, refl, refl)
-  Calls-none false s = refl
+  pub ReadsSince-none : (ended : Bool) (s : S) → ReadsSince remaining step ended ended s [] s
+  ReadsSince-none true s = (refl, refl, refl)
+  ReadsSince-none false s = refl
 
   -- after the end no calls are made
-  pub Calls-ended : (is : Bool) (old new : S) (pieces : List (List ℕ))
-      → Calls remaining step true is old pieces new → is ≡ true
-  Calls-ended is old new pieces calls = calls.0
+  pub ReadsSince-ended : (is : Bool) (old new : S) (pieces : List (List ℕ))
+      → ReadsSince remaining step true is old pieces new → is ≡ true
+  ReadsSince-ended is old new pieces calls = calls.0
 
-  pub Calls-append : (was is then : Bool) (old mid new : S) (first second : List (List ℕ))
-      → Calls remaining step was is old first mid
-      → Calls remaining step is then mid second new → Calls remaining step was
+  pub ReadsSince-append : (was is then : Bool) (old mid new : S) (first second : List (List ℕ))
+      → ReadsSince remaining step was is old first mid
+      → ReadsSince remaining step is then mid second new → ReadsSince remaining step was
       then old (first ++ second) new
-  Calls-append false false false old mid new first second run next =
+  ReadsSince-append false false false old mid new first second run next =
       Pulls-append step first second old mid new run next
-  Calls-append false false true old mid new first second run (last, next, ended, end) =
+  ReadsSince-append false false true old mid new first second run (last, next, ended, end) =
       (last, Pulls-append step first second old mid last run next, ended, end)
-  Calls-append false true false old mid new first second run (is, none, same) =
+  ReadsSince-append false true false old mid new first second run (is, none, same) =
       absurd (false≢true is)
-  Calls-append false true true old mid new first second run (is, none, same) =
-      subst (λ s. Calls remaining step false true old (first ++ second) s) (sym same)
-      (subst (λ ps. Calls remaining step false true old ps mid)
+  ReadsSince-append false true true old mid new first second run (is, none, same) =
+      subst (λ s. ReadsSince remaining step false true old (first ++ second) s) (sym same)
+      (subst (λ ps. ReadsSince remaining step false true old ps mid)
       (sym (ap (λ ps. first ++ ps) none ∙ append-nil first)) run)
-  Calls-append true false then old mid new first second (is, none, same) next =
+  ReadsSince-append true false then old mid new first second (is, none, same) next =
       absurd (false≢true is)
-  Calls-append true true then old mid new first second (is, none, same) (also, nothing, kept) =
+  ReadsSince-append true true then old mid new first second (is, none, same) (also, nothing, kept) =
       (also, ap (λ ps. ps ++ second) none ∙ nothing, kept ∙ same)
 
   -- no bytes come after the end
-  pub Calls-nothing : (was is : Bool) (old new : S) (pieces : List (List ℕ)) (more : List ℕ)
-      → Calls remaining step was is old pieces new
+  pub ReadsSince-nothing : (was is : Bool) (old new : S) (pieces : List (List ℕ)) (more : List ℕ)
+      → ReadsSince remaining step was is old pieces new
       → (is ≡ true → more ≡ []) → was ≡ true → concat pieces ++ more ≡ []
-  Calls-nothing true is old new pieces more (also, none, same) end ended =
+  ReadsSince-nothing true is old new pieces more (also, none, same) end ended =
       ap (λ ps. concat ps ++ more) none ∙ end also
-  Calls-nothing false is old new pieces more calls end ended = absurd (false≢true ended)
+  ReadsSince-nothing false is old new pieces more calls end ended = absurd (false≢true ended)

@@ -10,7 +10,7 @@ use Rattle.grep_decode.specs.declared.mode.Mode.TheVariants.{Fresh, Passing, Dec
 use Rattle.grep_decode.specs.declared.label.Label.{Label}
 use Rattle.grep_decode.specs.declared.label.Label.TheVariants.{Utf8, Utf16Le, Utf16Be}
 use Rattle.grep_decode.specs.Decoded.{IsUnfinished, decoded, found_mark, mark_of, text_of}
-use Rattle.grep_decode.specs.Source.{ReadResult, Pulls}
+use Rattle.grep_decode.specs.Source.{ReadResult, Pulls, Reads}
 use Rattle.std.specs.declared.io.Error.{Error}
 
 -- A decoder: decoded bytes that weren't given yet, bytes of the reader that weren't decoded yet,
@@ -132,11 +132,9 @@ pub record IsDone (d : DecoderState) : Type 0 where
 module _ {R : Type 0} (remaining : R → Option (List ℕ)) (step : R → ReadResult → R → Type 0) where
   -- The calls of the reader that returned these pieces, by whether it had ended before and has
   -- ended now: when it ends, one more call returned no bytes; after its end it isn't called.
-  abbrev pub Calls : Bool → Bool → R → List (List ℕ) → R → Type 0
-  Calls false false old pieces new = Pulls step old pieces new
-  Calls false true old pieces new =
-      (mid : R) × Pulls step old pieces mid × step mid (Ok []) new × IsAtEnd (remaining new)
-  Calls true had old pieces new = (had ≡ true) × (pieces ≡ []) × (new ≡ old)
+  abbrev pub ReadsSince : Bool → Bool → R → List (List ℕ) → R → Type 0
+  ReadsSince false has old pieces new = Reads remaining step has old pieces new
+  ReadsSince true has old pieces new = (has ≡ true) × (pieces ≡ []) × (new ≡ old)
 
   -- Reads of a decoder gave these bytes: calls of the reader returned some pieces, and what the
   -- decoder had still to give is what it gave and what it has still to give now, whichever bytes
@@ -145,7 +143,7 @@ module _ {R : Type 0} (remaining : R → Option (List ℕ)) (step : R → ReadRe
       (old : DecoderState) (reader : R) (given : List ℕ) (new : DecoderState) (reader' : R)
       : Type 0 where
     pub pieces : List (List ℕ)
-    pub calls : Calls old.has_ended new.has_ended reader pieces reader'
+    pub calls : ReadsSince old.has_ended new.has_ended reader pieces reader'
     -- what is held is the last of what was held and came
     pub last : (front : List ℕ) × (old.held ++ concat pieces ≡ front ++ new.held)
     pub takes : Consumes (remaining reader) (remaining reader') (concat pieces)

@@ -3,7 +3,7 @@ use Rattle.std.proofs.Common.{◌≡◌, ℕ, Bool, true, false, List, Option, S
 use Rattle.std.proofs.lemmas.Bool.{false≢true}
 use Rattle.std.specs.List.{concat}
 use Rattle.std.specs.Io.KnownBytes.{Consumes, IsAtEnd}
-use Rattle.grep_decode.specs.DecoderStates.{Calls}
+use Rattle.grep_decode.specs.DecoderStates.{ReadsSince}
 use Rattle.grep_decode.specs.Source.{ReadResult}
 use Rattle.grep_definitions.specs.Searches.{IsInput, Taken, searched_bytes}
 use Rattle.grep_definitions.specs.Plans.{Settings}
@@ -19,7 +19,7 @@ module _ {R : Type 0} (remaining : R → Option (List ℕ)) (read_step : R → R
         go taken.ended taken.pieces taken.calls (remaining reader') refl
         (subst (λ left. Consumes left (remaining reader') (concat taken.pieces)) all taken.takes)
       where
-        go : (ended : Bool) (pieces : List (List ℕ)) → Calls remaining read_step false ended reader
+        go : (ended : Bool) (pieces : List (List ℕ)) → ReadsSince remaining read_step false ended reader
             pieces reader' → (left : Option (List ℕ)) → remaining reader' ≡ left
             → Consumes (Some input) left (concat pieces)
             → IsInput k ended pieces (searched_bytes k input)

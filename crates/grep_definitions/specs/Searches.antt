@@ -3,7 +3,7 @@ use Rattle.std.specs.Prelude.{◌≡◌, ◌≢◌, ◌⊎◌, ℕ, ◌+◌, ◌
 use Rattle.std.specs.Prelude.{not, ◌&&◌, ◌||◌, if◌then◌else◌, List, [], ◌∷◌, ◌++◌, length, map}
 use Rattle.std.specs.Prelude.{take, drop, slice_index, slice_index_or, count_by, All, Option, None}
 use Rattle.std.specs.Prelude.{Some, is_some, IfSome, Result, Ok, Err, OnOk}
-use Rattle.std.specs.Io.KnownBytes.{Consumes, IsAtEnd}
+use Rattle.std.specs.Io.KnownBytes.{Consumes}
 use Rattle.std.specs.IoError.{error_kind}
 use Rattle.std.specs.List.{concat, position, position_or_len}
 use Rattle.std.specs.Option.{option_map}
@@ -12,7 +12,8 @@ use Rattle.std.specs.declared.io.ErrorKind.TheVariants.{InvalidData, Other, OutO
 use Rattle.grep_decode.specs.declared.label.Label.{Label}
 use Rattle.grep_decode.specs.declared.label.Label.TheVariants.{Utf8}
 use Rattle.grep_decode.specs.Decoded.{IsUnfinished, by_label, decoded, found_mark}
-use Rattle.grep_decode.specs.Source.{ReadResult, Pulls}
+use Rattle.grep_decode.specs.Source.{ReadResult}
+pub use Rattle.grep_decode.specs.Source.{Reads}
 use Rattle.grep_matcher.specs.Lines.{byte_of, lines}
 use Rattle.grep_matcher.specs.Meanings.{MatcherFacts, Meaning}
 use Rattle.grep_report.specs.ErrorMakers.{ErrorMakers}
@@ -395,18 +396,12 @@ module _ {S E F : Type 0} (errors : ErrorMakers F E) (matcher : MatcherFacts F)
 
 module _ {R : Type 0} (remaining : R → Option (List ℕ))
     (read_step : R → ReadResult → R → Type 0) where
-  -- calls of a reader returned these pieces, and then one more returned no bytes, if it has ended
-  abbrev pub Reads : Bool → R → List (List ℕ) → R → Type 0
-  Reads false old pieces new = Pulls read_step old pieces new
-  Reads true old pieces new = (mid : R) × Pulls read_step old pieces mid × read_step mid (Ok []) new
-      × IsAtEnd (remaining new)
-
   -- What was taken of a reader: its calls returned some pieces, and `ended` says whether one more
   -- returned none. If the reader says which bytes remain, the pieces are the front of them.
   pub record Taken (old new : R) : Type 0 where
     pub ended : Bool
     pub pieces : List (List ℕ)
-    pub calls : Reads ended old pieces new
+    pub calls : Reads remaining read_step ended old pieces new
     pub takes : Consumes (remaining old) (remaining new) (concat pieces)
 
   -- the inputs that begin with what was taken
