@@ -5,6 +5,7 @@ ghost use Rattle.grep_matcher.specs.Lines.{lines};
 ghost use Rattle.grep_lines.specs.Positions.{IsLineStart, IsLine};
 ghost use Rattle.grep_lines.specs.FirstLine.{IsFirstLine};
 
+use crate::marks::{WIDTH, lowest, marks};
 use memchr::memchr;
 use std::marker::Model;
 
@@ -78,9 +79,24 @@ impl LineStep {
 }
 
 /// The length of the first line in bytes, with its terminator. The caller ensures that there is a
-/// byte.
-#[inline]
+/// byte. Most lines end within 64 bytes, which takes one comparison of vectors.
+#[inline(always)]
 pub(crate) fn first_line_length(terminator: u8, bytes: &[u8]) -> usize
+    requires { 0 < length bytes.now }
+    ensures { IsFirstLine terminator bytes.now result }
+{
+    if bytes.len() < WIDTH {
+        return far_length(terminator, bytes);
+    }
+    let near = marks(bytes, 0, terminator);
+    if near == 0 {
+        return far_length(terminator, bytes);
+    }
+    lowest(near) + 1
+}
+
+// The length of the first line, by a search of the bytes.
+fn far_length(terminator: u8, bytes: &[u8]) -> usize
     requires { 0 < length bytes.now }
     ensures { IsFirstLine terminator bytes.now result }
 {

@@ -29,6 +29,17 @@ pub(crate) fn bits_below(mask: u64, count: usize) -> u64
     mask & ((1 << count) - 1)
 }
 
+// The lowest bit that is set.
+#[inline(always)]
+pub(crate) fn lowest(mask: u64) -> usize
+    requires { mask ≢ 0 }
+    ensures bound { result < WIDTH }
+    ensures set { bit_at mask result ≡ 1 }
+    ensures below { (k : ℕ) → k < result → bit_at mask k ≡ 0 }
+{
+    mask.trailing_zeros() as usize
+}
+
 // The highest bit that is set.
 #[inline(always)]
 pub(crate) fn highest(mask: u64) -> usize

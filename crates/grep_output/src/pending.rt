@@ -48,6 +48,7 @@ impl Pending {
     /// written first, and then it is written at once if there is still none. An error is the
     /// writer's own, or of kind `WriteZero` as for `write_all`: then some first bytes of all are
     /// written, and the others aren't kept.
+    #[inline]
     pub fn put<W: Output>(&mut self, writer: &mut W, text: &[u8]) -> io::Result<()>
         ensures put { Puts W.step writer.old self.old text.now result writer.new self.new }
         ensures emptied { OnErr result (self.new ≡ []) }

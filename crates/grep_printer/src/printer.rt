@@ -161,6 +161,7 @@ impl<F, W: Output> Printer<F, W> {
     }
 
     // Puts the text at hand after what isn't written yet.
+    #[inline]
     pub(crate) fn put_text(&mut self) -> io::Result<()>
         ensures put { Puts W.step self.old.writer self.old.pending self.old.text.bytes.items result
             self.new.writer self.new.pending }
@@ -204,7 +205,9 @@ impl<'s, F: Format, M, W> PrinterSink<'s, F, M, W> {
 }
 
 impl<'s, F: Format, M: FindAt, W: Output> PrinterSink<'s, F, M, W> {
-    // Finds the parts of a call's report that match, if they are asked for.
+    // Finds the parts of a call's report that match, if they are asked for. It is inlined, so that
+    // where they aren't asked for there is no room for an error to copy.
+    #[inline(always)]
     fn find_parts<A: Allocator + Copy>(
         &mut self,
         searcher: &Searcher<A>,

@@ -33,6 +33,7 @@ impl Text {
     }
 
     // Pushes bytes. It fails only where there was no room for them, so that memory was asked for.
+    #[inline]
     pub(crate) fn push(&mut self, bytes: &[u8])
         ensures adds { Adds self.old self.new bytes.now }
         ensures fails { self.old.has_failed ≡ false → self.new.has_failed ≡ true
@@ -44,6 +45,7 @@ impl Text {
     }
 
     // Fails if memory was out.
+    #[inline(always)]
     pub(crate) fn check(&self) -> Result<(), SearchError>
         ensures text { OnOk result (self.now.has_failed ≡ false) }
         ensures error { IfErr result (λ e. IsOutOfMemory e) }

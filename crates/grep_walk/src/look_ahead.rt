@@ -94,6 +94,7 @@ impl Config {
     /// many lines at once. The caller ensures that a line of the window begins there, and that
     /// these are the questions for this matcher. What is learnt is true of a matcher that is lawful
     /// for the terminator. The error is the matcher's.
+    #[inline(always)]
     pub fn look_ahead<M: Matcher>(
         &self,
         matcher: &M,
