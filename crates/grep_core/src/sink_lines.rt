@@ -4,7 +4,7 @@ ghost use Rattle.std.specs.Prelude.{◌≡◌, ◌≤◌, ◌<◌, ◌+◌, ◌-
 ghost use Rattle.std.specs.Prelude.{slice_range};
 ghost use Rattle.grep_definitions.specs.CallOrder.{HasCalled};
 ghost use Rattle.grep_definitions.specs.Plans.{context, AreMade, NeverFails};
-ghost use Rattle.grep_definitions.specs.LineCalls.{is_gap, break_calls, after_calls};
+ghost use Rattle.grep_definitions.specs.LineCalls.{breaks_near, break_calls, after_calls};
 ghost use Rattle.grep_definitions.specs.SearchLaws.{number_of};
 ghost use Rattle.grep_definitions.specs.LineCalls.{before_calls, pending_calls, selected_calls};
 ghost use Rattle.grep_definitions.specs.SinkRuns.{outcome_of};
@@ -229,8 +229,8 @@ impl<'c, A: Allocator + Copy, T> Search<'c, A, T> {
         ensures succeeds { NeverFails C.step C.may_call → IsOk result }
         ensures may_call { C.may_call sink.new }
     {
-        let is_gap = self.config.is_gap(index, walk);
-        if !self.sink_break::<C>(is_gap, sink)? {
+        let has_break = self.config.breaks_before(index, walk);
+        if !self.sink_break::<C>(has_break, sink)? {
             return Ok(false);
         }
         self.sink_context::<C>(SinkContextKind::Before, line, offset, index, sink)
@@ -261,8 +261,8 @@ impl<'c, A: Allocator + Copy, T> Search<'c, A, T> {
         ensures succeeds { NeverFails C.step C.may_call → IsOk result }
         ensures may_call { C.may_call sink.new }
     {
-        let is_gap = self.config.is_gap_before_match(walk);
-        if !self.sink_break::<C>(is_gap, sink)? {
+        let has_break = self.config.breaks_before_match(walk);
+        if !self.sink_break::<C>(has_break, sink)? {
             return Ok(false);
         }
         let terminator = self.terminator();
@@ -275,16 +275,16 @@ impl<'c, A: Allocator + Copy, T> Search<'c, A, T> {
     }
 
     // Makes a break if lines were left out. Returns whether the search goes on.
-    fn sink_break<C: Calls<T>>(&self, is_gap: bool, sink: &mut C::Sink) -> Result<bool, C::Error>
+    fn sink_break<C: Calls<T>>(&self, has_break: bool, sink: &mut C::Sink) -> Result<bool, C::Error>
         requires configured { IsConfigured (C.settings self.now.searcher.now) self.now.config }
         requires may_call { C.may_call sink.old }
         ensures reported { (end : ℕ)
-            → AreMade C.step self.now.config sink.old (break_calls is_gap end)
+            → AreMade C.step self.now.config sink.old (break_calls has_break end)
             (outcome_of end result) sink.new }
         ensures succeeds { NeverFails C.step C.may_call → IsOk result }
         ensures may_call { C.may_call sink.new }
     {
-        if !is_gap {
+        if !has_break {
             return Ok(true);
         }
         C::context_break(self, sink)

@@ -17,7 +17,7 @@ use Rattle.grep_matcher.specs.Meanings.{Meaning}
 use Rattle.grep_report.specs.declared.sink_context.SinkContextKind.TheVariants.{Before, After}
 use Rattle.grep_report.specs.declared.sink_context.SinkContextKind.TheVariants.{Other}
 use Rattle.grep_definitions.specs.LineCalls.{before_calls, pending_calls, selected_calls}
-use Rattle.grep_definitions.specs.LineCalls.{context_calls, is_gap}
+use Rattle.grep_definitions.specs.LineCalls.{context_calls, breaks_near}
 use Rattle.grep_definitions.specs.SearchLaws.{number_of}
 use Rattle.grep_definitions.proofs.BelowLemmas.{joined_from-add, joined_from-equal}
 use Rattle.grep_definitions.proofs.BelowLemmas.{joined_from-none, headed-through}
@@ -168,7 +168,7 @@ module _ (k : Settings) (meaning : Meaning) (bytes : List ℕ) where
             ∙ ap (λ b. if b then Some (in_context Before) else None) test in
             let gap : (nat_lt 0 (A + B) && true && not (is_reported (j - 1))
             && some_below is_reported j)
-            ≡ is_gap k v j i =
+            ≡ breaks_near k v j i =
             SelectionLemmas.gap-passed near inside inside hit j low less inner in
             let found = SelectionLemmas.next-passed near inside inside hit j low less in
             rw (kind, gap, found, end-is, test) refl
@@ -180,7 +180,7 @@ module _ (k : Settings) (meaning : Meaning) (bytes : List ℕ) where
         let kind : Plans.kind k bytes selection i ≡ Some matched = rw hit refl in
         let gap : (nat_lt 0 (A + B) && true && not (is_reported (i - 1))
         && some_below is_reported i)
-        ≡ (nat_lt 0 A && is_gap k v i i) =
+        ≡ (nat_lt 0 A && breaks_near k v i i) =
         SelectionLemmas.gap-hit near inside inside hit in
         let is_number = number-line k bytes i inside in
         rw (kind, gap, first, is_number, end-is) refl

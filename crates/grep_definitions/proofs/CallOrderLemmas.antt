@@ -20,7 +20,7 @@ use Rattle.grep_definitions.specs.Plans.{Settings, Call, Planned, begins, breaks
 use Rattle.grep_definitions.specs.Plans.{matches, Steps, Outcome, all_true, stopped, failed}
 use Rattle.grep_definitions.specs.Plans.{finish_result, AreMade, IsFinished, Finish, binary_data}
 use Rattle.grep_definitions.specs.Plans.{counted, is_binary_data, planned}
-use Rattle.grep_definitions.specs.LineCalls.{before_calls, broken_calls, is_gap, selected_calls}
+use Rattle.grep_definitions.specs.LineCalls.{before_calls, broken_calls, breaks_near, selected_calls}
 use Rattle.grep_definitions.specs.LineCalls.{one_call}
 use Rattle.grep_definitions.specs.SearchLaws.{number_of}
 use Rattle.grep_definitions.specs.SinkRuns.{outcome_of, with_binary}
@@ -47,8 +47,8 @@ pub inner-before : (k : Settings) (v j i : ℕ) (number : Option ℕ) (offset en
     → AreInner k (before_calls k v j i number offset end line)
 inner-before k v j i number offset end line =
     elim (nat_le (i - j) k.before_context) as (λ near. AreInner k
-    (if near then broken_calls (is_gap k v j i) (context Before number offset line) end else [])) [
-      | true ↦ inner-broken k (is_gap k v j i) (context Before number offset line) end refl
+    (if near then broken_calls (breaks_near k v j i) (context Before number offset line) end else [])) [
+      | true ↦ inner-broken k (breaks_near k v j i) (context Before number offset line) end refl
       | false ↦ All-nil (IsInner k)
     ]
 
@@ -56,7 +56,7 @@ inner-before k v j i number offset end line =
 pub inner-match : (k : Settings) (v i offset end : ℕ) (line : List ℕ)
     → AreInner k (selected_calls k v i offset end line)
 inner-match k v i offset end line =
-    inner-broken k (nat_lt 0 k.after_context && is_gap k v i i)
+    inner-broken k (nat_lt 0 k.after_context && breaks_near k v i i)
     (matches (number_of k i) offset line) end refl
 
 -- how many calls are `binary_data`
@@ -92,9 +92,9 @@ binary-before : (k : Settings) (v j i : ℕ) (number : Option ℕ) (offset end :
     → binary_count (before_calls k v j i number offset end line) ≡ 0
 binary-before k v j i number offset end line =
     elim (nat_le (i - j) k.before_context) as (λ near. binary_count
-    (if near then broken_calls (is_gap k v j i) (context Before number offset line) end else [])
+    (if near then broken_calls (breaks_near k v j i) (context Before number offset line) end else [])
     ≡ 0) [
-      | true ↦ binary-broken (is_gap k v j i) (context Before number offset line) end refl
+      | true ↦ binary-broken (breaks_near k v j i) (context Before number offset line) end refl
       | false ↦ refl
     ]
 
@@ -167,7 +167,7 @@ module _ {S E : Type 0} (step : Steps S E) (k : Settings) where
         inner = inner-match k v i offset end line;
         few = omega (
           arith,
-          binary-broken (nat_lt 0 k.after_context && is_gap k v i i)
+          binary-broken (nat_lt 0 k.after_context && breaks_near k v i i)
               (matches (number_of k i) offset line) end refl,
         );
         reported = reported;

@@ -15,7 +15,7 @@ use Rattle.grep_definitions.specs.Plans
 use Rattle.grep_definitions.proofs.LineSliceLemmas.{slice-line}
 use Rattle.grep_definitions.specs.LineWalks.{IsNear}
 use Rattle.grep_definitions.specs.LineCalls.{after_calls, before_calls, selected_calls}
-use Rattle.grep_definitions.specs.LineCalls.{context_calls, is_gap}
+use Rattle.grep_definitions.specs.LineCalls.{context_calls, breaks_near}
 use Rattle.grep_definitions.specs.SearchLaws.{number_of}
 use Rattle.grep_definitions.proofs.SelectionLemmas
 
@@ -80,7 +80,7 @@ module _ (k : Settings) (meaning : Meaning) (bytes : List ℕ) where
         kind = SelectionLemmas.kind-after near misses some
 
         gap : (nat_lt 0 (A + B) && true && not (is_reported (i - 1)) && some_below is_reported i)
-            ≡ (nat_lt 0 A && is_gap k v i i)
+            ≡ (nat_lt 0 A && breaks_near k v i i)
         gap = SelectionLemmas.gap-after near some
 
         go : (b : Bool) → is_trailing i ≡ b → calls_at k bytes selection i
@@ -140,7 +140,7 @@ module _ (k : Settings) (meaning : Meaning) (bytes : List ℕ) where
               ∙ ap (λ b. if b then Some (in_context Before) else None) test in
               let gap : (nat_lt 0 (A + B) && true && not (is_reported (j - 1))
               && some_below is_reported j)
-              ≡ is_gap k v j i =
+              ≡ breaks_near k v j i =
               SelectionLemmas.gap-passed near inside has hit j low less inner in
               let found = SelectionLemmas.next-passed near inside has hit j
               low less in
@@ -155,6 +155,6 @@ module _ (k : Settings) (meaning : Meaning) (bytes : List ℕ) where
           let kind : Plans.kind k bytes selection i ≡ Some matched = rw hit refl in
           let gap : (nat_lt 0 (A + B) && true && not (is_reported (i - 1))
           && some_below is_reported i)
-          ≡ (nat_lt 0 A && is_gap k v i i) =
+          ≡ (nat_lt 0 A && breaks_near k v i i) =
           SelectionLemmas.gap-hit near inside has hit in
           rw (kind, gap, slice-line k bytes i, is_number, is_end, is_start, is_line) refl

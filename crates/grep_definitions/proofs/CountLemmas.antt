@@ -18,7 +18,7 @@ use Rattle.grep_matcher.specs.Meanings.{Meaning}
 use Rattle.grep_report.specs.declared.sink_context.SinkContextKind.TheVariants.{Before, After}
 use Rattle.grep_report.specs.declared.sink_context.SinkContextKind.TheVariants.{Other}
 use Rattle.grep_definitions.specs.LineCalls.{one_call, broken_calls, pending_calls, selected_calls}
-use Rattle.grep_definitions.specs.LineCalls.{listed_calls, is_gap}
+use Rattle.grep_definitions.specs.LineCalls.{listed_calls, breaks_near}
 use Rattle.grep_definitions.specs.SearchLaws.{number_of}
 use Rattle.grep_definitions.proofs.BelowLemmas.{some_below-some, some_below-find, first_below-of}
 use Rattle.grep_definitions.proofs.BelowLemmas.{first_below-none}
@@ -72,8 +72,8 @@ module _ (k : Settings) (bytes : List ℕ) (v i end : ℕ) where
       (slice_index_or (lines (byte_of k.line_terminator) bytes) q []))
     where
       go : (near : Bool) (call : Call)
-          → EndThere (if near then broken_calls (is_gap k v q i) call end else [])
-      go true call = ends-broken (is_gap k v q i) call end
+          → EndThere (if near then broken_calls (breaks_near k v q i) call end else [])
+      go true call = ends-broken (breaks_near k v q i) call end
       go false call = All-nil (λ x. x.if_false.count ≡ end)
 
   pub ends-pending : (j n : ℕ) → EndThere (pending_calls k bytes v i end j n)
@@ -81,7 +81,7 @@ module _ (k : Settings) (bytes : List ℕ) (v i end : ℕ) where
       n (λ q low high. ends-listed q)
 
   pub ends-match : (offset : ℕ) (line : List ℕ) → EndThere (selected_calls k v i offset end line)
-  ends-match offset line = ends-broken (nat_lt 0 k.after_context && is_gap k v i i)
+  ends-match offset line = ends-broken (nat_lt 0 k.after_context && breaks_near k v i i)
       (matches (number_of k i) offset line) end
 
 module _ (k : Settings) (meaning : Meaning) (bytes : List ℕ) where

@@ -12,7 +12,7 @@ use Rattle.grep_report.specs.declared.sink_context.SinkContextKind.TheVariants.{
 use Rattle.grep_definitions.specs.Plans.{Settings, some_below, first_below, matched, in_context}
 use Rattle.grep_definitions.specs.Plans.{Selection, line_count, follows_selected, precedes_selected}
 use Rattle.grep_definitions.specs.Plans.{kind}
-use Rattle.grep_definitions.specs.LineCalls.{is_gap}
+use Rattle.grep_definitions.specs.LineCalls.{breaks_near}
 use Rattle.grep_definitions.specs.LineWalks.{IsNear}
 use Rattle.grep_definitions.specs.Plans
 use Rattle.grep_definitions.proofs.BelowLemmas.{some_below-none, some_below-some, first_below-here}
@@ -153,7 +153,7 @@ module _ {k : Settings} {bytes : List ℕ} {selection : Selection} {v i left : �
   -- no break comes before it, since the line before it is reported
   pub gap-after : 0 < left
       → (nat_lt 0 (A + B) && true && not (is_reported (i - 1)) && some_below is_reported i)
-      ≡ (nat_lt 0 A && is_gap k v i i)
+      ≡ (nat_lt 0 A && breaks_near k v i i)
   gap-after some =
       let same = near.close some in
       let first : 0 < i = ⊎_elim (λ less. less) (λ none. absurd (begins (omega (arith, none))))
@@ -310,19 +310,19 @@ module _ {k : Settings} {bytes : List ℕ} {selection : Selection} {v i left : �
 
     -- whether a break comes before line j, which is reported
     break-here : (j : ℕ) → v ≤ j → j ≤ i → i - j ≤ B → is_reported j ≡ true
-        → (not (is_reported (j - 1)) && some_below is_reported j) ≡ is_gap k v j i
+        → (not (is_reported (j - 1)) && some_below is_reported j) ≡ breaks_near k v j i
     break-here j low high close shown = ⊎_elim after_report first_report (cases_lt 0 v)
       where
         -- the line before is reported
-        joined : is_reported (j - 1) ≡ true → is_gap k v j i ≡ false
-            → (not (is_reported (j - 1)) && some_below is_reported j) ≡ is_gap k v j i
+        joined : is_reported (j - 1) ≡ true → breaks_near k v j i ≡ false
+            → (not (is_reported (j - 1)) && some_below is_reported j) ≡ breaks_near k v j i
         joined shown unbroken = rw (shown, unbroken) refl
 
         first_report : v ≤ 0 → (not (is_reported (j - 1)) && some_below is_reported j)
-            ≡ is_gap k v j i
+            ≡ breaks_near k v j i
         first_report none =
             let out = le-ltb 0 v none in
-            let unbroken : is_gap k v j i ≡ false = rw out refl in
+            let unbroken : breaks_near k v j i ≡ false = rw out refl in
             ⊎_elim (λ above. ⊎_elim
             (λ inner. joined (reported-passed (j - 1) (omega arith) (omega arith)
             ∙ le-leb (i - (j - 1)) B (omega arith)) unbroken)
@@ -334,7 +334,7 @@ module _ {k : Settings} {bytes : List ℕ} {selection : Selection} {v i left : �
             unbroken) (cases_lt 0 j)
 
         after_report : 0 < v → (not (is_reported (j - 1)) && some_below is_reported j)
-            ≡ is_gap k v j i
+            ≡ breaks_near k v j i
         after_report some = ⊎_elim (λ above.
             let prior = reported-passed (j - 1) (omega arith) (omega arith) in
             let earlier = some_below-some is_reported j (v - 1) (omega arith) (near.shown some) in
@@ -354,7 +354,7 @@ module _ {k : Settings} {bytes : List ℕ} {selection : Selection} {v i left : �
     -- the break before a passed line, and before the match
     pub gap-passed : (j : ℕ) → v ≤ j → j < i → i - j ≤ B
         → (nat_lt 0 (A + B) && true && not (is_reported (j - 1)) && some_below is_reported j)
-        ≡ is_gap k v j i
+        ≡ breaks_near k v j i
     gap-passed j low less close =
         let wide : nat_lt 0 (A + B) ≡ true = lt-ltb 0 (A + B) (omega arith) in
         let gap = break-here j low (omega arith) close (reported-passed j low less
@@ -362,12 +362,12 @@ module _ {k : Settings} {bytes : List ℕ} {selection : Selection} {v i left : �
         rw wide gap
 
     pub gap-hit : (nat_lt 0 (A + B) && true && not (is_reported (i - 1))
-        && some_below is_reported i) ≡ (nat_lt 0 A && is_gap k v i i)
+        && some_below is_reported i) ≡ (nat_lt 0 A && breaks_near k v i i)
     gap-hit = guard (not (is_reported (i - 1))) (some_below is_reported i)
         (break-here i near.low (omega arith) (omega arith) reported-here)
       where
-        guard : (r s : Bool) → (r && s) ≡ is_gap k v i i → (((nat_lt 0 (A + B) && true) && r) && s)
-            ≡ (nat_lt 0 A && is_gap k v i i)
+        guard : (r s : Bool) → (r && s) ≡ breaks_near k v i i → (((nat_lt 0 (A + B) && true) && r) && s)
+            ≡ (nat_lt 0 A && breaks_near k v i i)
         guard r s same = ⊎_elim
             (λ some. let a = lt-ltb 0 A some in let w = lt-ltb 0 (A + B) (omega arith) in rw
             (a, w) same) (λ none. ⊎_elim

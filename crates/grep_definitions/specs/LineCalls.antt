@@ -18,25 +18,25 @@ matches_line settings meaning line = is_some (meaning.first (strip settings.line
 abbrev pub one_call : Call → ℕ → List Planned
 one_call call end = planned call end ∷ []
 
--- a break, if there is a gap
+-- a break, if one is due
 abbrev pub break_calls : Bool → ℕ → List Planned
-break_calls gap end = if gap then one_call breaks end else []
+break_calls is_due end = if is_due then one_call breaks end else []
 
--- a call, and a break before it if there is a gap
+-- a call, and a break before it if one is due
 abbrev pub broken_calls : Bool → Call → ℕ → List Planned
-broken_calls gap call end =
-    if gap then planned breaks end ∷ one_call call end else one_call call end
+broken_calls is_due call end =
+    if is_due then planned breaks end ∷ one_call call end else one_call call end
 
--- whether lines were left out before line j, if the lines up to v were the last ones reported and
--- line i is selected
-abbrev pub is_gap : Settings → ℕ → ℕ → ℕ → Bool
-is_gap settings v j i = nat_lt 0 v && nat_lt v j && (i - j) == settings.before_context
+-- whether a break comes before line j near the selected line i, if the lines up to v were the last
+-- ones reported: lines were left out between
+abbrev pub breaks_near : Settings → ℕ → ℕ → ℕ → Bool
+breaks_near settings v j i = nat_lt 0 v && nat_lt v j && (i - j) == settings.before_context
 
 -- line j before the selected line i, which ends at `end`
 abbrev pub before_calls : Settings → ℕ → ℕ → ℕ → Option ℕ → ℕ → ℕ → List ℕ → List Planned
 before_calls settings v j i number offset end line =
     if nat_le (i - j) settings.before_context
-    then broken_calls (is_gap settings v j i) (context Before number offset line) end
+    then broken_calls (breaks_near settings v j i) (context Before number offset line) end
     else []
 
 -- line j of the bytes before the selected line i
@@ -52,7 +52,7 @@ pending_calls settings bytes v i end j n = joined_from (listed_calls settings by
 -- the selected line i
 abbrev pub selected_calls : Settings → ℕ → ℕ → ℕ → ℕ → List ℕ → List Planned
 selected_calls settings v i offset end line =
-    broken_calls (nat_lt 0 settings.after_context && is_gap settings v i i)
+    broken_calls (nat_lt 0 settings.after_context && breaks_near settings v i i)
     (matches (number_of settings i) offset line) end
 
 -- line i as a context line

@@ -5,7 +5,7 @@ ghost use Rattle.std.specs.Prelude.{drop, slice_index, min};
 ghost use Rattle.grep_matcher.specs.Lines.{byte_of, lines};
 ghost use Rattle.grep_lines.specs.Positions.{IsLineStart};
 ghost use Rattle.grep_definitions.specs.Searches.{IsClosed};
-ghost use Rattle.grep_definitions.specs.LineCalls.{is_gap};
+ghost use Rattle.grep_definitions.specs.LineCalls.{breaks_near};
 ghost use Rattle.grep_walk.specs.Walks.{AreCounts, with_counts};
 ghost use Rattle.grep_walk.specs.Windows.{IsInWindow};
 
@@ -74,9 +74,9 @@ impl Config {
     /// Whether a break comes before the line with this index: it is the first line of the context
     /// before the chosen one that a walk is at, or that line itself, and lines were left out before
     /// it. The caller ensures that it is no later than that line.
-    pub fn is_gap(&self, index: u64, walk: &Walk) -> bool
+    pub fn breaks_before(&self, index: u64, walk: &Walk) -> bool
         requires { index ≤ walk.now.line }
-        ensures { result ≡ is_gap self.now walk.now.next_unreported index walk.now.line }
+        ensures { result ≡ breaks_near self.now walk.now.next_unreported index walk.now.line }
     {
         let is_first = walk.line - index == self.before_context as u64;
         walk.next_unreported > 0 && walk.next_unreported < index && is_first
@@ -84,10 +84,10 @@ impl Config {
 
     /// Whether lines were left out before the chosen one that a walk is at. If there are lines
     /// before a match, the break comes before the first of them.
-    pub fn is_gap_before_match(&self, walk: &Walk) -> bool
+    pub fn breaks_before_match(&self, walk: &Walk) -> bool
         ensures { result ≡ (nat_lt 0 self.now.after_context
-            && is_gap self.now walk.now.next_unreported walk.now.line walk.now.line) }
+            && breaks_near self.now walk.now.next_unreported walk.now.line walk.now.line) }
     {
-        self.after_context > 0 && self.is_gap(walk.line, walk)
+        self.after_context > 0 && self.breaks_before(walk.line, walk)
     }
 }

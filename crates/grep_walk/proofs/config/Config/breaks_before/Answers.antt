@@ -1,5 +1,5 @@
 use Rattle.std.proofs.Common.{rules}
-use Rattle.grep_walk.proofs.config.Config.is_gap.Goals as goal
+use Rattle.grep_walk.proofs.config.Config.breaks_before.Goals as goal
 
 pub returns-then-walk-index : goal.returns-then-walk-index
 returns-then-walk-index c = search rules
