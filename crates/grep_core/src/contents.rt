@@ -1,9 +1,8 @@
 //! The search of a reader across lines, for which all of it is read first.
-ghost use Rattle.std.specs.Prelude.{◌≡◌, ℕ, Bool, List, true, false, IfErr};
-ghost use Rattle.std.specs.declared.io.Error.{Error};
+ghost use Rattle.std.specs.Prelude.{◌≡◌, Bool, true, false, IfErr};
 ghost use Rattle.grep_matcher.specs.Meanings.{IsInfallible};
 ghost use Rattle.grep_decode.specs.DecoderStates.{started};
-ghost use Rattle.grep_definitions.specs.Searches.{look_at, IsRead, IsUnread, IsInOrder};
+ghost use Rattle.grep_definitions.specs.Searches.{look_at, EndsUnread, IsRead, IsInOrder};
 ghost use Rattle.grep_definitions.specs.Searches.{IsReadingError};
 ghost use Rattle.grep_definitions.specs.Plans.{is_across, NeverFails};
 ghost use Rattle.grep_core.specs.Configured.{IsConfigured};
@@ -46,11 +45,10 @@ impl<'c, A: Allocator + Copy, T> Search<'c, A, T> {
             (IsReadingError R.remaining R.step reader.old reader.new) sink.old result sink.new }
         ensures succeeds { NeverFails C.step C.may_call → IsInfallible (M.facts matcher.now).fails
             → is_across self.now.config (M.facts matcher.now).meaning ≡ true
-            → IfErr result (λ e. (has_buffers : Bool) → (begun : Bool) × (seen : List ℕ)
-            × (error : Error) × IsUnread R.remaining R.step
+            → IfErr result (λ e. (has_buffers : Bool) → EndsUnread R.remaining R.step
+            C.Error.makers.is_io
             (record { settings = self.now.config; has_buffers = has_buffers })
-            (M.facts matcher.now).meaning reader.old begun seen error reader.new
-            × C.Error.makers.is_io error e) }
+            (M.facts matcher.now).meaning reader.old e reader.new) }
         ensures may_call { C.may_call sink.new }
     {
         if let Err(error) = read_contents(decoder, reader, self.heap_limit(), contents) {

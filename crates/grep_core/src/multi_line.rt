@@ -1,5 +1,5 @@
 //! The walk of a search across lines, from one unit of lines that matches touch to the next.
-ghost use Rattle.std.specs.Prelude.{◌<◌, ◌+◌, ◌-◌, ◌&&◌, ◌==◌, true, Ok, Err, IfOk, IfErr, IsOk};
+ghost use Rattle.std.specs.Prelude.{◌<◌, ◌+◌, ◌&&◌, ◌==◌, true, Ok, Err, IfOk, IfErr, IsOk};
 ghost use Rattle.grep_matcher.specs.Meanings.{IsInfallible};
 ghost use Rattle.grep_definitions.specs.CallOrder.{BeginsInOrder, EndsInOrder};
 ghost use Rattle.grep_definitions.specs.Searches.{nowhere};

@@ -2,14 +2,13 @@
 //! `searcher::glue`.
 ghost use Rattle.std.specs.Prelude.{◌^◌, ◌≡◌, ◌≤◌, ◌<◌, ◌+◌, ◌++◌, ℕ, Bool, List, Option, Ok, true};
 ghost use Rattle.std.specs.Prelude.{false, length, IfOk, IfErr, IsOk, OnErr, OnOk, Err, None};
-ghost use Rattle.std.specs.declared.io.Error.{Error};
 ghost use Rattle.grep_matcher.specs.Lines.{byte_of};
 ghost use Rattle.grep_matcher.specs.Meanings.{IsInfallible};
 ghost use Rattle.grep_decode.specs.DecoderStates.{started};
 ghost use Rattle.grep_line_buffer.specs.BufferStates.{empty_buffer, held_bytes};
 ghost use Rattle.grep_definitions.specs.Plans.{is_at, is_across, IsLawful, begins, NeverFails};
 ghost use Rattle.grep_definitions.specs.Searches.{is_detecting, look_of, on_stream, IsReadingError};
-ghost use Rattle.grep_definitions.specs.Searches.{IsClosed, IsReadForLine, IsUnread, reads_lines};
+ghost use Rattle.grep_definitions.specs.Searches.{EndsUnread, IsClosed, IsReadForLine, reads_lines};
 ghost use Rattle.grep_definitions.specs.Searches.{reports_nothing, IsInOrder, IsRead};
 ghost use Rattle.grep_definitions.specs.CallOrder.{GoesOnInOrder, HasBegunTo, ReadsInOrder};
 ghost use Rattle.grep_core.specs.BinaryCalls.{FailsAtBinary, PassesBinary};
@@ -67,11 +66,10 @@ impl<'c, A: Allocator + Copy, T> Search<'c, A, T> {
             (IsReadingError R.remaining R.step reader.old reader.new) sink.old result sink.new }
         ensures succeeds { NeverFails C.step C.may_call → IsInfallible (M.facts matcher.now).fails
             → IsLawful (M.facts matcher.now) self.now.config
-            → IfErr result (λ e. (has_buffers : Bool) → (begun : Bool) × (seen : List ℕ)
-            × (error : Error) × IsUnread R.remaining R.step
+            → IfErr result (λ e. (has_buffers : Bool) → EndsUnread R.remaining R.step
+            C.Error.makers.is_io
             (record { settings = self.now.config; has_buffers = has_buffers })
-            (M.facts matcher.now).meaning reader.old begun seen error reader.new
-            × C.Error.makers.is_io error e) }
+            (M.facts matcher.now).meaning reader.old e reader.new) }
         ensures may_call { C.may_call sink.new }
     {
         if self.config.is_across(matcher) {
@@ -128,11 +126,10 @@ impl<'c, A: Allocator + Copy, T> Search<'c, A, T> {
             (IsReadingError R.remaining R.step reader.old reader.new) sink.old (Err e) sink.new) }
         ensures succeeds { NeverFails C.step C.may_call → IsInfallible (M.facts matcher.now).fails
             → IsLawful (M.facts matcher.now) self.now.config
-            → IfErr result (λ e. (has_buffers : Bool) → (begun : Bool) × (seen : List ℕ)
-            × (error : Error) × IsUnread R.remaining R.step
+            → IfErr result (λ e. (has_buffers : Bool) → EndsUnread R.remaining R.step
+            C.Error.makers.is_io
             (record { settings = self.now.config; has_buffers = has_buffers })
-            (M.facts matcher.now).meaning reader.old begun seen error reader.new
-            × C.Error.makers.is_io error e) }
+            (M.facts matcher.now).meaning reader.old e reader.new) }
         ensures may_call { C.may_call sink.new }
     {
         if !C::begin(self, sink)? {
@@ -209,11 +206,10 @@ impl<'c, A: Allocator + Copy, T> Search<'c, A, T> {
             → IsLawful (M.facts matcher.now) self.now.config
             → IfErr result (λ e. (first : C.Sink)
             → C.step first self.now.config begins (Ok true) sink.old
-            → (has_buffers : Bool) → (begun : Bool) × (seen : List ℕ)
-            × (error : Error) × IsUnread R.remaining R.step
+            → (has_buffers : Bool) → EndsUnread R.remaining R.step
+            C.Error.makers.is_io
             (record { settings = self.now.config; has_buffers = has_buffers })
-            (M.facts matcher.now).meaning reader.old begun seen error reader.new
-            × C.Error.makers.is_io error e) }
+            (M.facts matcher.now).meaning reader.old e reader.new) }
         ensures may_call { C.may_call sink.new }
     {
         let questions = self.config.questions(matcher);

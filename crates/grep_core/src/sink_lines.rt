@@ -4,7 +4,7 @@ ghost use Rattle.std.specs.Prelude.{◌≡◌, ◌≤◌, ◌<◌, ◌+◌, ◌-
 ghost use Rattle.std.specs.Prelude.{slice_range};
 ghost use Rattle.grep_definitions.specs.CallOrder.{HasCalled};
 ghost use Rattle.grep_definitions.specs.Plans.{context, AreMade, NeverFails};
-ghost use Rattle.grep_definitions.specs.LineCalls.{breaks_near, break_calls, after_calls};
+ghost use Rattle.grep_definitions.specs.LineCalls.{break_calls, after_calls};
 ghost use Rattle.grep_definitions.specs.SearchLaws.{number_of};
 ghost use Rattle.grep_definitions.specs.LineCalls.{before_calls, pending_calls, selected_calls};
 ghost use Rattle.grep_definitions.specs.SinkRuns.{outcome_of};

@@ -460,6 +460,12 @@ module _ {R : Type 0} (remaining : R → Option (List ℕ))
   IsUnread state meaning old begun seen error new = (mid : R) × (taken : Taken old mid)
       × IsCut state meaning old mid new taken seen begun error
 
+  -- the error of a search is made of one by which its input wasn't searched to its end
+  abbrev pub EndsUnread : {E : Type 0} → (Error → E → Type 0) → SearcherState → Meaning → R → E → R
+      → Type 0
+  EndsUnread is_io state meaning old e new = (begun : Bool) × (seen : List ℕ) × (error : Error)
+      × IsUnread state meaning old begun seen error new × is_io error e
+
   -- some calls of a reader, of which the last one failed
   abbrev pub HasFailedRead : R → Error → R → Type 0
   HasFailedRead old error new = (mid : R) × (taken : Taken old mid) × (taken.ended ≡ false)
