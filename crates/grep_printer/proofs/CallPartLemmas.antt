@@ -1,21 +1,18 @@
 -- The parts of a call's report, by what is shown of it.
 use Rattle.std.proofs.Common.{◌≡◌, ℕ, ◌+◌, ◌-◌, ◌≤◌, List, [], ◌++◌, length, take, drop, Option, Bool, true, false}
-use Rattle.std.proofs.Common.{arith, ap, sym, ◌∙◌, refl, subst, not}
+use Rattle.std.proofs.Common.{arith, ap, sym, ◌∙◌, refl, subst}
 use Rattle.std.proofs.lemmas.List.{length-take-le, take-append-drop}
 use Rattle.std.proofs.lemmas.List.Elements.{All-nil, All-weaker}
 use Rattle.std.specs.Prelude.{All, ◌<◌, ◌^◌, if◌then◌else◌, slice_range}
-use Rattle.std.specs.Global.{Global}
-use Rattle.grep_matcher.specs.Meanings.{MatcherFacts}
 use Rattle.grep_searcher.specs.Lines.{strip}
 use Rattle.grep_searcher.specs.Meanings.{Meaning}
 use Rattle.grep_searcher.specs.Plans.{is_across, reported_bytes, Call, Settings}
-use Rattle.grep_searcher.specs.declared.SearchError.{SearchError}
 use Rattle.grep_printer.proofs.ReportLemmas.{reported_bytes-report}
 use Rattle.grep_printer.proofs.SuccessiveLemmas.{parts-below}
 use Rattle.grep_printer.specs.CallParts.{HasParts, Surroundings, asked_bytes, asked_start, has_match}
 use Rattle.grep_printer.specs.CallParts.{parts_of_call, shown_bytes, shown_start}
 use Rattle.grep_printer.specs.JsonLaws.{IsWordRange}
-use Rattle.grep_printer.specs.MatchedParts.{IsMatcherError, first_from, parts_in}
+use Rattle.grep_printer.specs.MatchedParts.{first_from, parts_in}
 use Rattle.grep_printer.specs.Reports.{IsAround, IsShownAs, call_of, event_call, event_has_match, kind_has_match, reporting_call}
 use Rattle.grep_printer.specs.Reports.{surroundings_of}
 use Rattle.grep_printer.specs.SearchMessages.{PartsHaveWords}

@@ -1,11 +1,11 @@
 -- What the counts of a printer come to after the calls of a search, one after another.
-use Rattle.std.proofs.Common.{◌≡◌, ◌∙◌, ℕ, suc, ◌+◌, List, [], ◌∷◌, ◌++◌, Bool, true, false, Option, Some, ap, arith}
+use Rattle.std.proofs.Common.{◌≡◌, ◌∙◌, ℕ, suc, ◌+◌, List, [], ◌∷◌, ◌++◌, Bool, true, false, ap, arith}
 use Rattle.std.proofs.Common.{length, refl, sym, subst}
 use Rattle.std.proofs.lemmas.Bool.{ne_eqb}
 use Rattle.std.proofs.lemmas.List.{append-nil, length-append}
 use Rattle.std.proofs.lemmas.List.Elements.{All-head, All-tail}
 use Rattle.std.proofs.lemmas.List.Sums.{sum_by-cons}
-use Rattle.std.specs.List.{filter, fold, sum_by}
+use Rattle.std.specs.List.{fold, sum_by}
 use Rattle.std.specs.Prelude.{All, not, ◌==◌, if◌then◌else◌}
 use Rattle.grep_matcher.specs.Lines.{byte_of}
 use Rattle.grep_searcher.specs.Plans.{Call, begins, matches, context, breaks, binary_data, finishes}
@@ -21,7 +21,7 @@ use Rattle.grep_printer.specs.JsonTexts.{opening_line, with_end, with_match, wit
 use Rattle.grep_printer.specs.PlanCounts.{JsonCounts, SummariesCount, is_inner, json_counts, line_count_of, matched, part_count_of}
 use Rattle.grep_printer.specs.PlanCounts.{summary_counts}
 use Rattle.grep_printer.specs.StatsSums.{capped, capped_sum}
-use Rattle.grep_printer.specs.SummaryTexts.{counts_after, counts_on, no_counts, summary_rules, summary_text}
+use Rattle.grep_printer.specs.SummaryTexts.{counts_after, summary_rules, summary_text}
 use Rattle.grep_printer.specs.declared.json_printer.JsonFormat.{JsonFormat}
 use Rattle.grep_printer.specs.declared.json_printer.JsonProgress.{JsonProgress}
 use Rattle.grep_printer.specs.declared.summary.Counts.{Counts}

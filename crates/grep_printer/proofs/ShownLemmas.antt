@@ -1,5 +1,5 @@
 -- What is printed with some bytes around a report is printed with any.
-use Rattle.std.proofs.Common.{◌≡◌, ◌⊎◌, List, inl, inr}
+use Rattle.std.proofs.Common.{List, inl, inr}
 use Rattle.std.specs.Global.{Global}
 use Rattle.std.specs.Prelude.{ℕ, Bool, Option, Result, Ok, Err}
 use Rattle.grep_output.specs.Outputs.{OutputCall}

@@ -1,11 +1,11 @@
 -- What the sink of a printer has printed after a run along a plan.
-use Rattle.std.proofs.Common.{◌≡◌, ◌⊎◌, ◌∙◌, List, [], ◌∷◌, ◌++◌, ap, append_assoc, inl, inr, refl, sym, subst}
+use Rattle.std.proofs.Common.{◌≡◌, ◌∙◌, List, [], ◌∷◌, ◌++◌, ap, append_assoc, inl, inr, refl, sym, subst}
 use Rattle.std.proofs.lemmas.List.{append-nil}
 use Rattle.std.specs.Global.{Global}
 use Rattle.std.specs.List.{fold}
 use Rattle.std.specs.Prelude.{ℕ, Bool, true, false, ◌||◌, ◌&&◌, Option, Err, Ok, Result, if◌then◌else◌}
 use Rattle.grep_output.proofs.PendingLemmas.{Puts-more, Puts-none}
-use Rattle.grep_output.specs.Outputs.{Begins, FailsToWrite, OutputCall}
+use Rattle.grep_output.specs.Outputs.{Begins, OutputCall}
 use Rattle.grep_output.specs.PendingTexts.{PutsAll}
 use Rattle.grep_matcher.specs.Meanings.{MatcherFacts}
 use Rattle.grep_searcher.specs.Plans.{AreMade, Call, Finish, IsFinished, IsRun, Outcome, Plan, Planned, Settings}
@@ -15,7 +15,7 @@ use Rattle.grep_printer.specs.CallParts.{Anything, HasParts, has_match, parts_of
 use Rattle.grep_printer.specs.Formats.{AllGoOn, AreAlong, IsEnd, Printed, PrintedCall, Rules, Scene, printed_by}
 use Rattle.grep_printer.specs.Formats.{is_text, printed_with}
 use Rattle.grep_printer.proofs.SomeTextLemmas.{text-more, text-none}
-use Rattle.grep_printer.specs.PrinterSteps.{FailsAlongPlan, FailsBefore, FailsToPrint, HasFound, IsCutShort, IsSameSink}
+use Rattle.grep_printer.specs.PrinterSteps.{FailsAlongPlan, FailsToPrint, HasFound, IsCutShort, IsSameSink}
 use Rattle.grep_printer.specs.PrinterSteps.{Prints, PrintsAll, PrintsCall, scene_of, text_of}
 use Rattle.grep_printer.specs.declared.printer.PrinterSink.{PrinterSink}
 

@@ -14,7 +14,6 @@ use Rattle.grep_printer.specs.CallParts.{Anything, FailsAtParts, HasParts, Surro
 use Rattle.grep_printer.specs.CallParts.{has_match}
 use Rattle.grep_printer.specs.Formats.{AllGoOn, AreAlong, PrintedCall, Rules, Scene, is_text}
 use Rattle.grep_printer.specs.Formats.{printed_by}
-use Rattle.grep_printer.specs.declared.printer.Printer.{Printer}
 use Rattle.grep_printer.specs.declared.printer.PrinterSink.{PrinterSink}
 
 -- the matcher and the path of a sink stay, and so do the printer that it refers to and what the

@@ -9,10 +9,6 @@ abbrev pub Adds : Text → Text → List ℕ → Type 0
 Adds old new bytes =
     new.has_failed ≡ false → (old.has_failed ≡ false) × (new.bytes.items ≡ old.bytes.items ++ bytes)
 
--- If memory was there, a text has these bytes.
-abbrev pub Holds : Text → List ℕ → Type 0
-Holds text bytes = text.has_failed ≡ false → text.bytes.items ≡ bytes
-
 -- If memory was there, a text of JSON has some tokens more at its end.
 abbrev pub AddsTokens : JsonText → JsonText → List Token → Type 0
 AddsTokens old new tokens =

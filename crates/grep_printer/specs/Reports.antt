@@ -1,12 +1,12 @@
 -- A report as a printer has it, and the call that it is.
-use Rattle.std.specs.Prelude.{◌≡◌, ℕ, ◌+◌, ◌<◌, ◌≤◌, ◌^◌, Bool, true, false, not, ◌&&◌, if◌then◌else◌, List, ◌++◌}
+use Rattle.std.specs.Prelude.{◌≡◌, ℕ, ◌+◌, ◌<◌, ◌≤◌, ◌^◌, Bool, false, not, List}
 use Rattle.std.specs.Prelude.{codes, drop, length, Option, slice_range, take}
 use Rattle.grep_searcher.specs.Lines.{lines}
 use Rattle.grep_searcher.specs.Plans.{Call, begins, matches, context, breaks}
 use Rattle.grep_searcher.specs.Plans.{binary_data, finishes}
 use Rattle.grep_printer.specs.CallParts.{Surroundings}
 use Rattle.grep_printer.specs.LineTexts.{end_byte, line_text, lines_text}
-use Rattle.grep_printer.specs.PartTexts.{across_text, column_of, parts_text, writes_parts}
+use Rattle.grep_printer.specs.PartTexts.{column_of}
 use Rattle.grep_printer.specs.declared.format.Event.{Event}
 use Rattle.grep_printer.specs.declared.format.Event.TheVariants.{Begin, Break, BinaryData, Finish}
 use Rattle.grep_printer.specs.declared.format.Event.TheVariants.{Report as report_event}
@@ -104,16 +104,3 @@ module _ (layout : Layout) (report : Report) (parts : List (ℕ × ℕ)) where
       (lines (end_byte layout) report.bytes.now)
   whole_text (Context kind) =
       line_text layout context_line report_place parts report.bytes.now
-
-  -- the parts of a report: what they have in each line of a match, or in the line that isn't one
-  abbrev pub written_parts : ReportKind → List ℕ
-  written_parts Match =
-      across_text layout match_line report.offset report.bytes.now report.number 0
-      (lines (end_byte layout) report.bytes.now) parts
-  written_parts (Context kind) =
-      parts_text layout context_line report.offset report.bytes.now report.number parts
-
-  -- a report: its parts, or all of it
-  abbrev pub drawn_text : List ℕ
-  drawn_text =
-      if writes_parts layout parts then written_parts report.kind else whole_text report.kind

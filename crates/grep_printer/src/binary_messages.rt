@@ -1,5 +1,5 @@
 //! What is written about a binary byte at the end of a search.
-ghost use Rattle.std.specs.Prelude.{◌≡◌, ◌++◌, codes, decimal};
+ghost use Rattle.std.specs.Prelude.{◌++◌, codes, decimal};
 ghost use Rattle.grep_printer.specs.ColoredTexts.{color_of, path_color};
 ghost use Rattle.grep_printer.specs.Pushes.{Adds};
 ghost use Rattle.grep_printer.specs.StandardTexts.{binary_message, message_text, path_prefix};

@@ -1,5 +1,5 @@
 //! Colors.
-ghost use Rattle.std.specs.Prelude.{◌≡◌, ◌+◌, ◌<◌, ◌≤◌, ◌^◌, ◌++◌, false, IfOk, OnOk, length};
+ghost use Rattle.std.specs.Prelude.{◌≡◌, ◌+◌, ◌<◌, ◌≤◌, ◌^◌, ◌++◌, false, length};
 ghost use Rattle.grep_printer.specs.ColorRuns.{after_run, run_text};
 ghost use Rattle.grep_printer.specs.ColoredTexts.{color_of, colored, column_color, is_matched};
 ghost use Rattle.grep_printer.specs.ColoredTexts.{line_color, matched_color, painted_from};

@@ -1,5 +1,5 @@
 //! How a standard printer writes reports.
-ghost use Rattle.std.specs.Prelude.{◌≡◌, [], true, false, None};
+ghost use Rattle.std.specs.Prelude.{◌≡◌, [], false, None};
 ghost use Rattle.grep_printer.specs.StandardTexts.{asks_for_parts, default_config};
 
 use crate::colors::ColorSpecs;

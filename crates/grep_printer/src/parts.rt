@@ -1,6 +1,6 @@
 //! The parts of some bytes that match.
 ghost use Rattle.std.specs.Prelude.{◌≡◌, ◌⊎◌, ◌<◌, ◌^◌, ◌++◌, ◌∷◌, [], IfErr, IfOk, OnOk, length};
-ghost use Rattle.std.specs.Prelude.{if◌then◌else◌, true, ◌-◌, ◌≤◌, OnErr, Some, vec_capacity};
+ghost use Rattle.std.specs.Prelude.{if◌then◌else◌, ◌-◌, ◌≤◌, OnErr, Some, vec_capacity};
 ghost use Rattle.std.specs.Prelude.{vec_len};
 ghost use Rattle.grep_searcher.specs.SearchErrors.{IsOutOfMemory};
 ghost use Rattle.grep_printer.specs.CallParts.{asked_bytes, parts_of_call};

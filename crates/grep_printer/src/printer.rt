@@ -1,12 +1,12 @@
 //! A printer of any format, and the sink of one search after another.
-ghost use Rattle.std.specs.Prelude.{◌≡◌, ◌⊎◌, ◌+◌, ◌<◌, ◌^◌, ◌&&◌, ◌||◌, [], true, false, None, IfErr, OnErr, OnOk};
+ghost use Rattle.std.specs.Prelude.{◌≡◌, ◌⊎◌, ◌+◌, ◌<◌, ◌^◌, ◌&&◌, ◌||◌, [], true, false, IfErr, OnErr, OnOk};
 ghost use Rattle.std.specs.Prelude.{if◌then◌else◌, is_ok, length};
 ghost use Rattle.grep_output.specs.PendingTexts.{Flushes, Puts};
 ghost use Rattle.grep_report.specs.SinkReports.{match_bytes};
 ghost use Rattle.grep_searcher.specs.Plans.{reported_bytes};
 ghost use Rattle.grep_searcher.specs.SearchErrors.{IsOutOfMemory};
 ghost use Rattle.grep_searcher.specs.SinkArguments.{match_call};
-ghost use Rattle.grep_printer.specs.CallParts.{FailsAtParts, HasParts, around_match, has_match};
+ghost use Rattle.grep_printer.specs.CallParts.{FailsAtParts, around_match, has_match};
 ghost use Rattle.grep_printer.specs.Formats.{is_text};
 ghost use Rattle.grep_printer.specs.MatchedParts.{AreInOrder};
 ghost use Rattle.grep_printer.specs.PrinterSteps.{HasFound, IsPreparing, PrintsCall};

@@ -1,7 +1,6 @@
 //! The printer of lines.
-ghost use Rattle.std.specs.Prelude.{◌≡◌, ◌+◌, ◌<◌, ◌^◌, ◌&&◌, ◌||◌, None, is_some, length};
+ghost use Rattle.std.specs.Prelude.{◌≡◌, ◌+◌, ◌<◌, ◌^◌, ◌&&◌, None, is_some, length};
 ghost use Rattle.std.specs.Prelude.{if◌then◌else◌, not};
-ghost use Rattle.grep_searcher.specs.BinaryDetections.{convert_byte_of};
 ghost use Rattle.grep_printer.specs.MatchedParts.{AreInOrder};
 ghost use Rattle.grep_printer.specs.Pushes.{Adds};
 ghost use Rattle.grep_printer.specs.Reports.{call_of};

@@ -1,6 +1,5 @@
 //! The printer of summaries: counts, and paths.
 ghost use Rattle.std.specs.Prelude.{◌≡◌};
-ghost use Rattle.grep_matcher.specs.Lines.{byte_of};
 ghost use Rattle.grep_printer.specs.Pushes.{Adds};
 ghost use Rattle.grep_printer.specs.SummaryTexts.{count_line, finish_text, found_line, is_left_out};
 ghost use Rattle.grep_printer.specs.SummaryTexts.{no_counts, path_line, with_report};

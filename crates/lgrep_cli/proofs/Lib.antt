@@ -3,7 +3,6 @@ pub mod CommandRows
 pub mod CountTextLemmas
 pub mod NumeralLemmas
 pub mod OneLineLemmas
-pub mod PendingLemmas
 pub mod PrintLemmas
 pub mod PrinterLemmas
 pub mod PutLemmas

@@ -6,9 +6,9 @@ use Rattle.std.specs.declared.io.Error.{Error}
 use Rattle.std.proofs.lemmas.List.{append-nil}
 use Rattle.lgrep_cli.specs.PrintedTexts.{ended_line, numbered_line, next_number, match_text}
 use Rattle.grep_output.specs.Outputs.{OutputCall, Writes}
-use Rattle.lgrep_cli.specs.PendingTexts.{PutsAll, Puts}
+use Rattle.grep_output.specs.PendingTexts.{PutsAll, Puts}
 use Rattle.grep_output.proofs.OutputLemmas.{Writes-more, Writes-cut}
-use Rattle.lgrep_cli.proofs.PendingLemmas.{Puts-none, Puts-more, Puts-cut}
+use Rattle.grep_output.proofs.PendingLemmas.{Puts-none, Puts-more, Puts-cut}
 
 module _ {W : Type 0} (write_step : W → OutputCall → W → Type 0) where
   -- what was put so far, and the lines to come, make the text of all lines

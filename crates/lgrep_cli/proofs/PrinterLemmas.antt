@@ -19,9 +19,9 @@ use Rattle.lgrep_cli.specs.Printers.{PrintsCall, Prints, IsMade}
 use Rattle.grep_searcher.specs.SearchLaws.{is_match}
 use Rattle.lgrep_cli.specs.PrintedTexts.{call_text, text, has_match}
 use Rattle.grep_output.specs.Outputs.{OutputCall, Writes}
-use Rattle.lgrep_cli.specs.PendingTexts.{PutsAll}
+use Rattle.grep_output.specs.PendingTexts.{PutsAll}
 use Rattle.lgrep_cli.specs.declared.printer.Printer.{Printer}
-use Rattle.lgrep_cli.proofs.PendingLemmas.{Puts-none, Puts-more, Puts-cut}
+use Rattle.grep_output.proofs.PendingLemmas.{Puts-none, Puts-more, Puts-cut}
 
 module _ {W : Type 0} (write_step : W → OutputCall → W → Type 0) (settings : Settings) where
   -- the text of some calls is put, and whether a match was among them is kept

@@ -29,12 +29,12 @@ use Rattle.lgrep_cli.specs.ProgramRuns.{IsPrinted, IsPrintedAndFlushed, IsPrinte
 use Rattle.lgrep_cli.specs.ProgramRuns.{of_memory, of_reader, of_reader_and_write, of_write}
 use Rattle.lgrep_cli.specs.PrintedTexts.{count_text, text, has_match}
 use Rattle.grep_output.specs.Outputs.{OutputCall, flushes, taken_by, Writes}
-use Rattle.lgrep_cli.specs.PendingTexts.{PutsAll}
+use Rattle.grep_output.specs.PendingTexts.{PutsAll}
 use Rattle.lgrep_cli.specs.declared.options.Options.{Options}
 use Rattle.lgrep_cli.specs.declared.printer.Printer.{Printer}
 use Rattle.lgrep_cli.proofs.OneLineLemmas.{calls-made}
 use Rattle.grep_output.proofs.OutputLemmas.{Appends-more, written-appends}
-use Rattle.lgrep_cli.proofs.PendingLemmas.{Puts-written}
+use Rattle.grep_output.proofs.PendingLemmas.{Puts-written}
 use Rattle.lgrep_cli.proofs.PrinterLemmas.{ArePut, IsCut, put-none, reported-put, search-put}
 
 -- an input with nothing after the pieces that came

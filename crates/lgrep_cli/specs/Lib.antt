@@ -2,7 +2,6 @@ pub mod CommandLine
 pub mod Messages
 pub mod Numerals
 pub mod OptionSettings
-pub mod PendingTexts
 pub mod Printers
 pub mod ProgramRuns
 pub mod PrintedTexts

@@ -9,7 +9,7 @@ use Rattle.grep_searcher.specs.Plans.{Settings, Call, matches, context, breaks}
 use Rattle.grep_searcher.specs.SearchLaws.{is_match}
 use Rattle.lgrep_cli.specs.PrintedTexts.{call_text}
 use Rattle.grep_output.specs.Outputs.{OutputCall}
-use Rattle.lgrep_cli.specs.PendingTexts.{Puts}
+use Rattle.grep_output.specs.PendingTexts.{Puts}
 use Rattle.lgrep_cli.specs.declared.printer.Printer.{Printer}
 
 -- whether a call is written at all

@@ -2,7 +2,7 @@
 ghost use Rattle.std.specs.Prelude.{◌≡◌, ◌∷◌, ◌++◌, ◌+◌, ◌≤◌, [], IfOk, MatchBool, OnOk, length};
 ghost use Rattle.std.specs.Prelude.{take};
 ghost use Rattle.grep_output.specs.Outputs.{Writes};
-ghost use Rattle.lgrep_cli.specs.PendingTexts.{Puts};
+ghost use Rattle.grep_output.specs.PendingTexts.{Puts};
 ghost use Rattle.lgrep_cli.specs.PrintedTexts.{ended_line, numbered_line};
 
 use crate::lines::write_line;

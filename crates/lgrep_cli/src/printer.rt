@@ -3,7 +3,7 @@ ghost use Rattle.std.specs.Prelude.{◌≡◌, [], true, false, Ok, Err, MatchRe
 ghost use Rattle.grep_matcher.specs.Lines.{lines};
 ghost use Rattle.lgrep_cli.specs.PrintedTexts.{match_text, next_number};
 ghost use Rattle.grep_output.specs.Outputs.{Writes};
-ghost use Rattle.lgrep_cli.specs.PendingTexts.{Puts};
+ghost use Rattle.grep_output.specs.PendingTexts.{Puts};
 
 use crate::pending::Pending;
 use grep_output::Output;

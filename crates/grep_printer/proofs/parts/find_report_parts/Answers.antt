@@ -1,12 +1,10 @@
-use Rattle.std.proofs.Common.{◌≡◌, ◌⊎◌, ◌∙◌, ◌-◌, ap, inl, inr, length, subst, sym, ℕ, List}
-use Rattle.std.proofs.lemmas.Result.{IfErr-weaker, on_ok_weaker}
+use Rattle.std.proofs.Common.{◌≡◌, ◌⊎◌, ◌∙◌, ◌-◌, ap, length, subst, sym, ℕ, List}
+use Rattle.std.proofs.lemmas.Result.{on_ok_weaker}
 use Rattle.std.specs.Prelude.{IfErr}
 use Rattle.grep_searcher.specs.Lines.{strip}
 use Rattle.grep_searcher.specs.SearchErrors.{IsOutOfMemory}
 use Rattle.grep_printer.proofs.CallPartLemmas.{across-asked, across-parts, line-asked, line-parts}
-use Rattle.grep_printer.specs.CallParts.{asked_bytes}
 use Rattle.grep_printer.specs.MatchedParts.{IsMatcherError, first_from, parts_in}
-use Rattle.grep_printer.specs.Reports.{call_of, surroundings_of}
 use Rattle.grep_printer.proofs.parts.find_report_parts.Goals as goal
 
 pub returns-then-multi_line_with_matcher-clause-parts :

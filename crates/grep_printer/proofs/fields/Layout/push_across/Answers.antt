@@ -1,4 +1,4 @@
-use Rattle.std.proofs.Common.{◌≡◌, ◌∙◌, ap, length, refl, rules, subst, sym, ℕ, List, ◌++◌, ◌+◌}
+use Rattle.std.proofs.Common.{◌≡◌, length, refl, rules, subst, sym, ℕ, List, ◌++◌, ◌+◌}
 use Rattle.std.specs.List.{flat_map}
 use Rattle.grep_matcher.specs.Lines.{byte_of}
 use Rattle.grep_searcher.specs.Lines.{lines}

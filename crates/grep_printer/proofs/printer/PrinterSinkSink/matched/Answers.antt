@@ -1,8 +1,7 @@
-use Rattle.std.proofs.Common.{◌≡◌, ◌∙◌, ap, length, subst, ℕ, List, drop, take}
+use Rattle.std.proofs.Common.{◌≡◌, ◌∙◌, subst}
 use Rattle.grep_searcher.specs.Plans.{Call}
-use Rattle.grep_searcher.specs.SinkArguments.{match_call}
 use Rattle.grep_printer.proofs.ShownLemmas.{prints-weaker}
-use Rattle.grep_printer.specs.CallParts.{Surroundings, around_match}
+use Rattle.grep_printer.specs.CallParts.{around_match}
 use Rattle.grep_printer.specs.PrinterSteps.{PrintsShown}
 use Rattle.grep_printer.specs.Reports.{call_of, surroundings_of}
 use Rattle.grep_printer.proofs.printer.PrinterSinkSink.matched.Goals as goal

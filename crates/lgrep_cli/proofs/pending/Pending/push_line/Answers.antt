@@ -1,9 +1,9 @@
 use Rattle.std.proofs.Common.{◌≡◌, [], sym, ◌∙◌, subst}
 use Rattle.std.proofs.lemmas.Result.{err_from_is_err_and}
 use Rattle.lgrep_cli.specs.PrintedTexts.{numbered_line}
-use Rattle.lgrep_cli.specs.PendingTexts.{Puts}
+use Rattle.grep_output.specs.PendingTexts.{Puts}
 use Rattle.grep_output.proofs.OutputLemmas.{Writes-cut}
-use Rattle.lgrep_cli.proofs.PendingLemmas.{Puts-through}
+use Rattle.grep_output.proofs.PendingLemmas.{Puts-through}
 use Rattle.lgrep_cli.proofs.pending.Pending.push_line.Goals as goal
 
 pub returns-in_err-write_to : goal.returns-in_err-write_to
