@@ -41,6 +41,7 @@ module _ {F M W E : Type 0} (rules : Rules F) (output : E → Option (List ℕ))
         is_io = writing.is_io;
         failed = writing.failed;
         pending = writing.pending;
+        format = writing.format;
         has_failed = writing.has_failed;
       })
       | inr before ↦ inr (record {

@@ -259,7 +259,7 @@ module _ {F M W E : Type 0} (rules : Rules F) (output : E → Option (List ℕ))
       tried = writing.printed;
       is_call = writing.is_call;
       found = found-same made mid writing.printed has writing.has_parts;
-      cut = inl (writing.error, writing.is_io, writing.pending, writing.has_failed, writing.failed);
+      cut = inl (writing.error, writing.is_io, writing.pending, writing.format, writing.has_failed, writing.failed);
     }
     | inr before ↦ record {
       tried = alone made.format call;

@@ -1,4 +1,4 @@
--- What the sink of a printer does at a call of a search, and in a whole search, whatever its format.
+-- What the sink of a printer does at a call of a search, and in a whole search, of any format.
 use Rattle.std.specs.Prelude.{◌≡◌, ◌⊎◌, ℕ, Bool, true, ◌&&◌, ◌||◌, List, [], ◌∷◌, ◌++◌}
 use Rattle.std.specs.Prelude.{Option, Result, Ok, Err}
 use Rattle.std.specs.Global.{Global}
@@ -78,6 +78,7 @@ module _ {F M W E : Type 0} (rules : Rules F) (output : E → Option (List ℕ))
     pub failed : FailsToWrite write_step old.printer.now.writer
         (old.printer.now.pending ++ text_of rules old settings printed) error new.printer.now.writer
     pub pending : new.printer.now.pending ≡ []
+    pub format : new.format ≡ rules.next old.format (scene_of old settings) printed
     pub has_failed : new.printer.now.has_failed ≡ true
 
   -- the writer had no call, and there was no memory, or the matcher failed where the parts of a
@@ -134,7 +135,8 @@ module _ {F M W E : Type 0} (rules : Rules F) (output : E → Option (List ℕ))
       (settings : Settings) (old : PrinterSink F M W) (calls : List Planned)
       (new : PrinterSink F M W) → AreMade PrintsCall settings old calls all_true new
       → (printed : List PrintedCall)
-      × AllGoOn rules (scene_of old settings) (HasFound rules Anything facts first_at old settings) old.format calls printed
+      × AllGoOn rules (scene_of old settings)
+      (HasFound rules Anything facts first_at old settings) old.format calls printed
       × PrintsAll old settings printed new
 
   -- a run of the sink that ended in `Ok` has written the texts of the calls of its plan
@@ -143,8 +145,9 @@ module _ {F M W E : Type 0} (rules : Rules F) (output : E → Option (List ℕ))
       (settings : Settings) (old : PrinterSink F M W) (plan : Plan) (new : PrinterSink F M W)
       → IsRun PrintsCall settings old plan (Ok tt) new
       → (printed : List PrintedCall)
-      × AreAlong rules (scene_of old settings) (HasFound rules Anything facts first_at old settings) old.format plan.calls
-      plan.finish printed
+      × AreAlong rules (scene_of old settings)
+      (HasFound rules Anything facts first_at old settings) old.format plan.calls plan.finish
+      printed
       × PrintsAll old settings printed new
 
   -- the call after some others isn't printed: the writer failed after some first bytes of its text,
@@ -153,6 +156,7 @@ module _ {F M W E : Type 0} (rules : Rules F) (output : E → Option (List ℕ))
       → PrinterSink F M W → Type 0
   IsCutShort mid settings tried e new =
       ((error : Error) × (e ≡ Io error) × (new.printer.now.pending ≡ [])
+      × (new.format ≡ rules.next mid.format (scene_of mid settings) tried)
       × (new.printer.now.has_failed ≡ true)
       × FailsToWrite write_step mid.printer.now.writer
       (mid.printer.now.pending ++ text_of rules mid settings tried) error new.printer.now.writer)
@@ -165,8 +169,9 @@ module _ {F M W E : Type 0} (rules : Rules F) (output : E → Option (List ℕ))
     pub before : List PrintedCall
     pub tried : PrintedCall
     pub later : List PrintedCall
-    pub along : AreAlong rules (scene_of old settings) (HasFound rules Anything facts first_at old settings) old.format plan.calls
-        plan.finish (before ++ tried ∷ later)
+    pub along : AreAlong rules (scene_of old settings)
+        (HasFound rules Anything facts first_at old settings) old.format plan.calls plan.finish
+        (before ++ tried ∷ later)
     pub mid : PrinterSink F M W
     pub printed : PrintsAll old settings before mid
     pub cut : IsCutShort mid settings tried e new
