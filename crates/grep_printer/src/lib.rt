@@ -28,9 +28,10 @@ mod text;
 
 pub use colors::ColorSpecs;
 pub use config::{SearchSeparator, StandardBuilder};
-pub use json_printer::{Json, JsonBuilder, JsonSink};
+pub use format::Format;
+pub use json_printer::{Json, JsonBuilder, JsonFormat, JsonSink};
 pub use printer::{Printer, PrinterSink};
-pub use standard::{Standard, StandardSink};
+pub use standard::{Standard, StandardFormat, StandardSink};
 pub use stats::Stats;
-pub use summary::{Summary, SummarySink};
+pub use summary::{Summary, SummaryFormat, SummarySink};
 pub use summary_builder::{SummaryBuilder, SummaryKind};
