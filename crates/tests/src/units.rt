@@ -2,4 +2,5 @@
 mod encodings;
 mod lines;
 mod patterns;
+mod pending;
 mod reports;
