@@ -27,11 +27,11 @@ use std::io;
 // How many bytes of text a printer keeps before it writes them, unless it is told otherwise.
 const ROOM: usize = 64 * 1024;
 
-/// A printer: it writes what its format makes of the calls of a search. `sink` gives the sink of one
-/// search after another.
+/// A printer: it writes what its format makes of the calls of a search. `sink` gives the sink of
+/// one search after another.
 ///
-/// Text is kept until there are 64 KiB of it, or as much as `set_buffer_size` says, and written then
-/// or by `flush`.
+/// Text is kept until there are 64 KiB of it, or as much as `set_buffer_size` says, and written
+/// then or by `flush`. What is kept when the printer is dropped isn't written.
 #[derive(Drop)]
 pub struct Printer<F, W> {
     pub(crate) writer: W,
@@ -74,8 +74,8 @@ impl<F, W> Printer<F, W> {
         self.pending.set_room(size);
     }
 
-    /// Whether any text was written whole, or is kept to be written. The first bytes of one at which
-    /// the writer failed don't count: `has_failed` is true then.
+    /// Whether there was any text. That of a call at which the writer failed doesn't count:
+    /// `has_failed` is true then.
     pub fn has_written(&self) -> bool
         ensures { result ≡ self.now.has_written }
     {
@@ -91,7 +91,7 @@ impl<F, W> Printer<F, W> {
 }
 
 impl<F: Format, W> Printer<F, W> {
-    /// The writer back, and what isn't written yet: nothing right after a `flush` that succeeded.
+    /// The writer back, and what isn't written yet: nothing right after a `flush`.
     pub fn into_parts(self) -> (W, Vec<u8>)
         ensures writer { result.0 ≡ self.writer }
         ensures pending { result.1.items ≡ self.pending }
@@ -132,7 +132,8 @@ impl<F: Format, W> Printer<F, W> {
 }
 
 impl<F, W: Output> Printer<F, W> {
-    /// Writes what isn't written yet, and flushes the writer. An error is the writer's own.
+    /// Writes what isn't written yet, and flushes the writer. An error is the writer's own, or of
+    /// kind `WriteZero` as for `write_all` of grep_output: then nothing is kept any more.
     pub fn flush(&mut self) -> io::Result<()>
         ensures flushed { Flushes W.step self.old.writer self.old.pending result self.new.writer }
         ensures emptied { self.new.pending ≡ [] }
