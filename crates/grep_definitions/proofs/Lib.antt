@@ -28,7 +28,7 @@ pub mod PlannedReaderLemmas
 pub mod ContentsSearchLemmas
 pub mod PlannedStreamLemmas
 pub mod ReaderViewLemmas
-pub mod ReportLemmas
+pub mod ReportOrderLemmas
 pub mod RunLemmas
 pub mod SearchLawLemmas
 pub mod SeenLineLemmas

@@ -30,7 +30,7 @@ use Rattle.grep_definitions.proofs.BelowLemmas.{count_below-none, count_below-wi
 use Rattle.grep_definitions.proofs.BelowLemmas.{joined_from-more}
 use Rattle.grep_matcher.proofs.LineStartLemmas.{line_start-ascends, line_start-more}
 use Rattle.grep_definitions.proofs.BoolLemmas.{clash}
-use Rattle.grep_definitions.proofs.ReportLemmas.{IsReported, in_order-joined, report_calls-broken}
+use Rattle.grep_definitions.proofs.ReportOrderLemmas.{IsReported, in_order-joined, report_calls-broken}
 
 -- a bound never gives more
 pub at_most-le : (o : Option ℕ) (n : ℕ) → at_most o n ≤ n
