@@ -162,7 +162,7 @@ impl<F, W: Output> Printer<F, W> {
     }
 
     // Puts the text at hand after what isn't written yet.
-    #[inline]
+    #[inline(always)]
     pub(crate) fn put_text(&mut self) -> io::Result<()>
         ensures put { Puts W.step self.old.writer self.old.pending self.old.text.bytes.items result
             self.new.writer self.new.pending }
@@ -174,9 +174,12 @@ impl<F, W: Output> Printer<F, W> {
         ensures has_failed { self.new.has_failed
             ≡ (if is_ok result then self.old.has_failed else true) }
     {
+        if self.text.bytes.is_empty() {
+            return Ok(());
+        }
         match self.pending.put(&mut self.writer, &self.text.bytes) {
             Ok(()) => {
-                self.has_written = self.has_written || !self.text.bytes.is_empty();
+                self.has_written = true;
                 Ok(())
             }
             Err(error) => {
@@ -241,7 +244,9 @@ impl<'s, F: Format, M: FindAt, W: Output> PrinterSink<'s, F, M, W> {
         }
     }
 
-    // Prints a call, and returns whether the search goes on.
+    // Prints a call, and returns whether the search goes on. It is inlined, so that each method knows
+    // which call it prints.
+    #[inline(always)]
     fn print<A: Allocator + Copy>(
         &mut self,
         searcher: &Searcher<A>,

@@ -154,6 +154,7 @@ impl Format for StandardFormat {
         self.progress.has_match
     }
 
+    #[inline(always)]
     fn push<A: Allocator + Copy>(
         &mut self,
         text: &mut Text,

@@ -98,6 +98,7 @@ impl Format for SummaryFormat {
         self.config.kind.has_found(self.counts.match_count)
     }
 
+    #[inline(always)]
     fn push<A: Allocator + Copy>(
         &mut self,
         text: &mut Text,
