@@ -17,8 +17,8 @@ module _ {S : Type 0} (step : S → OutputCall → S → Type 0) where
   Puts old pending text (Err error) new later = FailsToWrite step old (pending ++ text) error new
 
   -- what is pending is written, and a flush returned this
-  pub record WritesAndFlushes (old : S) (pending : List ℕ) (flushed : Result (Unit {0}) Error) (new : S)
-      : Type 0 where
+  pub record WritesAndFlushes (old : S) (pending : List ℕ) (flushed : Result (Unit {0}) Error)
+      (new : S) : Type 0 where
     pub mid : S
     pub written : WritesAll step old pending mid
     pub last : step mid (flushes flushed) new

@@ -10,14 +10,14 @@ use Rattle.grep_printer.specs.declared.json_printer.JsonFormat.{JsonFormat}
 use Rattle.grep_printer.specs.declared.standard.StandardFormat.{StandardFormat}
 use Rattle.grep_printer.specs.declared.summary.SummaryFormat.{SummaryFormat}
 
-pub standard-ends : (format : StandardFormat) (scene : Scene) (printed : PrintedCall) (count : ℕ) (binary : Option ℕ)
-    → printed.call ≡ finishes count binary → standard_rules.goes_on format scene printed ≡ true
+pub standard-ends : (format : StandardFormat) (scene : Scene) (printed : PrintedCall) (count : ℕ)
+    (binary : Option ℕ) → printed.call ≡ finishes count binary → standard_rules.goes_on format scene printed ≡ true
 standard-ends format scene printed count binary is = rw is refl
 
-pub summary-ends : (format : SummaryFormat) (scene : Scene) (printed : PrintedCall) (count : ℕ) (binary : Option ℕ)
-    → printed.call ≡ finishes count binary → summary_rules.goes_on format scene printed ≡ true
+pub summary-ends : (format : SummaryFormat) (scene : Scene) (printed : PrintedCall) (count : ℕ)
+    (binary : Option ℕ) → printed.call ≡ finishes count binary → summary_rules.goes_on format scene printed ≡ true
 summary-ends format scene printed count binary is = rw is refl
 
-pub json-ends : (format : JsonFormat) (scene : Scene) (printed : PrintedCall) (count : ℕ) (binary : Option ℕ)
-    → printed.call ≡ finishes count binary → json_rules.goes_on format scene printed ≡ true
+pub json-ends : (format : JsonFormat) (scene : Scene) (printed : PrintedCall) (count : ℕ)
+    (binary : Option ℕ) → printed.call ≡ finishes count binary → json_rules.goes_on format scene printed ≡ true
 json-ends format scene printed count binary is = refl

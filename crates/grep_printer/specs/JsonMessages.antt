@@ -1,5 +1,6 @@
 -- The messages of a printer of JSON, as values.
-use Rattle.std.specs.Prelude.{ℕ, ◌+◌, ◌-◌, ◌/◌, ◌%◌, ◌^◌, false, if◌then◌else◌, List, [], ◌∷◌, ◌++◌, codes}
+use Rattle.std.specs.Prelude.{ℕ, ◌+◌, ◌-◌, ◌/◌, ◌%◌, ◌^◌, false, if◌then◌else◌, List, [], ◌∷◌, ◌++◌}
+use Rattle.std.specs.Prelude.{codes}
 use Rattle.std.specs.Prelude.{decimal, Option, None, Some, slice_range}
 use Rattle.std.specs.Fmt.{format_spec, padded_integral}
 use Rattle.std.specs.Borrow.{Bor}

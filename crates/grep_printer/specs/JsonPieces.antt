@@ -9,7 +9,8 @@ use Rattle.grep_printer.specs.JsonMessages.{path_json, report_json, summary_json
 use Rattle.grep_printer.specs.JsonTexts.{with_match}
 use Rattle.grep_printer.specs.Reports.{type_of}
 use Rattle.grep_printer.specs.declared.json_lines.Message.{Message}
-use Rattle.grep_printer.specs.declared.json_lines.Message.TheVariants.{Begin, Report as reports, End}
+use Rattle.grep_printer.specs.declared.json_lines.Message.TheVariants.{Begin, Report as reports}
+use Rattle.grep_printer.specs.declared.json_lines.Message.TheVariants.{End}
 use Rattle.grep_printer.specs.declared.json_lines.Message.TheVariants.{Summary}
 use Rattle.grep_printer.specs.declared.json_printer.JsonProgress.{JsonProgress}
 use Rattle.grep_printer.specs.declared.report.Report.{Report}

@@ -1,5 +1,6 @@
 //! A printer of any format, and the sink of one search after another.
-ghost use Rattle.std.specs.Prelude.{◌≡◌, ◌⊎◌, ◌+◌, ◌<◌, ◌^◌, ◌&&◌, ◌||◌, [], true, false, IfErr, OnErr, OnOk};
+ghost use Rattle.std.specs.Prelude.{◌≡◌, ◌⊎◌, ◌+◌, ◌<◌, ◌^◌, ◌&&◌, ◌||◌, [], true, false, IfErr};
+ghost use Rattle.std.specs.Prelude.{OnErr, OnOk};
 ghost use Rattle.std.specs.Prelude.{if◌then◌else◌, is_ok, length};
 ghost use Rattle.grep_output.specs.PendingTexts.{Flushes, Puts};
 ghost use Rattle.grep_report.specs.SinkReports.{match_bytes};
@@ -66,8 +67,8 @@ impl<F, W> Printer<F, W> {
         }
     }
 
-    /// Sets how many bytes of text are kept before they are written: 64 KiB if it isn't called. With
-    /// 0 the text of each call is written at once.
+    /// Sets how many bytes of text are kept before they are written: 64 KiB if it isn't called.
+    /// With 0 the text of each call is written at once.
     pub fn set_buffer_size(&mut self, size: usize)
         ensures { self.new ≡ self.old }
     {
@@ -244,8 +245,8 @@ impl<'s, F: Format, M: FindAt, W: Output> PrinterSink<'s, F, M, W> {
         }
     }
 
-    // Prints a call, and returns whether the search goes on. It is inlined, so that each method knows
-    // which call it prints.
+    // Prints a call, and returns whether the search goes on. It is inlined, so that each method
+    // knows which call it prints.
     #[inline(always)]
     fn print<A: Allocator + Copy>(
         &mut self,
@@ -264,21 +265,18 @@ impl<'s, F: Format, M: FindAt, W: Output> PrinterSink<'s, F, M, W> {
             Ok(()) => {}
             Err(error) => return Err(error),
         }
-        let mut format = self.format;
+        let before = self.format;
         let printer = &mut *self.printer;
         printer.text.clear();
-        let goes_on = format.push(
-            &mut printer.text,
-            searcher,
-            self.path,
-            event,
-            &printer.parts,
-        );
+        let (text, parts) = (&mut printer.text, &printer.parts);
+        let goes_on = self.format.push(text, searcher, self.path, event, parts);
         match printer.text.check() {
             Ok(()) => {}
-            Err(error) => return Err(error),
+            Err(error) => {
+                self.format = before;
+                return Err(error);
+            }
         }
-        self.format = format;
         match self.printer.put_text() {
             Ok(()) => Ok(goes_on),
             Err(error) => Err(SearchError::Io(error)),

@@ -116,7 +116,8 @@ impl StandardFormat {
             (record { path = path.entry; settings = searcher.now.settings }) (call_of report.now)
             parts.now) }
         ensures config { self.new.config ≡ self.old.config }
-        ensures progress { self.new.progress ≡ progress_after self.old.progress (call_of report.now) }
+        ensures progress { self.new.progress
+            ≡ progress_after self.old.progress (call_of report.now) }
         ensures goes_on { result
             ≡ not (is_hidden self.old.progress searcher.now.settings.binary_detection) }
     {

@@ -82,7 +82,10 @@ pub fn build_printer<W: Output>(
 }
 
 // A printer that writes each text at once on a terminal.
-fn shown_on<F, W>(is_terminal: bool, mut printer: grep_printer::Printer<F, W>) -> grep_printer::Printer<F, W> {
+fn shown_on<F, W>(
+    is_terminal: bool,
+    mut printer: grep_printer::Printer<F, W>,
+) -> grep_printer::Printer<F, W> {
     if is_terminal {
         printer.set_buffer_size(0);
     }

@@ -8,8 +8,8 @@ const MESSAGE: &str = "\
     its error is as long as that of a long expression, and a printer has to keep all of its three \
     hundred bytes, to the last";
 
-/// Finds an empty match at each position, and fails when it is asked for the first match from a position on, as a printer
-/// asks for the parts of a report.
+/// Finds an empty match at each position, and fails when it is asked for the first match from a
+/// position on, as a printer asks for the parts of a report.
 #[derive(Drop)]
 pub struct Failing;
 
