@@ -83,9 +83,9 @@ impl Pending {
         bytes
     }
 
-    // Keeps a text after the others if there is room and memory for it, and returns whether it did.
+    /// Keeps a text after the others if there is room and memory for it, and returns whether it did.
     #[inline]
-    fn keeps(&mut self, text: &[u8]) -> bool
+    pub fn keeps(&mut self, text: &[u8]) -> bool
         ensures { MatchBool result (self.new ≡ self.old ++ text.now) (self.new ≡ self.old) }
     {
         if text.len() > self.room || self.bytes.len() > self.room - text.len() {

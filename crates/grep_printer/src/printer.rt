@@ -1,7 +1,7 @@
 //! A printer of any format, and the sink of one search after another.
 ghost use Rattle.std.specs.Prelude.{◌≡◌, ◌⊎◌, ◌+◌, ◌<◌, ◌^◌, ◌&&◌, ◌||◌, [], true, false, IfErr};
 ghost use Rattle.std.specs.Prelude.{OnErr, OnOk};
-ghost use Rattle.std.specs.Prelude.{if◌then◌else◌, is_ok, length};
+ghost use Rattle.std.specs.Prelude.{◌++◌, MatchBool, if◌then◌else◌, is_ok, length};
 ghost use Rattle.grep_output.specs.PendingTexts.{Flushes, Puts};
 ghost use Rattle.grep_report.specs.SinkReports.{match_bytes};
 ghost use Rattle.grep_searcher.specs.Plans.{reported_bytes};
@@ -22,7 +22,7 @@ use grep_output::{Output, Pending};
 use grep_searcher::{
     FindAt, Match, SearchError, Searcher, Sink, SinkContext, SinkFinish, SinkMatch,
 };
-use std::alloc::{Allocator, Global};
+use std::alloc::{AllocError, Allocator, Global};
 use std::io;
 
 // How many bytes of text a printer keeps before it writes them, unless it is told otherwise.
@@ -162,8 +162,29 @@ impl<F, W: Output> Printer<F, W> {
         self.writer.flush()
     }
 
-    // Puts the text at hand after what isn't written yet.
+    // Keeps the text at hand after what isn't written yet, if there is room and memory for it, and
+    // returns whether it did.
     #[inline(always)]
+    fn keeps_text(&mut self) -> bool
+        ensures kept { MatchBool result
+            (self.new.pending ≡ self.old.pending ++ self.old.text.bytes.items)
+            (self.new.pending ≡ self.old.pending) }
+        ensures writer { self.new.writer ≡ self.old.writer }
+        ensures text { self.new.text ≡ self.old.text }
+        ensures format { self.new.format ≡ self.old.format }
+        ensures has_written { self.new.has_written
+            ≡ (self.old.has_written || (result && is_text self.old.text.bytes.items)) }
+        ensures has_failed { self.new.has_failed ≡ self.old.has_failed }
+    {
+        if self.text.bytes.is_empty() {
+            return true;
+        }
+        let is_kept = self.pending.keeps(&self.text.bytes);
+        self.has_written = self.has_written || is_kept;
+        is_kept
+    }
+
+    // Puts the text at hand after what isn't written yet.
     pub(crate) fn put_text(&mut self) -> io::Result<()>
         ensures put { Puts W.step self.old.writer self.old.pending self.old.text.bytes.items result
             self.new.writer self.new.pending }
@@ -175,12 +196,9 @@ impl<F, W: Output> Printer<F, W> {
         ensures has_failed { self.new.has_failed
             ≡ (if is_ok result then self.old.has_failed else true) }
     {
-        if self.text.bytes.is_empty() {
-            return Ok(());
-        }
         match self.pending.put(&mut self.writer, &self.text.bytes) {
             Ok(()) => {
-                self.has_written = true;
+                self.has_written = self.has_written || !self.text.bytes.is_empty();
                 Ok(())
             }
             Err(error) => {
@@ -210,15 +228,25 @@ impl<'s, F: Format, M, W> PrinterSink<'s, F, M, W> {
 }
 
 impl<'s, F: Format, M: FindAt, W: Output> PrinterSink<'s, F, M, W> {
-    // Finds the parts of a call's report that match, if they are asked for. It is inlined, so that
-    // where they aren't asked for there is no room for an error to copy.
+    // Whether the parts of a call's report are asked for.
     #[inline(always)]
+    fn asks<A: Allocator + Copy>(&self, searcher: &Searcher<A>, event: &Event<'_>) -> bool
+        ensures { result ≡ (has_match searcher.now.settings (event_call event.now)
+            && F.rules.asks self.now.format (event_call event.now)) }
+    {
+        event.has_match(searcher.invert_match()) && self.format.asks(event)
+    }
+
+    // Finds the parts of a call's report that match, where they are asked for.
+    #[inline(never)]
     fn find_parts<A: Allocator + Copy>(
         &mut self,
         searcher: &Searcher<A>,
         event: &Event<'_>,
     ) -> Result<(), SearchError>
-        requires { IsShownEvent event.now }
+        requires shown { IsShownEvent event.now }
+        requires asked { (has_match searcher.now.settings (event_call event.now)
+            && F.rules.asks self.old.format (event_call event.now)) ≡ true }
         ensures same { IsPreparing self.old self.new }
         ensures parts { OnOk result (HasFound F.rules (IsAround event.now) M.facts M.first_at
             self.old searcher.now.settings self.old.format
@@ -226,16 +254,10 @@ impl<'s, F: Format, M: FindAt, W: Output> PrinterSink<'s, F, M, W> {
         ensures ordered { OnOk result (AreInOrder 0 (length (reported_bytes (event_call event.now)))
             self.new.printer.now.parts.items) }
         ensures error { IfErr result (λ e. IsOutOfMemory e
-            ⊎ (((has_match searcher.now.settings (event_call event.now)
-            && F.rules.asks self.old.format (event_call event.now)) ≡ true)
-            × FailsAtParts (IsAround event.now) M.Error.output (M.facts self.old.matcher)
-            searcher.now.settings (event_call event.now) e)) }
+            ⊎ FailsAtParts (IsAround event.now) M.Error.output (M.facts self.old.matcher)
+            searcher.now.settings (event_call event.now) e) }
     {
         let parts = &mut self.printer.parts;
-        if !event.has_match(searcher.invert_match()) || !self.format.asks(event) {
-            parts.clear();
-            return Ok(());
-        }
         match event {
             Event::Report(report) => find_report_parts(parts, searcher, &self.matcher, report),
             Event::Begin | Event::Break | Event::BinaryData(_) | Event::Finish(_, _) => {
@@ -245,8 +267,23 @@ impl<'s, F: Format, M: FindAt, W: Output> PrinterSink<'s, F, M, W> {
         }
     }
 
+    // Has no parts at hand, where those of a call's report aren't asked for.
+    #[inline(always)]
+    fn clear_parts<A: Allocator + Copy>(&mut self, searcher: &Searcher<A>, event: &Event<'_>)
+        requires { (has_match searcher.now.settings (event_call event.now)
+            && F.rules.asks self.old.format (event_call event.now)) ≡ false }
+        ensures same { IsPreparing self.old self.new }
+        ensures parts { HasFound F.rules (IsAround event.now) M.facts M.first_at
+            self.old searcher.now.settings self.old.format
+            (record { call = event_call event.now; parts = self.new.printer.now.parts.items }) }
+        ensures ordered { AreInOrder 0 (length (reported_bytes (event_call event.now)))
+            self.new.printer.now.parts.items }
+    {
+        self.printer.parts.clear();
+    }
+
     // Prints a call, and returns whether the search goes on. It is inlined, so that each method
-    // knows which call it prints.
+    // knows which call it prints; where nothing can fail, no room for an error is copied.
     #[inline(always)]
     fn print<A: Allocator + Copy>(
         &mut self,
@@ -261,21 +298,25 @@ impl<'s, F: Format, M: FindAt, W: Output> PrinterSink<'s, F, M, W> {
         ensures step { PrintsCall F.rules M.Error.output M.facts M.first_at W.step
             self.old searcher.now.settings (event_call event.now) result self.new }
     {
-        match self.find_parts(searcher, event) {
-            Ok(()) => {}
-            Err(error) => return Err(error),
+        if self.asks(searcher, event) {
+            match self.find_parts(searcher, event) {
+                Ok(()) => {}
+                Err(error) => return Err(error),
+            }
+        } else {
+            self.clear_parts(searcher, event);
         }
         let before = self.format;
         let printer = &mut *self.printer;
         printer.text.clear();
         let (text, parts) = (&mut printer.text, &printer.parts);
         let goes_on = self.format.push(text, searcher, self.path, event, parts);
-        match printer.text.check() {
-            Ok(()) => {}
-            Err(error) => {
-                self.format = before;
-                return Err(error);
-            }
+        if printer.text.has_failed {
+            self.format = before;
+            return Err(SearchError::from(AllocError));
+        }
+        if printer.keeps_text() {
+            return Ok(goes_on);
         }
         match self.printer.put_text() {
             Ok(()) => Ok(goes_on),
