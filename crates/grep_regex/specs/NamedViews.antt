@@ -5,4 +5,4 @@ use Rattle.grep_regex.specs.declared.regex.Regex.{Regex}
 
 -- its expression
 abbrev pub named_regex : {N : Type 0} {naming : Ghosts N} → NamedMatcher N naming → Regex
-named_regex m = m.regex.now
+named_regex m = m.shortcut.regex.now

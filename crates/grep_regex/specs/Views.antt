@@ -63,4 +63,4 @@ IsNamed options patterns r = (regex_options r ≡ options) × (regex_patterns r 
 
 -- the expression of a matcher
 abbrev pub matcher_regex : RegexMatcher → Regex
-matcher_regex m = m.regex.now
+matcher_regex m = m.shortcut.regex.now

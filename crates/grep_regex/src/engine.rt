@@ -1,25 +1,17 @@
 //! What searches for a regular expression.
-ghost use Rattle.std.specs.Prelude.{◌≡◌, ◌≤◌, length, IfOk, IfSome};
+ghost use Rattle.std.specs.Prelude.{◌≡◌, ◌≤◌, length, IfOk};
 ghost use Rattle.std.specs.Arc.{arc_value};
-ghost use Rattle.regex_hir.specs.Meaning.{meaning};
-ghost use Rattle.grep_regex.specs.Spelled.{IsSpelled};
 
 use crate::asked::Asked;
 use crate::finder::Finder;
-use crate::literal::{matcher_of, occurrence};
 use crate::regex::Regex;
-use grep_matcher::LiteralMatcher;
 use regex_meta::Searcher;
 use std::alloc::{AllocError, Global};
 
 // What searches for an expression, with the expression that it was made for.
 pub(crate) struct Engine<'r> {
     pub(crate) regex: &'r Regex,
-    // For an expression that is a literal, which is found sooner without the searcher.
-    literal: Option<LiteralMatcher<'r>>,
     searcher: Searcher<'r>,
-    ghost spelled: { ∥ IfSome literal
-        (IsSpelled (meaning (arc_value regex.now.shared).program.hir)) ∥₁ },
     ghost same: { ∥ searcher.program.now ≡ (arc_value regex.now.shared).program ∥₁ },
 }
 
@@ -28,7 +20,6 @@ impl<'r> Drop for Engine<'r> {
     fn drop(self) {
         let Engine {
             regex: _regex,
-            literal: _literal,
             searcher: _searcher,
         } = self;
     }
@@ -42,11 +33,7 @@ impl<'r> Engine<'r> {
         ensures { IfOk result (λ engine. engine.regex.now ≡ regex.now) }
     {
         match regex.searcher(alloc) {
-            Ok(searcher) => Ok(Engine {
-                regex,
-                literal: matcher_of(regex),
-                searcher,
-            }),
+            Ok(searcher) => Ok(Engine { regex, searcher }),
             Err(error) => Err(error),
         }
     }
@@ -65,9 +52,6 @@ impl<'r> Engine<'r> {
         ensures within { IsFrom start haystack.now result }
         ensures same { self.new.regex.now ≡ self.old.regex.now }
     {
-        if let Some(found) = self.occurrence(haystack, start) {
-            return found;
-        }
         match asked {
             Asked::FirstMatch => self.searcher.find(haystack, start),
             Asked::AnyMatch => {
@@ -77,19 +61,6 @@ impl<'r> Engine<'r> {
                     None
                 }
             }
-        }
-    }
-
-    // The first match from a position on, if the expression is a literal.
-    fn occurrence(&self, haystack: &[u8], start: usize) -> Option<Option<(usize, usize)>>
-        requires { start ≤ length haystack.now }
-        ensures value { IfSome result (λ found.
-            found ≡ regex_text_at (engine_regex self.now) haystack.now start) }
-        ensures within { IfSome result (IsFrom start haystack.now) }
-    {
-        match &self.literal {
-            Some(literal) => Some(occurrence(literal, haystack, start)),
-            None => None,
         }
     }
 

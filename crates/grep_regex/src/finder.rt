@@ -8,6 +8,7 @@ ghost use Rattle.grep_regex.specs.Views.{regex_meaning, IsAnswer};
 use crate::asked::Asked;
 use crate::engine::Engine;
 use crate::regex::Regex;
+use crate::shortcut::{Known, Shortcut};
 use grep_matcher::{LineMatchKind, Match};
 use std::alloc::{AllocError, Global};
 use std::cell::RefCell;
@@ -36,8 +37,34 @@ pub(crate) trait Finder {
 }
 
 // The first match from a position on; for `AnyMatch` some pair exactly if there is a match. It is
-// found by what is in the cell if that is for this expression, and otherwise by a new engine.
+// found by what is in the cell if that is needed.
 fn find_by<F: Finder>(
+    alloc: Global,
+    shortcut: &Shortcut<'_>,
+    cell: &RefCell<F>,
+    haystack: &[u8],
+    start: usize,
+    asked: Asked,
+) -> Result<Option<(usize, usize)>, AllocError>
+    requires start { start ≤ length haystack.now }
+    requires known { F.is_known shortcut.now.regex.now }
+    ensures value { IfOk result
+        (IsAnswer asked (regex_first_at shortcut.now.regex.now haystack.now start)) }
+    ensures within { IfOk result (IsFrom start haystack.now) }
+{
+    let seen = shortcut.regex.seen_bytes(haystack);
+    if start > seen.len() {
+        return Ok(None);
+    }
+    match shortcut.look(seen, start, asked) {
+        Known::Answer(found) => Ok(found),
+        Known::From(later) => find_in(alloc, shortcut.regex, cell, seen, later, asked),
+    }
+}
+
+// The same in a haystack of which all is seen, by what is in the cell if that is for this
+// expression, and otherwise by a new engine.
+fn find_in<F: Finder>(
     alloc: Global,
     regex: &Regex,
     cell: &RefCell<F>,
@@ -47,36 +74,32 @@ fn find_by<F: Finder>(
 ) -> Result<Option<(usize, usize)>, AllocError>
     requires start { start ≤ length haystack.now }
     requires known { F.is_known regex.now }
-    ensures value { IfOk result (IsAnswer asked (regex_first_at regex.now haystack.now start)) }
+    ensures value { IfOk result (IsAnswer asked (regex_text_at regex.now haystack.now start)) }
     ensures within { IfOk result (IsFrom start haystack.now) }
 {
-    let seen = regex.seen_bytes(haystack);
-    if start > seen.len() {
-        return Ok(None);
-    }
     if let Ok(mut borrowed) = cell.try_borrow_mut() {
-        if let Some(found) = borrowed.find_for(regex, seen, start, asked) {
+        if let Some(found) = borrowed.find_for(regex, haystack, start, asked) {
             return Ok(found);
         }
     }
-    Engine::find_anew(alloc, regex, seen, start, asked)
+    Engine::find_anew(alloc, regex, haystack, start, asked)
 }
 
 // The first match of an expression that starts at a position or after it.
 pub(crate) fn match_at<F: Finder>(
     alloc: Global,
-    regex: &Regex,
+    shortcut: &Shortcut<'_>,
     cell: &RefCell<F>,
     haystack: &[u8],
     start: usize,
 ) -> Result<Option<Match>, AllocError>
     requires start { start ≤ length haystack.now }
-    requires known { F.is_known regex.now }
-    ensures value { IfOk result (λ m. m ≡ regex_first_at regex.now haystack.now start) }
+    requires known { F.is_known shortcut.now.regex.now }
+    ensures value { IfOk result (λ m. m ≡ regex_first_at shortcut.now.regex.now haystack.now start) }
     ensures within { IfOk result (IsFrom start haystack.now) }
-    ensures avoids { IfOk result (Avoids (regex_meaning regex.now).absent haystack.now) }
+    ensures avoids { IfOk result (Avoids (regex_meaning shortcut.now.regex.now).absent haystack.now) }
 {
-    match find_by(alloc, regex, cell, haystack, start, Asked::FirstMatch) {
+    match find_by(alloc, shortcut, cell, haystack, start, Asked::FirstMatch) {
         Ok(Some((from, end))) => Ok(Some(Match::new(from, end))),
         Ok(None) => Ok(None),
         Err(error) => Err(error),
@@ -86,14 +109,14 @@ pub(crate) fn match_at<F: Finder>(
 // Whether the haystack has a match of an expression.
 pub(crate) fn has_match<F: Finder>(
     alloc: Global,
-    regex: &Regex,
+    shortcut: &Shortcut<'_>,
     cell: &RefCell<F>,
     haystack: &[u8],
 ) -> Result<bool, AllocError>
-    requires { F.is_known regex.now }
-    ensures { IfOk result (λ found. found ≡ is_some (regex_first regex.now haystack.now)) }
+    requires { F.is_known shortcut.now.regex.now }
+    ensures { IfOk result (λ found. found ≡ is_some (regex_first shortcut.now.regex.now haystack.now)) }
 {
-    match find_by(alloc, regex, cell, haystack, 0, Asked::AnyMatch) {
+    match find_by(alloc, shortcut, cell, haystack, 0, Asked::AnyMatch) {
         Ok(found) => Ok(found.is_some()),
         Err(error) => Err(error),
     }
@@ -103,19 +126,19 @@ pub(crate) fn has_match<F: Finder>(
 // match lies within one line, which then matches by itself; and otherwise the first line.
 pub(crate) fn candidate_line<F: Finder>(
     alloc: Global,
-    regex: &Regex,
+    shortcut: &Shortcut<'_>,
     cell: &RefCell<F>,
     haystack: &[u8],
 ) -> Result<Option<LineMatchKind>, AllocError>
-    requires { F.is_known regex.now }
+    requires { F.is_known shortcut.now.regex.now }
     ensures inside { IfOk result (IsInside haystack.now) }
     ensures trusted { IfOk result
-        (IsTrusted (regex_meaning regex.now) (λ _. Unit {0}) haystack.now) }
+        (IsTrusted (regex_meaning shortcut.now.regex.now) (λ _. Unit {0}) haystack.now) }
 {
-    if !regex.is_by_line() {
+    if !shortcut.regex.is_by_line() {
         return Ok(Some(LineMatchKind::Candidate(0)));
     }
-    match find_by(alloc, regex, cell, haystack, 0, Asked::FirstMatch) {
+    match find_by(alloc, shortcut, cell, haystack, 0, Asked::FirstMatch) {
         Ok(Some((start, _))) => Ok(Some(LineMatchKind::Confirmed(start))),
         Ok(None) => Ok(None),
         Err(error) => Err(error),

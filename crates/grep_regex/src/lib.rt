@@ -18,6 +18,7 @@ mod parse;
 mod plain;
 mod regex;
 mod seen;
+mod shortcut;
 mod strip;
 mod texts;
 

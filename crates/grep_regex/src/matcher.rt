@@ -4,6 +4,7 @@ ghost use Rattle.std.specs.Prelude.{◌≡◌, IfOk};
 use crate::engine::Engine;
 use crate::finder::{candidate_line, has_match, match_at};
 use crate::regex::Regex;
+use crate::shortcut::Shortcut;
 use grep_matcher::{ByteSet, FindAt, LineMatchKind, LineTerminator, Match, Matcher};
 use std::alloc::{AllocError, Global};
 use std::cell::RefCell;
@@ -16,7 +17,7 @@ use std::cell::RefCell;
 #[derive(Drop)]
 pub struct RegexMatcher<'r> {
     alloc: Global,
-    regex: &'r Regex,
+    shortcut: Shortcut<'r>,
     engine: RefCell<Engine<'r>>,
 }
 
@@ -31,7 +32,7 @@ impl Regex {
         match Engine::new(alloc, self) {
             Ok(engine) => Ok(RegexMatcher {
                 alloc,
-                regex: self,
+                shortcut: Shortcut::new(self),
                 engine: RefCell::new(engine),
             }),
             Err(error) => Err(error),
@@ -55,19 +56,19 @@ impl Matcher for RegexMatcher<'_> {
     }
 
     fn is_match(&self, haystack: &[u8]) -> Result<bool, AllocError> {
-        has_match(self.alloc, self.regex, &self.engine, haystack)
+        has_match(self.alloc, &self.shortcut, &self.engine, haystack)
     }
 
     fn find_candidate_line(&self, haystack: &[u8]) -> Result<Option<LineMatchKind>, AllocError> {
-        candidate_line(self.alloc, self.regex, &self.engine, haystack)
+        candidate_line(self.alloc, &self.shortcut, &self.engine, haystack)
     }
 
     fn line_terminator(&self) -> Option<LineTerminator> {
-        self.regex.named_terminator()
+        self.shortcut.regex.named_terminator()
     }
 
     fn non_matching_bytes(&self) -> Option<&ByteSet> {
-        self.regex.absent()
+        self.shortcut.regex.absent()
     }
 }
 
@@ -83,6 +84,6 @@ impl FindAt for RegexMatcher<'_> {
         first-matches (regex_options (matcher_regex m)) (regex_patterns (matcher_regex m)) };
 
     fn find_at(&self, haystack: &[u8], start: usize) -> Result<Option<Match>, AllocError> {
-        match_at(self.alloc, self.regex, &self.engine, haystack, start)
+        match_at(self.alloc, &self.shortcut, &self.engine, haystack, start)
     }
 }

@@ -6,6 +6,7 @@ use crate::asked::Asked;
 use crate::engine::Engine;
 use crate::finder::{Finder, candidate_line, has_match, match_at};
 use crate::regex::Regex;
+use crate::shortcut::Shortcut;
 use grep_matcher::{ByteSet, FindAt, LineMatchKind, LineTerminator, Match, Matcher};
 use std::alloc::{AllocError, Global};
 use std::cell::RefCell;
@@ -61,9 +62,9 @@ impl<'r, N: Naming> Finder for NamedEngine<'r, N> {
 #[derive(Drop)]
 pub struct NamedMatcher<'r, N: Naming> {
     alloc: Global,
-    regex: &'r Regex,
+    shortcut: Shortcut<'r>,
     engine: RefCell<NamedEngine<'r, N>>,
-    ghost named: { IsNamed N.options N.patterns regex.now },
+    ghost named: { IsNamed N.options N.patterns shortcut.regex.now },
 }
 
 impl Regex {
@@ -77,7 +78,7 @@ impl Regex {
         match Engine::new(alloc, self) {
             Ok(engine) => Ok(NamedMatcher {
                 alloc,
-                regex: self,
+                shortcut: Shortcut::new(self),
                 engine: RefCell::new(NamedEngine {
                     engine,
                     name: PhantomData,
@@ -105,19 +106,19 @@ impl<N: Naming> Matcher for NamedMatcher<'_, N> {
     }
 
     fn is_match(&self, haystack: &[u8]) -> Result<bool, AllocError> {
-        has_match(self.alloc, self.regex, &self.engine, haystack)
+        has_match(self.alloc, &self.shortcut, &self.engine, haystack)
     }
 
     fn find_candidate_line(&self, haystack: &[u8]) -> Result<Option<LineMatchKind>, AllocError> {
-        candidate_line(self.alloc, self.regex, &self.engine, haystack)
+        candidate_line(self.alloc, &self.shortcut, &self.engine, haystack)
     }
 
     fn line_terminator(&self) -> Option<LineTerminator> {
-        self.regex.named_terminator()
+        self.shortcut.regex.named_terminator()
     }
 
     fn non_matching_bytes(&self) -> Option<&ByteSet> {
-        self.regex.absent()
+        self.shortcut.regex.absent()
     }
 }
 
@@ -133,6 +134,6 @@ impl<N: Naming> FindAt for NamedMatcher<'_, N> {
         first-matches (regex_options (named_regex m)) (regex_patterns (named_regex m)) };
 
     fn find_at(&self, haystack: &[u8], start: usize) -> Result<Option<Match>, AllocError> {
-        match_at(self.alloc, self.regex, &self.engine, haystack, start)
+        match_at(self.alloc, &self.shortcut, &self.engine, haystack, start)
     }
 }

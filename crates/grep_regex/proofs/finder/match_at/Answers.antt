@@ -13,7 +13,7 @@ returns-in-Ok-None g c = record {
 
 pub returns-in-Ok-Some : goal.returns-in-Ok-Some
 returns-in-Ok-Some g c =
-    let r = c.args.regex.now in
+    let r = c.args.shortcut.now.regex.now in
     let found = c.in-Ok-Some.field-0-is ∙ ap Some (sym c.new.ensures) in
     record {
       value = sym found ∙ c.in-Ok-Some.ensures.value;
