@@ -1,6 +1,6 @@
 -- Sinks and handlers that append something of each call to what they keep.
-use Rattle.std.proofs.Common.{◌≡◌, Bool, true, false, List, [], ◌∷◌, ◌++◌, sym, ap, subst, ◌∙◌, inl}
-use Rattle.std.proofs.Common.{inr, append_assoc}
+use Rattle.std.proofs.Common.{◌≡◌, Bool, true, false, List, [], ◌∷◌, ◌++◌, refl, sym, ap, subst}
+use Rattle.std.proofs.Common.{◌∙◌, inl, inr, append_assoc}
 use Rattle.std.proofs.lemmas.Bool.{false≢true}
 use Rattle.std.proofs.lemmas.List.{append-nil}
 use Rattle.std.proofs.lemmas.List.Folds.{flat_map-map}
@@ -11,8 +11,9 @@ use Rattle.grep_definitions.specs.Plans.{Planned, Steps, Settings}
 use Rattle.grep_definitions.specs.SearchLaws.{calls_of, match_calls, match_of, matched_lines}
 use Rattle.grep_definitions.proofs.MatchCallLemmas.{matches-are_matched_lines}
 use Rattle.grep_definitions.specs.SinkFolds.{fold_while}
-use Rattle.grep_searcher.specs.AppendedParts.{AppendsMatches, AppendsParts, RunsAppend}
-use Rattle.grep_searcher.specs.AppendedParts.{RunsAppendLines, RunsAppendMatches}
+use Rattle.grep_searcher.specs.AppendedParts.{AppendsParts, CallsAppend, RunsAppend}
+use Rattle.grep_searcher.specs.AppendedParts.{RunsAppendByState, RunsAppendLines}
+use Rattle.grep_searcher.specs.AppendedParts.{RunsAppendMatches}
 use Rattle.grep_searcher.proofs.MatchHandlerLemmas.{runs-handle}
 
 module _ {S E : Type 0} (step : Steps S E) (X : Type 0) where
@@ -45,23 +46,34 @@ module _ {S E : Type 0} (step : Steps S E) (X : Type 0) where
       made-append kept part by settings plan.finish new plan.calls old run.outcome run.mid run.made
       run.finished
 
+-- parts that are the same of each call, joined
+pub flat_map-same : {X : Type 0} (f h : Call → List X) → ((call : Call) → f call ≡ h call)
+    → (calls : List Call) → flat_map f calls ≡ flat_map h calls
+flat_map-same f h same [] = refl
+flat_map-same f h same (call ∷ later) = rw (same call, flat_map-same f h same later) refl
+
 module _ {H E : Type 0} (goes : H → Call → Bool) (next : H → Call → H) (fails : H → Call → E → H
     → Type 0)
     (X : Type 0) where
-  fold_while-append : (kept : H → List X) (part : Call → List X)
-      → AppendsMatches goes next fails X kept part → (old : H) (calls : List Call)
-      → kept (fold_while goes next old calls) ≡ kept old ++ flat_map part calls
-  fold_while-append kept part by old [] = sym (append-nil (kept old))
-  fold_while-append kept part by old (call ∷ later) =
+  pub calls-append : CallsAppend goes next fails X
+  calls-append kept part by old [] = sym (append-nil (kept old))
+  calls-append kept part by old (call ∷ later) =
       let here = by old call in
-      rw here.0 (fold_while-append kept part by (next old call) later
-      ∙ ap (λ k. k ++ flat_map part later) here.1
-      ∙ append_assoc (kept old) (part call) (flat_map part later))
+      rw here.0 (calls-append kept part by (next old call) later
+      ∙ ap (λ parts. kept (next old call) ++ parts)
+      (flat_map-same (part (next old call)) (part old) here.2 later)
+      ∙ ap (λ k. k ++ flat_map (part old) later) here.1
+      ∙ append_assoc (kept old) (part old call) (flat_map (part old) later))
+
+  pub runs-append_by_state : RunsAppendByState goes next fails X
+  runs-append_by_state kept part by settings old plan new run =
+      ap kept (runs-handle goes next fails settings old plan new run)
+      ∙ calls-append kept part by old (match_calls plan.calls)
 
   pub runs-append_matches : RunsAppendMatches goes next fails X
   runs-append_matches kept part by settings old plan new run =
-      ap kept (runs-handle goes next fails settings old plan new run)
-      ∙ fold_while-append kept part by old (match_calls plan.calls)
+      runs-append_by_state kept (λ _. part) (λ from call.
+      let here = by from call in (here.0, here.1, λ other. refl)) settings old plan new run
 
   pub runs-append_lines : RunsAppendLines goes next fails X
   runs-append_lines kept part by settings meaning bytes by_line old new run =

@@ -1,10 +1,10 @@
--- How far a search that ends at the first match has read.
-use Rattle.std.proofs.Common.{◌≡◌, ℕ, ◌+◌, ◌<◌, Bool, true, false, not, ◌&&◌, List, [], ◌∷◌, ◌++◌}
-use Rattle.std.proofs.Common.{length, Result, Option, Some, None, Ok, refl, sym, ap, subst, ◌∙◌}
-use Rattle.std.proofs.Common.{inl, inr, arith, if◌then◌else◌, length-append}
+-- How far a search has read that its handler ended.
+use Rattle.std.proofs.Common.{◌≡◌, ◌⊎◌, ℕ, ◌+◌, ◌<◌, ◌≤◌, Bool, true, false, not, ◌&&◌, List, []}
+use Rattle.std.proofs.Common.{◌∷◌, ◌++◌, length, Result, Option, Some, None, Ok, refl, sym, ap}
+use Rattle.std.proofs.Common.{subst, ◌∙◌, inl, inr, arith, if◌then◌else◌, ⊎_elim}
 use Rattle.std.proofs.lemmas.Bool.{false≢true}
-use Rattle.std.proofs.lemmas.List.{append-nil}
-use Rattle.std.proofs.lemmas.List.Elements.{All-cons, All-head, All-nil, All-tail}
+use Rattle.std.proofs.lemmas.List.{map-append}
+use Rattle.std.proofs.lemmas.List.Elements.{All-cons, All-head, All-nil, All-tail, filter-append}
 use Rattle.std.proofs.lemmas.Option.{same_Some}
 use Rattle.std.specs.Prelude.{All, is_some, nat_eq, slice_get}
 use Rattle.std.specs.List.{concat, starts_with}
@@ -14,36 +14,35 @@ use Rattle.grep_decode.specs.Decoded.{begins_with_mark, found_mark, mark_of}
 use Rattle.grep_decode.specs.Source.{ReadResult}
 use Rattle.grep_decode.specs.declared.label.Label.{Label}
 use Rattle.grep_decode.specs.declared.label.Label.TheVariants.{Utf8, Utf16Le, Utf16Be}
-use Rattle.grep_matcher.specs.Lines.{byte_of, lines}
+use Rattle.grep_matcher.specs.Lines.{byte_of}
 use Rattle.grep_matcher.specs.Meanings.{MatcherFacts, Meaning}
 use Rattle.grep_report.specs.ErrorMakers.{ErrorMakers}
-use Rattle.grep_definitions.specs.Plans.{search_plan, selection_in, AreMade, begins, binary_data}
-use Rattle.grep_definitions.specs.Plans.{breaks, Call, context, Finish, finish_after, finishes}
-use Rattle.grep_definitions.specs.Plans.{IsFinished, IsRun, matches, Outcome, Plan, Planned}
-use Rattle.grep_definitions.specs.Plans.{planned, breaks_before, calls_at, count_at, first_below}
+use Rattle.grep_definitions.specs.Plans.{search_plan, selection_in, all_true, AreMade, begins}
+use Rattle.grep_definitions.specs.Plans.{binary_data, breaks, Call, context, Finish, finish_after}
+use Rattle.grep_definitions.specs.Plans.{finishes, IsFinished, IsRun, matches, Outcome, Plan}
+use Rattle.grep_definitions.specs.Plans.{Planned, planned, breaks_before, calls_at, count_at}
 use Rattle.grep_definitions.specs.Plans.{in_context, Kind, kind, line_count, matched, report}
 use Rattle.grep_definitions.specs.Plans.{reports_plan, Selection, start, is_selected, reports_end}
-use Rattle.grep_definitions.specs.Plans.{selected_lines, Settings}
+use Rattle.grep_definitions.specs.Plans.{selected_lines, Settings, Steps}
 use Rattle.grep_definitions.specs.Searches.{BinaryPoint, plan_with, encoding_after, Points}
-use Rattle.grep_definitions.specs.Searches.{encoding_of, IsClosed, IsFront, searched_bytes}
-use Rattle.grep_definitions.specs.Searches.{IsSearchOf, ran}
-use Rattle.grep_definitions.specs.SearchLaws.{is_match, match_calls, match_of, reported_to}
+use Rattle.grep_definitions.specs.Searches.{encoding_of, IsInput, IsSearchOf, ran, searched_bytes}
+use Rattle.grep_definitions.specs.SearchLaws.{calls_of, is_match, match_calls, match_of}
+use Rattle.grep_definitions.specs.SearchLaws.{reported_to}
 use Rattle.grep_definitions.proofs.DecodedLemmas.{unchanged-input}
 use Rattle.grep_definitions.proofs.MatchCallLemmas.{first_match-is_first}
 use Rattle.grep_definitions.specs.SinkFolds.{IsMatchOk}
 use Rattle.grep_definitions.specs.SliceSearches.{is_searched_unchanged}
-use Rattle.grep_definitions.proofs.BelowLemmas.{first_below-before, first_below-here}
-use Rattle.grep_definitions.proofs.BelowLemmas.{first_below-of, some_below-none}
-use Rattle.grep_definitions.proofs.FirstLineLemmas.{all_lines, is_selected-same, start-same}
+use Rattle.grep_definitions.proofs.BelowLemmas.{first_below-of}
 use Rattle.grep_definitions.proofs.KnownReaderLemmas.{taken-input}
 use Rattle.grep_definitions.proofs.LineSliceLemmas.{line-report}
 use Rattle.grep_matcher.proofs.LineStartLemmas.{line_start-more}
 use Rattle.grep_definitions.proofs.ListLemmas.{All-joined_from}
 use Rattle.grep_definitions.proofs.SearchLawLemmas.{reports_end-le}
-use Rattle.grep_definitions.proofs.SinkFoldLemmas.{reader_searches-run}
-use Rattle.grep_searcher.specs.BoundedReads.{ReadersFindLines}
-use Rattle.grep_searcher.specs.MatchHandlers.{has_selected, IsFoundStep}
-use Rattle.grep_searcher.proofs.MatchHandlerLemmas.{first_below-some, runs-find_selected}
+use Rattle.grep_definitions.proofs.SinkFoldLemmas.{known_readers-run, reader_searches-run}
+use Rattle.grep_searcher.specs.BoundedReads.{ending_call, EndedKnownReadersStop, EndedReadersStop}
+use Rattle.grep_searcher.specs.BoundedReads.{IsReadUpTo, ReadersFindLines}
+use Rattle.grep_searcher.specs.MatchHandlers.{IsFoundStep, IsHandlerStep}
+use Rattle.grep_searcher.proofs.MatchHandlerLemmas.{runs-find_selected}
 
 -- ---- the count after a match is where its line ends
 
@@ -84,90 +83,106 @@ module _ (k : Settings) (meaning : Meaning) (bytes : List ℕ) where
       (All-joined_from EndsAtMatch (calls_at k bytes chosen) 0 (reports_end k meaning bytes)
       (λ j low high. ends-line j (omega (arith, high, reports_end-le k meaning bytes))))
 
--- ---- a run that found a match
+-- ---- the call at which a run ended
 
--- a call that isn't a match goes on, and a match doesn't
-passed-over : (call : Call) (between : Bool) → IsMatchOk (λ _ _. false) (λ _ _. true) false call
-    true between → (is_match call ≡ false) × (between ≡ false)
-passed-over begins between h = (refl, h.1)
-passed-over (matches number offset bytes) between h = absurd (false≢true (sym h.0))
-passed-over (context kind number offset bytes) between h = (refl, h.1)
-passed-over breaks between h = (refl, h.1)
-passed-over (binary_data offset) between h = (refl, h.1)
-passed-over (finishes count binary) between h = (refl, h.1)
+-- the matches of joined calls
+match_calls-append : (front back : List Planned) → match_calls (front ++ back) ≡ match_calls front
+    ++ match_calls back
+match_calls-append front back =
+    rw (map-append (λ (planned : Planned). planned.call) front back)
+    (filter-append is_match (calls_of front) (calls_of back))
 
-stopped-at : (call : Call) (mid : Bool) → IsMatchOk (λ _ _. false) (λ _ _. true) false call false
-    mid → is_match call ≡ true
-stopped-at begins mid h = absurd (false≢true h.0)
-stopped-at (matches number offset bytes) mid h = refl
-stopped-at (context kind number offset bytes) mid h = absurd (false≢true h.0)
-stopped-at breaks mid h = absurd (false≢true h.0)
-stopped-at (binary_data offset) mid h = absurd (false≢true h.0)
-stopped-at (finishes count binary) mid h = absurd (false≢true h.0)
+module _ {H : Type 0} (goes : H → Call → Bool) (next : H → Call → H) where
+  -- it is the same if more calls come after it
+  ending-more : (old : H) (front back : List Call) (last : Call)
+      → ending_call goes next old front ≡ Some last
+      → ending_call goes next old (front ++ back) ≡ Some last
+  ending-more old [] back last is = absurd (let never = is in cc)
+  ending-more old (call ∷ front) back last is =
+      go (goes old call) (ending-more (next old call) front back last) is
+    where
+      go : (b : Bool) → (ending_call goes next (next old call) front ≡ Some last
+          → ending_call goes next (next old call) (front ++ back) ≡ Some last)
+          → (if b then ending_call goes next (next old call) front else Some call) ≡ Some last
+          → (if b then ending_call goes next (next old call) (front ++ back) else Some call)
+          ≡ Some last
+      go true more at = more at
+      go false more at = at
 
--- the first match ended the run, and the byte count is where it ends
-record EndedAt {E : Type 0} (calls : List Planned) (outcome : Outcome E) (finish : Finish) : Type 0
-  where
-    found : Call
-    first : slice_get (match_calls calls) 0 ≡ Some found
-    count : (finish_after outcome finish).count ≡ reported_to found
+  -- a call after which the search goes on isn't that one
+  ending-later : (old : H) (planned : Planned) (between : H) (later : List Planned)
+      → IsMatchOk goes next old planned.call true between
+      → ending_call goes next old (match_calls (planned ∷ later))
+      ≡ ending_call goes next between (match_calls later)
+  ending-later old planned between later = go planned.call
+    where
+      go : (call : Call) → IsMatchOk goes next old call true between
+          → ending_call goes next old (if is_match call then call ∷ match_calls later
+          else match_calls later) ≡ ending_call goes next between (match_calls later)
+      go begins h = ap (λ s. ending_call goes next s (match_calls later)) (sym h.1)
+      go (matches number offset bytes) h =
+          rw (sym h.0) (ap (λ s. ending_call goes next s (match_calls later)) (sym h.1))
+      go (context kind number offset bytes) h =
+          ap (λ s. ending_call goes next s (match_calls later)) (sym h.1)
+      go breaks h = ap (λ s. ending_call goes next s (match_calls later)) (sym h.1)
+      go (binary_data offset) h = ap (λ s. ending_call goes next s (match_calls later)) (sym h.1)
+      go (finishes count binary) h = ap (λ s. ending_call goes next s (match_calls later)) (sym h.1)
 
-module _ {E : Type 0} (settings : Settings) (finish : Finish) (new : Bool) (found : new ≡ true)
-  where
-    made-ended : (calls : List Planned) → All EndsAtMatch calls → (old : Bool) → old ≡ false
-        → (outcome : Outcome E) (mid : Bool) → AreMade IsFoundStep settings old calls outcome mid
-        → IsFinished IsFoundStep settings outcome mid finish (Ok tt) new
-        → EndedAt calls outcome finish
-    made-ended [] ends old is_new outcome mid (is, same) finished =
-        let last = subst (λ o. IsFinished IsFoundStep settings o mid finish (Ok tt) new) is
-        finished in
-        absurd (false≢true (sym (last.0.1 ∙ same ∙ is_new) ∙ found))
-    made-ended (planned ∷ later) ends old is_new outcome mid (inl (between, made, rest)) finished =
-        let over = passed-over planned.call between
-        (subst (λ s. IsMatchOk (λ _ _. false) (λ _ _. true) s planned.call true between) is_new
-        made.0) in
-        let at = made-ended later (All-tail EndsAtMatch planned later ends) between over.1 outcome
-        mid rest finished in
-        record { found = at.found; first = rw over.0 at.first; count = at.count }
-    made-ended (planned ∷ later) ends old is_new outcome mid (inr (inl (is, made))) finished =
-        let here = stopped-at planned.call mid
-        (subst (λ s. IsMatchOk (λ _ _. false) (λ _ _. true) s planned.call false mid) is_new made.0)
-        in
-        record {
-          found = planned.call;
-          first = rw here refl;
-          count = ap (λ o. (finish_after o finish).count) is
-              ∙ All-head EndsAtMatch planned later ends here;
-        }
-    made-ended (planned ∷ later) ends old is_new outcome mid (inr (inr (e, is, made))) finished =
-        let last = subst (λ o. IsFinished IsFoundStep settings o mid finish (Ok tt) new) is
-        finished in
-        absurd (let never = last.0 in cc)
+  -- one after which it doesn't go on is, and is a match
+  ending-here : (old : H) (planned : Planned) (mid : H) (later : List Planned)
+      → IsMatchOk goes next old planned.call false mid
+      → (is_match planned.call ≡ true)
+      × (ending_call goes next old (match_calls (planned ∷ later)) ≡ Some planned.call)
+  ending-here old planned mid later = go planned.call
+    where
+      go : (call : Call) → IsMatchOk goes next old call false mid
+          → (is_match call ≡ true)
+          × (ending_call goes next old (if is_match call then call ∷ match_calls later
+          else match_calls later) ≡ Some call)
+      go begins h = absurd (false≢true h.0)
+      go (matches number offset bytes) h = (refl, rw (sym h.0) refl)
+      go (context kind number offset bytes) h = absurd (false≢true h.0)
+      go breaks h = absurd (false≢true h.0)
+      go (binary_data offset) h = absurd (false≢true h.0)
+      go (finishes count binary) h = absurd (false≢true h.0)
 
--- ---- the first selected line of some first lines is that of all
+-- the handler ended the run at a match, and the byte count is where that ends
+record EndedAt {H E : Type 0} (goes : H → Call → Bool) (next : H → Call → H) (old : H)
+    (calls : List Planned) (outcome : Outcome E) (finish : Finish) : Type 0 where
+  last : Call
+  ended : ending_call goes next old (match_calls calls) ≡ Some last
+  count : (finish_after outcome finish).count ≡ reported_to last
 
-first-same : (k : Settings) (meaning : Meaning) (front back : List ℕ) (j : ℕ)
-    → (0 < length back → IsClosed (byte_of k.line_terminator) front)
-    → first_below (is_selected k meaning front) (line_count k front) ≡ Some j
-    → (first_below (is_selected k meaning (front ++ back)) (line_count k (front ++ back)) ≡ Some j)
-    × (start k (front ++ back) (j + 1) ≡ start k front (j + 1))
-first-same k meaning front [] j closed is =
-    subst (λ bytes. (first_below (is_selected k meaning bytes) (line_count k bytes) ≡ Some j)
-    × (start k bytes (j + 1) ≡ start k front (j + 1))) (sym (append-nil front)) (is, refl)
-first-same k meaning front (b ∷ back) j closed is =
-    let ends = closed (omega arith) in
-    let here = first_below-of (is_selected k meaning front) (line_count k front) j is in
-    let t = byte_of k.line_terminator in
-    let more = ap length (all_lines k meaning front (b ∷ back) ends)
-    ∙ length-append (lines t front) (lines t (b ∷ back)) in
-    let same = is_selected-same k meaning front (b ∷ back) ends in (
-      first_below-here (is_selected k meaning (front ++ (b ∷ back)))
-          (line_count k (front ++ (b ∷ back))) j
-          (omega (arith, here.0, more)) (same j here.0 ∙ here.1)
-          (some_below-none _ j (λ m less. same m (omega (arith, less, here.0))
-          ∙ first_below-before (is_selected k meaning front) (line_count k front) j m is less)),
-      start-same k meaning front (b ∷ back) ends (j + 1) (omega (arith, here.0)),
-    )
+module _ {H E : Type 0} (goes : H → Call → Bool) (next : H → Call → H)
+    (fails : H → Call → E → H → Type 0) (settings : Settings) (finish : Finish) (new : H) where
+  -- it ended it so, or no call did
+  made-ended : (calls : List Planned) → All EndsAtMatch calls → (old : H) (outcome : Outcome E)
+      (mid : H) → AreMade (IsHandlerStep goes next fails) settings old calls outcome mid
+      → IsFinished (IsHandlerStep goes next fails) settings outcome mid finish (Ok tt) new
+      → ((outcome ≡ all_true) × (ending_call goes next old (match_calls calls) ≡ None))
+      ⊎ EndedAt goes next old calls outcome finish
+  made-ended [] ends old outcome mid (is, same) finished = inl (is, refl)
+  made-ended (planned ∷ later) ends old outcome mid (inl (between, made, rest)) finished =
+      let over = ending-later goes next old planned between later made.0 in
+      ⊎_elim (λ none. inl (none.0, over ∙ none.1))
+      (λ (at : EndedAt goes next between later outcome finish). inr (record {
+        last = at.last;
+        ended = over ∙ at.ended;
+        count = at.count;
+      }))
+      (made-ended later (All-tail EndsAtMatch planned later ends) between outcome mid rest finished)
+  made-ended (planned ∷ later) ends old outcome mid (inr (inl (is, made))) finished =
+      let here = ending-here goes next old planned mid later made.0 in
+      inr (record {
+        last = planned.call;
+        ended = here.1;
+        count = ap (λ o. (finish_after o finish).count) is
+            ∙ All-head EndsAtMatch planned later ends here.0;
+      })
+  made-ended (planned ∷ later) ends old outcome mid (inr (inr (e, is, made))) finished =
+      let last = subst (λ o. IsFinished (IsHandlerStep goes next fails) settings o mid finish
+      (Ok tt) new) is finished in
+      absurd (let never = last.0 in cc)
 
 -- ---- an input that is searched as it is has no encoding, and so have its first bytes
 
@@ -214,19 +229,21 @@ unencoded k front back = go k.encoding k.bom_sniffing
 
 -- ---- a search of a reader
 
-module _ {F E : Type 0}
-    (errors : ErrorMakers F E) (matcher : MatcherFacts F) {R : Type 0} (remaining : R
-    → Option (List ℕ))
-    (read_step : R → ReadResult → R → Type 0) where
+module _ {H E F : Type 0} (goes : H → Call → Bool) (next : H → Call → H)
+    (fails : H → Call → E → H → Type 0) (errors : ErrorMakers F E) (matcher : MatcherFacts F)
+    {R : Type 0} (remaining : R → Option (List ℕ)) (read_step : R → ReadResult → R → Type 0) where
+  abbrev step : Steps H E
+  step = IsHandlerStep goes next fails
+
   -- a run over the lines that were seen, with what it has read
   over : (k : Settings) {IsAt : Points} {IsAsked : List ℕ → List Planned → Type 0}
       {HasRead : Plan → Outcome E → Result (Unit {0}) E → Type 0}
       → ((calls : List Planned) (point : Option BinaryPoint) → IsAt calls point → point ≡ None)
-      → (plan : Plan) (old new : Bool)
-      → IsSearchOf IsFoundStep errors matcher k IsAt IsAsked HasRead plan old (Ok tt) new
-      → (run : IsRun IsFoundStep k old plan (Ok tt) new) × HasRead plan run.outcome (Ok tt)
+      → (plan : Plan) (old new : H)
+      → IsSearchOf step errors matcher k IsAt IsAsked HasRead plan old (Ok tt) new
+      → (run : IsRun step k old plan (Ok tt) new) × HasRead plan run.outcome (Ok tt)
   over k {HasRead = HasRead} none plan old new (ran point at run read) =
-      subst (λ p. (run : IsRun IsFoundStep k old (plan_with k.binary_detection p plan) (Ok tt) new)
+      subst (λ p. (run : IsRun step k old (plan_with k.binary_detection p plan) (Ok tt) new)
       × HasRead (plan_with k.binary_detection p plan) run.outcome (Ok tt))
       (none plan.calls point at) (run, read)
 
@@ -236,72 +253,95 @@ module _ {F E : Type 0}
   taken-part input pieces None takes = absurd takes
   taken-part input pieces (Some rest) takes = (rest, takes, refl)
 
-  -- the first match over the lines that were seen ends where the first selected line does
-  first-end : (k : Settings) (meaning : Meaning) (input seen : List ℕ) → IsFront k input seen
-      → (i : ℕ) (call : Call)
-      → first_below (is_selected k meaning input) (line_count k input) ≡ Some i
-      → option_map (match_of k seen) (first_below (is_selected k meaning seen) (line_count k seen))
-      ≡ Some call → reported_to call ≡ start k input (i + 1)
-  first-end k meaning input seen front i call first found =
-      go (first_below (is_selected k meaning seen) (line_count k seen)) refl found
-    where
-      go : (o : Option ℕ) → first_below (is_selected k meaning seen) (line_count k seen) ≡ o
-          → option_map (match_of k seen) o ≡ Some call → reported_to call ≡ start k input (i + 1)
-      go None is none = absurd (cc)
-      go (Some j) is here =
-          let inside = (first_below-of (is_selected k meaning seen) (line_count k seen) j is).0 in
-          let at : (first_below (is_selected k meaning input) (line_count k input) ≡ Some j)
-          × (start k input (j + 1) ≡ start k seen (j + 1)) =
-          subst (λ bytes. (first_below (is_selected k meaning bytes) (line_count k bytes) ≡ Some j)
-          × (start k bytes (j + 1) ≡ start k seen (j + 1))) (sym front.whole)
-          (first-same k meaning seen front.after j front.closed is) in
-          ap reported_to (sym (same_Some (match_of k seen j) call here))
-          ∙ sym (line_start-more (byte_of k.line_terminator) seen j inside) ∙ sym at.1
-          ∙ ap (λ m. start k input (m + 1)) (same_Some j i (sym at.0 ∙ first))
+  pub ended_readers-stop : EndedReadersStop goes next fails errors matcher remaining read_step
+  ended_readers-stop state reader old reader' new by searched =
+      let k = state.settings in
+      let meaning = matcher.meaning in
+      let runs = reader_searches-run step errors matcher remaining read_step state reader old
+      reader' new by.undetected by.lawful searched in (
+        runs.0.taken,
+        λ bytes input last limit ends limited none.
+            let seen = runs.0.seen in
+            let part = runs.0.each bytes input in
+            let run = over k (λ calls point at. at bytes input) (search_plan k meaning seen) old new
+            runs.0.over_seen in
+            let ends_lines : All EndsAtMatch (search_plan k meaning seen).calls =
+            subst (λ (p : Plan). All EndsAtMatch p.calls) (sym (ap
+            (λ b. reports_plan k seen (selection_in k meaning seen b)) by.by_line))
+            (ends-plan k meaning seen) in
+            let read = (run.1.1 by.by_line).ahead limit limited none in
+            ⊎_elim (λ whole. absurd (
+            let same : search_plan k meaning bytes ≡ search_plan k meaning seen =
+            (run.1.0 whole.0 (λ _. refl) bytes input).plan in
+            let never = sym whole.1
+            ∙ ap (λ (p : Plan). ending_call goes next old (match_calls p.calls)) (sym same)
+            ∙ ends in
+            cc
+            )) (λ (at : EndedAt goes next old (search_plan k meaning seen).calls run.0.outcome
+            (search_plan k meaning seen).finish).
+            let more : ending_call goes next old (match_calls (search_plan k meaning bytes).calls)
+            ≡ Some at.last =
+            ap (λ calls. ending_call goes next old (match_calls calls)) part.calls
+            ∙ ap (ending_call goes next old)
+            (match_calls-append (search_plan k meaning seen).calls part.later)
+            ∙ ending-more goes next old (match_calls (search_plan k meaning seen).calls)
+            (match_calls part.later) at.last at.ended in
+            let same : at.last ≡ last = same_Some at.last last (sym more ∙ ends) in
+            omega (arith, read, at.count, ap reported_to same))
+            (made-ended goes next fails k (search_plan k meaning seen).finish new
+            (search_plan k meaning seen).calls ends_lines old run.0.outcome run.0.mid run.0.made
+            run.0.finished),
+      )
 
+  pub ended_known_readers-stop : EndedKnownReadersStop goes next fails errors matcher remaining
+      read_step
+  ended_known_readers-stop state reader input old reader' new by all searched last limit ends
+      limited as_it_is =
+      let k = state.settings in
+      let stopped = ended_readers-stop state reader old reader' new by searched in
+      let pieces = concat stopped.0.pieces in
+      let whole : IsInput k stopped.0.ended stopped.0.pieces input =
+      subst (IsInput k stopped.0.ended stopped.0.pieces) (unchanged-input k input as_it_is)
+      (taken-input remaining read_step k input reader reader' all stopped.0) in
+      let part = taken-part input pieces (remaining reader')
+      (subst (λ left. Consumes left (remaining reader') pieces) all stopped.0.takes) in
+      let none = unencoded k pieces part.0
+      (subst (λ bytes. is_searched_unchanged k bytes ≡ true) part.1 as_it_is) in
+      record {
+        read = pieces;
+        rest = part.0;
+        all = part.1;
+        remaining = part.2;
+        bounded = stopped.1 input whole last limit ends limited none;
+      }
+
+-- a handler that always ends the search ends it at the first call
+ending-first : (calls : List Call) → ending_call (λ _ _. false) (λ _ _. true) false calls
+    ≡ slice_get calls 0
+ending-first [] = refl
+ending-first (call ∷ later) = refl
+
+module _ {F E : Type 0} (errors : ErrorMakers F E) (matcher : MatcherFacts F) {R : Type 0}
+    (remaining : R → Option (List ℕ)) (read_step : R → ReadResult → R → Type 0) where
   pub readers-find_lines : ReadersFindLines errors matcher remaining read_step
   readers-find_lines state reader input old reader' new by is_new all searched =
       let k = state.settings in
-      let meaning = matcher.meaning in
-      let runs = reader_searches-run IsFoundStep errors matcher remaining read_step state reader old
-      reader' new by.undetected by.lawful searched in
-      let whole = taken-input remaining read_step k input reader reader' all runs.0.taken in
-      let is_found : new ≡ has_selected k meaning (searched_bytes k input) =
-      runs-find_selected E k meaning (searched_bytes k input) by.by_line old new is_new
-      (runs.1 (searched_bytes k input) whole) in (
-        is_found,
+      let meaning = matcher.meaning in (
+        runs-find_selected E k meaning (searched_bytes k input) by.by_line old new is_new
+            (known_readers-run IsFoundStep errors matcher remaining read_step state reader input old
+            reader' new by.undetected all by.lawful searched),
         λ limit i limited as_it_is first.
-            let same : searched_bytes k input ≡ input = unchanged-input k input as_it_is in
-            let found : new ≡ true = is_found ∙ ap (has_selected k meaning) same
-            ∙ sym (first_below-some (is_selected k meaning input) (line_count k input))
-            ∙ ap is_some first in
-            let seen = runs.0.seen in
-            let front : IsFront k input seen =
-            subst (λ bytes. IsFront k bytes seen) same
-            (runs.0.each (searched_bytes k input) whole).front in
-            let run = over k (λ calls point at. at (searched_bytes k input) whole)
-            (search_plan k meaning seen) old new runs.0.over_seen in
-            let plan : search_plan k meaning seen
-            ≡ reports_plan k seen (selected_lines k meaning seen) =
-            ap (λ b. reports_plan k seen (selection_in k meaning seen b)) by.by_line in
-            let ends : All EndsAtMatch (search_plan k meaning seen).calls =
-            subst (λ (p : Plan). All EndsAtMatch p.calls) (sym plan) (ends-plan k meaning seen) in
-            let at = made-ended k (search_plan k meaning seen).finish new found
-            (search_plan k meaning seen).calls ends old
-            is_new run.0.outcome run.0.mid run.0.made run.0.finished in
-            let pieces = concat runs.0.taken.pieces in
-            let part = taken-part input pieces (remaining reader')
-            (subst (λ left. Consumes left (remaining reader') pieces) all runs.0.taken.takes) in
-            let none = unencoded k pieces part.0
-            (subst (λ bytes. is_searched_unchanged k bytes ≡ true) part.1 as_it_is) in
-            let ahead = (run.1.1 by.by_line).ahead limit limited none in
-            let end = first-end k meaning input seen front i at.found first
-            (sym (first_match-is_first k meaning seen by.by_line) ∙ at.first) in
-            record {
-              read = pieces;
-              rest = part.0;
-              all = part.1;
-              remaining = part.2;
-              bounded = omega (arith, ahead, at.count, end);
-            },
+            let inside = (first_below-of (is_selected k meaning input) (line_count k input) i
+            first).0 in
+            let calls = match_calls (search_plan k meaning input).calls in
+            let ends : ending_call (λ _ _. false) (λ _ _. true) old calls
+            ≡ Some (match_of k input i) =
+            ap (λ s. ending_call (λ _ _. false) (λ _ _. true) s calls) is_new ∙ ending-first calls
+            ∙ first_match-is_first k meaning input by.by_line
+            ∙ ap (option_map (match_of k input)) first in
+            subst (λ end. IsReadUpTo input (remaining reader') (end + limit + 3))
+            (sym (line_start-more (byte_of k.line_terminator) input i inside))
+            (ended_known_readers-stop (λ _ _. false) (λ _ _. true) (λ _ _ _ _. ⊥) errors matcher
+            remaining read_step state reader input old reader' new by all searched
+            (match_of k input i) limit ends limited as_it_is),
       )

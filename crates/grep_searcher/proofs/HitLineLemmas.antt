@@ -90,7 +90,7 @@ count_by-same p q same (x ∷ xs) =
     ∙ rw (same x, count_by-same p q same xs) (sym (sum_by-cons (λ y. cond (q y) 1 0) x xs))
 
 -- without inversion a line hits if it matches
-hits_if-plain : (settings : Settings) (matches : Bool) → hits_if settings false ≡ false
+pub hits_if-plain : (settings : Settings) (matches : Bool) → hits_if settings false ≡ false
     → hits_if settings matches ≡ matches
 hits_if-plain settings true plain = ap not plain
 hits_if-plain settings false plain = plain

@@ -12,10 +12,12 @@ use Rattle.grep_definitions.specs.Plans.{finishes}
 use Rattle.grep_definitions.specs.SearchLaws.{match_calls}
 use Rattle.grep_definitions.specs.SinkFolds.{AreTaken, IsTakenOk}
 use Rattle.grep_definitions.proofs.SinkFoldLemmas.{runs-take_matches}
-use Rattle.grep_searcher.specs.LentMatches.{AppendsLent, ClosuresAppendMatches, ClosuresAreLent}
+use Rattle.grep_searcher.specs.LentMatches.{AppendsLentByState, ClosuresAppendByState}
+use Rattle.grep_searcher.specs.LentMatches.{ClosuresAppendMatches, ClosuresAreLent}
 use Rattle.grep_searcher.specs.LentMatches.{ClosuresKeepMatches, ClosuresFailLent, IsLent, IsLentAt}
 use Rattle.grep_searcher.specs.LentMatches.{IsLentStep, LentSteps}
 use Rattle.grep_searcher.specs.MatchHandlers.{KeptReport, kept_of}
+use Rattle.grep_searcher.proofs.AppendedPartLemmas.{flat_map-same}
 
 module _ {F : Type 0} (call : F → Bor MatchReport → Result Bool Error → F → Type 0) where
   -- a call that succeeds lends the closure a match, and no other call does
@@ -46,32 +48,42 @@ module _ {F : Type 0} (call : F → Bor MatchReport → Result Bool Error → F 
   closures-fail_lent closure settings old made e new failed = lent-failed (closure old) made e
       (closure new) failed
 
-  module _ {X : Type 0} (part : Call → List X) (name : F → ℕ) (kept : F → List X)
-      (by : AppendsLent call part name kept) where
+  module _ {X : Type 0} (part : F → Call → List X) (name : F → ℕ) (kept : F → List X)
+      (by : AppendsLentByState call part name kept) where
     lent-one : (old : F) (made : Call) (b : Bool) (new : F) → IsLentAt call old made b new
-        → (b ≡ true) × (name new ≡ name old) × (kept new ≡ kept old ++ part made)
+        → (b ≡ true) × (name new ≡ name old) × (kept new ≡ kept old ++ part old made)
+        × ((other : Call) → part new other ≡ part old other)
     lent-one old made b new (found, is, called) =
         let here = by old found b new called in
-        (here.0, here.1, here.2 ∙ ap (λ m. kept old ++ part m) is)
+        (here.0, here.1, here.2 ∙ ap (λ m. kept old ++ part old m) is, here.3)
 
     lent-all : (calls : List Call) (old new : F) → AreTaken (IsLentAt call) old calls new
-        → (name new ≡ name old) × (kept new ≡ kept old ++ flat_map part calls)
+        → (name new ≡ name old) × (kept new ≡ kept old ++ flat_map (part old) calls)
     lent-all [] old new same = (ap name same, ap kept same ∙ sym (append-nil (kept old)))
     lent-all (made ∷ later) old new (inl (mid, here, rest)) =
         let first = lent-one old made true mid here in
         let others = lent-all later mid new rest in (
           others.0 ∙ first.1,
-          others.1 ∙ ap (λ k. k ++ flat_map part later) first.2
-              ∙ append_assoc (kept old) (part made) (flat_map part later),
+          others.1 ∙ ap (λ parts. kept mid ++ parts)
+              (flat_map-same (part mid) (part old) first.3 later)
+              ∙ ap (λ k. k ++ flat_map (part old) later) first.2
+              ∙ append_assoc (kept old) (part old made) (flat_map (part old) later),
         )
     lent-all (made ∷ later) old new (inr here) =
         absurd (let never = (lent-one old made false new here).0 in cc)
 
+  pub closures-append_by_state : {S : Type 0} (X : Type 0) (closure : S → F)
+      → ClosuresAppendByState call X closure
+  closures-append_by_state X closure part name kept by settings old plan new run =
+      lent-all part name kept by (match_calls plan.calls) (closure old) (closure new)
+      (closures-are_lent closure settings old plan new run)
+
   pub closures-append_matches : {S : Type 0} (X : Type 0) (closure : S → F)
       → ClosuresAppendMatches call X closure
   closures-append_matches X closure part name kept by settings old plan new run =
-      lent-all part name kept by (match_calls plan.calls) (closure old) (closure new)
-      (closures-are_lent closure settings old plan new run)
+      closures-append_by_state X closure (λ _. part) name kept (λ from found b after called.
+      let here = by from found b after called in (here.0, here.1, here.2, λ other. refl)) settings
+      old plan new run
 
   -- what is made of each, one after another
   flat_map-each : (calls : List Call) → flat_map (λ made. kept_of made ∷ []) calls

@@ -3,11 +3,14 @@ pub mod BoundedReadLemmas
 pub mod ClosureSinkLemmas
 pub mod CountSinkLemmas
 pub mod DetectedRunLemmas
+pub mod HandledLineLemmas
 pub mod HitLineLemmas
 pub mod InputSearchLemmas
 pub mod KeptReportLemmas
+pub mod KeptMatchLemmas
 pub mod LentMatchLemmas
 pub mod LineCountLemmas
+pub mod LineFilterLemmas
 pub mod MatchHandlerLemmas
 pub mod PassedCallLemmas
 pub mod SearchFailureLemmas

@@ -5,6 +5,7 @@ use Rattle.grep_matcher.specs.Meanings.{Meaning}
 use Rattle.grep_definitions.specs.Plans.{is_across, search_plan, Call, finishes, Plan, Steps, IsRun}
 use Rattle.grep_definitions.specs.Plans.{Settings}
 use Rattle.grep_definitions.specs.SearchLaws.{calls_of, match_calls, match_of, matched_lines}
+use Rattle.grep_definitions.specs.SinkFolds.{fold_while}
 use Rattle.grep_searcher.specs.MatchHandlers.{IsHandlerStep}
 
 -- the calls of a run along a plan in which each returns true
@@ -35,7 +36,28 @@ module _ {H E : Type 0} (goes : H → Call → Bool) (next : H → Call → H)
       (old : H) (call : Call)
       → (goes old call ≡ true) × (kept (next old call) ≡ kept old ++ part call)
 
-  -- then a run that ended in `Ok` appends the parts of the matches that are reported
+  -- the part may also depend on the state, as far as no match changes what it is
+  abbrev pub AppendsByState : (H → List X) → (H → Call → List X) → Type 0
+  AppendsByState kept part =
+      (old : H) (call : Call)
+      → (goes old call ≡ true) × (kept (next old call) ≡ kept old ++ part old call)
+      × ((other : Call) → part (next old call) other ≡ part old other)
+
+  -- then some calls that are handled append their parts
+  abbrev pub CallsAppend : Type 0
+  CallsAppend =
+      (kept : H → List X) (part : H → Call → List X) → AppendsByState kept part
+      → (old : H) (calls : List Call)
+      → kept (fold_while goes next old calls) ≡ kept old ++ flat_map (part old) calls
+
+  -- and a run that ended in `Ok` appends the parts of the matches that are reported
+  abbrev pub RunsAppendByState : Type 0
+  RunsAppendByState =
+      (kept : H → List X) (part : H → Call → List X) → AppendsByState kept part
+      → (settings : Settings) (old : H) (plan : Plan) (new : H)
+      → IsRun (IsHandlerStep goes next fails) settings old plan (Ok tt) new
+      → kept new ≡ kept old ++ flat_map (part old) (match_calls plan.calls)
+
   abbrev pub RunsAppendMatches : Type 0
   RunsAppendMatches =
       (kept : H → List X) (part : Call → List X) → AppendsMatches kept part

@@ -1,9 +1,12 @@
--- Which lines a search by line selects if no limit and no stop is set: those that hit.
-use Rattle.std.specs.Prelude.{◌≡◌, ℕ, ◌<◌, Bool, false, List, count_by, is_some, None}
+-- Which lines a search by line selects and reports as matches: those that hit.
+use Rattle.std.specs.Prelude.{◌≡◌, ◌⊎◌, ℕ, ◌<◌, Bool, true, false, List, All, count_by, filter, map}
+use Rattle.std.specs.Prelude.{take, Option, is_some, None, Some}
+use Rattle.std.specs.List.{range_with_len}
 use Rattle.grep_matcher.specs.Lines.{byte_of, lines, strip}
 use Rattle.grep_matcher.specs.Meanings.{Meaning}
-use Rattle.grep_definitions.specs.Plans.{line, line_count, hits_if, is_selected, Settings}
-use Rattle.grep_definitions.specs.SearchLaws.{is_matched}
+use Rattle.grep_definitions.specs.Plans.{is_across, search_plan, Call, reported_bytes, line}
+use Rattle.grep_definitions.specs.Plans.{line_count, hits_if, is_selected, Settings}
+use Rattle.grep_definitions.specs.SearchLaws.{is_matched, match_calls, match_of}
 use Rattle.grep_searcher.specs.LineCounts.{matched_count}
 
 -- a line hits if whether it matches without its terminator differs from inversion
@@ -46,3 +49,57 @@ PredicatesAreCounted =
     → matched_count settings meaning bytes
     ≡ count_by (λ line. holds (strip settings.line_terminator line))
     (lines (byte_of settings.line_terminator) bytes)
+
+-- ---- the matches that are reported
+
+-- the first items, as many as a limit has, or all
+abbrev pub items_up_to : {X : Type 0} → Option ℕ → List X → List X
+items_up_to None items = items
+items_up_to (Some limit) items = take limit items
+
+-- all lines in order, each as a match: with its number, its offset and its bytes
+abbrev pub lines_as_matches : Settings → List ℕ → List Call
+lines_as_matches settings bytes =
+    map (match_of settings bytes) (range_with_len 0 (line_count settings bytes))
+
+-- those of them that hit; under a limit the first of these
+abbrev pub hit_matches : Settings → Meaning → List ℕ → List Call
+hit_matches settings meaning bytes =
+    items_up_to settings.max_matches
+    (filter (λ found. is_hit settings meaning (reported_bytes found))
+    (lines_as_matches settings bytes))
+
+-- no stop is set, and no line is trailing: there is no limit, or no context after a match
+pub record IsFilter (settings : Settings) : Type 0 where
+  pub unstopped : settings.stop_on_nonmatch ≡ false
+  pub untrailed : (settings.max_matches ≡ None) ⊎ (settings.after_context ≡ 0)
+
+-- then the matches that are reported are the lines that hit, in order
+abbrev pub LinesAreFiltered : Type 0
+LinesAreFiltered =
+    (settings : Settings) (meaning : Meaning) (bytes : List ℕ) → is_across settings meaning ≡ false
+    → IsFilter settings
+    → match_calls (search_plan settings meaning bytes).calls ≡ hit_matches settings meaning bytes
+
+-- the bytes of all lines are the lines, so these are the lines that hit
+abbrev pub HitsAreLines : Type 0
+HitsAreLines =
+    (settings : Settings) (meaning : Meaning) (bytes : List ℕ)
+    → map reported_bytes (hit_matches settings meaning bytes)
+    ≡ items_up_to settings.max_matches
+    (filter (is_hit settings meaning) (lines (byte_of settings.line_terminator) bytes))
+
+-- whatever is set, each line that is reported as a match hits: without inversion it has a match
+-- without its terminator
+abbrev pub MatchedLinesHit : Type 0
+MatchedLinesHit =
+    (settings : Settings) (meaning : Meaning) (bytes : List ℕ) → is_across settings meaning ≡ false
+    → All (λ found. is_hit settings meaning (reported_bytes found) ≡ true)
+    (match_calls (search_plan settings meaning bytes).calls)
+
+abbrev pub MatchedLinesMatch : Type 0
+MatchedLinesMatch =
+    (settings : Settings) (meaning : Meaning) (bytes : List ℕ) → is_across settings meaning ≡ false
+    → settings.invert_match ≡ false
+    → All (λ found. is_some (meaning.first (strip settings.line_terminator (reported_bytes found)))
+    ≡ true) (match_calls (search_plan settings meaning bytes).calls)

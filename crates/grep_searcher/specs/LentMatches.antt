@@ -63,6 +63,25 @@ module _ {F : Type 0} (call : F → Bor MatchReport → Result Bool Error → F 
       → (name (closure new) ≡ name (closure old))
       × (kept (closure new) ≡ kept (closure old) ++ flat_map part (match_calls plan.calls))
 
+  -- the part may also depend on what the closure has captured, as far as no call changes what it is
+  abbrev pub AppendsLentByState : {X : Type 0} → (F → Call → List X) → (F → ℕ) → (F → List X)
+      → Type 0
+  AppendsLentByState part name kept =
+      (old : F) (found : Bor MatchReport) (b : Bool) (new : F)
+      → call old found (Ok b) new → (b ≡ true) × (name new ≡ name old)
+      × (kept new ≡ kept old ++ part old (match_call found.now))
+      × ((other : Call) → part new other ≡ part old other)
+
+  abbrev pub ClosuresAppendByState : {S : Type 0} → Type 0 → (S → F) → Type 0
+  ClosuresAppendByState {S} X closure =
+      (part : F → Call → List X) (name : F → ℕ) (kept : F → List X)
+      → AppendsLentByState part name kept
+      → (settings : Settings) (old : S) (plan : Plan) (new : S)
+      → IsRun (LentSteps closure) settings old plan (Ok tt) new
+      → (name (closure new) ≡ name (closure old))
+      × (kept (closure new)
+      ≡ kept (closure old) ++ flat_map (part (closure old)) (match_calls plan.calls))
+
   -- if it keeps the number, the offset and the bytes of each match, these are added
   abbrev pub KeepsMatches : (F → ℕ) → (F → List KeptReport) → Type 0
   KeepsMatches name kept = AppendsLent (λ made. kept_of made ∷ []) name kept

@@ -3,6 +3,7 @@ pub mod BoundedReads
 pub mod ClosureSinks
 pub mod CountSinks
 pub mod DetectedRuns
+pub mod HandledLines
 pub mod HitLines
 pub mod KeptReports
 pub mod LentMatches

@@ -1,6 +1,7 @@
 -- What handlers of matches make of a match, and of a search.
-use Rattle.std.specs.Prelude.{◌≡◌, ℕ, ◌<◌, ◌^◌, Bool, true, false, if◌then◌else◌, nat_lt, List, []}
-use Rattle.std.specs.Prelude.{◌∷◌, ◌++◌, length, map, take, Option, None, Result, Ok, Err}
+use Rattle.std.specs.Prelude.{◌≡◌, ℕ, ◌+◌, ◌-◌, ◌<◌, ◌^◌, Bool, true, false, if◌then◌else◌, nat_lt}
+use Rattle.std.specs.Prelude.{List, [], ◌∷◌, ◌++◌, length, map, take, drop, Vec, Option, None}
+use Rattle.std.specs.Prelude.{Result, Ok, Err}
 use Rattle.std.specs.List.{fold}
 use Rattle.grep_matcher.specs.Meanings.{Meaning}
 use Rattle.grep_report.specs.SearchErrors.{IsOutOfMemory}
@@ -97,6 +98,32 @@ abbrev pub with_first : FirstReports → Call → FirstReports
 with_first old call =
     if has_room old then record old { kept = with_match old.kept call } else old
 
+-- the last items of a list, as many as this, or all if there are fewer
+abbrev pub last_items : {X : Type 0} → ℕ → List X → List X
+last_items count items = drop (length items - count) items
+
+-- the last matches that were kept, and how many there may be
+pub record LastReports : Type 0 where
+  pub limit : ℕ
+  pub kept : List KeptReport
+
+-- a match is kept, and the oldest is let go if there are more than the limit
+abbrev pub with_last : LastReports → Call → LastReports
+with_last old call = record old {
+  kept =
+      if nat_lt old.limit (length old.kept + 1)
+      then drop 1 (with_match old.kept call)
+      else with_match old.kept call;
+}
+
+-- the bytes of each of some vectors
+abbrev pub bytes_of_each : {A : Type 0} → List (Vec ℕ A) → List (List ℕ)
+bytes_of_each vectors = map (λ vector. vector.items) vectors
+
+-- the bytes of each match are kept
+abbrev pub with_bytes : List (List ℕ) → Call → List (List ℕ)
+with_bytes old call = old ++ reported_bytes call ∷ []
+
 -- The sinks of these handlers.
 
 -- a match was found, and ends the search
@@ -110,6 +137,14 @@ IsCollectStep = IsHandlerStep (λ _ _. true) with_match LacksMemory
 -- the first matches are kept, and the last of them ends the search
 abbrev pub IsFirstStep : {A : Type 0} → Steps FirstReports (SearchError A)
 IsFirstStep = IsHandlerStep (λ old call. has_room (with_first old call)) with_first LacksMemory
+
+-- each match is kept, and the oldest let go
+abbrev pub IsLastStep : {A : Type 0} → Steps LastReports (SearchError A)
+IsLastStep = IsHandlerStep (λ _ _. true) with_last LacksMemory
+
+-- the bytes of each match are kept
+abbrev pub IsEachLineStep : {A : Type 0} → Steps (List (List ℕ)) (SearchError A)
+IsEachLineStep = IsHandlerStep (λ _ _. true) with_bytes LacksMemory
 
 -- whether a line is selected
 abbrev pub has_selected : Settings → Meaning → List ℕ → Bool
@@ -181,3 +216,21 @@ RunsKeepFirstLines A =
       limit = limit;
       kept = map (kept_line settings bytes) (take limit (matched_lines settings meaning bytes));
     }
+
+-- a run of a new handler that ended in `Ok` kept the last matches that are reported
+abbrev pub RunsKeepLast : Type 0 → Type 0
+RunsKeepLast A =
+    (settings : Settings) (limit : ℕ) (old : LastReports) (plan : Plan) (new : LastReports)
+    → old ≡ record { limit = limit; kept = [] }
+    → IsRun {E = SearchError A} IsLastStep settings old plan (Ok tt) new
+    → new ≡ record {
+      limit = limit;
+      kept = last_items limit (map kept_of (match_calls plan.calls));
+    }
+
+-- a run that ended in `Ok` adds the bytes of the matches that are reported
+abbrev pub RunsKeepBytes : Type 0 → Type 0
+RunsKeepBytes A =
+    (settings : Settings) (old : List (List ℕ)) (plan : Plan) (new : List (List ℕ))
+    → IsRun {E = SearchError A} IsEachLineStep settings old plan (Ok tt) new
+    → new ≡ old ++ map reported_bytes (match_calls plan.calls)

@@ -4,24 +4,31 @@
 ghost use Rattle.std.specs.Str.Lossy.{utf8_lossy};
 ghost use Rattle.grep_searcher.specs.ClosureSinks.{ClosuresAreCalled, ClosuresKeep, IsUtf8Text};
 ghost use Rattle.grep_searcher.specs.ClosureSinks.{IsLossyText, IsWholeText};
-ghost use Rattle.grep_searcher.specs.AppendedParts.{RunsAppend, RunsAppendLines, RunsAppendMatches};
+ghost use Rattle.grep_searcher.specs.AppendedParts.{CallsAppend, RunsAppend, RunsAppendByState};
+ghost use Rattle.grep_searcher.specs.AppendedParts.{RunsAppendLines, RunsAppendMatches};
+ghost use Rattle.grep_searcher.specs.BoundedReads.{EndedKnownReadersStop, EndedReadersStop};
 ghost use Rattle.grep_searcher.specs.BoundedReads.{ReadersFindLines};
 ghost use Rattle.grep_searcher.specs.CountSinks.{RunsCount, RunsCountAll};
 ghost use Rattle.grep_searcher.specs.DetectedRuns.{DecodedSlicesFailWith, DecodedSlicesRunWith};
 ghost use Rattle.grep_searcher.specs.DetectedRuns.{KnownReadersFailWith, KnownReadersRunWith};
 ghost use Rattle.grep_searcher.specs.DetectedRuns.{ReadersFailWith, ReadersRunWith};
 ghost use Rattle.grep_searcher.specs.DetectedRuns.{SlicesFailWith, SlicesRunWith};
+ghost use Rattle.grep_searcher.specs.HandledLines.{KnownReadersHandleLines, ReadersHandleLines};
+ghost use Rattle.grep_searcher.specs.HandledLines.{SlicesHandleLines};
 ghost use Rattle.grep_searcher.specs.HitLines.{HitsAreSelected, HitsAreMatched, HitsAreCounted};
-ghost use Rattle.grep_searcher.specs.HitLines.{PredicatesAreCounted};
+ghost use Rattle.grep_searcher.specs.HitLines.{HitsAreLines, LinesAreFiltered, MatchedLinesHit};
+ghost use Rattle.grep_searcher.specs.HitLines.{MatchedLinesMatch, PredicatesAreCounted};
 ghost use Rattle.grep_searcher.specs.KeptReports.{RunsKeep, RunsKeepUntil};
-ghost use Rattle.grep_searcher.specs.LentMatches.{ClosuresAppendMatches, ClosuresAreLent};
+ghost use Rattle.grep_searcher.specs.LentMatches.{ClosuresAppendByState, ClosuresAppendMatches};
+ghost use Rattle.grep_searcher.specs.LentMatches.{ClosuresAreLent};
 ghost use Rattle.grep_searcher.specs.LentMatches.{ClosuresFailLent, ClosuresKeepMatches};
 ghost use Rattle.grep_searcher.specs.LineCounts.{RunsCountLines, SlicesCountLines};
 ghost use Rattle.grep_searcher.specs.LineCounts.{ReadersCountLines};
 ghost use Rattle.grep_searcher.specs.MatchHandlers.{RunsHandle, RunsFailAt, RunsFit};
 ghost use Rattle.grep_searcher.specs.MatchHandlers.{RunsFindSelected, RunsFindAcross, RunsCollect};
 ghost use Rattle.grep_searcher.specs.MatchHandlers.{RunsCollectLines, RunsCollectUntil};
-ghost use Rattle.grep_searcher.specs.MatchHandlers.{RunsKeepFirst, RunsKeepFirstLines};
+ghost use Rattle.grep_searcher.specs.MatchHandlers.{RunsKeepBytes, RunsKeepFirst};
+ghost use Rattle.grep_searcher.specs.MatchHandlers.{RunsKeepFirstLines, RunsKeepLast};
 ghost use Rattle.grep_searcher.specs.PassedCalls.{ClosuresAppend, ClosuresArePassed};
 ghost use Rattle.grep_searcher.specs.PassedCalls.{ClosuresFailPassed, ClosuresKeepCalls};
 ghost use Rattle.grep_searcher.specs.SearchFailures.{ReadersFail, SlicesFail};
@@ -63,6 +70,22 @@ pub fn hits_are_selected()
     ensures matched { HitsAreMatched }
     ensures counted { HitsAreCounted }
     ensures predicates { PredicatesAreCounted }
+{}
+
+/// In a search by line, without a stop and without a limit, or without a context after matches, the
+/// matches that are reported are the lines that hit, in order, each with its number, its offset and
+/// its bytes; under a limit the first of these, as many as the limit has. Their bytes are the lines
+/// that hit.
+pub fn lines_are_filtered()
+    ensures matches { LinesAreFiltered }
+    ensures lines { HitsAreLines }
+{}
+
+/// In a search by line each line that is reported as a match hits, whatever is set. So without
+/// inversion it has a match without its terminator.
+pub fn matched_lines_hit()
+    ensures hit { MatchedLinesHit }
+    ensures matching { MatchedLinesMatch }
 {}
 
 /// Across lines the matches that are reported are the units, in order: each with the number of its
@@ -131,10 +154,13 @@ pub fn runs_handle_matches<H: MatchHandler>()
 
 /// If a handler always goes on and appends a part for each match to what it keeps, a run that ended
 /// in `Ok` appends the parts of the matches that are reported, in order; by line these are the
-/// matched lines. `X` is what is appended.
+/// matched lines. The part may depend on what of the handler no match changes, as on a constant
+/// that it has; then so do some calls that are handled. `X` is what is appended.
 pub fn runs_append_matches<H: MatchHandler, X>()
     ensures all { RunsAppendMatches H.goes H.next H.fails X }
     ensures lines { RunsAppendLines H.goes H.next H.fails X }
+    ensures by_state { RunsAppendByState H.goes H.next H.fails X }
+    ensures calls { CallsAppend H.goes H.next H.fails X }
 {}
 
 /// A run of a new `Found` that ended in `Ok` found a match exactly if a line is selected, by line
@@ -159,6 +185,18 @@ pub fn runs_collect_lines<A: Allocator + Copy>()
     ensures all { RunsCollect A }
     ensures lines { RunsCollectLines A }
     ensures failed { RunsCollectUntil A }
+{}
+
+/// A run of a new `Last` that ended in `Ok` kept the last matches that are reported, up to its
+/// limit.
+pub fn runs_keep_last<A: Allocator + Copy>()
+    ensures { RunsKeepLast A }
+{}
+
+/// A run of `EachLine` that ended in `Ok` kept the bytes of the matches that are reported, after
+/// those that it had kept.
+pub fn runs_keep_bytes<A: Allocator + Copy>()
+    ensures { RunsKeepBytes A }
 {}
 
 /// A run of `Reports` that ended in `Ok` kept the reports of the plan, after those that it had
@@ -210,11 +248,12 @@ pub fn bytes_closures_keep_calls<F: FnMut(u64, &[u8]) -> Result<bool, io::Error>
 /// A run of `Matches` that ended in `Ok` lent its closure the matches that are reported, in order,
 /// up to the first at which it returned false. If each call that returns goes on and appends a part
 /// for the match to what is kept, through one reference, the run appends the parts of all these
-/// matches; or the number, the offset and the bytes of each. An error of a call is the closure's.
-/// Pass the sink, since a closure's type has no name. `X` is what is appended.
+/// matches; or the number, the offset and the bytes of each. The part may depend on what no call
+/// changes of what the closure has captured. An error of a call is the closure's. Pass the sink, since a closure's type has no name. `X` is what is appended.
 pub fn matches_are_lent<F: FnMut(&SinkMatch<'_>) -> Result<bool, io::Error>, X>(_: &Matches<F>)
     ensures lent { ClosuresAreLent F.step (λ (s : Matches F). s.0) }
     ensures appended { ClosuresAppendMatches F.step X (λ (s : Matches F). s.0) }
+    ensures by_state { ClosuresAppendByState F.step X (λ (s : Matches F). s.0) }
     ensures kept { ClosuresKeepMatches F.step (λ (s : Matches F). s.0) }
     ensures failed { ClosuresFailLent F.step (λ (s : Matches F). s.0) }
 {}
@@ -242,13 +281,23 @@ where
 {}
 
 /// Without binary detection, a search of a reader with a lawful matcher that ended in `Ok` is a run
-/// over what was taken, whatever follows.
+/// over what was taken, whatever follows. Pass the sink, since a closure's type has no name.
 pub fn reader_searches_run<A: Allocator + Copy, M: Matcher, R: Source, S: Sink>(_: &S)
 where
     S::Error: SinkError<A>,
     ensures { (matcher : M) → ReaderSearchesRun S.step
         (makers_of M.Error.output S.Error.makers) (M.facts matcher)
         R.remaining R.step }
+{}
+
+/// What `reader_searches_run` says of a reader, of a file. After `search_path` such a file is one
+/// that was opened.
+pub fn file_searches_run<A: Allocator + Copy, M: Matcher, F: Read, S: Sink>(_: &S)
+where
+    S::Error: SinkError<A>,
+    ensures { (matcher : M) → ReaderSearchesRun S.step
+        (makers_of M.Error.output S.Error.makers) (M.facts matcher)
+        F.remaining (IsFileRead F.remaining) }
 {}
 
 /// The search of the lines that were seen of a reader is one of each input that begins with what
@@ -305,10 +354,20 @@ where
         R.remaining R.step }
 {}
 
+/// What `readers_fail` says of a reader, of a file. After `search_path` such a file is one that was
+/// opened.
+pub fn files_fail<A: Allocator + Copy, M: Matcher, F: Read, S: Sink>(_: &S)
+where
+    S::Error: SinkError<A>,
+    ensures { (matcher : M) → ReadersFail S.step
+        (makers_of M.Error.output S.Error.makers) (M.facts matcher)
+        F.remaining (IsFileRead F.remaining) }
+{}
+
 /// Without binary detection, a search of a reader that says which bytes remain, with a lawful
 /// matcher, if it ended in `Ok`, is a run along the plan of the decoded bytes of them all, as a
-/// search of a slice is.
-pub fn known_readers_run<A: Allocator + Copy, M: Matcher, R: Source, S: Sink>()
+/// search of a slice is. Pass the sink, since a closure's type has no name.
+pub fn known_readers_run<A: Allocator + Copy, M: Matcher, R: Source, S: Sink>(_: &S)
 where
     S::Error: SinkError<A>,
     ensures { (matcher : M) → KnownReadersRun S.step
@@ -318,7 +377,7 @@ where
 
 /// What `known_readers_run` says of a reader, of a file that says which bytes remain. After
 /// `search_path` such a file is one that was opened.
-pub fn known_files_run<A: Allocator + Copy, M: Matcher, F: Read, S: Sink>()
+pub fn known_files_run<A: Allocator + Copy, M: Matcher, F: Read, S: Sink>(_: &S)
 where
     S::Error: SinkError<A>,
     ensures { (matcher : M) → KnownReadersRun S.step
@@ -446,5 +505,66 @@ pub fn readers_find_lines<A: Allocator + Copy, M: Matcher, R: Source, E: SinkErr
 pub fn files_find_lines<A: Allocator + Copy, M: Matcher, F: Read, E: SinkError<A>>()
     ensures { (matcher : M) → ReadersFindLines
         (makers_of M.Error.output E.makers) (M.facts matcher)
+        F.remaining (IsFileRead F.remaining) }
+{}
+
+/// A search of a slice, by line and without binary detection, with a lawful matcher and a sink
+/// `OnMatch`, if it ended in `Ok`, made the handler handle the lines of the decoded bytes that hit,
+/// up to the first after which the search doesn't go on. That is said without a stop and without a
+/// limit, or without a context after matches, as `lines_are_filtered` is.
+pub fn slices_handle_lines<A: Allocator + Copy, M: Matcher, H: MatchHandler>()
+where
+    H::Error: SinkError<A>,
+    ensures { (matcher : M) → SlicesHandleLines H.goes H.next H.fails
+        (makers_of M.Error.output H.Error.makers) (M.facts matcher) }
+{}
+
+/// What `slices_handle_lines` says of a slice, of a reader that says which bytes remain; and of any
+/// reader, for each input that begins with what was taken.
+pub fn readers_handle_lines<A: Allocator + Copy, M: Matcher, R: Source, H: MatchHandler>()
+where
+    H::Error: SinkError<A>,
+    ensures known { (matcher : M) → KnownReadersHandleLines H.goes H.next H.fails
+        (makers_of M.Error.output H.Error.makers) (M.facts matcher) R.remaining R.step }
+    ensures taken { (matcher : M) → ReadersHandleLines H.goes H.next H.fails
+        (makers_of M.Error.output H.Error.makers) (M.facts matcher) R.remaining R.step }
+{}
+
+/// What `readers_handle_lines` says of a reader, of a file. After `search_path` such a file is one
+/// that was opened.
+pub fn files_handle_lines<A: Allocator + Copy, M: Matcher, F: Read, H: MatchHandler>()
+where
+    H::Error: SinkError<A>,
+    ensures known { (matcher : M) → KnownReadersHandleLines H.goes H.next H.fails
+        (makers_of M.Error.output H.Error.makers) (M.facts matcher)
+        F.remaining (IsFileRead F.remaining) }
+    ensures taken { (matcher : M) → ReadersHandleLines H.goes H.next H.fails
+        (makers_of M.Error.output H.Error.makers) (M.facts matcher)
+        F.remaining (IsFileRead F.remaining) }
+{}
+
+/// How far a search of a reader reads that a handler ended, by line and without binary detection,
+/// with a lawful matcher: under a heap limit at most that many bytes, and three, beyond the end of
+/// the match after which the search didn't go on (`ending_call`), if they pass unchanged. That is
+/// said of what was taken of any reader, and of one that says which bytes remain of these.
+pub fn ended_readers_stop<A: Allocator + Copy, M: Matcher, R: Source, H: MatchHandler>()
+where
+    H::Error: SinkError<A>,
+    ensures taken { (matcher : M) → EndedReadersStop H.goes H.next H.fails
+        (makers_of M.Error.output H.Error.makers) (M.facts matcher) R.remaining R.step }
+    ensures known { (matcher : M) → EndedKnownReadersStop H.goes H.next H.fails
+        (makers_of M.Error.output H.Error.makers) (M.facts matcher) R.remaining R.step }
+{}
+
+/// What `ended_readers_stop` says of a reader, of a file. After `search_path` such a file is one
+/// that was opened.
+pub fn ended_files_stop<A: Allocator + Copy, M: Matcher, F: Read, H: MatchHandler>()
+where
+    H::Error: SinkError<A>,
+    ensures taken { (matcher : M) → EndedReadersStop H.goes H.next H.fails
+        (makers_of M.Error.output H.Error.makers) (M.facts matcher)
+        F.remaining (IsFileRead F.remaining) }
+    ensures known { (matcher : M) → EndedKnownReadersStop H.goes H.next H.fails
+        (makers_of M.Error.output H.Error.makers) (M.facts matcher)
         F.remaining (IsFileRead F.remaining) }
 {}

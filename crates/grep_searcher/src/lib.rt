@@ -13,7 +13,7 @@ mod sink;
 pub mod sinks;
 
 pub use grep_decode::{Reading, Source};
-pub use grep_lines::{LineIter, LineStep};
+pub use grep_lines::{LineIter, LineStep, without_terminator};
 pub use grep_matcher::{
     ByteSet, FindAt, LineMatchKind, LineTerminator, LiteralMatcher, Match, Matcher, Plain,
 };

@@ -1,7 +1,7 @@
 //! Ready sinks. `UTF8`, `Lossy`, `Bytes` and `Matches` call a closure at each match, and `Calls` at
 //! each call of a search; the closure returns whether the search goes on, and its error ends the
 //! search. `Count` counts the matches, `Reports` keeps each report, and `OnMatch` passes each match
-//! to a handler: `Found`, `First`, `Collect` or the caller's own.
+//! to a handler: `Found`, `First`, `Last`, `Collect`, `EachLine` or the caller's own.
 ghost use Rattle.std.specs.Prelude.{◌≡◌, Some, None, MatchResult};
 ghost use Rattle.std.specs.IoError.{error_kind};
 ghost use Rattle.std.specs.declared.io.ErrorKind.TheVariants.{Other};
@@ -9,10 +9,12 @@ ghost use Rattle.std.specs.declared.io.ErrorKind.TheVariants.{Other};
 mod calls;
 mod collect;
 mod count;
+mod each_line;
 mod first;
 mod found;
 mod kept_lines;
 mod kept_match;
+mod last;
 mod matches;
 mod on_match;
 mod reports;
@@ -22,11 +24,13 @@ use crate::sink::Sink;
 pub use calls::{Calls, SinkCall};
 pub use collect::Collect;
 pub use count::Count;
+pub use each_line::EachLine;
 pub use first::First;
 pub use found::Found;
 use grep_report::{SinkContext, SinkError, SinkFinish, SinkMatch};
 pub use kept_lines::{KeptLines, ReportKind};
 pub use kept_match::KeptMatch;
+pub use last::Last;
 pub use matches::Matches;
 pub use on_match::{MatchHandler, OnMatch};
 pub use reports::Reports;

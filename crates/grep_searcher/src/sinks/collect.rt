@@ -58,7 +58,7 @@ impl<A: Allocator + Copy> Collect<A> {
         ensures kept { OnOk result (self.new ≡ self.old ++ kept_of (match_call found.now) ∷ []) }
         ensures same { OnErr result (self.new ≡ self.old) }
     {
-        let kept = KeptMatch::of(self.alloc, found)?;
+        let kept = KeptMatch::new(self.alloc, found)?;
         self.matches.push(kept)?;
         Ok(())
     }

@@ -28,8 +28,9 @@ impl<A: Allocator> Model for KeptMatch<A> {
 }
 
 impl<A: Allocator> KeptMatch<A> {
-    // A copy of a match. The only error is being out of memory for its bytes.
-    pub(crate) fn of(alloc: A, found: &SinkMatch<'_>) -> Result<KeptMatch<A>, AllocError>
+    /// A copy of a match, for a handler or a sink that keeps some matches. The only error is being
+    /// out of memory for its bytes.
+    pub fn new(alloc: A, found: &SinkMatch<'_>) -> Result<KeptMatch<A>, AllocError>
         ensures { IfOk result (λ kept. kept ≡ kept_of (match_call found.now)) }
     {
         let mut bytes = Vec::new(alloc);

@@ -82,7 +82,7 @@ impl<A: Allocator + Copy> Sink for Reports<A> {
         _: &Searcher<B>,
         found: &SinkMatch<'_>,
     ) -> Result<bool, SearchError<A>> {
-        let kept = KeptMatch::of(self.alloc, found)?;
+        let kept = KeptMatch::new(self.alloc, found)?;
         self.keep(ReportKind::Match, kept)?;
         Ok(true)
     }
