@@ -15,4 +15,5 @@ pub mod ShownLemmas
 pub mod SomeTextLemmas
 pub mod SuccessiveLemmas
 pub mod TextLemmas
+pub mod VimgrepLemmas
 pub mod WalkLemmas

@@ -19,3 +19,4 @@ pub mod SearchMessages
 pub mod StandardTexts
 pub mod StatsSums
 pub mod SummaryTexts
+pub mod VimgrepTexts

@@ -46,7 +46,7 @@ impl Config {
 /// the builder.
 #[derive(Debug, Drop)]
 pub struct StandardBuilder {
-    config: Config,
+    pub(crate) config: Config,
 }
 
 impl Model for StandardBuilder {

@@ -25,6 +25,7 @@ mod stats;
 mod summary;
 mod summary_builder;
 mod text;
+mod vimgrep;
 
 pub use colors::ColorSpecs;
 pub use config::{SearchSeparator, StandardBuilder};
@@ -35,3 +36,4 @@ pub use standard::{Standard, StandardFormat, StandardSink};
 pub use stats::Stats;
 pub use summary::{Summary, SummaryFormat, SummarySink};
 pub use summary_builder::{SummaryBuilder, SummaryKind};
+pub use vimgrep::{Vimgrep, VimgrepFormat, VimgrepSink};

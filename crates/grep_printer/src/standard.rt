@@ -55,7 +55,7 @@ impl Progress {
     }
 
     // Whether reports aren't written any more.
-    fn is_hidden(&self, detection: &BinaryDetection) -> bool
+    pub(crate) fn is_hidden(&self, detection: &BinaryDetection) -> bool
         ensures { result ≡ is_hidden self.now detection.now }
     {
         self.binary.is_some() && detection.convert_byte().is_some()
@@ -72,7 +72,7 @@ impl Progress {
     }
 
     // Notes a report.
-    fn add(&mut self, report: &Report<'_>)
+    pub(crate) fn add(&mut self, report: &Report<'_>)
         ensures { self.new ≡ progress_after self.old (call_of report.now) }
     {
         self.is_open = true;
@@ -85,7 +85,7 @@ impl Progress {
 
 impl StandardFormat {
     // How the lines of a search are laid out.
-    fn layout<'p, A: Allocator + Copy>(
+    pub(crate) fn layout<'p, A: Allocator + Copy>(
         &self,
         searcher: &Searcher<A>,
         path: Option<&'p str>,

@@ -3,7 +3,7 @@ use crate::failing::Failing;
 use crate::row::{Kind, Row};
 use crate::texts::{LONG_PATH, Searched, compile, long_text, texts};
 use grep_output::{Output, Writing};
-use grep_printer::{Json, Standard, Stats, Summary};
+use grep_printer::{Json, Standard, Stats, Summary, Vimgrep};
 use grep_regex::Regex;
 use grep_searcher::{FindAt, SearchError, Searcher, Sink};
 use std::alloc::Global;
@@ -89,6 +89,10 @@ fn print_matches<M: FindAt, W: Output + Drop>(
 ) -> Result<(), SearchError> {
     match row.kind {
         Kind::Lines => print_by(alloc, row, matcher, &mut row.lines.build(alloc, writer)),
+        Kind::Vimgrep => {
+            let mut printer = row.lines.build_vimgrep(alloc, writer);
+            print_by(alloc, row, matcher, &mut printer)
+        }
         Kind::Summary => print_by(alloc, row, matcher, &mut row.summary.build(alloc, writer)),
         Kind::Json => {
             let mut messages = Messages {
@@ -153,6 +157,27 @@ trait Printer {
 }
 
 impl<W: Output> Printer for Standard<W> {
+    fn print<M: FindAt>(
+        &mut self,
+        searcher: &mut Searcher,
+        matcher: &M,
+        path: &str,
+        text: &[u8],
+    ) -> Result<(), SearchError> {
+        let mut sink = self.sink(matcher, Some(path));
+        search(searcher, matcher, text, &mut sink)
+    }
+
+    fn finish(&mut self) -> Result<(), SearchError> {
+        self.flush_text()
+    }
+
+    fn flush_text(&mut self) -> Result<(), SearchError> {
+        end_of_flush(self.flush())
+    }
+}
+
+impl<W: Output> Printer for Vimgrep<W> {
     fn print<M: FindAt>(
         &mut self,
         searcher: &mut Searcher,

@@ -10,6 +10,8 @@ use grep_searcher::SearcherBuilder;
 pub enum Kind {
     /// The printer of lines.
     Lines,
+    /// The printer of a line for each part.
+    Vimgrep,
     /// The printer of summaries.
     Summary,
     /// The printer of JSON.
@@ -31,7 +33,7 @@ pub struct Row<'r> {
     pub is_across: bool,
     /// The settings of the search.
     pub search: SearcherBuilder,
-    /// The settings of the printer of lines.
+    /// The settings of the printers of lines.
     pub lines: StandardBuilder,
     /// The settings of the printer of summaries.
     pub summary: SummaryBuilder,
@@ -80,6 +82,7 @@ impl<'r> Row<'r> {
     fn set_kind(&mut self, word: &str) -> bool {
         match word {
             "--json" => self.kind = Kind::Json,
+            "--vimgrep" => self.kind = Kind::Vimgrep,
             "always_begin_end" => {
                 self.json.always_begin_end(true);
             }

@@ -1,0 +1,31 @@
+use Rattle.std.proofs.Common.{ap, ◌∙◌}
+use Rattle.grep_printer.proofs.PushLemmas.{pushed-more}
+use Rattle.grep_printer.proofs.VimgrepLemmas.{IsListing, line_of_part, listing-more, listing-number}
+use Rattle.grep_printer.specs.VimgrepTexts.{number_after}
+use Rattle.grep_printer.proofs.vimgrep.push_part_lines.Goals as goal
+
+pub push_part_line-requires-clause-number : goal.push_part_line-requires-clause-number
+push_part_line-requires-clause-number c =
+    listing-number c.args.layout.now c.args.report.now c.args.text.now.bytes.items c.args.parts.now
+    c.loop-part.invariant.bytes c.loop-part.number c.loop-part.position c.loop-part.rest.now c.in-Some.part.now
+    c.in-Some.later.now c.loop-part.invariant.is c.in-Some.ensures.cases.0 c.number_after-number.result
+    (c.number_after-number.ensures ∙ ap (number_after c.loop-part.number)
+    (simp (c.as_byte.ensures, c.start.ensures.value) at c.count.ensures))
+
+pub loop-part-preserved : goal.loop-part-preserved
+loop-part-preserved c =
+    let layout = c.args.layout.now in
+    let report = c.args.report.now in
+    let old = c.args.text.now in
+    let all = c.args.parts.now in
+    let loop = c.loop-part in
+    let part = c.in-Some.part.now in
+    let later = c.in-Some.later.now in
+    let next = c.number_after-number.result in
+    rw c.start-position.ensures.value (pushed-more old loop.text c.push_part_line.new.text
+    (λ text. IsListing layout report old.bytes.items all text loop.number loop.position loop.rest.now)
+    (λ text. IsListing layout report old.bytes.items all text next part.0 later) (line_of_part layout report part)
+    loop.invariant c.push_part_line.ensures
+    (listing-more layout report old.bytes.items all loop.invariant.bytes loop.number loop.position loop.rest.now part later
+    loop.invariant.is c.in-Some.ensures.cases.0 next (c.number_after-number.ensures ∙ ap (number_after loop.number)
+    (simp (c.as_byte.ensures, c.start.ensures.value) at c.count.ensures))))

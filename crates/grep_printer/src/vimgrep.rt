@@ -1,0 +1,152 @@
+//! The printer of a line for each part that matches.
+ghost use Rattle.std.specs.Prelude.{◌≡◌, ◌+◌, ◌<◌, ◌≤◌, ◌^◌, [], false, length};
+ghost use Rattle.std.specs.List.{flat_map};
+ghost use Rattle.grep_lines.specs.Blocks.{lines_before};
+ghost use Rattle.grep_printer.specs.LineTexts.{end_byte};
+ghost use Rattle.grep_printer.specs.MatchedParts.{AreInOrder};
+ghost use Rattle.grep_printer.specs.Pushes.{Adds};
+ghost use Rattle.grep_printer.specs.Reports.{line_kind};
+ghost use Rattle.grep_printer.specs.VimgrepTexts.{number_after, part_line, vimgrep_config};
+
+use crate::config::StandardBuilder;
+use crate::fields::{Layout, Place};
+use crate::format::{Event, Format};
+use crate::printer::{Printer, PrinterSink};
+use crate::report::Report;
+use crate::standard::{Progress, StandardFormat};
+use crate::text::Text;
+use grep_lines::{count, line_of};
+use grep_searcher::{Match, Searcher};
+use std::alloc::{Allocator, Global};
+
+/// A printer of a line for each part that matches, as Vim's quickfix list reads them. It follows
+/// ripgrep's `--vimgrep`. `sink` gives the sink of one search after another.
+pub type Vimgrep<W> = Printer<VimgrepFormat, W>;
+
+/// The sink of one search, which writes a line for each part that matches.
+pub type VimgrepSink<'s, M, W> = PrinterSink<'s, VimgrepFormat, M, W>;
+
+/// The format: that of lines, but for reports with parts that match.
+#[derive(Clone, Copy)]
+pub struct VimgrepFormat {
+    pub(crate) lines: StandardFormat,
+}
+
+impl StandardBuilder {
+    /// A printer that writes for each part that matches the line in which it starts, after the path,
+    /// the line's number, the part's column in it and, if `byte_offset` is set, the part's offset.
+    /// Of the settings `heading`, `column` and `only_matching` don't count.
+    pub fn build_vimgrep<W>(&self, alloc: Global, writer: W) -> Vimgrep<W>
+        ensures writer { result.writer ≡ writer }
+        ensures pending { result.pending ≡ [] }
+        ensures config { result.format.lines.config ≡ vimgrep_config self.now }
+        ensures has_written { result.has_written ≡ false }
+        ensures has_failed { result.has_failed ≡ false }
+    {
+        let mut config = self.config;
+        config.heading = false;
+        config.column = true;
+        config.only_matching = false;
+        let progress = Progress::new(false);
+        let lines = StandardFormat { config, progress };
+        Printer::new(alloc, VimgrepFormat { lines }, writer)
+    }
+}
+
+impl Format for VimgrepFormat {
+    ghost use Rattle.grep_printer.specs.FormatEnds.{vimgrep-ends};
+    ghost use Rattle.grep_printer.specs.VimgrepTexts.{vimgrep_rules};
+
+    ghost rules = { vimgrep_rules };
+
+    ghost ends = { vimgrep-ends };
+
+    fn begun(&self, has_written: bool) -> VimgrepFormat {
+        let lines = self.lines.begun(has_written);
+        VimgrepFormat { lines }
+    }
+
+    fn asks(&self, _event: &Event<'_>) -> bool {
+        true
+    }
+
+    fn has_match(&self) -> bool {
+        self.lines.has_match()
+    }
+
+    fn push<A: Allocator + Copy>(
+        &mut self,
+        text: &mut Text,
+        searcher: &Searcher<A>,
+        path: Option<&str>,
+        event: &Event<'_>,
+        parts: &[Match],
+    ) -> bool {
+        let report = match event {
+            Event::Report(report) if !parts.is_empty() => report,
+            _ => return self.lines.push(text, searcher, path, event, &[]),
+        };
+        let before = self.lines.progress;
+        self.lines.progress.add(report);
+        if before.is_hidden(searcher.binary_detection()) {
+            return false;
+        }
+        let layout = self.lines.layout(searcher, path);
+        layout.push_before(text, &before);
+        push_part_lines(&layout, text, report, parts);
+        true
+    }
+}
+
+// Pushes of each part of a report the line in which it starts.
+fn push_part_lines(layout: &Layout<'_>, text: &mut Text, report: &Report<'_>, parts: &[Match])
+    requires fits { report.now.offset + length report.now.bytes.now < 2 ^ 64 }
+    requires ordered { AreInOrder 0 (length report.now.bytes.now) parts.now }
+    ensures { Adds text.old text.new (flat_map (part_line layout.now (line_kind report.now.kind)
+        report.now.number report.now.offset report.now.bytes.now) parts.now) }
+{
+    let mut number = report.number;
+    let mut position = 0;
+    let mut rest = parts;
+    while let Some((part, later)) = rest.split_first() {
+        let passed = &report.bytes[position..part.start()];
+        number = number_after(number, count(passed, layout.terminator.as_byte()));
+        push_part_line(layout, text, report, number, part);
+        position = part.start();
+        rest = later;
+    }
+}
+
+// Pushes the line in which a part of a report starts, and which has this number.
+fn push_part_line(
+    layout: &Layout<'_>,
+    text: &mut Text,
+    report: &Report<'_>,
+    number: Option<u64>,
+    part: &Match,
+)
+    requires fits { report.now.offset + length report.now.bytes.now < 2 ^ 64 }
+    requires within { part.now.1 ≤ length report.now.bytes.now }
+    requires number { number ≡ number_after report.now.number
+        (lines_before (end_byte layout.now) report.now.bytes.now part.now.0) }
+    ensures { Adds text.old text.new (part_line layout.now (line_kind report.now.kind)
+        report.now.number report.now.offset report.now.bytes.now part.now) }
+{
+    let start = part.start();
+    let line = line_of(report.bytes, layout.terminator.as_byte(), start);
+    let place = Place {
+        number,
+        column: Some((start - line.start()) as u64 + 1),
+        offset: report.offset + start as u64,
+        start: line.start(),
+    };
+    let bytes = &report.bytes[line.start()..line.end()];
+    layout.push_line(text, report.kind.line_kind(), &place, &[*part], bytes)
+}
+
+// The number of a line after so many others.
+fn number_after(number: Option<u64>, count: u64) -> Option<u64>
+    ensures { result ≡ number_after number count }
+{
+    number.map(|number| number.saturating_add(count))
+}
