@@ -278,3 +278,22 @@ impl RegexMatcherBuilder {
         self
     }
 }
+
+impl Regex {
+    ghost use Rattle.grep_regex.specs.LinePatterns.{line_meaning, line_options};
+    ghost use Rattle.grep_regex.specs.Views.{regex_meaning};
+
+    /// Compiles a pattern for the lines of a search: `^` and `$` match at the ends of a line, and
+    /// its matchers declare a line feed as the line terminator, as those of upstream's
+    /// `RegexMatcher::new_line_matcher` do. See `RegexMatcherBuilder::build_many` for errors.
+    pub fn for_lines(alloc: Global, pattern: &str) -> Result<Regex, Error>
+        ensures meaning { IfOk result (λ regex. regex_meaning regex ≡ line_meaning pattern.now) }
+        ensures accepted { IfOk result (λ _. AreAccepted line_options (pattern.now ∷ [])) }
+        ensures error { IfErr result (IsRefusal line_options (pattern.now ∷ [])) }
+    {
+        RegexMatcherBuilder::new()
+            .multi_line(true)
+            .line_terminator(Some(b'\n'))
+            .build(alloc, pattern)
+    }
+}

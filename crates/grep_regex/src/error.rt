@@ -2,9 +2,13 @@
 ghost use Rattle.std.specs.Prelude.{◌≡◌};
 ghost use Rattle.grep_regex.specs.Refusals.{IsOfParser, of_compiler};
 
+use arrayvec::ArrayString;
+use grep_report::SearchError;
 use regex_compile::Error as CompileError;
 use regex_syntax::{Error as SyntaxError, ErrorKind};
-use std::alloc::{AllocError, AllocFailed};
+use std::alloc::{AllocError, AllocFailed, Allocator};
+use std::fmt::Write;
+use std::io;
 use thiserror::Error;
 
 /// Why patterns can't be compiled.
@@ -76,5 +80,46 @@ impl<T: Drop> From<AllocFailed<T>> for Error {
 
     fn from(_: AllocFailed<T>) -> Error {
         Error::Memory
+    }
+}
+
+/// Out of memory is an error of the kind `OutOfMemory`. Any other one is of the kind `InvalidInput`
+/// and has the text; std shortens one of over 80 bytes, and ends it in three dots.
+impl From<Error> for io::Error {
+    ghost use Rattle.std.specs.Prelude.{◌≡◌};
+    ghost use Rattle.std.specs.IoError.{error_kind};
+    ghost use Rattle.grep_regex.specs.LinePatterns.{error_kind_of};
+
+    ghost from_gives = { λ error e. error_kind e ≡ error_kind_of error };
+
+    fn from(error: Error) -> io::Error {
+        match &error {
+            Error::Memory => io::Error::from(io::ErrorKind::OutOfMemory),
+            other => io::Error::new(io::ErrorKind::InvalidInput, text_of(other).as_str()),
+        }
+    }
+}
+
+// The text of an error, of as many bytes as there is room for.
+fn text_of(error: &Error) -> ArrayString<256> {
+    let mut text = ArrayString::new();
+    let _ = write!(text, "{error}");
+    text
+}
+
+/// The `io::Error`, as `Io`. `error_message` of `SinkError` keeps a text of any length, and takes an
+/// allocator.
+impl<A: Allocator> From<Error> for SearchError<A> {
+    ghost use Rattle.std.specs.Prelude.{◌≡◌};
+    ghost use Rattle.std.specs.IoError.{error_kind};
+    ghost use Rattle.std.specs.declared.io.Error.{Error as IoError};
+    ghost use Rattle.grep_report.specs.declared.sink_error.SearchError.TheVariants.{Io};
+    ghost use Rattle.grep_regex.specs.LinePatterns.{error_kind_of};
+
+    ghost from_gives = { λ error e.
+        (io : IoError) × (e ≡ Io io) × (error_kind io ≡ error_kind_of error) };
+
+    fn from(error: Error) -> SearchError<A> {
+        SearchError::Io(io::Error::from(error))
     }
 }
