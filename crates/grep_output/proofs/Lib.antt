@@ -1,2 +1,3 @@
+pub mod DigitLemmas
 pub mod OutputLemmas
 pub mod PendingLemmas

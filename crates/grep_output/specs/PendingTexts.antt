@@ -1,7 +1,26 @@
 -- Texts that are put together before they are written.
-use Rattle.std.specs.Prelude.{◌≡◌, ◌⊎◌, ℕ, List, ◌++◌, Result, Ok, Err}
+use Rattle.std.specs.Prelude.{◌≡◌, ◌⊎◌, ℕ, Bool, false, List, ◌++◌, Result, Ok, Err}
 use Rattle.std.specs.declared.io.Error.{Error}
 use Rattle.grep_output.specs.Outputs.{OutputCall, FailsToWrite, WritesAll, flushes}
+
+-- texts that aren't written yet, the last of which is being made piece by piece: the others, that
+-- one, for how many bytes there is memory, and whether memory was out for it
+pub record PendingText : Type 0 where
+  pub before : List ℕ
+  pub text : List ℕ
+  pub capacity : ℕ
+  pub has_failed : Bool
+
+-- their bytes
+abbrev pub pending_bytes : PendingText → List ℕ
+pending_bytes pending = pending.before ++ pending.text
+
+-- the texts before stay, and if memory was there, the one that is being made has some bytes more at
+-- its end
+abbrev pub Adds : PendingText → PendingText → List ℕ → Type 0
+Adds old new bytes =
+    (new.before ≡ old.before)
+    × (new.has_failed ≡ false → (old.has_failed ≡ false) × (new.text ≡ old.text ++ bytes))
 
 module _ {S : Type 0} (step : S → OutputCall → S → Type 0) where
   -- a text comes after what is pending: some first bytes of both are written, and the others are

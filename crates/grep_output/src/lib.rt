@@ -5,6 +5,7 @@
 //! comes of a text that is put after others.
 #![tactic(auto)]
 
+mod numeral;
 mod output;
 mod pending;
 mod writing;

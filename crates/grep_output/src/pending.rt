@@ -1,96 +1,176 @@
-//! Text that is kept before it is written.
-ghost use Rattle.std.specs.Prelude.{◌≡◌, ◌++◌, [], MatchBool, OnErr};
+//! Texts that are kept before they are written.
+ghost use Rattle.std.specs.Prelude.{◌≡◌, ◌++◌, ◌+◌, ◌<◌, ◌≤◌, ◌∷◌, [], decimal, drop, false, length};
+ghost use Rattle.std.specs.Prelude.{take, true};
 ghost use Rattle.grep_output.specs.Outputs.{Writes};
-ghost use Rattle.grep_output.specs.PendingTexts.{Puts};
+ghost use Rattle.grep_output.specs.PendingTexts.{Adds, pending_bytes};
 
+use crate::numeral::{MARKED_LEN, Numeral};
 use crate::output::{Output, write_all};
 use std::alloc::Global;
-use std::io;
 use std::marker::Model;
+use std::{io, mem};
 
-/// Text that is to be written, in the order in which it was put. It is kept in memory as long as
-/// there is room for it, so that many short texts make one write.
+/// Texts that are to be written, one after another. The last of them is made piece by piece: if
+/// memory is out it has failed, and takes nothing more, while those before it stay.
 #[derive(Drop)]
 pub struct Pending {
+    // The texts, the last of which begins at `start`.
     bytes: Vec<u8>,
-    room: usize,
+    start: usize,
+    has_failed: bool,
+    numeral: Numeral,
+    alloc: Global,
 }
 
-/// A clause sees the text.
+/// A clause sees the texts before, the one that is being made, for how many bytes there is memory,
+/// and whether memory was out.
 impl Model for Pending {
-    ghost use Rattle.std.specs.Prelude.{ℕ, List};
+    ghost use Rattle.std.specs.Prelude.{◌≤◌, drop, length, take, vec_capacity};
+    ghost use Rattle.grep_output.specs.PendingTexts.{PendingText};
 
-    ghost Value = { List ℕ };
+    ghost Value = { PendingText };
 
-    ghost view = { λ p. p.bytes.items };
+    ghost view = { λ p. record {
+      before = take p.start p.bytes.items;
+      text = drop p.start p.bytes.items;
+      capacity = vec_capacity p.bytes;
+      has_failed = p.has_failed;
+    } };
+
+    ghost invariant = { λ p. p.start ≤ length p.bytes.items };
 }
 
 impl Pending {
-    /// No text. At most `room` bytes are kept, in memory from `alloc`: with 0 each text is written
-    /// at once.
-    pub fn new(alloc: Global, room: usize) -> Pending
-        ensures { result ≡ [] }
+    /// No text. They are kept in memory from `alloc`.
+    pub fn new(alloc: Global) -> Pending
+        ensures { pending_bytes result ≡ [] }
     {
         Pending {
             bytes: Vec::new(alloc),
-            room,
+            start: 0,
+            has_failed: false,
+            numeral: Numeral::new(),
+            alloc,
         }
     }
 
-    /// Sets how many bytes are kept at most.
-    pub fn set_room(&mut self, room: usize)
-        ensures { self.new ≡ self.old }
-    {
-        self.room = room;
+    /// The allocator of the texts.
+    pub fn allocator(&self) -> Global {
+        self.alloc
     }
 
-    /// Puts a text after the others. If there is no room for it, or no memory, the others are
-    /// written first, and then it is written at once if there is still none. An error is the
-    /// writer's own, or of kind `WriteZero` as for `write_all`: then some first bytes of all are
-    /// written, and the others aren't kept.
+    /// Begins another text.
     #[inline]
-    pub fn put<W: Output>(&mut self, writer: &mut W, text: &[u8]) -> io::Result<()>
-        ensures put { Puts W.step writer.old self.old text.now result writer.new self.new }
-        ensures emptied { OnErr result (self.new ≡ []) }
+    pub fn begin(&mut self)
+        ensures before { self.new.before ≡ pending_bytes self.old }
+        ensures text { self.new.text ≡ [] }
+        ensures has_failed { self.new.has_failed ≡ false }
     {
-        if self.keeps(text) {
-            return Ok(());
-        }
-        self.write_to(writer)?;
-        if self.keeps(text) {
-            return Ok(());
-        }
-        write_all(writer, text)
+        self.start = self.bytes.len();
+        self.has_failed = false;
     }
 
-    /// Writes the text, after which there is none. An error is the writer's own, or of kind
-    /// `WriteZero` as for `write_all`: then some first bytes of the text are written, and the others
-    /// aren't kept.
+    /// Drops the text that is being made.
+    pub fn cancel(&mut self)
+        ensures before { self.new.before ≡ self.old.before }
+        ensures text { self.new.text ≡ [] }
+        ensures has_failed { self.new.has_failed ≡ false }
+    {
+        self.bytes.truncate(self.start);
+        self.has_failed = false;
+    }
+
+    /// Pushes some bytes. It fails only where there was no room for them, so that memory was asked
+    /// for.
+    #[inline]
+    pub fn push(&mut self, bytes: &[u8])
+        ensures adds { Adds self.old self.new bytes.now }
+        ensures fails { self.old.has_failed ≡ false → self.new.has_failed ≡ true
+            → self.old.capacity < length (pending_bytes self.old) + length bytes.now }
+    {
+        if !self.has_failed {
+            self.has_failed = self.bytes.extend_from_slice(bytes).is_err();
+        }
+    }
+
+    /// Pushes a number in decimal, and a mark.
+    #[inline]
+    pub fn push_number(&mut self, number: u64, mark: u8)
+        ensures { Adds self.old self.new (decimal number ++ mark ∷ []) }
+    {
+        let mut digits = [0; MARKED_LEN];
+        let len = self.numeral.put(number, mark, &mut digits, 0);
+        self.push(&digits[..len])
+    }
+
+    /// How many bytes the text has that is being made.
+    #[inline]
+    pub fn text_len(&self) -> usize
+        ensures { result ≡ length self.now.text }
+    {
+        self.bytes.len() - self.start
+    }
+
+    /// How many bytes all texts have.
+    #[inline]
+    pub fn len(&self) -> usize
+        ensures { result ≡ length (pending_bytes self.now) }
+    {
+        self.bytes.len()
+    }
+
+    /// Whether memory was out for the text that is being made.
+    #[inline]
+    pub fn has_failed(&self) -> bool
+        ensures { result ≡ self.now.has_failed }
+    {
+        self.has_failed
+    }
+
+    /// Writes the texts, after which there is none. An error is the writer's own, or of kind
+    /// `WriteZero` as for `write_all`: then some first bytes are written, and the others aren't kept.
     pub fn write_to<W: Output>(&mut self, writer: &mut W) -> io::Result<()>
-        ensures written { Writes W.step writer.old self.old result writer.new }
-        ensures emptied { self.new ≡ [] }
+        ensures written { Writes W.step writer.old (pending_bytes self.old) result writer.new }
+        ensures emptied { pending_bytes self.new ≡ [] }
     {
         let written = write_all(writer, &self.bytes);
         self.bytes.clear();
+        self.start = 0;
         written
     }
 
-    /// The text that isn't written yet, at its end.
+    /// All bytes that aren't written yet, at the end.
     pub fn into_bytes(self) -> Vec<u8>
-        ensures { result.items ≡ self }
+        ensures { result.items ≡ pending_bytes self }
     {
-        let Pending { bytes, room: _ } = self;
+        let Pending {
+            bytes,
+            start: _,
+            has_failed: _,
+            numeral: _,
+            alloc: _,
+        } = self;
         bytes
     }
 
-    /// Keeps a text after the others if there is room and memory for it, and returns whether it did.
-    #[inline]
-    pub fn keeps(&mut self, text: &[u8]) -> bool
-        ensures { MatchBool result (self.new ≡ self.old ++ text.now) (self.new ≡ self.old) }
+    /// Takes all bytes out, for what appends to a vector. `put_back` takes them back.
+    pub fn take_out(&mut self) -> Vec<u8>
+        ensures { result.items ≡ pending_bytes self.old }
     {
-        if text.len() > self.room || self.bytes.len() > self.room - text.len() {
-            return false;
-        }
-        self.bytes.extend_from_slice(text).is_ok()
+        self.start = 0;
+        mem::replace(&mut self.bytes, Vec::new(self.alloc))
+    }
+
+    /// Takes back the bytes of all texts, the last of which begins at `start`, and whether memory
+    /// was out for it. The caller ensures that there are as many.
+    pub fn put_back(&mut self, bytes: Vec<u8>, start: usize, has_failed: bool)
+        requires { start ≤ length bytes.items }
+        ensures before { self.new.before ≡ take start bytes.items }
+        ensures text { self.new.text ≡ drop start bytes.items }
+        ensures has_failed { self.new.has_failed ≡ has_failed }
+    {
+        self.bytes = bytes;
+        self.start = start;
+        self.has_failed = has_failed;
     }
 }

@@ -4,6 +4,7 @@ pub mod JsonBytesLemmas
 pub mod FoundPartLemmas
 pub mod LineFeedLemmas
 pub mod PartTextLemmas
+pub mod PlainLineLemmas
 pub mod PlanCountLemmas
 pub mod PlanWordLemmas
 pub mod PushLemmas

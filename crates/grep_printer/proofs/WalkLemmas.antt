@@ -6,7 +6,7 @@ use Rattle.std.specs.List.{fold}
 use Rattle.std.specs.Prelude.{ℕ, Bool, true, false, ◌||◌, ◌&&◌, Option, Err, Ok, Result, if◌then◌else◌}
 use Rattle.grep_output.proofs.PendingLemmas.{Puts-more, Puts-none}
 use Rattle.grep_output.specs.Outputs.{Begins, OutputCall}
-use Rattle.grep_output.specs.PendingTexts.{PutsAll}
+use Rattle.grep_output.specs.PendingTexts.{PutsAll, pending_bytes}
 use Rattle.grep_matcher.specs.Meanings.{MatcherFacts}
 use Rattle.grep_searcher.specs.Plans.{AreMade, Call, Finish, IsFinished, IsRun, Outcome, Plan, Planned, Settings}
 use Rattle.grep_searcher.specs.Plans.{all_true, finishes}
@@ -64,8 +64,8 @@ module _ {F M W E : Type 0} (rules : Rules F) (output : E → Option (List ℕ))
   -- what a sink has printed
   record HasPrinted (made : Printed F) (now : PrinterSink F M W) : Type 0 where
     same : IsSameSink start now
-    put : PutsAll write_step start.printer.now.writer start.printer.now.pending made.text now.printer.now.writer
-        now.printer.now.pending
+    put : PutsAll write_step start.printer.now.writer (pending_bytes start.printer.now.pending) made.text now.printer.now.writer
+        (pending_bytes now.printer.now.pending)
     format : now.format ≡ made.format
     has_written : now.printer.now.has_written ≡ (start.printer.now.has_written || is_text made.text)
     has_failed : now.printer.now.has_failed ≡ start.printer.now.has_failed
@@ -111,10 +111,10 @@ module _ {F M W E : Type 0} (rules : Rules F) (output : E → Option (List ℕ))
         has = record {
           same = same-more start old new has.same step.same;
           put = Puts-more write_step start.printer.now.writer old.printer.now.writer new.printer.now.writer
-              start.printer.now.pending made.text old.printer.now.pending (rules.text made.format scene printed)
-              new.printer.now.pending (Ok tt) has.put
-              (subst (λ t. PutsAll write_step old.printer.now.writer old.printer.now.pending t
-              new.printer.now.writer new.printer.now.pending) here step.put);
+              (pending_bytes start.printer.now.pending) made.text (pending_bytes old.printer.now.pending) (rules.text made.format scene printed)
+              (pending_bytes new.printer.now.pending) (Ok tt) has.put
+              (subst (λ t. PutsAll write_step old.printer.now.writer (pending_bytes old.printer.now.pending) t
+              new.printer.now.writer (pending_bytes new.printer.now.pending)) here step.put);
           format = step.format ∙ (ap (λ s. rules.next old.format s printed) seen
               ∙ ap (λ format. rules.next format scene printed) has.format);
           has_written = step.has_written ∙ (ap (λ b. b || is_text
@@ -129,7 +129,7 @@ module _ {F M W E : Type 0} (rules : Rules F) (output : E → Option (List ℕ))
   printed-none : HasPrinted (record { format = start.format; text = [] }) start
   printed-none = record {
     same = record { printer = refl; format = refl; matcher = refl; path = refl };
-    put = Puts-none write_step start.printer.now.writer start.printer.now.pending;
+    put = Puts-none write_step start.printer.now.writer (pending_bytes start.printer.now.pending);
     format = refl;
     has_written = text-none start.printer.now.has_written;
     has_failed = refl;

@@ -1,5 +1,5 @@
 -- The parts of a call's report that match, as a printer finds them again.
-use Rattle.std.specs.Prelude.{◌≡◌, ℕ, ◌+◌, ◌-◌, Bool, not, false, if◌then◌else◌, List, [], ◌++◌}
+use Rattle.std.specs.Prelude.{◌≡◌, ℕ, ◌-◌, Bool, not, false, if◌then◌else◌, List, [], ◌++◌}
 use Rattle.std.specs.Prelude.{length}
 use Rattle.std.specs.Prelude.{Option, drop, take}
 use Rattle.std.specs.Global.{Global}

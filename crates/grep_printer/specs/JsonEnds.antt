@@ -3,7 +3,7 @@ use Rattle.std.specs.Prelude.{◌≡◌, ◌⊎◌, ◌||◌, true, ℕ, List, [
 use Rattle.std.specs.Global.{Global}
 use Rattle.std.specs.declared.io.Error.{Error}
 use Rattle.grep_output.specs.Outputs.{FailsToWrite, OutputCall}
-use Rattle.grep_output.specs.PendingTexts.{PutsAll}
+use Rattle.grep_output.specs.PendingTexts.{PutsAll, pending_bytes}
 use Rattle.grep_searcher.specs.SearchErrors.{IsOutOfMemory}
 use Rattle.grep_searcher.specs.declared.SearchError.{SearchError}
 use Rattle.grep_searcher.specs.declared.SearchError.TheVariants.{Io}
@@ -15,7 +15,8 @@ module _ {W : Type 0} (write_step : W → OutputCall → W → Type 0) where
   -- a text comes after what is pending, and nothing else
   pub record PutsText (old : Printer JsonFormat W) (text : List ℕ) (new : Printer JsonFormat W)
       : Type 0 where
-    pub put : PutsAll write_step old.writer old.pending text new.writer new.pending
+    pub put : PutsAll write_step old.writer (pending_bytes old.pending) text new.writer
+        (pending_bytes new.pending)
     pub format : new.format ≡ old.format
     pub has_written : new.has_written ≡ (old.has_written || is_text text)
     pub has_failed : new.has_failed ≡ old.has_failed
@@ -25,15 +26,15 @@ module _ {W : Type 0} (write_step : W → OutputCall → W → Type 0) where
       (new : Printer JsonFormat W) : Type 0 where
     pub error : Error
     pub is_io : e ≡ Io error
-    pub failed : FailsToWrite write_step old.writer (old.pending ++ text) error new.writer
-    pub pending : new.pending ≡ []
+    pub failed : FailsToWrite write_step old.writer (pending_bytes old.pending ++ text) error new.writer
+    pub pending : pending_bytes new.pending ≡ []
     pub has_failed : new.has_failed ≡ true
 
   -- the writer had no call, and there was no memory
   pub record LacksMemoryForText (old : Printer JsonFormat W) (e : SearchError Global)
       (new : Printer JsonFormat W) : Type 0 where
     pub unwritten : new.writer ≡ old.writer
-    pub pending : new.pending ≡ old.pending
+    pub pending : pending_bytes new.pending ≡ pending_bytes old.pending
     pub has_failed : new.has_failed ≡ old.has_failed
     pub memory : IsOutOfMemory e
 

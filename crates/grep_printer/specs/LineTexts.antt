@@ -2,11 +2,11 @@
 -- search.
 use Rattle.std.specs.Prelude.{ℕ, ◌+◌, ◌-◌, ◌^◌, min, nat_eq, nat_le, Bool, if◌then◌else◌, List, []}
 use Rattle.std.specs.Prelude.{◌∷◌}
-use Rattle.std.specs.Prelude.{◌++◌, ◌==◌, ◌&&◌, ◌||◌, false, nat_lt, length, codes, decimal, Option}
-use Rattle.std.specs.Prelude.{Some, None}
+use Rattle.std.specs.Prelude.{◌++◌, ◌==◌, ◌&&◌, ◌||◌, false, not, nat_lt, length, codes, decimal}
+use Rattle.std.specs.Prelude.{Option, Some, None}
 use Rattle.std.specs.Borrow.{Bor}
 use Rattle.std.specs.List.{count_by, ends_with}
-use Rattle.std.specs.Option.{unwrap_or}
+use Rattle.std.specs.Option.{is_none, unwrap_or}
 use Rattle.grep_matcher.specs.Lines.{byte_of}
 use Rattle.grep_searcher.specs.Lines.{strip}
 use Rattle.grep_printer.specs.ColoredTexts.{colored, column_color, line_color, matched_color}
@@ -95,6 +95,14 @@ module _ (layout : Layout) where
       ++ (number_field (column_color layout.config.color_specs) mark place.column
       ++ number_field (column_color layout.config.color_specs) mark
       (if layout.config.byte_offset then Some place.offset else None)))
+
+  -- whether lines are written as they are: without fields, limit and colors
+  abbrev pub is_plain : Place → Bool
+  is_plain place =
+      (layout.config.heading || is_none layout.path) && is_none place.number
+      && is_none place.column && not layout.config.byte_offset
+      && is_none layout.config.max_columns
+      && is_none (matched_color layout.config.color_specs)
 
   -- a line that begins at a position of its report, with the bytes in some parts colored, but for
   -- the terminator

@@ -4,7 +4,7 @@ use Rattle.std.specs.Prelude.{All, List, [], ◌∷◌, ◌++◌, length, Option
 use Rattle.std.specs.List.{filter, sum_by}
 use Rattle.grep_matcher.specs.Lines.{byte_of}
 use Rattle.grep_searcher.specs.Lines.{lines}
-use Rattle.grep_searcher.specs.Plans.{Call, matches}
+use Rattle.grep_searcher.specs.Plans.{Call}
 use Rattle.grep_searcher.specs.Plans.{finishes, reported_bytes}
 use Rattle.grep_searcher.specs.SearchLaws.{is_match}
 use Rattle.grep_printer.specs.Formats.{PrintedCall, Scene, is_text, printed_by}

@@ -4,7 +4,7 @@ use Rattle.std.specs.Prelude.{Option, Result, Ok, Err}
 use Rattle.std.specs.Global.{Global}
 use Rattle.std.specs.declared.io.Error.{Error}
 use Rattle.grep_output.specs.Outputs.{Begins, FailsToWrite, OutputCall}
-use Rattle.grep_output.specs.PendingTexts.{PutsAll}
+use Rattle.grep_output.specs.PendingTexts.{PutsAll, pending_bytes}
 use Rattle.grep_matcher.specs.Meanings.{MatcherFacts}
 use Rattle.grep_searcher.specs.Plans.{AreMade, Call, IsRun, Plan, Planned, Settings, all_true}
 use Rattle.grep_searcher.specs.SearchErrors.{IsOutOfMemory}
@@ -60,8 +60,8 @@ module _ {F M W E : Type 0} (rules : Rules F) (output : E → Option (List ℕ))
     pub is_call : printed.call ≡ call
     pub has_parts : HasFound rules Shown facts first_at old settings old.format printed
     pub goes_on : goes ≡ rules.goes_on old.format (scene_of old settings) printed
-    pub put : PutsAll write_step old.printer.now.writer old.printer.now.pending
-        (text_of rules old settings printed) new.printer.now.writer new.printer.now.pending
+    pub put : PutsAll write_step old.printer.now.writer (pending_bytes old.printer.now.pending)
+        (text_of rules old settings printed) new.printer.now.writer (pending_bytes new.printer.now.pending)
     pub format : new.format ≡ rules.next old.format (scene_of old settings) printed
     pub has_written : new.printer.now.has_written
         ≡ (old.printer.now.has_written || is_text (text_of rules old settings printed))
@@ -76,8 +76,8 @@ module _ {F M W E : Type 0} (rules : Rules F) (output : E → Option (List ℕ))
     pub error : Error
     pub is_io : e ≡ Io error
     pub failed : FailsToWrite write_step old.printer.now.writer
-        (old.printer.now.pending ++ text_of rules old settings printed) error new.printer.now.writer
-    pub pending : new.printer.now.pending ≡ []
+        (pending_bytes old.printer.now.pending ++ text_of rules old settings printed) error new.printer.now.writer
+    pub pending : pending_bytes new.printer.now.pending ≡ []
     pub format : new.format ≡ rules.next old.format (scene_of old settings) printed
     pub has_failed : new.printer.now.has_failed ≡ true
 
@@ -86,7 +86,7 @@ module _ {F M W E : Type 0} (rules : Rules F) (output : E → Option (List ℕ))
   pub record FailsBefore (old : PrinterSink F M W) (settings : Settings) (call : Call)
       (e : SearchError Global) (new : PrinterSink F M W) : Type 0 where
     pub unwritten : new.printer.now.writer ≡ old.printer.now.writer
-    pub pending : new.printer.now.pending ≡ old.printer.now.pending
+    pub pending : pending_bytes new.printer.now.pending ≡ pending_bytes old.printer.now.pending
     pub format : new.format ≡ old.format
     pub has_failed : new.printer.now.has_failed ≡ old.printer.now.has_failed
     pub cause : IsOutOfMemory e
@@ -118,9 +118,9 @@ module _ {F M W E : Type 0} (rules : Rules F) (output : E → Option (List ℕ))
   pub record PrintsAll (old : PrinterSink F M W) (settings : Settings) (calls : List PrintedCall)
       (new : PrinterSink F M W) : Type 0 where
     pub same : IsSameSink old new
-    pub put : PutsAll write_step old.printer.now.writer old.printer.now.pending
+    pub put : PutsAll write_step old.printer.now.writer (pending_bytes old.printer.now.pending)
         (printed_by rules (scene_of old settings) old.format calls).text
-        new.printer.now.writer new.printer.now.pending
+        new.printer.now.writer (pending_bytes new.printer.now.pending)
     pub format : new.format
         ≡ (printed_by rules (scene_of old settings) old.format calls).format
     pub has_written : new.printer.now.has_written
@@ -155,11 +155,11 @@ module _ {F M W E : Type 0} (rules : Rules F) (output : E → Option (List ℕ))
   abbrev pub IsCutShort : PrinterSink F M W → Settings → PrintedCall → SearchError Global
       → PrinterSink F M W → Type 0
   IsCutShort mid settings tried e new =
-      ((error : Error) × (e ≡ Io error) × (new.printer.now.pending ≡ [])
+      ((error : Error) × (e ≡ Io error) × (pending_bytes new.printer.now.pending ≡ [])
       × (new.format ≡ rules.next mid.format (scene_of mid settings) tried)
       × (new.printer.now.has_failed ≡ true)
       × FailsToWrite write_step mid.printer.now.writer
-      (mid.printer.now.pending ++ text_of rules mid settings tried) error new.printer.now.writer)
+      (pending_bytes mid.printer.now.pending ++ text_of rules mid settings tried) error new.printer.now.writer)
       ⊎ FailsBefore rules output facts first_at write_step Anything mid settings tried.call e new
 
   -- a run along a plan failed at a call: the texts of the calls before it come after what was

@@ -1,12 +1,11 @@
 //! What is written about a binary byte at the end of a search.
 ghost use Rattle.std.specs.Prelude.{◌++◌, codes, decimal};
 ghost use Rattle.grep_printer.specs.ColoredTexts.{color_of, path_color};
-ghost use Rattle.grep_printer.specs.Pushes.{Adds};
+ghost use Rattle.grep_output.specs.PendingTexts.{Adds};
 ghost use Rattle.grep_printer.specs.StandardTexts.{binary_message, message_text, path_prefix};
 
 use crate::colors::{ColorSpecs, push_colored};
-use crate::fields::push_digits;
-use crate::text::Text;
+use grep_output::Pending;
 use grep_searcher::BinaryDetection;
 
 // What is said of a binary byte, before its offset and what ends both messages.
@@ -17,7 +16,7 @@ const MATCHES: &str = "binary file matches (found \"\\0\" byte around offset ";
 
 // Pushes the message about a binary byte, if one was found.
 pub(crate) fn push_binary_message(
-    text: &mut Text,
+    text: &mut Pending,
     colors: &ColorSpecs,
     detection: &BinaryDetection,
     path: Option<&str>,
@@ -33,7 +32,7 @@ pub(crate) fn push_binary_message(
 
 // Pushes the message about a binary byte at an offset.
 fn push_binary(
-    text: &mut Text,
+    text: &mut Pending,
     color: Option<&str>,
     detection: &BinaryDetection,
     path: Option<&str>,
@@ -51,7 +50,7 @@ fn push_binary(
 
 // Pushes a message about a binary byte at an offset, after the path if there is one.
 fn push_message(
-    text: &mut Text,
+    text: &mut Pending,
     color: Option<&str>,
     path: Option<&str>,
     message: &str,
@@ -62,12 +61,12 @@ fn push_message(
 {
     push_prefix(text, color, path);
     text.push(message.as_bytes());
-    push_digits(text, offset, b')');
+    text.push_number(offset, b')');
     text.push(b"\n")
 }
 
 // Pushes a path before a message, in a color if there is one, if there is a path.
-fn push_prefix(text: &mut Text, color: Option<&str>, path: Option<&str>)
+fn push_prefix(text: &mut Pending, color: Option<&str>, path: Option<&str>)
     ensures { Adds text.old text.new (path_prefix (color_of color.entry) path.entry) }
 {
     match path {

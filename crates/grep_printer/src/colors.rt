@@ -5,9 +5,9 @@ ghost use Rattle.grep_printer.specs.ColoredTexts.{color_of, colored, column_colo
 ghost use Rattle.grep_printer.specs.ColoredTexts.{line_color, matched_color, painted_from};
 ghost use Rattle.grep_printer.specs.ColoredTexts.{path_color, switch_text};
 ghost use Rattle.grep_printer.specs.MatchedParts.{AreInOrder};
-ghost use Rattle.grep_printer.specs.Pushes.{Adds};
+ghost use Rattle.grep_output.specs.PendingTexts.{Adds};
 
-use crate::text::Text;
+use grep_output::Pending;
 use grep_searcher::Match;
 
 // The escape after which a terminal shows a text without colors.
@@ -67,7 +67,7 @@ impl ColorSpecs {
 }
 
 // Pushes a text, in a color if there is one.
-pub(crate) fn push_colored(text: &mut Text, color: Option<&str>, bytes: &[u8])
+pub(crate) fn push_colored(text: &mut Pending, color: Option<&str>, bytes: &[u8])
     ensures { Adds text.old text.new (colored (color_of color.entry) bytes.now) }
 {
     match color {
@@ -83,7 +83,7 @@ pub(crate) fn push_colored(text: &mut Text, color: Option<&str>, bytes: &[u8])
 // Pushes a line, the first byte of which is at a position of its report, with the bytes in some
 // parts colored that come before an end.
 pub(crate) fn push_painted(
-    text: &mut Text,
+    text: &mut Pending,
     color: &str,
     parts: &[Match],
     range: &Match,
@@ -117,7 +117,7 @@ pub(crate) fn push_painted(
 }
 
 // Pushes the bytes after the last part of a line, by whether the byte before them is colored.
-fn push_rest(text: &mut Text, color: &str, before: bool, bytes: &[u8])
+fn push_rest(text: &mut Pending, color: &str, before: bool, bytes: &[u8])
     ensures { Adds text.old text.new (switch_text color.now before false ++ bytes.now) }
 {
     push_switch(text, color, before, false);
@@ -126,7 +126,7 @@ fn push_rest(text: &mut Text, color: &str, before: bool, bytes: &[u8])
 
 // Pushes bytes that are all colored, or none of which is, and returns whether the last byte that
 // was pushed is.
-fn push_run(text: &mut Text, color: &str, before: bool, is_colored: bool, bytes: &[u8]) -> bool
+fn push_run(text: &mut Pending, color: &str, before: bool, is_colored: bool, bytes: &[u8]) -> bool
     ensures after { result ≡ after_run before is_colored bytes.now }
     ensures text { Adds text.old text.new (run_text color.now before is_colored bytes.now) }
 {
@@ -139,7 +139,7 @@ fn push_run(text: &mut Text, color: &str, before: bool, is_colored: bool, bytes:
 }
 
 // Pushes what comes between two bytes, by whether the one before is colored, and the one after.
-fn push_switch(text: &mut Text, color: &str, before: bool, after: bool)
+fn push_switch(text: &mut Pending, color: &str, before: bool, after: bool)
     ensures { Adds text.old text.new (switch_text color.now before after) }
 {
     match (before, after) {

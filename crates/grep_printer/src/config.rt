@@ -1,5 +1,6 @@
 //! How a standard printer writes reports.
 ghost use Rattle.std.specs.Prelude.{◌≡◌, [], false, None};
+ghost use Rattle.grep_output.specs.PendingTexts.{pending_bytes};
 ghost use Rattle.grep_printer.specs.StandardTexts.{asks_for_parts, default_config};
 
 use crate::colors::ColorSpecs;
@@ -81,7 +82,7 @@ impl StandardBuilder {
     /// takes memory from `alloc` when it writes.
     pub fn build<W>(&self, alloc: Global, writer: W) -> Standard<W>
         ensures writer { result.writer ≡ writer }
-        ensures pending { result.pending ≡ [] }
+        ensures pending { pending_bytes result.pending ≡ [] }
         ensures config { result.format.config ≡ self.now }
         ensures has_written { result.has_written ≡ false }
         ensures has_failed { result.has_failed ≡ false }

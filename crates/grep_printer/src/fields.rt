@@ -5,19 +5,19 @@ ghost use Rattle.grep_matcher.specs.Lines.{byte_of};
 ghost use Rattle.grep_searcher.specs.Lines.{lines};
 ghost use Rattle.grep_printer.specs.ColoredTexts.{color_of, colored};
 ghost use Rattle.grep_printer.specs.LineTexts.{counted_notice, counted_parts, fields};
-ghost use Rattle.grep_printer.specs.LineTexts.{is_long, is_touching, line_text};
+ghost use Rattle.grep_printer.specs.LineTexts.{is_long, is_plain, is_touching, line_text};
 ghost use Rattle.grep_printer.specs.LineTexts.{lines_text, mark_of, missing_end, notice};
 ghost use Rattle.grep_printer.specs.LineTexts.{next_number, number_field, opening_text};
 ghost use Rattle.grep_printer.specs.LineTexts.{painted_line, path_field, place_after};
 ghost use Rattle.grep_printer.specs.LineTexts.{separator_text};
 ghost use Rattle.grep_printer.specs.MatchedParts.{AreInOrder};
-ghost use Rattle.grep_printer.specs.Pushes.{Adds};
+ghost use Rattle.grep_output.specs.PendingTexts.{Adds};
 
 use crate::colors::{push_colored, push_painted};
 use crate::config::{Config, SearchSeparator};
 use crate::parts::parts_after;
-use crate::text::Text;
 use grep_lines::without_terminator;
+use grep_output::Pending;
 use grep_searcher::{LineIter, LineTerminator, Match};
 use itoa::write_digits;
 
@@ -62,7 +62,7 @@ pub(crate) struct Layout<'p> {
 
 impl<'p> Layout<'p> {
     // Pushes what is written before the first report of a search.
-    pub(crate) fn push_opening(&self, text: &mut Text, has_written: bool)
+    pub(crate) fn push_opening(&self, text: &mut Pending, has_written: bool)
         ensures { Adds text.old text.new (opening_text self.now has_written) }
     {
         if has_written {
@@ -78,10 +78,47 @@ impl<'p> Layout<'p> {
         push_path(text, self.config.color_specs.path(), self.path, mark)
     }
 
-    // Pushes the lines of a match, the first of which is at a place, with its parts in color.
+    // Pushes the lines of a match, the first of which is at a place, with its parts in color. Lines
+    // that are written as they are aren't looked for.
     pub(crate) fn push_lines(
         &self,
-        text: &mut Text,
+        text: &mut Pending,
+        kind: LineKind,
+        place: Place,
+        parts: &[Match],
+        bytes: &[u8],
+    )
+        requires fits { place.offset + length bytes.now < 2 ^ 64 }
+        requires starts { place.start ≤ place.offset }
+        requires ordered { AreInOrder 0 (2 ^ 64) parts.now }
+        ensures { Adds text.old text.new (lines_text self.now kind place parts.now
+            (lines (byte_of self.now.terminator) bytes.now)) }
+    {
+        if bytes.is_empty() || !self.is_plain(&place) {
+            self.push_each_line(text, kind, place, parts, bytes);
+            return;
+        }
+        text.push(bytes);
+        push_missing_end(text, self.terminator.as_byte(), bytes)
+    }
+
+    // Whether lines are written as they are: without fields, limit and colors.
+    fn is_plain(&self, place: &Place) -> bool
+        ensures { result ≡ is_plain self.now place.now }
+    {
+        let config = &self.config;
+        (config.heading || self.path.is_none())
+            && place.number.is_none()
+            && place.column.is_none()
+            && !config.byte_offset
+            && config.max_columns.is_none()
+            && config.color_specs.matched().is_none()
+    }
+
+    // Pushes lines one after another, each after its fields.
+    fn push_each_line(
+        &self,
+        text: &mut Pending,
         kind: LineKind,
         place: Place,
         parts: &[Match],
@@ -105,7 +142,7 @@ impl<'p> Layout<'p> {
     // Pushes a line after its fields, or a notice if it is too long.
     pub(crate) fn push_line(
         &self,
-        text: &mut Text,
+        text: &mut Pending,
         kind: LineKind,
         place: &Place,
         parts: &[Match],
@@ -142,7 +179,7 @@ impl<'p> Layout<'p> {
     }
 
     // Pushes the bytes of a line, the first of which is at a position of the report.
-    fn push_bytes(&self, text: &mut Text, start: usize, parts: &[Match], line: &[u8])
+    fn push_bytes(&self, text: &mut Pending, start: usize, parts: &[Match], line: &[u8])
         requires fits { start + length line.now < 2 ^ 64 }
         requires ordered { AreInOrder 0 (2 ^ 64) parts.now }
         ensures { Adds text.old text.new (painted_line self.now parts.now start line.now) }
@@ -157,7 +194,7 @@ impl<'p> Layout<'p> {
     }
 
     // Pushes the fields before a line.
-    fn push_fields(&self, text: &mut Text, mark: u8, place: &Place)
+    fn push_fields(&self, text: &mut Pending, mark: u8, place: &Place)
         ensures { Adds text.old text.new (fields self.now mark place.now) }
     {
         let colors = &self.config.color_specs;
@@ -174,7 +211,7 @@ impl<'p> Layout<'p> {
 }
 
 // Pushes a number, in a color if there is one, and a mark, if there is a number.
-fn push_number(text: &mut Text, color: Option<&str>, number: Option<u64>, mark: u8)
+fn push_number(text: &mut Pending, color: Option<&str>, number: Option<u64>, mark: u8)
     ensures { Adds text.old text.new (number_field (color_of color.entry) mark number) }
 {
     let Some(number) = number else {
@@ -182,12 +219,12 @@ fn push_number(text: &mut Text, color: Option<&str>, number: Option<u64>, mark: 
     };
     match color {
         Some(color) => push_colored_digits(text, color, number, mark),
-        None => push_digits(text, number, mark),
+        None => text.push_number(number, mark),
     }
 }
 
 // Pushes a number in a color, and a mark.
-fn push_colored_digits(text: &mut Text, color: &str, number: u64, mark: u8)
+fn push_colored_digits(text: &mut Pending, color: &str, number: u64, mark: u8)
     ensures { Adds text.old text.new (colored (Some color.now) (decimal number) ++ mark ∷ []) }
 {
     // A number of 64 bits has 20 digits at most.
@@ -197,18 +234,8 @@ fn push_colored_digits(text: &mut Text, color: &str, number: u64, mark: u8)
     text.push(&[mark])
 }
 
-// Pushes a number and a mark.
-pub(crate) fn push_digits(text: &mut Text, number: u64, mark: u8)
-    ensures { Adds text.old text.new (decimal number ++ mark ∷ []) }
-{
-    // A number of 64 bits has 20 digits at most.
-    let mut digits = [mark; 21];
-    let start = write_digits(number, &mut digits, 20);
-    text.push(&digits[start..])
-}
-
 // Pushes a path, in a color if there is one, and a byte, if there is a path.
-pub(crate) fn push_path(text: &mut Text, color: Option<&str>, path: Option<&str>, mark: u8)
+pub(crate) fn push_path(text: &mut Pending, color: Option<&str>, path: Option<&str>, mark: u8)
     ensures { Adds text.old text.new (path_field (color_of color.entry) mark path.entry) }
 {
     match path {
@@ -221,7 +248,7 @@ pub(crate) fn push_path(text: &mut Text, color: Option<&str>, path: Option<&str>
 }
 
 // Pushes the terminator of a line, if it isn't at its end.
-fn push_missing_end(text: &mut Text, terminator: u8, line: &[u8])
+fn push_missing_end(text: &mut Pending, terminator: u8, line: &[u8])
     ensures { Adds text.old text.new (missing_end terminator line.now) }
 {
     if line.ends_with(&[terminator]) {
@@ -241,7 +268,7 @@ fn is_long(most: Option<u64>, line: &[u8]) -> bool
 }
 
 // Pushes what is written in place of a line that is too long, by how many parts are in it.
-fn push_notice(text: &mut Text, kind: LineKind, count: usize)
+fn push_notice(text: &mut Pending, kind: LineKind, count: usize)
     ensures { Adds text.old text.new (notice kind count) }
 {
     match (kind, count) {
@@ -259,16 +286,16 @@ fn is_touching(part: &Match, start: usize, end: usize) -> bool
 }
 
 // Pushes how many parts are in a line that is too long.
-fn push_count(text: &mut Text, count: usize)
+fn push_count(text: &mut Pending, count: usize)
     ensures { Adds text.old text.new (counted_notice count) }
 {
     text.push(b"[Omitted long line with ");
-    push_digits(text, count as u64, b' ');
+    text.push_number(count as u64, b' ');
     text.push(b"matches]")
 }
 
 // Pushes what is written between two searches.
-fn push_separator(text: &mut Text, separator: SearchSeparator, terminator: u8)
+fn push_separator(text: &mut Pending, separator: SearchSeparator, terminator: u8)
     ensures { Adds text.old text.new (separator_text separator terminator) }
 {
     match separator {

@@ -3,11 +3,11 @@ ghost use Rattle.std.specs.Prelude.{◌≡◌, [], ℕ, Option, true, false, len
 ghost use Rattle.grep_searcher.specs.Plans.{finishes, reported_bytes};
 ghost use Rattle.grep_printer.specs.Formats.{PrintedCall, Rules, Scene};
 ghost use Rattle.grep_printer.specs.MatchedParts.{AreInOrder};
-ghost use Rattle.grep_printer.specs.Pushes.{Adds};
+ghost use Rattle.grep_output.specs.PendingTexts.{Adds};
 ghost use Rattle.grep_printer.specs.Reports.{FitsEvent, event_call, event_has_match};
 
 use crate::report::Report;
-use crate::text::Text;
+use grep_output::Pending;
 use grep_searcher::{Match, Searcher};
 use std::alloc::Allocator;
 
@@ -60,13 +60,13 @@ pub trait Format: Copy {
     /// If memory is out, the text has failed.
     fn push<A: Allocator + Copy>(
         &mut self,
-        text: &mut Text,
+        text: &mut Pending,
         searcher: &Searcher<A>,
         path: Option<&str>,
         event: &Event<'_>,
         parts: &[Match],
     ) -> bool
-        requires empty { text.old.bytes.items ≡ [] }
+        requires empty { text.old.text ≡ [] }
         requires fits { FitsEvent event.now }
         requires ordered { AreInOrder 0 (length (reported_bytes (event_call event.now))) parts.now }
         ensures text { Adds text.old text.new (rules.text self.old

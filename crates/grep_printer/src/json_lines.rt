@@ -3,15 +3,15 @@ ghost use Rattle.std.specs.Prelude.{◌≤◌, All, length};
 ghost use Rattle.json.specs.Tree.{json_tokens};
 ghost use Rattle.grep_printer.specs.JsonMessages.{begin_json, end_json, json_line, summary_json};
 ghost use Rattle.grep_printer.specs.JsonPieces.{AreWithin, head_tokens, message_of, report_of};
-ghost use Rattle.grep_printer.specs.Pushes.{Adds, AddsTokens};
+ghost use Rattle.grep_output.specs.PendingTexts.{Adds};
+ghost use Rattle.grep_printer.specs.Pushes.{AddsTokens};
 
 use crate::json_text::{JsonText, Piece};
 use crate::report::Report;
 use crate::stats::Stats;
-use crate::text::Text;
+use grep_output::Pending;
 use grep_searcher::Match;
 use json::Writer;
-use std::mem;
 
 // A message.
 #[derive(Clone, Copy)]
@@ -27,20 +27,18 @@ pub(crate) enum Message<'m> {
 }
 
 // Adds a message in a line of its own.
-pub(crate) fn add_message(text: &mut Text, message: Message<'_>)
+pub(crate) fn add_message(text: &mut Pending, message: Message<'_>)
     requires { AreWithin message }
     ensures { Adds text.old text.new (json_line (message_of message.entry)) }
 {
-    let alloc = *text.bytes.allocator();
-    let bytes = mem::replace(&mut text.bytes, Vec::new(alloc));
+    let start = text.len() - text.text_len();
     let mut json = JsonText {
-        out: Writer::new(bytes),
-        alloc,
-        has_failed: text.has_failed,
+        alloc: text.allocator(),
+        has_failed: text.has_failed(),
+        out: Writer::new(text.take_out()),
     };
     json.push_message(message);
-    text.has_failed = json.has_failed;
-    text.bytes = json.out.into_inner();
+    text.put_back(json.out.into_inner(), start, json.has_failed);
     text.push(b"\n")
 }
 

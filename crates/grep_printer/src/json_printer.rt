@@ -9,7 +9,7 @@ ghost use Rattle.grep_printer.specs.JsonTexts.{opening_line, report_line, stats_
 ghost use Rattle.grep_printer.specs.JsonTexts.{with_size, with_text};
 ghost use Rattle.grep_printer.specs.MatchedParts.{AreInOrder};
 ghost use Rattle.grep_printer.specs.PrinterSteps.{IsSameSink};
-ghost use Rattle.grep_printer.specs.Pushes.{Adds};
+ghost use Rattle.grep_output.specs.PendingTexts.{Adds, pending_bytes};
 ghost use Rattle.grep_printer.specs.Reports.{type_of};
 ghost use Rattle.grep_printer.specs.StatsSums.{nanos_of};
 
@@ -18,11 +18,10 @@ use crate::json_lines::{Message, add_message};
 use crate::printer::{Printer, PrinterSink};
 use crate::report::{Report, ReportKind};
 use crate::stats::{Stats, nanoseconds};
-use crate::text::Text;
 use grep_lines::line_count;
-use grep_output::Output;
+use grep_output::{Output, Pending};
 use grep_searcher::{Match, SearchError, Searcher};
-use std::alloc::{Allocator, Global};
+use std::alloc::{AllocError, Allocator, Global};
 use std::time::Duration;
 
 /// A printer of JSON: it writes each report as a message in a line of its own. `sink` gives the
@@ -62,7 +61,7 @@ impl JsonBuilder {
     /// it writes.
     pub fn build<W>(&self, alloc: Global, writer: W) -> Json<W>
         ensures writer { result.writer ≡ writer }
-        ensures pending { result.pending ≡ [] }
+        ensures pending { pending_bytes result.pending ≡ [] }
         ensures always_begin_end { result.format.always_begin_end ≡ self.now.always_begin_end }
         ensures has_written { result.has_written ≡ false }
         ensures has_failed { result.has_failed ≡ false }
@@ -159,7 +158,7 @@ impl JsonProgress {
 
 impl JsonFormat {
     // Pushes the message `begin`, unless it was written.
-    fn push_begin(&self, text: &mut Text, path: Option<&str>)
+    fn push_begin(&self, text: &mut Pending, path: Option<&str>)
         ensures { Adds text.old text.new (opening_line path.entry self.now.progress.is_begun) }
     {
         if !self.progress.is_begun {
@@ -170,13 +169,13 @@ impl JsonFormat {
     // Pushes a report with the matches in it, after the message `begin` if that isn't written yet.
     fn push_report(
         &mut self,
-        text: &mut Text,
+        text: &mut Pending,
         terminator: u8,
         path: Option<&str>,
         report: &Report<'_>,
         ranges: &[Match],
     )
-        requires empty { text.old.bytes.items ≡ [] }
+        requires empty { text.old.text ≡ [] }
         requires ordered { AreInOrder 0 (length report.now.bytes.now) ranges.now }
         ensures always_begin_end { self.new.always_begin_end ≡ self.old.always_begin_end }
         ensures text { Adds text.old text.new (report_line path.entry self.old.progress
@@ -190,7 +189,7 @@ impl JsonFormat {
     {
         self.push_begin(text, path);
         add_message(text, Message::Report(path, *report, ranges));
-        self.progress.add_size(text.bytes.len());
+        self.progress.add_size(text.text_len());
         if let ReportKind::Match = report.kind {
             let lines = line_count(report.bytes, terminator);
             self.progress.add_match(lines, ranges.len());
@@ -223,7 +222,7 @@ impl Format for JsonFormat {
 
     fn push<A: Allocator + Copy>(
         &mut self,
-        text: &mut Text,
+        text: &mut Pending,
         searcher: &Searcher<A>,
         path: Option<&str>,
         event: &Event<'_>,
@@ -233,7 +232,7 @@ impl Format for JsonFormat {
             Event::Begin => {
                 if self.always_begin_end && !self.progress.is_begun {
                     add_message(text, Message::Begin(path));
-                    self.progress.add_size(text.bytes.len());
+                    self.progress.add_size(text.text_len());
                 }
             }
             Event::Report(report) => {
@@ -271,13 +270,13 @@ impl<W: Output> Printer<JsonFormat, W> {
             (λ e. FailsToPutText W.step self.old (json_line (message_of message.entry)) e
             self.new) }
     {
-        self.text.clear();
-        add_message(&mut self.text, message);
-        match self.text.check() {
-            Ok(()) => {}
-            Err(error) => return Err(error),
+        self.pending.begin();
+        add_message(&mut self.pending, message);
+        if self.pending.has_failed() {
+            self.pending.cancel();
+            return Err(SearchError::from(AllocError));
         }
-        match self.put_text() {
+        match self.end_text() {
             Ok(()) => Ok(()),
             Err(error) => Err(SearchError::Io(error)),
         }

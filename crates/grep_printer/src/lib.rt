@@ -24,7 +24,6 @@ mod standard;
 mod stats;
 mod summary;
 mod summary_builder;
-mod text;
 mod vimgrep;
 
 pub use colors::ColorSpecs;

@@ -1,8 +1,8 @@
 //! A printer of any format, and the sink of one search after another.
 ghost use Rattle.std.specs.Prelude.{◌≡◌, ◌⊎◌, ◌+◌, ◌<◌, ◌^◌, ◌&&◌, ◌||◌, [], true, false, IfErr};
 ghost use Rattle.std.specs.Prelude.{OnErr, OnOk};
-ghost use Rattle.std.specs.Prelude.{◌++◌, MatchBool, if◌then◌else◌, is_ok, length};
-ghost use Rattle.grep_output.specs.PendingTexts.{Flushes, Puts};
+ghost use Rattle.std.specs.Prelude.{MatchBool, if◌then◌else◌, is_ok, length};
+ghost use Rattle.grep_output.specs.PendingTexts.{Flushes, Puts, PutsAll, pending_bytes};
 ghost use Rattle.grep_report.specs.SinkReports.{match_bytes};
 ghost use Rattle.grep_searcher.specs.Plans.{reported_bytes};
 ghost use Rattle.grep_searcher.specs.SearchErrors.{IsOutOfMemory};
@@ -17,7 +17,6 @@ ghost use Rattle.grep_printer.specs.Reports.{FitsEvent, IsAround, IsShownEvent, 
 use crate::format::{Event, Format};
 use crate::parts::find_report_parts;
 use crate::report::{Report, finish_of};
-use crate::text::Text;
 use grep_output::{Output, Pending};
 use grep_searcher::{
     FindAt, Match, SearchError, Searcher, Sink, SinkContext, SinkFinish, SinkMatch,
@@ -36,10 +35,10 @@ const ROOM: usize = 64 * 1024;
 #[derive(Drop)]
 pub struct Printer<F, W> {
     pub(crate) writer: W,
-    // What isn't written yet.
+    // The texts of calls that aren't written yet, and how many bytes of them are kept.
     pub(crate) pending: Pending,
-    // The text of the call at hand, and the parts of its report that match.
-    pub(crate) text: Text,
+    pub(crate) room: usize,
+    // The parts that match of the report at hand.
     pub(crate) parts: Vec<Match>,
     // The format as each search has it to begin with.
     pub(crate) format: F,
@@ -51,15 +50,15 @@ impl<F, W> Printer<F, W> {
     // A printer that has written nothing yet.
     pub(crate) fn new(alloc: Global, format: F, writer: W) -> Printer<F, W>
         ensures writer { result.writer ≡ writer }
-        ensures pending { result.pending ≡ [] }
+        ensures pending { pending_bytes result.pending ≡ [] }
         ensures format { result.format ≡ format }
         ensures has_written { result.has_written ≡ false }
         ensures has_failed { result.has_failed ≡ false }
     {
         Printer {
             writer,
-            pending: Pending::new(alloc, ROOM),
-            text: Text::new(alloc),
+            pending: Pending::new(alloc),
+            room: ROOM,
             parts: Vec::new(alloc),
             format,
             has_written: false,
@@ -70,9 +69,9 @@ impl<F, W> Printer<F, W> {
     /// Sets how many bytes of text are kept before they are written: 64 KiB if it isn't called.
     /// With 0 the text of each call is written at once.
     pub fn set_buffer_size(&mut self, size: usize)
-        ensures { self.new ≡ self.old }
+        ensures { self.new ≡ record self.old { room = size } }
     {
-        self.pending.set_room(size);
+        self.room = size;
     }
 
     /// Whether there was any text. That of a call at which the writer failed doesn't count:
@@ -95,12 +94,12 @@ impl<F: Format, W> Printer<F, W> {
     /// The writer back, and what isn't written yet: nothing right after a `flush`.
     pub fn into_parts(self) -> (W, Vec<u8>)
         ensures writer { result.0 ≡ self.writer }
-        ensures pending { result.1.items ≡ self.pending }
+        ensures pending { result.1.items ≡ pending_bytes self.pending }
     {
         let Printer {
             writer,
             pending,
-            text: _,
+            room: _,
             parts: _,
             format: _,
             has_written: _,
@@ -136,8 +135,9 @@ impl<F, W: Output> Printer<F, W> {
     /// Writes what isn't written yet, and flushes the writer. An error is the writer's own, or of
     /// kind `WriteZero` as for `write_all` of grep_output: then nothing is kept any more.
     pub fn flush(&mut self) -> io::Result<()>
-        ensures flushed { Flushes W.step self.old.writer self.old.pending result self.new.writer }
-        ensures emptied { self.new.pending ≡ [] }
+        ensures flushed { Flushes W.step self.old.writer (pending_bytes self.old.pending) result
+            self.new.writer }
+        ensures emptied { pending_bytes self.new.pending ≡ [] }
         ensures format { self.new.format ≡ self.old.format }
         ensures has_written { self.new.has_written ≡ self.old.has_written }
         ensures has_failed { self.new.has_failed
@@ -152,8 +152,9 @@ impl<F, W: Output> Printer<F, W> {
 
     // Writes what isn't written yet, and flushes the writer.
     fn write_and_flush(&mut self) -> io::Result<()>
-        ensures flushed { Flushes W.step self.old.writer self.old.pending result self.new.writer }
-        ensures emptied { self.new.pending ≡ [] }
+        ensures flushed { Flushes W.step self.old.writer (pending_bytes self.old.pending) result
+            self.new.writer }
+        ensures emptied { pending_bytes self.new.pending ≡ [] }
         ensures format { self.new.format ≡ self.old.format }
         ensures has_written { self.new.has_written ≡ self.old.has_written }
         ensures has_failed { self.new.has_failed ≡ self.old.has_failed }
@@ -162,43 +163,43 @@ impl<F, W: Output> Printer<F, W> {
         self.writer.flush()
     }
 
-    // Keeps the text at hand after what isn't written yet, if there is room and memory for it, and
-    // returns whether it did.
+    // Ends the text at hand, and returns whether it is kept: if there are more bytes than are kept,
+    // they are to be written.
     #[inline(always)]
     fn keeps_text(&mut self) -> bool
-        ensures kept { MatchBool result
-            (self.new.pending ≡ self.old.pending ++ self.old.text.bytes.items)
-            (self.new.pending ≡ self.old.pending) }
-        ensures writer { self.new.writer ≡ self.old.writer }
-        ensures text { self.new.text ≡ self.old.text }
+        ensures put { result ≡ true → PutsAll W.step self.old.writer self.old.pending.before
+            self.old.pending.text self.new.writer (pending_bytes self.new.pending) }
         ensures format { self.new.format ≡ self.old.format }
-        ensures has_written { self.new.has_written
-            ≡ (self.old.has_written || (result && is_text self.old.text.bytes.items)) }
+        ensures has_written { result ≡ true → self.new.has_written
+            ≡ (self.old.has_written || is_text self.old.pending.text) }
         ensures has_failed { self.new.has_failed ≡ self.old.has_failed }
+        ensures full { result ≡ false → self.new ≡ self.old }
     {
-        if self.text.bytes.is_empty() {
-            return true;
+        if self.pending.len() > self.room {
+            return false;
         }
-        let is_kept = self.pending.keeps(&self.text.bytes);
-        self.has_written = self.has_written || is_kept;
-        is_kept
+        self.has_written = self.has_written || self.pending.text_len() > 0;
+        true
     }
 
-    // Puts the text at hand after what isn't written yet.
-    pub(crate) fn put_text(&mut self) -> io::Result<()>
-        ensures put { Puts W.step self.old.writer self.old.pending self.old.text.bytes.items result
-            self.new.writer self.new.pending }
-        ensures emptied { OnErr result (self.new.pending ≡ []) }
-        ensures text { self.new.text ≡ self.old.text }
+    // Ends the text at hand: it is kept, or it and those before it are written.
+    pub(crate) fn end_text(&mut self) -> io::Result<()>
+        ensures put { Puts W.step self.old.writer self.old.pending.before self.old.pending.text
+            result self.new.writer (pending_bytes self.new.pending) }
+        ensures emptied { OnErr result (pending_bytes self.new.pending ≡ []) }
         ensures format { self.new.format ≡ self.old.format }
         ensures has_written { self.new.has_written
-            ≡ (self.old.has_written || (is_ok result && is_text self.old.text.bytes.items)) }
+            ≡ (self.old.has_written || (is_ok result && is_text self.old.pending.text)) }
         ensures has_failed { self.new.has_failed
             ≡ (if is_ok result then self.old.has_failed else true) }
     {
-        match self.pending.put(&mut self.writer, &self.text.bytes) {
+        if self.keeps_text() {
+            return Ok(());
+        }
+        let has_text = self.pending.text_len() > 0;
+        match self.pending.write_to(&mut self.writer) {
             Ok(()) => {
-                self.has_written = self.has_written || !self.text.bytes.is_empty();
+                self.has_written = self.has_written || has_text;
                 Ok(())
             }
             Err(error) => {
@@ -308,17 +309,18 @@ impl<'s, F: Format, M: FindAt, W: Output> PrinterSink<'s, F, M, W> {
         }
         let before = self.format;
         let printer = &mut *self.printer;
-        printer.text.clear();
-        let (text, parts) = (&mut printer.text, &printer.parts);
+        printer.pending.begin();
+        let (text, parts) = (&mut printer.pending, &printer.parts);
         let goes_on = self.format.push(text, searcher, self.path, event, parts);
-        if printer.text.has_failed {
+        if printer.pending.has_failed() {
+            printer.pending.cancel();
             self.format = before;
             return Err(SearchError::from(AllocError));
         }
         if printer.keeps_text() {
             return Ok(goes_on);
         }
-        match self.printer.put_text() {
+        match self.printer.end_text() {
             Ok(()) => Ok(goes_on),
             Err(error) => Err(SearchError::Io(error)),
         }

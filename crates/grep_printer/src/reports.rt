@@ -4,7 +4,7 @@ ghost use Rattle.std.specs.List.{flat_map};
 ghost use Rattle.grep_matcher.specs.Lines.{byte_of};
 ghost use Rattle.grep_searcher.specs.Lines.{lines};
 ghost use Rattle.grep_printer.specs.MatchedParts.{AreInOrder};
-ghost use Rattle.grep_printer.specs.Pushes.{Adds};
+ghost use Rattle.grep_output.specs.PendingTexts.{Adds};
 ghost use Rattle.grep_printer.specs.PartTexts.{across_text, clipped_text, is_in_span};
 ghost use Rattle.grep_printer.specs.PartTexts.{line_span, part_place, part_text, parts_text};
 ghost use Rattle.grep_printer.specs.Reports.{call_of, line_kind, report_place, whole_text};
@@ -14,8 +14,8 @@ use crate::fields::{Layout, LineKind, Place, next_number};
 use crate::parts::parts_after;
 use crate::report::{Report, ReportKind};
 use crate::standard::Progress;
-use crate::text::Text;
 use grep_lines::without_terminator;
+use grep_output::Pending;
 use grep_searcher::{LineIter, LineTerminator, Match};
 
 // Where a line is in its report: its start, its end without the terminator, and where the next one
@@ -53,7 +53,7 @@ fn line_span(terminator: LineTerminator, start: usize, line: &[u8]) -> Span
 
 impl<'p> Layout<'p> {
     // Pushes what comes before a report: the opening, if nothing was reported yet.
-    pub(crate) fn push_before(&self, text: &mut Text, progress: &Progress)
+    pub(crate) fn push_before(&self, text: &mut Pending, progress: &Progress)
         ensures { Adds text.old text.new (text_before self.now progress.now) }
     {
         if !progress.is_open {
@@ -62,7 +62,7 @@ impl<'p> Layout<'p> {
     }
 
     // Pushes a report: its parts, or all of it.
-    pub(crate) fn push_report(&self, text: &mut Text, report: &Report<'_>, parts: &[Match])
+    pub(crate) fn push_report(&self, text: &mut Pending, report: &Report<'_>, parts: &[Match])
         requires fits { report.now.offset + length report.now.bytes.now < 2 ^ 64 }
         requires ordered { AreInOrder 0 (length report.now.bytes.now) parts.now }
         ensures { Adds text.old text.new (report_text self.now (call_of report.now) parts.now) }
@@ -78,7 +78,7 @@ impl<'p> Layout<'p> {
     }
 
     // Pushes a report without its parts: the lines of a match, or the line that isn't one.
-    fn push_whole(&self, text: &mut Text, report: &Report<'_>, parts: &[Match])
+    fn push_whole(&self, text: &mut Pending, report: &Report<'_>, parts: &[Match])
         requires fits { report.now.offset + length report.now.bytes.now < 2 ^ 64 }
         requires ordered { AreInOrder 0 (length report.now.bytes.now) parts.now }
         ensures { Adds text.old text.new
@@ -110,7 +110,7 @@ impl<'p> Layout<'p> {
     }
 
     // Pushes each part of a report in a line of its own.
-    fn push_parts(&self, text: &mut Text, report: &Report<'_>, parts: &[Match])
+    fn push_parts(&self, text: &mut Pending, report: &Report<'_>, parts: &[Match])
         requires fits { report.now.offset + length report.now.bytes.now < 2 ^ 64 }
         requires ordered { AreInOrder 0 (length report.now.bytes.now) parts.now }
         ensures { Adds text.old text.new (parts_text self.now (line_kind report.now.kind)
@@ -124,7 +124,7 @@ impl<'p> Layout<'p> {
     }
 
     // Pushes what the parts have in each line of a report.
-    fn push_across(&self, text: &mut Text, report: &Report<'_>, parts: &[Match])
+    fn push_across(&self, text: &mut Pending, report: &Report<'_>, parts: &[Match])
         requires fits { report.now.offset + length report.now.bytes.now < 2 ^ 64 }
         requires ordered { AreInOrder 0 (length report.now.bytes.now) parts.now }
         ensures { Adds text.old text.new (across_text self.now (line_kind report.now.kind)
@@ -146,7 +146,7 @@ impl<'p> Layout<'p> {
     // Pushes what the parts have in a line.
     fn push_clipped(
         &self,
-        text: &mut Text,
+        text: &mut Pending,
         report: &Report<'_>,
         number: Option<u64>,
         span: &Span,
@@ -173,7 +173,7 @@ impl<'p> Layout<'p> {
     // Pushes what a part has in a line, if it is in it.
     fn push_part_in(
         &self,
-        text: &mut Text,
+        text: &mut Pending,
         report: &Report<'_>,
         number: Option<u64>,
         span: &Span,
@@ -199,7 +199,7 @@ impl<'p> Layout<'p> {
     }
 
     // Pushes a part in a line of its own.
-    fn push_part(&self, text: &mut Text, report: &Report<'_>, number: Option<u64>, part: &Match)
+    fn push_part(&self, text: &mut Pending, report: &Report<'_>, number: Option<u64>, part: &Match)
         requires fits { report.now.offset + length report.now.bytes.now < 2 ^ 64 }
         requires within { part.now.1 ≤ length report.now.bytes.now }
         ensures { Adds text.old text.new (part_text self.now (line_kind report.now.kind)

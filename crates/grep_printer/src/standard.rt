@@ -2,7 +2,7 @@
 ghost use Rattle.std.specs.Prelude.{◌≡◌, ◌+◌, ◌<◌, ◌^◌, ◌&&◌, None, is_some, length};
 ghost use Rattle.std.specs.Prelude.{if◌then◌else◌, not};
 ghost use Rattle.grep_printer.specs.MatchedParts.{AreInOrder};
-ghost use Rattle.grep_printer.specs.Pushes.{Adds};
+ghost use Rattle.grep_output.specs.PendingTexts.{Adds};
 ghost use Rattle.grep_printer.specs.Reports.{call_of};
 ghost use Rattle.grep_printer.specs.StandardTexts.{call_text, is_hidden, layout_of, new_progress};
 ghost use Rattle.grep_printer.specs.StandardTexts.{progress_after};
@@ -13,7 +13,7 @@ use crate::fields::Layout;
 use crate::format::{Event, Format};
 use crate::printer::{Printer, PrinterSink};
 use crate::report::{Report, ReportKind};
-use crate::text::Text;
+use grep_output::Pending;
 use grep_searcher::{BinaryDetection, Match, Searcher};
 use std::alloc::Allocator;
 
@@ -104,7 +104,7 @@ impl StandardFormat {
     // it isn't.
     fn push_report<A: Allocator + Copy>(
         &mut self,
-        text: &mut Text,
+        text: &mut Pending,
         searcher: &Searcher<A>,
         path: Option<&str>,
         report: &Report<'_>,
@@ -158,7 +158,7 @@ impl Format for StandardFormat {
     #[inline(always)]
     fn push<A: Allocator + Copy>(
         &mut self,
-        text: &mut Text,
+        text: &mut Pending,
         searcher: &Searcher<A>,
         path: Option<&str>,
         event: &Event<'_>,

@@ -1,15 +1,15 @@
 //! The printer of summaries: counts, and paths.
 ghost use Rattle.std.specs.Prelude.{◌≡◌};
-ghost use Rattle.grep_printer.specs.Pushes.{Adds};
+ghost use Rattle.grep_output.specs.PendingTexts.{Adds};
 ghost use Rattle.grep_printer.specs.SummaryTexts.{count_line, finish_text, found_line, is_left_out};
 ghost use Rattle.grep_printer.specs.SummaryTexts.{no_counts, path_line, with_report};
 
-use crate::fields::{push_digits, push_path};
+use crate::fields::push_path;
 use crate::format::{Event, Format};
 use crate::printer::{Printer, PrinterSink};
 use crate::report::ReportKind;
 use crate::summary_builder::{SummaryConfig, SummaryKind};
-use crate::text::Text;
+use grep_output::Pending;
 use grep_searcher::{BinaryDetection, Match, Searcher};
 use std::alloc::Allocator;
 
@@ -59,7 +59,7 @@ impl Counts {
 
 impl SummaryFormat {
     // Pushes the summary of a search that has ended.
-    fn push_summary(&self, text: &mut Text, path: Option<&str>, terminator: u8)
+    fn push_summary(&self, text: &mut Pending, path: Option<&str>, terminator: u8)
         ensures { Adds text.old text.new (finish_text self.now.config.kind self.now.config
             path.entry terminator self.now.counts) }
     {
@@ -101,7 +101,7 @@ impl Format for SummaryFormat {
     #[inline(always)]
     fn push<A: Allocator + Copy>(
         &mut self,
-        text: &mut Text,
+        text: &mut Pending,
         searcher: &Searcher<A>,
         path: Option<&str>,
         event: &Event<'_>,
@@ -137,7 +137,7 @@ fn is_left_out(detection: &BinaryDetection, binary: Option<u64>) -> bool
 
 // Pushes what is written of a search that found what it is for.
 fn push_found_line(
-    text: &mut Text,
+    text: &mut Pending,
     config: &SummaryConfig,
     path: Option<&str>,
     terminator: u8,
@@ -162,7 +162,7 @@ fn push_found_line(
 
 // Pushes a count after a path, in a line of its own.
 fn push_count_line(
-    text: &mut Text,
+    text: &mut Pending,
     config: &SummaryConfig,
     path: Option<&str>,
     terminator: u8,
@@ -172,11 +172,11 @@ fn push_count_line(
 {
     let mark = config.path_terminator.unwrap_or(b':');
     push_path(text, config.color_specs.path(), path, mark);
-    push_digits(text, count, terminator)
+    text.push_number(count, terminator)
 }
 
 // Pushes a path in a line of its own.
-fn push_path_line(text: &mut Text, config: &SummaryConfig, path: Option<&str>, terminator: u8)
+fn push_path_line(text: &mut Pending, config: &SummaryConfig, path: Option<&str>, terminator: u8)
     ensures { Adds text.old text.new (path_line config.now path.entry terminator) }
 {
     let mark = config.path_terminator.unwrap_or(terminator);

@@ -1,5 +1,6 @@
 //! How a printer of summaries writes them.
 ghost use Rattle.std.specs.Prelude.{◌≡◌, [], false};
+ghost use Rattle.grep_output.specs.PendingTexts.{pending_bytes};
 ghost use Rattle.grep_printer.specs.SummaryTexts.{counts_on, counts_parts, default_summary_config};
 ghost use Rattle.grep_printer.specs.SummaryTexts.{has_found};
 
@@ -92,7 +93,7 @@ impl SummaryBuilder {
     /// it writes, and when it counts the parts of a match.
     pub fn build<W>(&self, alloc: Global, writer: W) -> Summary<W>
         ensures writer { result.writer ≡ writer }
-        ensures pending { result.pending ≡ [] }
+        ensures pending { pending_bytes result.pending ≡ [] }
         ensures config { result.format.config ≡ self.now }
         ensures has_written { result.has_written ≡ false }
         ensures has_failed { result.has_failed ≡ false }

@@ -46,92 +46,111 @@ impl Output for Limited {
     }
 }
 
-// For how many bytes there is room, two texts, both after one another, how many writes are made when
-// they are put, and how many once what is kept is written too.
-const ROOM_ROWS: &[(usize, &[u8], &[u8], &[u8], u64, u64)] = &[
-    (16, b"ab", b"cd", b"abcd", 0, 1),
-    (4, b"ab", b"cd", b"abcd", 0, 1),
-    (3, b"ab", b"cd", b"abcd", 1, 2),
-    (3, b"ab", b"cdef", b"abcdef", 2, 2),
-    (3, b"abcd", b"", b"abcd", 1, 1),
-    (0, b"ab", b"cd", b"abcd", 2, 2),
-    (0, b"", b"", b"", 0, 0),
-];
-
-// Puts two texts, and returns whether both succeed.
-fn puts(pending: &mut Pending, output: &mut Limited, first: &[u8], second: &[u8]) -> bool {
-    pending.put(output, first).is_ok() && pending.put(output, second).is_ok()
+// Pushes two texts, the second of them in two pieces, and returns whether there was memory.
+fn pushes(pending: &mut Pending, first: &[u8], second: &[u8], third: &[u8]) -> bool {
+    pending.begin();
+    pending.push(first);
+    let has_failed = pending.has_failed();
+    pending.begin();
+    pending.push(second);
+    pending.push(third);
+    !has_failed && !pending.has_failed()
 }
 
-// Whether a row's texts are written by so many writes.
-fn is_written(alloc: Global, row: &(usize, &[u8], &[u8], &[u8], u64, u64)) -> bool {
-    let (room, first, second, both, put, written) = *row;
+// Whether two texts are kept, and written at once.
+fn are_written(alloc: Global) -> bool {
     let mut output = Limited::new(alloc, usize::MAX);
-    let mut pending = Pending::new(alloc, room);
-    puts(&mut pending, &mut output, first, second)
-        && output.writes == put
+    let mut pending = Pending::new(alloc);
+    pushes(&mut pending, b"ab", b"c", b"de")
+        && pending.text_len() == 3
+        && pending.len() == 5
         && pending.write_to(&mut output).is_ok()
-        && output.has(both, written)
+        && output.has(b"abcde", 1)
         && pending.into_bytes().is_empty()
 }
 
+// Whether a text that is dropped leaves the one before it.
+fn is_dropped_alone(alloc: Global) -> bool {
+    let mut pending = Pending::new(alloc);
+    let is_pushed = pushes(&mut pending, b"ab", b"c", b"de");
+    pending.cancel();
+    pending.push(b"f");
+    is_pushed && pending.into_bytes().as_slice() == b"abf".as_slice()
+}
+
+// Whether texts that are taken out come back.
+fn come_back(alloc: Global) -> bool {
+    let mut pending = Pending::new(alloc);
+    let is_pushed = pushes(&mut pending, b"ab", b"c", b"");
+    let bytes = pending.take_out();
+    let has_none = pending.len() == 0;
+    pending.put_back(bytes, 1, false);
+    is_pushed && has_none && pending.text_len() == 2 && pending.len() == 3
+}
+
 #[test]
-fn rooms(rt: HostRuntime) -> Result<(), usize> {
-    for (index, row) in ROOM_ROWS.iter().enumerate() {
-        if !is_written(rt.alloc(), row) {
+fn texts(rt: HostRuntime) {
+    let alloc = rt.alloc();
+    assert!(rt; are_written(alloc) && is_dropped_alone(alloc) && come_back(alloc));
+}
+
+// Numbers that are pushed one after another, and their texts.
+const NUMBERS: &[(u64, &[u8])] = &[
+    (0, b"0:"),
+    (9, b"9:"),
+    (10, b"10:"),
+    (99, b"99:"),
+    (100, b"100:"),
+    (199, b"199:"),
+    (200, b"200:"),
+    (65_536, b"65536:"),
+    (65_537, b"65537:"),
+    (7, b"7:"),
+    (u64::MAX, b"18446744073709551615:"),
+    (u64::MAX - 100, b"18446744073709551515:"),
+];
+
+#[test]
+fn numbers(rt: HostRuntime) -> Result<(), usize> {
+    let mut pending = Pending::new(rt.alloc());
+    for (index, (number, text)) in NUMBERS.iter().enumerate() {
+        pending.push_number(*number, b':');
+        let bytes = pending.take_out();
+        if bytes.as_slice() != *text {
             return Err(index);
         }
     }
     Ok(())
 }
 
-// Whether a text that was kept is written before the next one once there is no room any more, and
-// what is kept is given back.
-fn heeds_room(alloc: Global) -> bool {
-    let mut output = Limited::new(alloc, usize::MAX);
-    let mut pending = Pending::new(alloc, 16);
-    let kept = pending.put(&mut output, b"ab").is_ok() && output.has(b"", 0);
-    pending.set_room(0);
-    let written = pending.put(&mut output, b"cd").is_ok() && output.has(b"abcd", 2);
-    pending.set_room(2);
-    let put = pending.put(&mut output, b"ef").is_ok();
-    kept && written && put && pending.into_bytes().as_slice() == b"ef".as_slice()
-}
-
-#[test]
-fn other_rooms(rt: HostRuntime) {
-    assert!(rt; heeds_room(rt.alloc()));
-}
-
-// For how many bytes there is room, how many bytes the output takes before it fails, and those that
-// it has taken of `abc` and `def` then.
-const FAILURE_ROWS: &[(usize, usize, &[u8], &[u8])] = &[
-    (16, 0, b"", b"x"),
-    (16, 4, b"abcd", b"abcdx"),
-    (4, 2, b"ab", b"abx"),
-    (0, 2, b"ab", b"abx"),
-    (0, 4, b"abcd", b"abcdx"),
+// How many bytes the output takes before it fails, those that it has taken of `abc` and `def` then,
+// and those that it has once `x` follows.
+const FAILURE_ROWS: &[(usize, &[u8], &[u8])] = &[
+    (0, b"", b"x"),
+    (2, b"ab", b"abx"),
+    (4, b"abcd", b"abcdx"),
 ];
 
 // Whether an output fails, having taken some bytes, and then takes a later text alone.
-fn is_dropped(alloc: Global, room: usize, most: usize, taken: &[u8], later: &[u8]) -> bool {
+fn is_dropped(alloc: Global, most: usize, taken: &[u8], later: &[u8]) -> bool {
     let mut output = Limited::new(alloc, most);
-    let mut pending = Pending::new(alloc, room);
-    let written = puts(&mut pending, &mut output, b"abc", b"def")
-        && pending.write_to(&mut output).is_ok();
+    let mut pending = Pending::new(alloc);
+    let is_pushed = pushes(&mut pending, b"abc", b"de", b"f");
+    let fails = pending.write_to(&mut output).is_err();
     let stopped = output.taken.as_slice() == taken;
     output.most = usize::MAX;
-    !written
+    pending.push(b"x");
+    is_pushed
+        && fails
         && stopped
-        && pending.put(&mut output, b"x").is_ok()
         && pending.write_to(&mut output).is_ok()
         && output.taken.as_slice() == later
 }
 
 #[test]
 fn failures(rt: HostRuntime) -> Result<(), usize> {
-    for (index, (room, most, taken, later)) in FAILURE_ROWS.iter().enumerate() {
-        if !is_dropped(rt.alloc(), *room, *most, taken, later) {
+    for (index, (most, taken, later)) in FAILURE_ROWS.iter().enumerate() {
+        if !is_dropped(rt.alloc(), *most, taken, later) {
             return Err(index);
         }
     }

@@ -10,13 +10,14 @@ use Rattle.grep_printer.proofs.colors.push_painted.Goals.{in-Some+then-start-end
 pub loop-part-init : goal.loop-part-init
 loop-part-init c =
     rw c.start-position.ensures.value (record {
-      bytes = c.args.text.now.bytes.items;
+      bytes = c.args.text.now.text;
       is = record {
         pushed = refl;
         starts = c.start-position.ensures.ordered;
         within = c.requires.within;
         ordered = c.requires.ordered;
       };
+      before = refl;
       made = λ made. (made, refl);
     })
 
@@ -29,7 +30,7 @@ loop-part-preserved c =
     let before : Bool = c.loop-part.is_colored in
     let between = c.push_run-is_colored.ensures.after in
     let old = c.args.text.now in
-    let whole : List ℕ = old.bytes.items
+    let whole : List ℕ = old.text
     ++ painted_from color (is_matched c.args.parts.now end) false c.args.range.now.0 c.args.line.now in
     let first : List ℕ = run_text color before false gap in
     let second : List ℕ = run_text color (after_run before false gap) true found in
@@ -69,7 +70,7 @@ returns c =
       | in_default w ↦ matched-none c.loop-part.rest.now end k w.in_default.ensures.cases
     ] in
     pushed-last old c.loop-part.text c.push_rest.new.text
-    (λ text. IsPainting color end (old.bytes.items ++ all) text c.loop-part.rest.now before c.loop-part.position left)
+    (λ text. IsPainting color end (old.text ++ all) text c.loop-part.rest.now before c.loop-part.position left)
     last all pushed c.push_rest.ensures
-    (painting-done color end (old.bytes.items ++ all) pushed.bytes c.loop-part.rest.now before c.loop-part.position
+    (painting-done color end (old.text ++ all) pushed.bytes c.loop-part.rest.now before c.loop-part.position
     left (pushed.bytes ++ last) pushed.is none (sym (append_assoc pushed.bytes (switch_text color before false) left)))

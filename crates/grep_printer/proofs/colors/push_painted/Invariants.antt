@@ -7,7 +7,7 @@ use Rattle.grep_printer.proofs.colors.push_painted.Given as goal
 abbrev pub invariant-loop-part : goal.invariant-loop-part
 invariant-loop-part l =
     HasPushed l.fn.text l.text (λ text. IsPainting l.color l.fn.range.1
-    (l.fn.text.bytes.items ++ painted_from l.color (is_matched l.fn.parts l.fn.range.1) false l.fn.range.0 l.fn.line)
+    (l.fn.text.text ++ painted_from l.color (is_matched l.fn.parts l.fn.range.1) false l.fn.range.0 l.fn.line)
     text l.rest l.is_colored l.position l.left)
 
 abbrev pub decreases-loop-part : goal.decreases-loop-part

@@ -3,17 +3,20 @@ use Rattle.std.specs.Prelude.{codes}
 use Rattle.grep_printer.proofs.fields.push_count.Goals as goal
 
 pub returns : goal.returns
-returns c = λ made.
-    let third = c.push-2.ensures.adds made in
-    let second = c.push_digits.ensures third.0 in
-    let first = c.push.ensures.adds second.0 in
-    let old : List ℕ = c.args.text.now.bytes.items in
-    let start : List ℕ = codes "[Omitted long line with " in
-    let digits : List ℕ = decimal c.args.count in
-    let last : List ℕ = codes "matches]" in (
-      first.0,
-      third.1 ∙ (ap (λ (t : List ℕ). t ++ last) (second.1 ∙ ap (λ (t : List ℕ). t ++ (digits ++ 32 ∷ [])) first.1)
-          ∙ (append_assoc (old ++ start) (digits ++ 32 ∷ []) last
-          ∙ (append_assoc old start ((digits ++ 32 ∷ []) ++ last)
-          ∙ ap (λ (t : List ℕ). old ++ (start ++ t)) (append_assoc digits (32 ∷ []) last)))),
-    )
+returns c = (
+  c.push-2.ensures.adds.0 ∙ (c.push_number.ensures.0 ∙ c.push.ensures.adds.0),
+  λ made.
+      let third = c.push-2.ensures.adds.1 made in
+      let second = c.push_number.ensures.1 third.0 in
+      let first = c.push.ensures.adds.1 second.0 in
+      let old : List ℕ = c.args.text.now.text in
+      let start : List ℕ = codes "[Omitted long line with " in
+      let digits : List ℕ = decimal c.args.count in
+      let last : List ℕ = codes "matches]" in (
+        first.0,
+        third.1 ∙ (ap (λ (t : List ℕ). t ++ last) (second.1 ∙ ap (λ (t : List ℕ). t ++ (digits ++ 32 ∷ [])) first.1)
+            ∙ (append_assoc (old ++ start) (digits ++ 32 ∷ []) last
+            ∙ (append_assoc old start ((digits ++ 32 ∷ []) ++ last)
+            ∙ ap (λ (t : List ℕ). old ++ (start ++ t)) (append_assoc digits (32 ∷ []) last)))),
+      ),
+)

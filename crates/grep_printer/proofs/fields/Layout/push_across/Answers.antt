@@ -3,11 +3,11 @@ use Rattle.std.specs.List.{flat_map}
 use Rattle.grep_matcher.specs.Lines.{byte_of}
 use Rattle.grep_searcher.specs.Lines.{lines}
 use Rattle.grep_printer.proofs.PartTextLemmas.{IsCrossing, crossing-more, crossing-none, ordered-after}
-use Rattle.grep_printer.proofs.PushLemmas.{pushed-more}
+use Rattle.grep_printer.proofs.PushLemmas.{pushed-more, pushed-none}
 use Rattle.grep_printer.specs.LineTexts.{next_number}
 use Rattle.grep_printer.specs.MatchedParts.{AreInOrder, parts_after}
 use Rattle.grep_printer.specs.PartTexts.{across_text, clipped_text, line_span}
-use Rattle.grep_printer.specs.Pushes.{Adds}
+use Rattle.grep_output.specs.PendingTexts.{Adds}
 use Rattle.grep_printer.specs.Reports.{line_kind}
 use Rattle.grep_printer.specs.declared.reports.Span.{Span}
 use Rattle.grep_printer.proofs.fields.Layout.push_across.Goals as goal
@@ -17,13 +17,10 @@ loop-line-init c =
     let same : c.into_iter-line-iterator.result
     ≡ lines (byte_of c.args.self.now.terminator) c.args.report.now.bytes.now =
     search rules in
-    record {
-      bytes = c.args.text.now.bytes.items;
-      is = crossing-none c.args.self.now (line_kind c.args.report.now.kind) c.args.report.now.offset
-          c.args.report.now.bytes.now c.args.text.now.bytes.items c.args.report.now.number c.into_iter-line-iterator.result
-          c.args.parts.now same c.requires.ordered;
-      made = λ made. (made, refl);
-    }
+    pushed-none c.args.text.now _
+    (crossing-none c.args.self.now (line_kind c.args.report.now.kind) c.args.report.now.offset
+    c.args.report.now.bytes.now c.args.text.now.text c.args.report.now.number c.into_iter-line-iterator.result
+    c.args.parts.now same c.requires.ordered)
 
 pub push_clipped-requires-clause-ordered : goal.push_clipped-requires-clause-ordered
 push_clipped-requires-clause-ordered c =
@@ -47,7 +44,7 @@ loop-line-preserved c =
     λ span. flat_map (clipped_text layout kind report.offset bytes number span) in
     let span : Span = line_span layout.terminator start line in
     let spanned : c.line_span-span.result ≡ span = c.line_span-span.ensures in
-    let whole : List ℕ = old.bytes.items ++ across_text layout kind report.offset bytes c.args.report.now.number 0
+    let whole : List ℕ = old.text ++ across_text layout kind report.offset bytes c.args.report.now.number 0
     (lines (byte_of layout.terminator) bytes) c.args.parts.now in
     let pushed = c.loop-line.invariant in
     rw (c.parts_after-rest.ensures, c.next_number-number.ensures, spanned)

@@ -10,6 +10,6 @@ use Rattle.grep_printer.proofs.fields.Layout.push_across.Given as goal
 abbrev pub invariant-loop-line : goal.invariant-loop-line
 invariant-loop-line l =
     HasPushed l.fn.text l.text (λ text. IsCrossing l.fn.self (line_kind l.fn.report.kind) l.fn.report.offset l.fn.report.bytes.now
-    (l.fn.text.bytes.items ++ across_text l.fn.self (line_kind l.fn.report.kind) l.fn.report.offset l.fn.report.bytes.now l.fn.report.number 0
+    (l.fn.text.text ++ across_text l.fn.self (line_kind l.fn.report.kind) l.fn.report.offset l.fn.report.bytes.now l.fn.report.number 0
     (lines (byte_of l.fn.self.terminator) l.fn.report.bytes.now) l.fn.parts)
     text l.number l.start l.line-iterator l.rest)

@@ -1,16 +1,20 @@
 use Rattle.std.proofs.Common.{length, refl, ◌++◌}
 use Rattle.grep_printer.proofs.PartTextLemmas.{IsWriting, writing-more}
-use Rattle.grep_printer.proofs.PushLemmas.{pushed-more}
+use Rattle.grep_printer.proofs.PushLemmas.{pushed-more, pushed-none}
 use Rattle.grep_printer.specs.PartTexts.{part_text}
 use Rattle.grep_printer.specs.Reports.{line_kind}
 use Rattle.grep_printer.proofs.fields.Layout.push_parts.Goals as goal
+
+pub loop-part-init : goal.loop-part-init
+loop-part-init c =
+    pushed-none c.args.text.now _ (record { pushed = refl; ordered = c.requires.ordered })
 
 pub loop-part-preserved : goal.loop-part-preserved
 loop-part-preserved c =
     let high = length c.args.report.now.bytes.now in
     let texts = part_text c.args.self.now (line_kind c.args.report.now.kind) c.args.report.now.offset
     c.args.report.now.bytes.now c.args.report.now.number in
-    let start = c.args.text.now.bytes.items in
+    let start = c.args.text.now.text in
     let pushed = c.loop-part.invariant in
     let part = c.in-Some.part.now in
     pushed-more c.args.text.now c.loop-part.text c.push_part.new.text

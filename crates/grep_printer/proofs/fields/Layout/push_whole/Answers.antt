@@ -1,7 +1,7 @@
 use Rattle.std.proofs.Common.{◌^◌, arith, length, subst, sym}
 use Rattle.grep_printer.proofs.FoundPartLemmas.{ordered-within}
 use Rattle.grep_printer.specs.LineTexts.{line_text}
-use Rattle.grep_printer.specs.Pushes.{Adds}
+use Rattle.grep_output.specs.PendingTexts.{Adds}
 use Rattle.grep_printer.specs.Reports.{whole_text}
 use Rattle.grep_printer.specs.declared.fields.LineKind.TheVariants.{Context as context_line}
 use Rattle.grep_printer.specs.declared.fields.Place.{Place}

@@ -5,7 +5,7 @@ use Rattle.grep_printer.proofs.json_text.JsonText.push_submatches.Given as goal
 
 abbrev pub invariant-loop-range : goal.invariant-loop-range
 invariant-loop-range l =
-    l.self.has_failed ≡ false
-    → (l.fn.self.has_failed ≡ false) × (l.self.out.before ≡ l.fn.self.out.before)
+    (l.self.out.before ≡ l.fn.self.out.before)
+    × (l.self.has_failed ≡ false → (l.fn.self.has_failed ≡ false)
     × (l.self.out.tokens ++ items_tokens (submatch_items l.bytes (drop l.range-index l.ranges))
-    ≡ l.fn.self.out.tokens ++ items_tokens (submatch_items l.bytes l.ranges))
+    ≡ l.fn.self.out.tokens ++ items_tokens (submatch_items l.bytes l.ranges)))

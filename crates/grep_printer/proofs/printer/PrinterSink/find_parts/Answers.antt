@@ -1,4 +1,4 @@
-use Rattle.std.proofs.Common.{◌≡◌, ◌&&◌}
+use Rattle.std.proofs.Common.{◌&&◌}
 use Rattle.std.proofs.lemmas.Result.{on_ok_weaker}
 use Rattle.grep_printer.proofs.CallPartLemmas.{found-parts}
 use Rattle.grep_printer.specs.CallParts.{has_match}

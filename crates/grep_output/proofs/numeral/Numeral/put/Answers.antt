@@ -1,0 +1,27 @@
+use Rattle.std.proofs.Common.{◌≡◌, ◌+◌, ◌-◌, ◌/◌, ◌%◌, ◌≤◌, arith, ap, ◌∙◌, length, ◌∷◌, [], ◌++◌, take, decimal}
+use Rattle.std.proofs.lemmas.List.{length-take-le}
+use Rattle.itoa.proofs.Decimal.{pair, length_pair}
+use Rattle.grep_output.proofs.DigitLemmas.{take-copied, marked}
+use Rattle.grep_output.proofs.numeral.Numeral.put.Goals as goal
+
+pub returns-clause-end : goal.returns-clause-end
+returns-clause-end c =
+    let digits = ap length c.self.invariant.1 in
+    let long = length-take-le c.self.inside.len c.self.inside.digits (omega arith) in
+    let all = length_pair c.args.number (omega arith) c.ranges.number.fits in
+    let same : c.self.inside.hundreds ≡ c.args.number / 100 = cc in
+    let lengths = ap (λ h. length (decimal h)) same in
+    omega arith
+
+pub returns-clause-text : goal.returns-clause-text
+returns-clause-text c =
+    let within : c.self.inside.len ≤ length c.copy_from_slice.new.self = omega arith in
+    let same : c.self.inside.hundreds ≡ c.args.number / 100 = cc in
+    let digits : take c.self.inside.len c.copy_from_slice.new.self ≡ decimal (c.args.number / 100) =
+    ap (take c.self.inside.len) c.copy_from_slice.ensures.after ∙ (c.self.invariant.1 ∙ ap decimal same) in
+    c.put_pair.ensures
+    ∙ (ap (λ zs. zs ++ (pair (c.args.number % 100) ++ c.args.mark ∷ []))
+    (take-copied c.args.at c.self.inside.len (c.args.at + 18 - c.args.at) c.args.text.now c.copy_from_slice.new.self
+    (omega arith) within
+    ∙ ap (λ zs. take c.args.at c.args.text.now ++ zs) digits)
+    ∙ marked (take c.args.at c.args.text.now) c.args.number c.args.mark (omega arith) c.ranges.number.fits)
