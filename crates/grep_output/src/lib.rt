@@ -1,5 +1,5 @@
 //! Outputs of bytes: a trait whose contract says each call that is made, an adapter of standard
-//! writers, writing a text whole, and text that is kept before it is written.
+//! writers, writing a text whole, texts that are kept before they are written, and numbers in decimal.
 //!
 //! `specs/Outputs.antt` defines what a call and a run of calls do, and `specs/PendingTexts.antt` what
 //! comes of a text that is put after others.
@@ -10,6 +10,7 @@ mod output;
 mod pending;
 mod writing;
 
+pub use numeral::{MARKED_LEN, Numeral};
 pub use output::{Output, write_all};
 pub use pending::Pending;
 pub use writing::{LastCall, Writing};

@@ -6,15 +6,15 @@ use itoa::write_digits;
 use std::marker::Model;
 
 /// How many bytes a number of 64 bits and its mark take at most.
-pub(crate) const MARKED_LEN: usize = 21;
+pub const MARKED_LEN: usize = 21;
 
 // How many digits the hundreds of a number of 64 bits have at most.
 const HUNDREDS_LEN: usize = 18;
 
-// Puts numbers in decimal into a text. The digits of the last number's hundreds are kept, since the
-// next number mostly has the same.
+/// Puts numbers in decimal into a text. The digits of the last number's hundreds are kept, since the
+/// next number mostly has the same.
 #[derive(Drop)]
-pub(crate) struct Numeral {
+pub struct Numeral {
     hundreds: u64,
     len: usize,
     digits: [u8; HUNDREDS_LEN],
@@ -31,8 +31,8 @@ impl Model for Numeral {
 }
 
 impl Numeral {
-    // No number was put yet.
-    pub(crate) fn new() -> Numeral {
+    /// No number was put yet.
+    pub fn new() -> Numeral {
         Numeral {
             hundreds: 0,
             len: 1,
@@ -40,10 +40,10 @@ impl Numeral {
         }
     }
 
-    // Puts a number and a mark into a text at a position, and returns the position after them. What
-    // comes after is overwritten. The caller ensures that there is room for the longest number.
+    /// Puts a number and a mark into a text at a position, and returns the position after them. What
+    /// comes after is overwritten. The caller ensures that there is room for `MARKED_LEN` bytes.
     #[inline]
-    pub(crate) fn put(&mut self, number: u64, mark: u8, text: &mut [u8], at: usize) -> usize
+    pub fn put(&mut self, number: u64, mark: u8, text: &mut [u8], at: usize) -> usize
         requires { at + 21 ≤ length text.old }
         ensures end { result ≡ at + length (decimal number) + 1 }
         ensures room { result ≤ at + 21 }

@@ -4,7 +4,7 @@ ghost use Rattle.std.specs.List.{flat_map};
 ghost use Rattle.grep_lines.specs.Blocks.{lines_before};
 ghost use Rattle.grep_printer.specs.LineTexts.{end_byte};
 ghost use Rattle.grep_printer.specs.MatchedParts.{AreInOrder};
-ghost use Rattle.grep_printer.specs.Pushes.{Adds};
+ghost use Rattle.grep_output.specs.PendingTexts.{Adds, pending_bytes};
 ghost use Rattle.grep_printer.specs.Reports.{line_kind};
 ghost use Rattle.grep_printer.specs.VimgrepTexts.{number_after, part_line, vimgrep_config};
 
@@ -14,8 +14,8 @@ use crate::format::{Event, Format};
 use crate::printer::{Printer, PrinterSink};
 use crate::report::Report;
 use crate::standard::{Progress, StandardFormat};
-use crate::text::Text;
 use grep_lines::{count, line_of};
+use grep_output::Pending;
 use grep_searcher::{Match, Searcher};
 use std::alloc::{Allocator, Global};
 
@@ -38,7 +38,7 @@ impl StandardBuilder {
     /// Of the settings `heading`, `column` and `only_matching` don't count.
     pub fn build_vimgrep<W>(&self, alloc: Global, writer: W) -> Vimgrep<W>
         ensures writer { result.writer ≡ writer }
-        ensures pending { result.pending ≡ [] }
+        ensures pending { pending_bytes result.pending ≡ [] }
         ensures config { result.format.lines.config ≡ vimgrep_config self.now }
         ensures has_written { result.has_written ≡ false }
         ensures has_failed { result.has_failed ≡ false }
@@ -76,7 +76,7 @@ impl Format for VimgrepFormat {
 
     fn push<A: Allocator + Copy>(
         &mut self,
-        text: &mut Text,
+        text: &mut Pending,
         searcher: &Searcher<A>,
         path: Option<&str>,
         event: &Event<'_>,
@@ -99,7 +99,7 @@ impl Format for VimgrepFormat {
 }
 
 // Pushes of each part of a report the line in which it starts.
-fn push_part_lines(layout: &Layout<'_>, text: &mut Text, report: &Report<'_>, parts: &[Match])
+fn push_part_lines(layout: &Layout<'_>, text: &mut Pending, report: &Report<'_>, parts: &[Match])
     requires fits { report.now.offset + length report.now.bytes.now < 2 ^ 64 }
     requires ordered { AreInOrder 0 (length report.now.bytes.now) parts.now }
     ensures { Adds text.old text.new (flat_map (part_line layout.now (line_kind report.now.kind)
@@ -120,7 +120,7 @@ fn push_part_lines(layout: &Layout<'_>, text: &mut Text, report: &Report<'_>, pa
 // Pushes the line in which a part of a report starts, and which has this number.
 fn push_part_line(
     layout: &Layout<'_>,
-    text: &mut Text,
+    text: &mut Pending,
     report: &Report<'_>,
     number: Option<u64>,
     part: &Match,

@@ -3,7 +3,6 @@ use Rattle.std.proofs.Common.{◌≡◌, ℕ, List, [], ◌∷◌, ◌++◌, ref
 use Rattle.std.specs.Prelude.{true, false, ◌-◌, ◌==◌, if◌then◌else◌, length, slice_index, decimal, Option, Some, Result}
 use Rattle.std.specs.Prelude.{Ok, Err}
 use Rattle.std.specs.declared.io.Error.{Error}
-use Rattle.std.proofs.lemmas.List.{append-nil}
 use Rattle.lgrep_cli.specs.PrintedTexts.{ended_line, numbered_line, next_number, match_text}
 use Rattle.grep_output.specs.Outputs.{OutputCall, Writes}
 use Rattle.grep_output.specs.PendingTexts.{PutsAll, Puts}

@@ -1,6 +1,6 @@
 -- What a printer has put to which the calls of a search are reported.
 use Rattle.std.proofs.Common.{◌≡◌, ℕ, inl, inr, List, [], ◌∷◌, ◌++◌, refl, sym, ap, ◌∙◌, subst}
-use Rattle.std.specs.Prelude.{true, false, ◌||◌, Option, None, Result, Ok, Err, All}
+use Rattle.std.specs.Prelude.{true, false, ◌||◌, Option, Result, Ok, Err, All}
 use Rattle.std.proofs.Math.Bool.{or_assoc, or-false}
 use Rattle.std.proofs.lemmas.List.{append-nil}
 use Rattle.std.proofs.lemmas.List.Elements.{All-head, All-tail}
@@ -9,7 +9,7 @@ use Rattle.std.specs.declared.io.Error.{Error}
 use Rattle.grep_searcher.specs.declared.SearchError.{SearchError}
 use Rattle.grep_searcher.specs.declared.SearchError.TheVariants.{Io}
 use Rattle.grep_searcher.specs.Plans.{Settings, search_plan, Outcome, all_true, stopped, failed}
-use Rattle.grep_searcher.specs.Plans.{AreMade, IsFinished, IsRun, Finish, Plan, Planned, finishes}
+use Rattle.grep_searcher.specs.Plans.{AreMade, IsFinished, IsRun, Plan, Planned, finishes}
 use Rattle.grep_searcher.specs.Searches.{nowhere, BinaryPoint, plan_with, IsPoint, IsSearchOf, ran}
 use Rattle.grep_searcher.specs.Searches.{asked}
 use Rattle.grep_searcher.specs.ErrorMakers.{ErrorMakers}

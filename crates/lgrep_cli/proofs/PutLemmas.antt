@@ -1,20 +1,9 @@
 -- Bytes that are put into a text at a position.
-use Rattle.std.proofs.Common.{◌≡◌, ℕ, ◌+◌, ◌/◌, ◌%◌, ◌^◌, ◌<◌, ◌≤◌, List, [], ◌∷◌, ◌++◌, length, take, set, decimal}
+use Rattle.std.proofs.Common.{◌≡◌, ℕ, ◌+◌, ◌≤◌, List, [], ◌∷◌, ◌++◌, length, take, set}
 use Rattle.std.proofs.Common.{arith, rules, refl, sym, ap, ◌∙◌, subst, append_assoc}
-use Rattle.std.proofs.Math.Seq.{take-append-add}
-use Rattle.std.proofs.lemmas.List.{length-take-le, take-append-le, take_more_set}
+use Rattle.std.proofs.lemmas.List.{take_more_set}
 use Rattle.std.proofs.lemmas.Slice.{overwrites, take-put_mid}
-use borrow.Rule.Slice.PartMut.{put_mid, post_of}
-use Rattle.itoa.proofs.Decimal.{pair, decimal_pair}
-
--- of those only some first bytes are kept
-pub take-copied : (at count k : ℕ) (xs ys : List ℕ) → at ≤ length xs → count ≤ length ys
-    → take (at + count) (put_mid at k xs ys) ≡ take at xs ++ take count ys
-take-copied at count k xs ys within enough =
-    subst (λ n. take (n + count) (take at xs ++ (ys ++ post_of at k xs)) ≡ take at xs ++ take count ys)
-    (length-take-le at xs within)
-    (take-append-add (take at xs) (ys ++ post_of at k xs) count
-    ∙ ap (λ zs. take at xs ++ zs) (take-append-le count ys (post_of at k xs) enough))
+use borrow.Rule.Slice.PartMut.{put_mid}
 
 -- a line, and a line feed after it
 pub ended-put : (at k : ℕ) (xs line copied : List ℕ) → copied ≡ line → k ≡ length line
@@ -26,11 +15,3 @@ ended-put at k xs line copied same count room =
     (take_more_set (put_mid at k xs line) (at + length line) 10 (search (rules, overwrites))
     ∙ (ap (λ zs. zs ++ 10 ∷ []) (take-put_mid at k xs line (at + length line) refl (omega (arith, room)))
     ∙ append_assoc (take at xs) line (10 ∷ [])))
-
--- a number's hundreds, the two digits after them and a mark
-pub marked : (front : List ℕ) (n mark : ℕ) → 100 ≤ n → n < 2 ^ 64
-    → (front ++ decimal (n / 100)) ++ (pair (n % 100) ++ mark ∷ []) ≡ front ++ (decimal n ++ mark ∷ [])
-marked front n mark large fits =
-    append_assoc front (decimal (n / 100)) (pair (n % 100) ++ mark ∷ [])
-    ∙ ap (λ zs. front ++ zs) (sym (append_assoc (decimal (n / 100)) (pair (n % 100)) (mark ∷ []))
-    ∙ ap (λ zs. zs ++ mark ∷ []) (sym (decimal_pair n large fits)))

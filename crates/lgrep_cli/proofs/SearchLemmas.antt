@@ -13,8 +13,8 @@ use Rattle.grep_searcher.specs.declared.ConfigError.{ConfigError}
 use Rattle.grep_searcher.specs.declared.SearchError.{SearchError}
 use Rattle.grep_searcher.specs.declared.SearchError.TheVariants.{Io}
 use Rattle.grep_searcher.specs.SearchErrors.{IsOutOfMemory}
-use Rattle.grep_searcher.specs.Plans.{Settings, SearcherState, search_plan, AreMade, all_true}
-use Rattle.grep_searcher.specs.Searches.{nowhere, BinaryPoint, calls_with, EachPoint, GoesOnWith}
+use Rattle.grep_searcher.specs.Plans.{Settings, SearcherState, AreMade, all_true}
+use Rattle.grep_searcher.specs.Searches.{nowhere, BinaryPoint, calls_with, GoesOnWith}
 use Rattle.grep_searcher.specs.Searches.{IsReaderSearch, IsReaderSearched, IsRead, searched_bytes}
 use Rattle.grep_searcher.specs.Searches.{IsInput, IsUnread, Reads, Taken}
 use Rattle.grep_searcher.specs.ErrorMakers.{ErrorMakers}

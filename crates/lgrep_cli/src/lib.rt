@@ -9,7 +9,6 @@
 mod exit;
 mod lines;
 mod messages;
-mod numeral;
 mod options;
 mod pending;
 mod printer;

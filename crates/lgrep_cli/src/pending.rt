@@ -6,8 +6,7 @@ ghost use Rattle.grep_output.specs.PendingTexts.{Puts};
 ghost use Rattle.lgrep_cli.specs.PrintedTexts.{ended_line, numbered_line};
 
 use crate::lines::write_line;
-use crate::numeral::{MARKED_LEN, Numeral};
-use grep_output::{Output, write_all};
+use grep_output::{MARKED_LEN, Numeral, Output, write_all};
 use std::alloc::{AllocError, Global};
 use std::io;
 use std::marker::Model;
