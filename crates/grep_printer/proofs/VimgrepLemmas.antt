@@ -1,11 +1,11 @@
 -- The lines in which the parts of a report start, pushed one after another.
 use Rattle.std.proofs.Common.{◌≡◌, ℕ, ◌+◌, ◌-◌, ◌≤◌, List, [], ◌∷◌, ◌++◌, Option, None, Some, length, arith, ap, sym}
-use Rattle.std.proofs.Common.{◌∙◌, subst, take, drop, refl}
+use Rattle.std.proofs.Common.{◌∙◌, append_assoc, subst, take, drop, refl}
 use Rattle.std.proofs.lemmas.List.{drop-take, take-take}
 use Rattle.std.proofs.lemmas.List.Sums.{sum_by-take-drop}
-use Rattle.std.specs.List.{flat_map}
 use Rattle.std.specs.Prelude.{◌<◌, ◌==◌, cond, count_by, false, if◌then◌else◌, slice_range}
 use Rattle.grep_lines.specs.Blocks.{lines_before}
+use Rattle.grep_output.specs.PendingTexts.{Adds, PendingText}
 use Rattle.grep_printer.proofs.FoundPartLemmas.{ordered-from}
 use Rattle.grep_printer.proofs.PartTextLemmas.{IsWriting, writing-more}
 use Rattle.grep_printer.specs.Formats.{Scene}
@@ -13,13 +13,24 @@ use Rattle.grep_printer.specs.LineTexts.{end_byte}
 use Rattle.grep_printer.specs.MatchedParts.{AreInOrder}
 use Rattle.grep_printer.specs.Reports.{line_kind, reporting_call}
 use Rattle.grep_printer.specs.StandardTexts.{is_hidden, layout_of, text_before}
-use Rattle.grep_printer.specs.VimgrepTexts.{number_after, part_line, vimgrep_text}
+use Rattle.grep_printer.specs.VimgrepTexts.{number_after, part_line, part_lines, vimgrep_text}
 use Rattle.grep_printer.specs.declared.config.Config.{Config}
 use Rattle.grep_printer.specs.declared.fields.Layout.{Layout}
 use Rattle.grep_printer.specs.declared.report.Report.{Report}
 use Rattle.grep_printer.specs.declared.report.ReportKind.{ReportKind}
 use Rattle.grep_printer.specs.declared.report.ReportKind.TheVariants.{Match, Context}
 use Rattle.grep_printer.specs.declared.standard.Progress.{Progress}
+
+-- one push after another
+adds-two : (old mid new : PendingText) (first later : List ℕ) → Adds old mid first → Adds mid new later
+    → Adds old new (first ++ later)
+adds-two old mid new first later one two = (
+  two.0 ∙ one.0,
+  λ made.
+      let last = two.1 made in
+      let before = one.1 last.0 in
+      (before.0, last.1 ∙ (ap (λ (t : List ℕ). t ++ later) before.1 ∙ append_assoc old.text first later)),
+)
 
 -- the lines before a position, and those between it and a later one
 lines-passed : (t : ℕ) (bytes : List ℕ) (from to : ℕ) → from ≤ to
@@ -36,48 +47,48 @@ number-more : (number : Option ℕ) (a b : ℕ) → number_after (number_after n
 number-more None a b = refl
 number-more (Some n) a b = ap Some (omega arith)
 
--- the lines of a report's parts
-abbrev pub line_of_part : Layout → Report → ℕ × ℕ → List ℕ
-line_of_part layout report =
-    part_line layout (line_kind report.kind) report.number report.offset report.bytes.now
-
 module _ (layout : Layout) (report : Report) (start : List ℕ) (all : List (ℕ × ℕ)) where
-  -- some of them are pushed, the number is that of the line of a position, and these parts are left, which start there
-  -- or later
+  -- the line of a part of the report
+  abbrev line_of_part : ℕ × ℕ → List ℕ
+  line_of_part part = part_line layout (line_kind report.kind) report.offset report.bytes.now
+      (number_after report.number (lines_before (end_byte layout) report.bytes.now part.0)) part
+
+  -- of some parts it is pushed, the number is that of the line of a position, and these parts are left, which start
+  -- there or later
   pub record IsListing (text : List ℕ) (number : Option ℕ) (position : ℕ) (rest : List (ℕ × ℕ)) : Type 0 where
-    pub writing : IsWriting (line_of_part layout report) (length report.bytes.now) start all text rest
+    pub writing : IsWriting line_of_part (length report.bytes.now) start all text rest
     pub numbered : (more : ℕ) → number_after number more
         ≡ number_after report.number (lines_before (end_byte layout) report.bytes.now position + more)
     pub ordered : AreInOrder position (length report.bytes.now) rest
 
-  module _ (text : List ℕ) (number : Option ℕ) (position : ℕ) (rest : List (ℕ × ℕ)) (part : ℕ × ℕ)
-      (later : List (ℕ × ℕ)) (listing : IsListing text number position rest) (is : rest ≡ part ∷ later) (next : Option ℕ)
-      (counted : next ≡ number_after number
-      (count_by (λ b. b == end_byte layout) (slice_range report.bytes.now position part.0))) where
-    ordered_here : AreInOrder position (length report.bytes.now) (part ∷ later)
-    ordered_here = subst (AreInOrder position (length report.bytes.now)) is listing.ordered
+  -- the line of the next part is pushed
+  pub listing-more : (text : List ℕ) (number : Option ℕ) (position : ℕ) (rest : List (ℕ × ℕ)) (part : ℕ × ℕ)
+      (later : List (ℕ × ℕ)) (next : Option ℕ) → IsListing text number position rest → rest ≡ part ∷ later
+      → next ≡ number_after number
+      (count_by (λ b. b == end_byte layout) (slice_range report.bytes.now position part.0))
+      → IsListing (text ++ part_line layout (line_kind report.kind) report.offset report.bytes.now next part) next part.0
+      later
+  listing-more text number position rest part later next listing is counted =
+      let ordered = subst (AreInOrder position (length report.bytes.now)) is listing.ordered in
+      let here : next ≡ number_after report.number (lines_before (end_byte layout) report.bytes.now part.0) =
+      counted ∙ (listing.numbered _ ∙ ap (number_after report.number)
+      (lines-passed (end_byte layout) report.bytes.now position part.0 ordered.0)) in record {
+        writing = writing-more line_of_part (length report.bytes.now) start all text rest part later _ listing.writing is
+            (ap (λ n. text ++ part_line layout (line_kind report.kind) report.offset report.bytes.now n part) here);
+        numbered = λ more. ap (λ n. number_after n more) here ∙ number-more report.number _ more;
+        ordered = ordered-from later part.1 part.0 (length report.bytes.now) ordered.1 ordered.3;
+      }
 
-    -- the line of the next part has this number
-    pub listing-number : next ≡ number_after report.number (lines_before (end_byte layout) report.bytes.now part.0)
-    listing-number = counted ∙ (listing.numbered _ ∙ ap (number_after report.number)
-        (lines-passed (end_byte layout) report.bytes.now position part.0 ordered_here.0))
-
-    -- it is pushed
-    pub listing-more : IsListing (text ++ line_of_part layout report part) next part.0 later
-    listing-more = record {
-      writing = writing-more (line_of_part layout report) (length report.bytes.now) start all text rest part later
-          (text ++ line_of_part layout report part) listing.writing is refl;
-      numbered = λ more. ap (λ n. number_after n more) listing-number ∙ number-more report.number _ more;
-      ordered = ordered-from later part.1 part.0 (length report.bytes.now) ordered_here.1 ordered_here.3;
-    }
-
--- the text of a report with parts, unless it is hidden
-pub shown-text : (config : Config) (progress : Progress) (scene : Scene) (number : Option ℕ) (offset : ℕ)
+-- the text of a report with parts, unless it is hidden: what comes before a report, and their lines
+pub adds-shown : (config : Config) (progress : Progress) (scene : Scene) (number : Option ℕ) (offset : ℕ)
     (bytes : List ℕ) (kind : ReportKind) (parts : List (ℕ × ℕ)) → 0 < length parts
-    → is_hidden progress scene.settings.binary_detection ≡ false
-    → vimgrep_text config progress scene (reporting_call kind number offset bytes) parts
-    ≡ text_before (layout_of config scene) progress
-    ++ flat_map (part_line (layout_of config scene) (line_kind kind) number offset bytes) parts
-shown-text config progress scene number offset bytes kind [] some shown = absurd (omega (arith, some))
-shown-text config progress scene number offset bytes Match (part ∷ later) some shown = rw shown refl
-shown-text config progress scene number offset bytes (Context kind) (part ∷ later) some shown = rw shown refl
+    → is_hidden progress scene.settings.binary_detection ≡ false → (old mid new : PendingText)
+    → Adds old mid (text_before (layout_of config scene) progress)
+    → Adds mid new (part_lines (layout_of config scene) (line_kind kind) offset bytes number parts)
+    → Adds old new (vimgrep_text config progress scene (reporting_call kind number offset bytes) parts)
+adds-shown config progress scene number offset bytes kind [] some shown old mid new first later =
+    absurd (omega (arith, some))
+adds-shown config progress scene number offset bytes Match (part ∷ rest) some shown old mid new first later =
+    rw shown (adds-two old mid new _ _ first later)
+adds-shown config progress scene number offset bytes (Context kind) (part ∷ rest) some shown old mid new first later =
+    rw shown (adds-two old mid new _ _ first later)

@@ -27,14 +27,14 @@ number_after None count = None
 number_after (Some number) count = Some (min (number + count) (2 ^ 64 - 1))
 
 -- the layout of the lines, what they belong to, and a report
-module _ (layout : Layout) (kind : LineKind) (number : Option ℕ) (offset : ℕ) (bytes : List ℕ) where
+module _ (layout : Layout) (kind : LineKind) (offset : ℕ) (bytes : List ℕ) where
   -- the line in which a part starts, after the line's number, the column of the part in it, and the
   -- part's offset
-  abbrev pub part_line : ℕ × ℕ → List ℕ
-  part_line part =
+  abbrev pub part_line : Option ℕ → ℕ × ℕ → List ℕ
+  part_line number part =
       line_text layout kind
       (record {
-        number = number_after number (lines_before (end_byte layout) bytes part.0);
+        number = number;
         column = Some (part.0 - block_start (end_byte layout) bytes (part.0, part.0) + 1);
         offset = offset + part.0;
         start = block_start (end_byte layout) bytes (part.0, part.0);
@@ -43,17 +43,22 @@ module _ (layout : Layout) (kind : LineKind) (number : Option ℕ) (offset : ℕ
       (slice_range bytes (block_start (end_byte layout) bytes (part.0, part.0))
       (block_end (end_byte layout) bytes (part.0, part.0)))
 
+  -- so for each part, by the number of the first line
+  abbrev pub part_lines : Option ℕ → List (ℕ × ℕ) → List ℕ
+  part_lines number parts = flat_map
+      (λ part. part_line (number_after number (lines_before (end_byte layout) bytes part.0)) part) parts
+
 -- the text of a call, by what was reported before: of a report with parts the line of each, and what
 -- is written among lines of any other call
 abbrev pub vimgrep_text : Config → Progress → Scene → Call → List (ℕ × ℕ) → List ℕ
 vimgrep_text config progress scene (matches number offset bytes) (part ∷ later) =
     if is_hidden progress scene.settings.binary_detection then []
     else text_before (layout_of config scene) progress
-    ++ flat_map (part_line (layout_of config scene) Match number offset bytes) (part ∷ later)
+    ++ part_lines (layout_of config scene) Match offset bytes number (part ∷ later)
 vimgrep_text config progress scene (context kind number offset bytes) (part ∷ later) =
     if is_hidden progress scene.settings.binary_detection then []
     else text_before (layout_of config scene) progress
-    ++ flat_map (part_line (layout_of config scene) Context number offset bytes) (part ∷ later)
+    ++ part_lines (layout_of config scene) Context offset bytes number (part ∷ later)
 vimgrep_text config progress scene call parts = call_text config progress scene call []
 
 -- a search in this form: the text of each call; what was reported is kept as for lines

@@ -1,12 +1,10 @@
 //! The printer of a line for each part that matches.
 ghost use Rattle.std.specs.Prelude.{◌≡◌, ◌+◌, ◌<◌, ◌≤◌, ◌^◌, [], false, length};
-ghost use Rattle.std.specs.List.{flat_map};
-ghost use Rattle.grep_lines.specs.Blocks.{lines_before};
-ghost use Rattle.grep_printer.specs.LineTexts.{end_byte};
 ghost use Rattle.grep_printer.specs.MatchedParts.{AreInOrder};
 ghost use Rattle.grep_output.specs.PendingTexts.{Adds, pending_bytes};
 ghost use Rattle.grep_printer.specs.Reports.{line_kind};
-ghost use Rattle.grep_printer.specs.VimgrepTexts.{number_after, part_line, vimgrep_config};
+ghost use Rattle.grep_printer.specs.VimgrepTexts.{number_after, part_line, part_lines};
+ghost use Rattle.grep_printer.specs.VimgrepTexts.{vimgrep_config};
 
 use crate::config::StandardBuilder;
 use crate::fields::{Layout, Place};
@@ -102,8 +100,8 @@ impl Format for VimgrepFormat {
 fn push_part_lines(layout: &Layout<'_>, text: &mut Pending, report: &Report<'_>, parts: &[Match])
     requires fits { report.now.offset + length report.now.bytes.now < 2 ^ 64 }
     requires ordered { AreInOrder 0 (length report.now.bytes.now) parts.now }
-    ensures { Adds text.old text.new (flat_map (part_line layout.now (line_kind report.now.kind)
-        report.now.number report.now.offset report.now.bytes.now) parts.now) }
+    ensures { Adds text.old text.new (part_lines layout.now (line_kind report.now.kind)
+        report.now.offset report.now.bytes.now report.now.number parts.now) }
 {
     let mut number = report.number;
     let mut position = 0;
@@ -117,7 +115,7 @@ fn push_part_lines(layout: &Layout<'_>, text: &mut Pending, report: &Report<'_>,
     }
 }
 
-// Pushes the line in which a part of a report starts, and which has this number.
+// Pushes the line in which a part of a report starts, after its number.
 fn push_part_line(
     layout: &Layout<'_>,
     text: &mut Pending,
@@ -127,20 +125,19 @@ fn push_part_line(
 )
     requires fits { report.now.offset + length report.now.bytes.now < 2 ^ 64 }
     requires within { part.now.1 ≤ length report.now.bytes.now }
-    requires number { number ≡ number_after report.now.number
-        (lines_before (end_byte layout.now) report.now.bytes.now part.now.0) }
     ensures { Adds text.old text.new (part_line layout.now (line_kind report.now.kind)
-        report.now.number report.now.offset report.now.bytes.now part.now) }
+        report.now.offset report.now.bytes.now number part.now) }
 {
-    let start = part.start();
-    let line = line_of(report.bytes, layout.terminator.as_byte(), start);
+    let at = part.start();
+    let line = line_of(report.bytes, layout.terminator.as_byte(), at);
+    let start = line.start();
     let place = Place {
         number,
-        column: Some((start - line.start()) as u64 + 1),
-        offset: report.offset + start as u64,
-        start: line.start(),
+        column: Some((at - start) as u64 + 1),
+        offset: report.offset + at as u64,
+        start,
     };
-    let bytes = &report.bytes[line.start()..line.end()];
+    let bytes = &report.bytes[start..line.end()];
     layout.push_line(text, report.kind.line_kind(), &place, &[*part], bytes)
 }
 

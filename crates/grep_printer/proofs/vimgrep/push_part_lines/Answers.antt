@@ -1,6 +1,6 @@
 use Rattle.std.proofs.Common.{ap, arith, refl, ◌∙◌}
 use Rattle.grep_printer.proofs.PushLemmas.{pushed-more, pushed-none}
-use Rattle.grep_printer.proofs.VimgrepLemmas.{IsListing, line_of_part, listing-more, listing-number}
+use Rattle.grep_printer.proofs.VimgrepLemmas.{IsListing, listing-more}
 use Rattle.grep_printer.specs.VimgrepTexts.{number_after}
 use Rattle.grep_printer.proofs.vimgrep.push_part_lines.Goals as goal
 
@@ -11,14 +11,6 @@ loop-part-init c =
       numbered = λ more. ap (number_after c.args.report.now.number) (omega arith);
       ordered = c.requires.ordered;
     })
-
-pub push_part_line-requires-clause-number : goal.push_part_line-requires-clause-number
-push_part_line-requires-clause-number c =
-    listing-number c.args.layout.now c.args.report.now c.args.text.now.text c.args.parts.now
-    c.loop-part.invariant.bytes c.loop-part.number c.loop-part.position c.loop-part.rest.now c.in-Some.part.now
-    c.in-Some.later.now c.loop-part.invariant.is c.in-Some.ensures.cases.0 c.number_after-number.result
-    (c.number_after-number.ensures ∙ ap (number_after c.loop-part.number)
-    (simp (c.as_byte.ensures, c.start.ensures.value) at c.count.ensures))
 
 pub loop-part-preserved : goal.loop-part-preserved
 loop-part-preserved c =
@@ -32,8 +24,7 @@ loop-part-preserved c =
     let next = c.number_after-number.result in
     rw c.start-position.ensures.value (pushed-more old loop.text c.push_part_line.new.text
     (λ text. IsListing layout report old.text all text loop.number loop.position loop.rest.now)
-    (λ text. IsListing layout report old.text all text next part.0 later) (line_of_part layout report part)
-    loop.invariant c.push_part_line.ensures
-    (listing-more layout report old.text all loop.invariant.bytes loop.number loop.position loop.rest.now part later
-    loop.invariant.is c.in-Some.ensures.cases.0 next (c.number_after-number.ensures ∙ ap (number_after loop.number)
+    (λ text. IsListing layout report old.text all text next part.0 later) _ loop.invariant c.push_part_line.ensures
+    (listing-more layout report old.text all loop.invariant.bytes loop.number loop.position loop.rest.now part later next
+    loop.invariant.is c.in-Some.ensures.cases.0 (c.number_after-number.ensures ∙ ap (number_after loop.number)
     (simp (c.as_byte.ensures, c.start.ensures.value) at c.count.ensures))))
