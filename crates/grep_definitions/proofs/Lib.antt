@@ -34,7 +34,6 @@ pub mod SearchLawLemmas
 pub mod SeenLineLemmas
 pub mod SeenSearchLemmas
 pub mod SelectionLemmas
-pub mod SinkFoldLemmas
 pub mod SinkRunLemmas
 pub mod SuccessiveMatchLemmas
 pub mod TouchLemmas

@@ -3,14 +3,12 @@ pub mod BinaryLaws
 pub mod BuiltSettings
 pub mod CallOrder
 pub mod CountLaws
-pub mod FileSearches
 pub mod LineCalls
 pub mod LineWalks
 pub mod Plans
 pub mod SearchLaws
 pub mod Searches
 pub mod SinkArguments
-pub mod SinkFolds
 pub mod SinkRuns
 pub mod SliceSearches
 pub mod SuccessiveMatches

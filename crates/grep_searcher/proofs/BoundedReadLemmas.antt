@@ -30,7 +30,7 @@ use Rattle.grep_definitions.specs.SearchLaws.{calls_of, is_match, match_calls, m
 use Rattle.grep_definitions.specs.SearchLaws.{reported_to}
 use Rattle.grep_definitions.proofs.DecodedLemmas.{unchanged-input}
 use Rattle.grep_definitions.proofs.MatchCallLemmas.{first_match-is_first}
-use Rattle.grep_definitions.specs.SinkFolds.{IsMatchOk}
+use Rattle.grep_searcher.specs.SinkFolds.{IsMatchOk}
 use Rattle.grep_definitions.specs.SliceSearches.{is_searched_unchanged}
 use Rattle.grep_definitions.proofs.BelowLemmas.{first_below-of}
 use Rattle.grep_definitions.proofs.KnownReaderLemmas.{taken-input}
@@ -38,7 +38,7 @@ use Rattle.grep_definitions.proofs.LineSliceLemmas.{line-report}
 use Rattle.grep_matcher.proofs.LineStartLemmas.{line_start-more}
 use Rattle.grep_definitions.proofs.ListLemmas.{All-joined_from}
 use Rattle.grep_definitions.proofs.SearchLawLemmas.{reports_end-le}
-use Rattle.grep_definitions.proofs.SinkFoldLemmas.{known_readers-run, reader_searches-run}
+use Rattle.grep_searcher.proofs.SinkFoldLemmas.{known_readers-run, reader_searches-run}
 use Rattle.grep_searcher.specs.BoundedReads.{ending_call, EndedKnownReadersStop, EndedReadersStop}
 use Rattle.grep_searcher.specs.BoundedReads.{IsReadUpTo, ReadersFindLines}
 use Rattle.grep_searcher.specs.MatchHandlers.{IsFoundStep, IsHandlerStep}

@@ -9,8 +9,8 @@ use Rattle.grep_definitions.specs.Plans.{line, start, Settings, Call, begins, ma
 use Rattle.grep_definitions.specs.Plans.{breaks, binary_data, finishes}
 use Rattle.grep_definitions.specs.SearchLaws.{match_of, matched_lines}
 use Rattle.grep_definitions.proofs.MatchCallLemmas.{matches-are_matched_lines}
-use Rattle.grep_definitions.specs.SinkFolds.{AreTaken, IsTakenOk}
-use Rattle.grep_definitions.proofs.SinkFoldLemmas.{runs-take_matches}
+use Rattle.grep_searcher.specs.SinkFolds.{AreTaken, IsTakenOk}
+use Rattle.grep_searcher.proofs.SinkFoldLemmas.{runs-take_matches}
 use Rattle.grep_matcher.specs.Meanings.{Meaning}
 use Rattle.grep_searcher.specs.ClosureSinks.{IsClosureStep, IsCalledAt, ClosureSteps}
 use Rattle.grep_searcher.specs.ClosureSinks.{ClosuresAreCalled, KeepsCalls, ClosuresKeep}

@@ -3,7 +3,7 @@ use Rattle.std.proofs.Common.{◌≡◌, ℕ, ◌+◌, ◌<◌, ◌-◌, ◌^◌
 use Rattle.std.proofs.Common.{◌∙◌, arith}
 use Rattle.grep_definitions.specs.Plans.{search_plan, Call}
 use Rattle.grep_definitions.specs.SearchLaws.{match_calls}
-use Rattle.grep_definitions.specs.SinkFolds.{fold_while}
+use Rattle.grep_searcher.specs.SinkFolds.{fold_while}
 use Rattle.grep_searcher.specs.CountSinks.{count_after, RunsCount, RunsCountAll}
 use Rattle.grep_searcher.proofs.UnitCallLemmas.{matches-are_within_count}
 use Rattle.grep_searcher.proofs.MatchHandlerLemmas.{runs-fit, runs-handle}

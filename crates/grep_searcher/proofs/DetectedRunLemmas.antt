@@ -14,11 +14,11 @@ use Rattle.grep_definitions.specs.Plans.{SearcherState, Steps, is_across, refusa
 use Rattle.grep_definitions.specs.Searches.{IsPoint, IsRead, IsSearchOf, IsUnlessRefusedBy, Look}
 use Rattle.grep_definitions.specs.Searches.{asked, look_at, look_of, plan_with, ran, searched_bytes}
 use Rattle.grep_definitions.specs.Searches.{view_in, viewed_plan}
-use Rattle.grep_definitions.specs.SinkFolds.{FailsAtStep}
+use Rattle.grep_searcher.specs.SinkFolds.{FailsAtStep}
 use Rattle.grep_definitions.specs.SliceSearches.{IsSliceRead, IsSliceSearch, IsSliceSearchedIf}
 use Rattle.grep_definitions.proofs.KnownReaderLemmas.{taken-input}
 use Rattle.grep_definitions.proofs.SeenSearchLemmas.{input-search}
-use Rattle.grep_definitions.proofs.SinkFoldLemmas.{made-fails, not-refused}
+use Rattle.grep_searcher.proofs.SinkFoldLemmas.{made-fails, not-refused}
 use Rattle.grep_searcher.specs.DetectedRuns.{DecodedSlicesFailWith, DecodedSlicesRunWith}
 use Rattle.grep_searcher.specs.DetectedRuns.{IsKnownRunWith, IsReaderRunWith, IsRunWith}
 use Rattle.grep_searcher.specs.DetectedRuns.{KnownReadersFailWith, KnownReadersRunWith}

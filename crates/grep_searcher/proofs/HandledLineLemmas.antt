@@ -5,9 +5,9 @@ use Rattle.grep_matcher.specs.Meanings.{MatcherFacts}
 use Rattle.grep_report.specs.ErrorMakers.{ErrorMakers}
 use Rattle.grep_definitions.specs.Plans.{Call, IsRun, search_plan, Settings}
 use Rattle.grep_definitions.specs.Searches.{searched_bytes}
-use Rattle.grep_definitions.specs.SinkFolds.{fold_while}
-use Rattle.grep_definitions.proofs.SinkFoldLemmas.{known_readers-run, reader_searches-run}
-use Rattle.grep_definitions.proofs.SinkFoldLemmas.{searches-run}
+use Rattle.grep_searcher.specs.SinkFolds.{fold_while}
+use Rattle.grep_searcher.proofs.SinkFoldLemmas.{known_readers-run, reader_searches-run}
+use Rattle.grep_searcher.proofs.SinkFoldLemmas.{searches-run}
 use Rattle.grep_searcher.specs.HandledLines.{after_hits, KnownReadersHandleLines}
 use Rattle.grep_searcher.specs.HandledLines.{ReadersHandleLines, SlicesHandleLines}
 use Rattle.grep_searcher.specs.HitLines.{IsFilter}

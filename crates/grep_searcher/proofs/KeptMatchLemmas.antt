@@ -6,7 +6,7 @@ use Rattle.std.proofs.lemmas.List.{append-nil, length-append, length-drop}
 use Rattle.std.specs.Prelude.{nat_lt}
 use Rattle.grep_definitions.specs.Plans.{Call, reported_bytes}
 use Rattle.grep_definitions.specs.SearchLaws.{match_calls}
-use Rattle.grep_definitions.specs.SinkFolds.{fold_while}
+use Rattle.grep_searcher.specs.SinkFolds.{fold_while}
 use Rattle.grep_searcher.specs.MatchHandlers.{kept_of, KeptReport, LacksMemory, last_items}
 use Rattle.grep_searcher.specs.MatchHandlers.{LastReports, RunsKeepBytes, RunsKeepLast, with_bytes}
 use Rattle.grep_searcher.specs.MatchHandlers.{with_last, with_match}

@@ -10,8 +10,8 @@ use Rattle.grep_report.specs.SinkReports.{MatchReport}
 use Rattle.grep_definitions.specs.Plans.{Call, begins, matches, context, breaks, binary_data}
 use Rattle.grep_definitions.specs.Plans.{finishes}
 use Rattle.grep_definitions.specs.SearchLaws.{match_calls}
-use Rattle.grep_definitions.specs.SinkFolds.{AreTaken, IsTakenOk}
-use Rattle.grep_definitions.proofs.SinkFoldLemmas.{runs-take_matches}
+use Rattle.grep_searcher.specs.SinkFolds.{AreTaken, IsTakenOk}
+use Rattle.grep_searcher.proofs.SinkFoldLemmas.{runs-take_matches}
 use Rattle.grep_searcher.specs.LentMatches.{AppendsLentByState, ClosuresAppendByState}
 use Rattle.grep_searcher.specs.LentMatches.{ClosuresAppendMatches, ClosuresAreLent}
 use Rattle.grep_searcher.specs.LentMatches.{ClosuresKeepMatches, ClosuresFailLent, IsLent, IsLentAt}

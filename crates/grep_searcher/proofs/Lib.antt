@@ -14,6 +14,7 @@ pub mod LineFilterLemmas
 pub mod MatchHandlerLemmas
 pub mod PassedCallLemmas
 pub mod SearchFailureLemmas
+pub mod SinkFoldLemmas
 pub mod SourceSearchLemmas
 pub mod UnitCallLemmas
 pub mod ViewLemmas

@@ -5,7 +5,7 @@ use Rattle.grep_matcher.specs.Meanings.{MatcherFacts}
 use Rattle.grep_report.specs.ErrorMakers.{ErrorMakers}
 use Rattle.grep_definitions.specs.Searches.{searched_bytes}
 use Rattle.grep_definitions.proofs.MatchCallLemmas.{matches-are_counted}
-use Rattle.grep_definitions.proofs.SinkFoldLemmas.{known_readers-run, searches-run}
+use Rattle.grep_searcher.proofs.SinkFoldLemmas.{known_readers-run, searches-run}
 use Rattle.grep_searcher.specs.CountSinks.{IsCountStep}
 use Rattle.grep_searcher.proofs.CountSinkLemmas.{runs-count_all}
 use Rattle.grep_searcher.specs.LineCounts.{RunsCountLines, SlicesCountLines, ReadersCountLines}

@@ -14,8 +14,8 @@ use Rattle.grep_definitions.specs.Plans.{IsFinished, IsRun, first_below, line_co
 use Rattle.grep_definitions.specs.Plans.{is_selected, is_touched_selected, Settings}
 use Rattle.grep_definitions.specs.SearchLaws.{match_calls, match_of, is_match, matched_lines}
 use Rattle.grep_definitions.proofs.MatchCallLemmas.{first_match-is_first, matches-are_matched_lines}
-use Rattle.grep_definitions.specs.SinkFolds.{fold_while, IsMatchOk}
-use Rattle.grep_definitions.proofs.SinkFoldLemmas.{runs-fold_matches}
+use Rattle.grep_searcher.specs.SinkFolds.{fold_while, IsMatchOk}
+use Rattle.grep_searcher.proofs.SinkFoldLemmas.{runs-fold_matches}
 use Rattle.grep_searcher.specs.MatchHandlers.{KeptReport, kept_of, with_match, FirstReports}
 use Rattle.grep_searcher.specs.MatchHandlers.{has_room, with_first, IsHandlerStep, LacksMemory}
 use Rattle.grep_searcher.specs.MatchHandlers.{RunsHandle, RunsFit, RunsFailAt, IsFoundStep}

@@ -6,7 +6,7 @@ use Rattle.grep_matcher.specs.Meanings.{MatcherFacts}
 use Rattle.grep_report.specs.ErrorMakers.{ErrorMakers}
 use Rattle.grep_definitions.specs.Plans.{Steps}
 use Rattle.grep_definitions.specs.Searches.{look_of, searched_bytes}
-use Rattle.grep_definitions.specs.SinkFolds.{FailsAtStep}
+use Rattle.grep_searcher.specs.SinkFolds.{FailsAtStep}
 use Rattle.grep_definitions.specs.SliceSearches.{IsUndecoded, is_searched_unchanged}
 use Rattle.grep_searcher.proofs.DetectedRunLemmas.{decoded_slices-fail_with, reader_run-fails}
 use Rattle.grep_searcher.proofs.DetectedRunLemmas.{readers-fail_with, run_with-fails}

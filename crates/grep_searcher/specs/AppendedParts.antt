@@ -5,7 +5,7 @@ use Rattle.grep_matcher.specs.Meanings.{Meaning}
 use Rattle.grep_definitions.specs.Plans.{is_across, search_plan, Call, finishes, Plan, Steps, IsRun}
 use Rattle.grep_definitions.specs.Plans.{Settings}
 use Rattle.grep_definitions.specs.SearchLaws.{calls_of, match_calls, match_of, matched_lines}
-use Rattle.grep_definitions.specs.SinkFolds.{fold_while}
+use Rattle.grep_searcher.specs.SinkFolds.{fold_while}
 use Rattle.grep_searcher.specs.MatchHandlers.{IsHandlerStep}
 
 -- the calls of a run along a plan in which each returns true

@@ -10,7 +10,7 @@ use Rattle.std.specs.declared.io.ErrorKind.TheVariants.{Other, OutOfMemory}
 use Rattle.grep_definitions.specs.Plans.{is_across, search_plan, Call, matches, Plan, Steps, IsRun}
 use Rattle.grep_definitions.specs.Plans.{line, Settings}
 use Rattle.grep_definitions.specs.SearchLaws.{match_calls, matched_lines}
-use Rattle.grep_definitions.specs.SinkFolds.{AreTaken}
+use Rattle.grep_searcher.specs.SinkFolds.{AreTaken}
 use Rattle.grep_matcher.specs.Meanings.{Meaning}
 
 -- The text of a match as the closure gets it, or the error if it gets none.

@@ -5,7 +5,7 @@ use Rattle.grep_matcher.specs.Meanings.{MatcherFacts}
 use Rattle.grep_report.specs.ErrorMakers.{ErrorMakers}
 use Rattle.grep_definitions.specs.Plans.{Call, SearcherState, Settings}
 use Rattle.grep_definitions.specs.Searches.{IsInput, IsReaderSearched, searched_bytes, Taken}
-use Rattle.grep_definitions.specs.SinkFolds.{fold_while}
+use Rattle.grep_searcher.specs.SinkFolds.{fold_while}
 use Rattle.grep_definitions.specs.SliceSearches.{IsSliceSearched}
 use Rattle.grep_searcher.specs.HitLines.{hit_matches, IsFilter}
 use Rattle.grep_searcher.specs.LineCounts.{IsLineSearch}

@@ -7,7 +7,7 @@ use Rattle.grep_report.specs.SinkReports.{MatchReport}
 use Rattle.grep_definitions.specs.Plans.{Call, matches, Plan, Steps, IsRun, Settings}
 use Rattle.grep_definitions.specs.SearchLaws.{match_calls}
 use Rattle.grep_definitions.specs.SinkArguments.{match_call}
-use Rattle.grep_definitions.specs.SinkFolds.{AreTaken}
+use Rattle.grep_searcher.specs.SinkFolds.{AreTaken}
 use Rattle.grep_searcher.specs.MatchHandlers.{KeptReport, kept_of}
 
 module _ {F : Type 0} (call : F → Bor MatchReport → Result Bool Error → F → Type 0) where

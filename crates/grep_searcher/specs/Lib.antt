@@ -3,6 +3,7 @@ pub mod BoundedReads
 pub mod ClosureSinks
 pub mod CountSinks
 pub mod DetectedRuns
+pub mod FileSearches
 pub mod HandledLines
 pub mod HitLines
 pub mod KeptReports
@@ -11,17 +12,16 @@ pub mod LineCounts
 pub mod MatchHandlers
 pub mod PassedCalls
 pub mod SearchFailures
+pub mod SinkFolds
 pub mod Units
 pub use Rattle.grep_definitions.specs.BuiltSettings
 pub use Rattle.grep_definitions.specs.Plans
 pub use Rattle.grep_definitions.specs.Searches
 pub use Rattle.grep_definitions.specs.SliceSearches
-pub use Rattle.grep_definitions.specs.FileSearches
 pub use Rattle.grep_definitions.specs.SearchLaws
 pub use Rattle.grep_definitions.specs.AcrossLaws
 pub use Rattle.grep_definitions.specs.BinaryLaws
 pub use Rattle.grep_definitions.specs.CountLaws
-pub use Rattle.grep_definitions.specs.SinkFolds
 pub use Rattle.grep_definitions.specs.SinkArguments
 pub use Rattle.grep_decode.specs.Labels
 pub use Rattle.grep_decode.specs.Source

@@ -11,7 +11,7 @@ use Rattle.grep_definitions.specs.Plans.{Plan, Steps, IsRun, reported_bytes, rep
 use Rattle.grep_definitions.specs.Plans.{line_count, some_below, is_selected, is_touched_selected}
 use Rattle.grep_definitions.specs.Plans.{Settings}
 use Rattle.grep_definitions.specs.SearchLaws.{is_match, match_calls, match_of, matched_lines}
-use Rattle.grep_definitions.specs.SinkFolds.{fold_while, IsMatchOk, IsTakenBy}
+use Rattle.grep_searcher.specs.SinkFolds.{fold_while, IsMatchOk, IsTakenBy}
 
 -- the byte count of the end fits in 64 bits
 abbrev pub FitsAtEnd : Call → Type 0

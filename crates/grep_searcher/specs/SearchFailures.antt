@@ -8,7 +8,7 @@ use Rattle.grep_report.specs.declared.sink_error.SearchError.{SearchError}
 use Rattle.grep_report.specs.declared.sink_error.SearchError.TheVariants.{Io}
 use Rattle.grep_definitions.specs.Plans.{IsLawful, refusal_of, Steps, Settings, SearcherState}
 use Rattle.grep_definitions.specs.Searches.{IsUnread, IsReaderSearched}
-use Rattle.grep_definitions.specs.SinkFolds.{FailsAtStep}
+use Rattle.grep_searcher.specs.SinkFolds.{FailsAtStep}
 use Rattle.grep_definitions.specs.SliceSearches.{IsSliceSearched, IsUndecoded}
 
 -- the matcher never fails and is lawful for the search, which isn't refused

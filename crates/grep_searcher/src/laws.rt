@@ -34,11 +34,11 @@ ghost use Rattle.grep_searcher.specs.PassedCalls.{ClosuresFailPassed, ClosuresKe
 ghost use Rattle.grep_searcher.specs.SearchFailures.{ReadersFail, SlicesFail};
 ghost use Rattle.grep_searcher.specs.Units.{FirstMatchIsFirstUnit, MatchesAreUnits};
 ghost use Rattle.grep_searcher.specs.Units.{MatchesAreWithinCount, UnitsAreCounted};
-ghost use Rattle.grep_definitions.specs.FileSearches.{IsFileRead};
-ghost use Rattle.grep_definitions.specs.SinkFolds.{RunsFold, RunsFoldAll, RunsFoldMatches};
-ghost use Rattle.grep_definitions.specs.SinkFolds.{SearchesRun, InputsAreSearched};
-ghost use Rattle.grep_definitions.specs.SinkFolds.{ReaderSearchesRun, SearchesFail};
-ghost use Rattle.grep_definitions.specs.SinkFolds.{ReaderSearchesFail, KnownReadersRun};
+ghost use Rattle.grep_searcher.specs.FileSearches.{IsFileRead};
+ghost use Rattle.grep_searcher.specs.SinkFolds.{RunsFold, RunsFoldAll, RunsFoldMatches};
+ghost use Rattle.grep_searcher.specs.SinkFolds.{SearchesRun, InputsAreSearched};
+ghost use Rattle.grep_searcher.specs.SinkFolds.{ReaderSearchesRun, SearchesFail};
+ghost use Rattle.grep_searcher.specs.SinkFolds.{ReaderSearchesFail, KnownReadersRun};
 ghost use Rattle.grep_report.specs.ErrorMakers.{makers_of};
 
 use crate::sink::Sink;

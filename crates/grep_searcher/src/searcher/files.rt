@@ -2,8 +2,8 @@
 ghost use Rattle.std.specs.Prelude.{◌≡◌, true, ℕ, Bool, List, None, IfErr, OnOk};
 ghost use Rattle.std.specs.declared.io.Error.{Error};
 ghost use Rattle.grep_definitions.specs.Plans.{IsLawful, refusal_of, NeverFails};
-ghost use Rattle.grep_definitions.specs.FileSearches.{IsFileRead, IsFileSearched, IsPathInOrder};
-ghost use Rattle.grep_definitions.specs.FileSearches.{IsPathSearched};
+ghost use Rattle.grep_searcher.specs.FileSearches.{IsFileRead, IsFileSearched, IsPathInOrder};
+ghost use Rattle.grep_searcher.specs.FileSearches.{IsPathSearched};
 ghost use Rattle.grep_definitions.specs.Searches.{IsInOrder, IsReadingError, IsUnread};
 ghost use Rattle.grep_matcher.specs.Meanings.{IsInfallible};
 ghost use Rattle.grep_report.specs.ErrorMakers.{makers_of};
@@ -108,7 +108,7 @@ struct Opened<'f, F> {
 }
 
 impl<'f, F: Read> Source for Opened<'f, F> {
-    ghost use Rattle.grep_definitions.specs.FileSearches.{IsFileRead};
+    ghost use Rattle.grep_searcher.specs.FileSearches.{IsFileRead};
 
     ghost remaining = { λ s. F.remaining s.file.now };
 

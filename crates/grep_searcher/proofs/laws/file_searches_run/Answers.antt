@@ -1,4 +1,4 @@
-use Rattle.grep_definitions.proofs.SinkFoldLemmas.{reader_searches-run}
+use Rattle.grep_searcher.proofs.SinkFoldLemmas.{reader_searches-run}
 use Rattle.grep_searcher.proofs.laws.file_searches_run.Goals as goal
 
 pub returns : goal.returns

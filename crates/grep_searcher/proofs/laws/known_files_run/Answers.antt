@@ -1,4 +1,4 @@
-use Rattle.grep_definitions.proofs.SinkFoldLemmas.{known_readers-run}
+use Rattle.grep_searcher.proofs.SinkFoldLemmas.{known_readers-run}
 use Rattle.grep_searcher.proofs.laws.known_files_run.Goals as goal
 
 pub returns : goal.returns

@@ -1,4 +1,4 @@
-use Rattle.grep_definitions.proofs.SinkFoldLemmas.{reader_searches-fail}
+use Rattle.grep_searcher.proofs.SinkFoldLemmas.{reader_searches-fail}
 use Rattle.grep_searcher.proofs.laws.reader_searches_fail.Goals as goal
 
 pub returns : goal.returns

@@ -1,4 +1,4 @@
-use Rattle.grep_definitions.proofs.SinkFoldLemmas.{runs-fold_matches}
+use Rattle.grep_searcher.proofs.SinkFoldLemmas.{runs-fold_matches}
 use Rattle.grep_searcher.proofs.laws.runs_fold_matches.Goals as goal
 
 pub returns : goal.returns

@@ -1,4 +1,4 @@
-use Rattle.grep_definitions.proofs.SinkFoldLemmas.{searches-fail}
+use Rattle.grep_searcher.proofs.SinkFoldLemmas.{searches-fail}
 use Rattle.grep_searcher.proofs.laws.searches_fail.Goals as goal
 
 pub returns : goal.returns

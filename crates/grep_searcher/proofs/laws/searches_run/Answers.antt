@@ -1,4 +1,4 @@
-use Rattle.grep_definitions.proofs.SinkFoldLemmas.{searches-run}
+use Rattle.grep_searcher.proofs.SinkFoldLemmas.{searches-run}
 use Rattle.grep_searcher.proofs.laws.searches_run.Goals as goal
 
 pub returns : goal.returns

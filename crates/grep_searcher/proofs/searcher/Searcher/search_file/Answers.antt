@@ -1,4 +1,4 @@
-use Rattle.grep_definitions.specs.FileSearches.{IsFileRead}
+use Rattle.grep_searcher.specs.FileSearches.{IsFileRead}
 use Rattle.grep_definitions.proofs.ReaderViewLemmas.{IsReaderSearched-seen, IsReadingError-seen}
 use Rattle.grep_definitions.proofs.ReaderViewLemmas.{IsUnread-seen}
 use Rattle.grep_searcher.specs.declared.searcher.files.Opened.{Opened}

@@ -20,10 +20,10 @@ use Rattle.grep_definitions.specs.SliceSearches.{IsSliceSearch, IsSliceRead, IsS
 use Rattle.grep_definitions.specs.SliceSearches.{is_searched_unchanged}
 use Rattle.grep_definitions.specs.SearchLaws.{calls_of, is_match, match_calls}
 use Rattle.grep_definitions.proofs.DecodedLemmas.{unchanged-input}
-use Rattle.grep_definitions.specs.SinkFolds.{fold_while, run_fold, AreTaken, IsTakenOk, IsTakenBy}
-use Rattle.grep_definitions.specs.SinkFolds.{StepsBy, RunsFold, RunsFoldAll, RunsFoldMatches}
-use Rattle.grep_definitions.specs.SinkFolds.{FailsAtStep, SearchesRun, ReaderSearchesRun}
-use Rattle.grep_definitions.specs.SinkFolds.{SearchesFail, ReaderSearchesFail, KnownReadersRun}
+use Rattle.grep_searcher.specs.SinkFolds.{fold_while, run_fold, AreTaken, IsTakenOk, IsTakenBy}
+use Rattle.grep_searcher.specs.SinkFolds.{StepsBy, RunsFold, RunsFoldAll, RunsFoldMatches}
+use Rattle.grep_searcher.specs.SinkFolds.{FailsAtStep, SearchesRun, ReaderSearchesRun}
+use Rattle.grep_searcher.specs.SinkFolds.{SearchesFail, ReaderSearchesFail, KnownReadersRun}
 use Rattle.grep_definitions.proofs.KnownReaderLemmas.{taken-input}
 
 module _ {V : Type 0} (taken : V → Call → Bool → V → Type 0) where
