@@ -329,8 +329,8 @@ module _ {R : Type 0} {remaining : R → Option (List ℕ)} {read_step : R → R
             (quitting.ended-there step stream first (reading.taken k reads-now) _ _ cut-input
             sink.sink made-so_far _ last called ends succeeds (λ limit is_limit passes.
             let few = reading.taken-few k reads-now passes
-            (fill.settled on.rolling.between.unended on.rolling.uncut)
-            (fill.passing on.rolling.between.unended on.rolling.uncut) in
+            (fill.settled on.rolling.between.unended on.rolling.uncut).settled
+            (fill.settled on.rolling.between.unended on.rolling.uncut).passing in
             omega (
               arith,
               few,
@@ -544,8 +544,8 @@ module _ {R : Type 0} {remaining : R → Option (List ℕ)} {read_step : R → R
         (λ limit is passes. omega (
           arith,
           reading.taken-few k reads passes
-              (fill.settled there.rolling.between.unended there.rolling.uncut)
-              (fill.passing there.rolling.between.unended there.rolling.uncut),
+              (fill.settled there.rolling.between.unended there.rolling.uncut).settled
+              (fill.settled there.rolling.between.unended there.rolling.uncut).passing,
           rolls.limit-within fill limit is,
           fill.room,
           reading.length-there held_now there.uncut,

@@ -6,9 +6,9 @@ use Rattle.grep_decode.proofs.DecoderLemmas.{Decodes-append, done-gives, waits-f
 use Rattle.grep_decode.proofs.StartedLemmas as starts
 use Rattle.grep_line_buffer.proofs.GivenLemmas.{fills-continue}
 use Rattle.grep_decode.specs.Decoded.{by_label, found_mark}
-use Rattle.grep_decode.specs.DecoderStates.{DecoderState, Decodes, HasReadNothing, IsDone}
-use Rattle.grep_decode.specs.DecoderStates.{IsSettled, LooksForMark, decode_by, mode_of, IsWaiting}
-use Rattle.grep_decode.specs.DecoderStates.{started, still_to_give}
+use Rattle.grep_decode.specs.DecoderStates.{DecoderState, Decodes, HasReadNothing, HasSettled}
+use Rattle.grep_decode.specs.DecoderStates.{IsDone, IsSettled, IsWaiting, LooksForMark, decode_by}
+use Rattle.grep_decode.specs.DecoderStates.{mode_of, started, still_to_give}
 use Rattle.grep_decode.specs.Source.{ReadResult}
 use Rattle.grep_decode.specs.declared.label.Label.{Label}
 use Rattle.grep_decode.specs.declared.label.Label.TheVariants.{Utf8, Utf16Le, Utf16Be}
@@ -249,9 +249,7 @@ module _ {R : Type 0} (remaining : R → Option (List ℕ)) (step : R → ReadRe
     pub within : IsWithin new.limit new.size
     pub done : (old.has_ended ≡ true → has_quit old ≡ false → IsDone d) → new.has_ended ≡ true
         → has_quit new ≡ false → IsDone d'
-    pub settled : old.has_ended ≡ false → has_quit old ≡ false → IsSettled d'.mode
-    pub passing : old.has_ended ≡ false → has_quit old ≡ false → d'.mode ≡ Passing
-        → (length d'.ready ≤ 3) × (d'.held ≡ [])
+    pub settled : old.has_ended ≡ false → has_quit old ≡ false → HasSettled d'
 
 module _ {R : Type 0} {remaining : R → Option (List ℕ)} {step : R → ReadResult → R → Type 0} where
   -- what a buffer holds after a fill

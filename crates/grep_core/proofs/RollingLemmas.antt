@@ -563,8 +563,8 @@ module _ {R : Type 0} {remaining : R → Option (List ℕ)} {read_step : R → R
             (omega (arith, count, high))));
         ahead = λ limit is passes.
             let few = reading.taken-few k reads-now passes
-            (fill.settled so_far.between.unended so_far.uncut)
-            (fill.passing so_far.between.unended so_far.uncut) in
+            (fill.settled so_far.between.unended so_far.uncut).settled
+            (fill.settled so_far.between.unended so_far.uncut).passing in
             omega (
               arith,
               few,

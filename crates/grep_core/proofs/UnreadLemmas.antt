@@ -13,7 +13,7 @@ use Rattle.grep_line_buffer.specs.declared.fill_error.FillError.TheVariants.{Off
 use Rattle.grep_line_buffer.specs.BufferStates.{BufferState, held_bytes, has_quit, GrowsIfFull}
 use Rattle.grep_line_buffer.specs.BufferStates.{HasNoLine, IsSameBuffer, IsWithin}
 use Rattle.grep_line_buffer.specs.Detections.{detected_bytes}
-use Rattle.grep_line_buffer.specs.Fills.{FailsToFill, FillFails, Fills, IfRead, UnlessRead}
+use Rattle.grep_line_buffer.specs.Fills.{FillFails, Fills, IfRead, ReadFails, UnlessRead}
 use Rattle.grep_matcher.specs.Meanings.{Meaning}
 use Rattle.grep_matcher.specs.Lines.{byte_of}
 use Rattle.grep_definitions.specs.Plans.{is_at, Settings, SearcherState, Steps}
@@ -70,11 +70,8 @@ module _ {R : Type 0} (remaining : R → Option (List ℕ)) (read_step : R → R
       pub within : IsWithin new.limit new.size
       pub fails : FillFails old new error
       pub reads : UnlessRead {X = Bool} (Err error) (Fills remaining read_step old d r new d' r')
-      pub read : IfRead {X = Bool} (Err error) (λ e. FailsToFill remaining read_step e old d r new
+      pub read : IfRead {X = Bool} (Err error) (λ e. ReadFails remaining read_step e old d r new
           d' r')
-      pub uncut : IfRead {X = Bool} (Err error) (λ _. has_quit new ≡ false)
-      pub empty : IfRead {X = Bool} (Err error) (λ _. d'.ready ≡ [])
-      pub waits : IfRead {X = Bool} (Err error) (λ _. IsWaiting d'.mode d'.held)
 
 module _ {R : Type 0} {remaining : R → Option (List ℕ)} {read_step : R → ReadResult → R → Type 0}
     {S E : Type 0}
@@ -250,8 +247,9 @@ module _ {R : Type 0} {remaining : R → Option (List ℕ)} {read_step : R → R
       {r' : R} → IsMadeOf error io → HasNotFilled remaining read_step k old d r new d' r' error
       → IsShortTo r' io
   short-filled (Read e) {r'} made fill = subst (IsShortTo r') (sym made)
-      (short-read fill fill.read.fills fill.uncut fill.fails.0 fill.fails.1 fill.read.unended
-      fill.read.failed fill.empty fill.waits)
+      (short-read fill fill.read.fails.fills fill.read.uncut fill.fails.0 fill.fails.1
+      fill.read.fails.unended fill.read.fails.failed fill.read.waiting.empty
+      fill.read.waiting.waits)
   short-filled HeapLimit made fill = short-by _ made (λ e is. cc) fill fill.reads
   short-filled Offset made fill = short-by _ made (λ e is. cc) fill fill.reads
   short-filled Memory made fill = short-by _ made (λ e is. cc) fill fill.reads

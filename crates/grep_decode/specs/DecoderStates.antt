@@ -97,6 +97,23 @@ IsWaiting (Fresh label sniff) held = ((sniff || is_some label) ≡ true) × (len
 IsWaiting Passing held = held ≡ []
 IsWaiting (Decoding label) held = IsUnfinished label held
 
+-- what reads keep of a decoder: for how many bytes there is room, and how the reader's bytes are
+-- read once a mark was looked for
+pub record IsSameDecoder (old new : DecoderState) : Type 0 where
+  pub capacity : new.capacity ≡ old.capacity
+  pub stays : IsSettled old.mode → new.mode ≡ old.mode
+
+-- after a read that didn't fail: a mark was looked for, and of bytes that pass unchanged none is
+-- held and at most three are ready
+pub record HasSettled (d : DecoderState) : Type 0 where
+  pub settled : IsSettled d.mode
+  pub passing : d.mode ≡ Passing → (length d.ready ≤ 3) × (d.held ≡ [])
+
+-- after a read that failed: no byte is ready, and those that are held wait for more
+pub record WaitsForMore (d : DecoderState) : Type 0 where
+  pub empty : d.ready ≡ []
+  pub waits : IsWaiting d.mode d.held
+
 -- how many bytes more than it gives a read takes from the reader at most, if the bytes pass
 -- unchanged
 abbrev pub runs_ahead : Mode → ℕ

@@ -42,22 +42,7 @@ pub window-same : (shown shown' rest rest' : List ℕ) (offset size size' free f
       binary = binary;
       has_ended = has_ended;
     } in old ≡ new
-window-same shown shown' rest rest' offset size size' free free' limit terminator detection binary
-    has_ended p q r s =
-    let F : List ℕ → List ℕ → ℕ → ℕ → BufferState = λ x y z f. record {
-      shown = x;
-      rest = y;
-      offset = offset;
-      size = z;
-      limit = limit;
-      free = f;
-      terminator = terminator;
-      detection = detection;
-      binary = binary;
-      has_ended = has_ended;
-    } in
-    ap (λ x. F x rest size free) p ∙ ap (λ y. F shown' y size free) q
-    ∙ ap (λ z. F shown' rest' z free) r ∙ ap (F shown' rest' size') s
+window-same shown shown' rest rest' offset size size' free free' limit terminator detection binary has_ended p q r s = grind arith
 
 module _ (start line_end end count found t : ℕ) (bytes : List ℕ) (low : start ≤ line_end)
     (high : line_end ≤ end)
@@ -71,32 +56,18 @@ module _ (start line_end end count found t : ℕ) (bytes : List ℕ) (low : star
 
   -- they are the last ones that aren't shown
   pub drop-last_read : drop ((end - line_end) - count) (slice_range bytes line_end end) ≡ last_read
-  drop-last_read =
-      let at : line_end + ((end - line_end) - count) ≡ end - count = omega arith in
-      drop-slice bytes line_end end ((end - line_end) - count) (omega arith)
-      ∙ ap (λ k. slice_range bytes k end) at
+  drop-last_read = grind (arith, drop-slice)
 
   -- all that is held, however much of it is shown
   pub held-same : found ≤ count → slice_range bytes start ((end - count) + found)
       ++ slice_range bytes ((end - count) + found) end
       ≡ slice_range bytes start line_end ++ slice_range bytes line_end end
-  held-same part = slice-join bytes start ((end - count) + found) end (omega arith) (omega arith)
-      ∙ sym (slice-join bytes start line_end end low high)
+  held-same part = grind (arith, slice-join)
 
   -- the last byte shown is the terminator
   pub EndsWith-shown : 0 < found → found ≤ count → slice_index last_read (found - 1) ≡ t
       → EndsWith t (slice_range bytes start ((end - count) + found))
-  EndsWith-shown some part is =
-      let top = (end - count) + found in
-      let len : length (slice_range bytes start top) ≡ top - start = length-slice bytes start top
-      (omega arith) in
-      let at : start + (top - start - 1) ≡ (end - count) + (found - 1) = omega arith in
-      let here : top - start - 1 < top - start = omega arith in
-      let there : found - 1 < end - (end - count) = omega arith in
-      let last : slice_index (slice_range bytes start top) (top - start - 1) ≡ t =
-      slice_index-slice bytes start top (top - start - 1) here ∙ ap (slice_index bytes) at
-      ∙ sym (slice_index-slice bytes (end - count) end (found - 1) there) ∙ is in
-      record { some = rw len (omega arith); last = rw len last }
+  EndsWith-shown some part is = grind (arith, length-slice, slice_index-slice)
 
   -- what follows the shown bytes has no terminator
   pub Lacks-rest : found ≤ count → Lacks t (drop found last_read)
@@ -147,26 +118,14 @@ module _ {t : ℕ} {old new : BufferState} (ends_at : old.terminator ≡ t) wher
   pub closed-filled : (later : List ℕ) → IsUncut old new → (new.has_ended ≡ true → later ≡ [])
       → 0 < length (new.rest ++ later) → IsEnded t new.shown
   closed-filled later (inl line) done some = λ _. line.ends.last ∙ ends_at
-  closed-filled later (inr end) done some =
-      absurd (omega (
-        arith,
-        some,
-        length-append new.rest later,
-        ap length end.all,
-        ap length (done end.ended),
-      ))
+  closed-filled later (inr end) done some = grind (arith, length-append)
 
   -- nothing follows if it shows no more lines, or an unterminated one
   pub last-filled : (later : List ℕ) → IsUncut old new → (new.has_ended ≡ true → later ≡ [])
       → (length old.shown ≡ length new.shown) ⊎ (IsEnded t new.shown → ⊥) → new.rest ++ later ≡ []
-  last-filled later (inl line) done (inl same) = absurd (omega (
-    arith,
-    same,
-    line.came,
-    length-append old.shown old.rest,
-  ))
-  last-filled later (inl line) done (inr broken) = absurd (broken (λ _. line.ends.last ∙ ends_at))
-  last-filled later (inr end) done last = ap (λ xs. xs ++ later) end.all ∙ done end.ended
+  last-filled later (inl line) done (inl same) = grind (arith, length-append)
+  last-filled later (inl line) done (inr broken) = grind arith
+  last-filled later (inr end) done last = grind arith
 
   -- if it shows whole lines, and more than before, the end wasn't seen
   pub unended-filled : (given : List ℕ) → held_bytes new ≡ held_bytes old ++ given

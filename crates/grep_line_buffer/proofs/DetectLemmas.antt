@@ -29,23 +29,7 @@ pub Detects-made : (count : ℕ) (old new : BufferState) (front last made : List
     → free + length (old.shown ++ (front ++ made)) ≡ old.free + length (held_bytes old)
     → Detects count old new
 Detects-made count old new front last made free binary split counted is changed found sum =
-    let at : length old.rest - count ≡ length front =
-    omega (arith, ap (λ l. length l) split, length-append front last, counted) in
-    let before : take (length old.rest - count) old.rest ≡ front =
-    ap (λ n. take n old.rest) at ∙ ap (take (length front)) split ∙ take-append_seam front last in
-    let after : drop (length old.rest - count) old.rest ≡ last =
-    ap (λ n. drop n old.rest) at ∙ ap (drop (length front)) split ∙ drop_at front last _ refl in
-    subst (Detects count old) (sym changed) (record {
-      appended = ap (λ l. front ++ l) is
-          ∙ ap (λ l. l ++ detected_bytes old.detection old.terminator last) (sym before)
-          ∙ ap (λ l. take (length old.rest - count) old.rest
-          ++ detected_bytes old.detection old.terminator l) (sym after);
-      found = found ∙ ap (λ l. first_of old.binary
-          (option_map (λ i. old.offset + (length (held_bytes old) - count) + i)
-          (found_in old.detection old.terminator l))) (sym after);
-      free = sum;
-      others = refl;
-    })
+    grind (arith, length-append, take-append_seam, drop_at)
 
 module _ (start line_end end count : ℕ) (bytes : List ℕ) (low : start ≤ line_end) (high : line_end
     ≤ end)
@@ -105,12 +89,15 @@ module _ (start line_end end count : ℕ) (bytes : List ℕ) (low : start ≤ li
 
     length-changed : length changed ≡ length bytes
     length-changed =
-        let front : length (take (end - count) bytes)
-        ≡ end - count = length-take-le (end - count) bytes (omega arith) in
-        ap (λ l. length l) (sym (take-append-drop end changed)
-        ∙ ap (λ l. l ++ drop end changed) changed-end
-        ∙ ap (λ l. (take (end - count) bytes ++ made) ++ l) changed-back)
-        ∙ rw (length-append, length-append, front, counted, length-drop) (omega arith)
+        grind (
+          arith,
+          length-take-le,
+          take-append-drop,
+          changed-end,
+          changed-back,
+          length-append,
+          length-drop,
+        )
 
     changed-rest : slice_range changed line_end end ≡ slice_range bytes line_end (end - count)
         ++ made
@@ -136,21 +123,18 @@ module _ (start line_end end count : ℕ) (bytes : List ℕ) (low : start ≤ li
           ++ slice_range bytes line_end end)
 
     pub is-changed : (now : List ℕ) → now ≡ changed → IsChanged now
-    is-changed now is = subst IsChanged (sym is) (record {
-      size = length-changed;
-      shown = slice-kept bytes changed start line_end (end - count) changed-front (omega arith);
-      rest = changed-rest;
-      sum = omega (
-        arith,
-        length-held,
-        length-append (slice_range bytes start line_end) (slice_range bytes line_end (end - count)
-            ++ made),
-        length-append (slice_range bytes line_end (end - count)) made,
-        length-slice bytes start line_end (omega arith),
-        length-slice bytes line_end (end - count) (omega arith),
-        counted,
-      );
-    })
+    is-changed now is =
+        grind (
+          arith,
+          size,
+          length-changed,
+          slice-kept,
+          changed-front,
+          changed-rest,
+          length-held,
+          length-append,
+          length-slice,
+        )
 
 -- nothing was found
 pub nothing-found : (before found : Option ℕ) (f : ℕ → ℕ) → found ≡ None → before
@@ -167,14 +151,7 @@ quit-none b t bytes none =
 
 pub quit-at : (b t : ℕ) (bytes : List ℕ) (at : ℕ) → position (λ x. x == b) bytes ≡ Some at
     → take at bytes ≡ detected_bytes (Quit b) t bytes
-quit-at b t bytes at is = by (passes-or-not (λ x. x == b) bytes)
-  where
-    by : (position_or_len (λ x. x == b) bytes < length bytes)
-        ⊎ (position_or_len (λ x. x == b) bytes ≡ length bytes)
-        → take at bytes ≡ take (position_or_len (λ x. x == b) bytes) bytes
-    by (inl some) = ap (λ n. take n bytes)
-        (same_Some _ _ (sym is ∙ position-at (λ x. x == b) bytes some))
-    by (inr all) = absurd (none-some at (sym (position-missing (λ x. x == b) bytes all) ∙ is))
+quit-at b t bytes at is = grind arith
 
 -- a buffer that isn't cut found no byte before
 pub found-first : (before : Option ℕ) → (true && is_some before) ≡ false → before ≡ None

@@ -19,28 +19,20 @@ use Rattle.grep_line_buffer.specs.Detections.{detected_bytes, found_in, first_of
 -- a number that is at most another is below it or the same
 below-or-same : (a b : ℕ) → a ≤ b → (t : Bool) → nat_lt a b ≡ t → (a < b) ⊎ (a ≡ b)
 below-or-same a b most true is = inl (ltb-true a b is)
-below-or-same a b most false is =
-    inr (omega (arith, most, not_below))
-  where
-    not_below : ¬ (a < b)
-    not_below below = false≢true (sym is ∙ lt-ltb a b below)
+below-or-same a b most false is = grind (arith, false≢true, lt-ltb)
 
 unlike : (a b : ℕ) → a < b → eqb a b ≡ false
 unlike a b below = false_from_ne_true (eqb a b)
     (λ same. absurd (omega (arith, below, eqb-true a b same)))
 
 take-later : (l : List ℕ) (n : ℕ) (m : List ℕ) → take (length l + n) (l ++ m) ≡ l ++ take n m
-take-later l n m = take-add (length l) n (l ++ m)
-    ∙ ap (λ k. k ++ take n (drop (length l) (l ++ m))) (take-append_seam l m)
-    ∙ ap (λ k. l ++ take n k) (drop_at l m _ refl)
+take-later l n m = grind (arith, take-add, take-append_seam, drop_at)
 
 module _ (p : ℕ → Bool) where
   -- whether a byte passes
   pub passes-or-not : (xs : List ℕ) → (position_or_len p xs < length xs)
       ⊎ (position_or_len p xs ≡ length xs)
-  passes-or-not xs =
-      below-or-same (position_or_len p xs) (length xs) (prefix_len-le-length (λ x. not (p x)) xs)
-      (nat_lt (position_or_len p xs) (length xs)) refl
+  passes-or-not xs = grind (arith, below-or-same, prefix_len-le-length, nat_lt)
 
   pub position-at : (xs : List ℕ) → position_or_len p xs < length xs → position p xs
       ≡ Some (position_or_len p xs)
@@ -64,23 +56,11 @@ module _ (p : ℕ → Bool) where
       → (position_or_len p ys < length ys) ⊎ (position_or_len p ys ≡ length ys)
       → position p (xs ++ ys)
       ≡ first_of (position p xs) (option_map (λ i. length xs + i) (position p ys))
-  position-append-by xs ys (inl some) other =
-      let at = first-same xs ys some in
-      position-at (xs ++ ys) (omega (arith, at, some, length-append xs ys)) ∙ ap Some at
-      ∙ ap (λ o. first_of o (option_map (λ i. length xs + i) (position p ys)))
-      (sym (position-at xs some))
+  position-append-by xs ys (inl some) other = grind (arith, first-same, position-at, length-append)
   position-append-by xs ys (inr none) (inl some) =
-      let at = first-later xs ys none in
-      position-at (xs ++ ys) (omega (arith, at, some, length-append xs ys)) ∙ ap Some at
-      ∙ ap (λ o. option_map (λ i. length xs + i) o) (sym (position-at ys some))
-      ∙ ap (λ o. first_of o (option_map (λ i. length xs + i) (position p ys)))
-      (sym (position-missing xs none))
+      grind (arith, position-at, length-append, first-later, position-missing)
   position-append-by xs ys (inr none) (inr missing) =
-      let at = first-later xs ys none in
-      position-missing (xs ++ ys) (omega (arith, at, missing, length-append xs ys))
-      ∙ ap (λ o. option_map (λ i. length xs + i) o) (sym (position-missing ys missing))
-      ∙ ap (λ o. first_of o (option_map (λ i. length xs + i) (position p ys)))
-      (sym (position-missing xs none))
+      grind (arith, length-append, first-later, position-missing)
 
   -- the first byte that passes
   pub position-append : (xs ys : List ℕ) → position p (xs ++ ys)
@@ -103,13 +83,7 @@ pub found-append : (detection : Detection) (t : ℕ) (xs ys : List ℕ)
     (option_map (λ i. length xs + i) (found_in detection t ys))
 found-append no_detection t xs ys = refl
 found-append (Quit b) t xs ys = position-append (λ x. x == b) xs ys
-found-append (Convert b) t xs ys = by (b == t)
-  where
-    by : (same : Bool) → (if same then None else position (λ x. x == b) (xs ++ ys))
-        ≡ first_of (if same then None else position (λ x. x == b) xs)
-        (option_map (λ i. length xs + i) (if same then None else position (λ x. x == b) ys))
-    by true = refl
-    by false = position-append (λ x. x == b) xs ys
+found-append (Convert b) t xs ys = grind (arith, position-append)
 
 -- bytes that none of `Quit` is among are all held
 pub detected_bytes-append : (detection : Detection) (t : ℕ) (xs ys : List ℕ)
@@ -117,22 +91,16 @@ pub detected_bytes-append : (detection : Detection) (t : ℕ) (xs ys : List ℕ)
     → detected_bytes detection t (xs ++ ys) ≡ detected_bytes detection t xs
     ++ detected_bytes detection t ys
 detected_bytes-append no_detection t xs ys none = refl
-detected_bytes-append (Convert b) t xs ys none = map-append (λ x. if x == b then t else x) xs ys
+detected_bytes-append (Convert b) t xs ys none = grind (arith, map-append)
 detected_bytes-append (Quit b) t xs ys none =
-    let p : ℕ → Bool = λ x. x == b in
-    let all = all-before p xs (none refl) in
-    ap (λ n. take n (xs ++ ys)) (first-later p xs ys all) ∙ take-later xs (position_or_len p ys) ys
-    ∙ ap (λ l. l ++ take (position_or_len p ys) ys)
-    (sym (take_all (position_or_len p xs) xs (omega (arith, all))))
+    grind (arith, all-before, first-later, take-later, take_all)
 
 -- if none was found, as many bytes are held
 pub length-detected_bytes : (detection : Detection) (t : ℕ) (xs : List ℕ) → found_in detection t xs
     ≡ None → length (detected_bytes detection t xs) ≡ length xs
 length-detected_bytes no_detection t xs none = refl
-length-detected_bytes (Quit b) t xs none =
-    ap (λ l. length l) (take_all (position_or_len (λ x. x == b) xs) xs
-    (omega (arith, all-before (λ x. x == b) xs none)))
-length-detected_bytes (Convert b) t xs none = length-map xs (λ x. if x == b then t else x)
+length-detected_bytes (Quit b) t xs none = grind (arith, take_all, all-before)
+length-detected_bytes (Convert b) t xs none = grind (arith, length-map)
 
 -- a buffer that isn't cut found no byte of `Quit`
 pub uncut-none : (detection : Detection) (binary : Option ℕ) → (is_quit detection && is_some binary)
@@ -151,11 +119,7 @@ detected_bytes-nil (Convert b) t = refl
 pub found-nil : (detection : Detection) (t : ℕ) → found_in detection t [] ≡ None
 found-nil no_detection t = refl
 found-nil (Quit b) t = refl
-found-nil (Convert b) t = by (b == t)
-  where
-    by : (same : Bool) → (if same then None else position (λ x. x == b) []) ≡ None
-    by true = refl
-    by false = refl
+found-nil (Convert b) t = grind arith
 
 pub first_of-none : (before : Option ℕ) → first_of before None ≡ before
 first_of-none None = refl
@@ -175,16 +139,8 @@ pub detected_bytes-cut : (detection : Detection) (t : ℕ) (xs ys : List ℕ) �
     → detected_bytes detection t (xs ++ ys) ≡ detected_bytes detection t xs
 detected_bytes-cut no_detection t xs ys quits n found = absurd (false≢true quits)
 detected_bytes-cut (Convert b) t xs ys quits n found = absurd (false≢true quits)
-detected_bytes-cut (Quit b) t xs ys quits n found = by (passes-or-not (λ x. x == b) xs)
-  where
-    by : (position_or_len (λ x. x == b) xs < length xs)
-        ⊎ (position_or_len (λ x. x == b) xs ≡ length xs)
-        → take (position_or_len (λ x. x == b) (xs ++ ys)) (xs ++ ys)
-        ≡ take (position_or_len (λ x. x == b) xs) xs
-    by (inl some) =
-        ap (λ m. take m (xs ++ ys)) (first-same (λ x. x == b) xs ys some)
-        ∙ take-append-le (position_or_len (λ x. x == b) xs) xs ys (omega (arith, some))
-    by (inr all) = absurd (none-some n (sym (position-missing (λ x. x == b) xs all) ∙ found))
+detected_bytes-cut (Quit b) t xs ys quits n found =
+    grind (arith, passes-or-not, first-same, take-append-le, none-some, position-missing)
 
 -- the offset of the first binary byte among those that came and the next
 pub found-next : (detection : Detection) (t base rest : ℕ) (raw given : List ℕ)
@@ -193,20 +149,7 @@ pub found-next : (detection : Detection) (t base rest : ℕ) (raw given : List �
     → (found_in detection t raw ≡ None → rest ≡ length raw)
     → made ≡ first_of now (option_map (λ i. base + rest + i) (found_in detection t given))
     → made ≡ first_of old (option_map (λ i. base + i) (found_in detection t (raw ++ given)))
-found-next detection t base rest raw given old now made was len is =
-    is ∙ ap (λ o. first_of o (option_map (λ i. base + rest + i) (found_in detection t given))) was
-    ∙ by old (found_in detection t raw) refl (found_in detection t given)
-    ∙ ap (λ o. first_of old (option_map (λ i. base + i) o))
-    (sym (found-append detection t raw given))
-  where
-    by : (old first : Option ℕ) → found_in detection t raw ≡ first → (later : Option ℕ)
-        → first_of (first_of old (option_map (λ i. base + i) first))
-        (option_map (λ i. base + rest + i) later) ≡ first_of old (option_map (λ i. base + i)
-        (first_of first (option_map (λ i. length raw + i) later)))
-    by (Some n) first same later = refl
-    by None (Some m) same later = refl
-    by None None same None = refl
-    by None None same (Some i) = ap Some (omega (arith, len same))
+found-next detection t base rest raw given old now made was len is = grind (arith, found-append)
 
 pub first-none : (first other : Option ℕ) → first_of first other ≡ None → first ≡ None
 first-none None other none = refl

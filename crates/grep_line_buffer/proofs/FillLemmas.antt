@@ -28,8 +28,10 @@ use Rattle.grep_line_buffer.specs.BufferStates.{stream, Lacks, IsWithin, IsSameB
 use Rattle.grep_line_buffer.specs.BufferStates.{KeepsStream, EndsWith, ShowsLine, IsFilled}
 use Rattle.grep_line_buffer.specs.BufferStates.{HasNoLine}
 use Rattle.grep_line_buffer.specs.Fills.{Fills, FailsToFill, FillFails, PassesOffsets, IsAtLimit}
-use Rattle.grep_line_buffer.specs.Fills.{HasWaitedForLine, MayGrow}
-use Rattle.grep_line_buffer.specs.Appends.{Appends, Detects, FailsToRead}
+use Rattle.grep_line_buffer.specs.Fills.{HasShown, HasWaitedForLine, KeepsInput, MayGrow}
+use Rattle.grep_line_buffer.specs.Fills.{ReadFails}
+use Rattle.grep_line_buffer.specs.Appends.{Appends, Detects, FailsToRead, Reads}
+use Rattle.grep_decode.proofs.DecoderLemmas.{reads-fail}
 use Rattle.grep_line_buffer.specs.Room.{IsFullFault}
 use Rattle.grep_line_buffer.proofs.ReadLemmas.{HasRead, HasRead-none, HasRead-more, HasRead-failed}
 use Rattle.grep_line_buffer.proofs.FillPartLemmas.{Keeps-same, Lacks-more, binary_of, detection_of}
@@ -80,31 +82,15 @@ module _ {R : Type 0} (remaining : R → Option (List ℕ)) (step : R → ReadRe
       → IsWithin old.limit old.size → old.offset + length (held_bytes old) < 2 ^ 64 → has_quit old
       ≡ false → HasNone old d r now d r
   HasNone-first old now d r free none is rolled unended within offset uncut =
-      let all : held_bytes old ++ [] ≡ held_bytes old = append-nil (held_bytes old) in
-      let found : old.binary ≡ found_after old [] =
-      sym (ap (λ o. first_of old.binary (option_map (λ i. old.offset + length (held_bytes old) + i)
-      o)) (found-nil old.detection old.terminator) ∙ first_of-none old.binary) in
-      subst (λ w. HasNone old d r w d r) (sym is) (record {
-        filling = record {
-          raw = [];
-          came = sym (detected_bytes-nil old.detection old.terminator);
-          found = found;
-          uncut = uncut;
-          shown = refl;
-          unended = unended;
-          same = record { offset = refl; limit = refl; terminator = refl; detection = refl };
-          rolled = rw all rolled;
-          fits = omega (arith, rolled);
-          within = within;
-          grows = inl refl;
-          read = HasRead-none remaining step d r none;
-        };
-        none = λ k x below. absurd (omega arith);
-        offset = rw all offset;
-        going = uncut;
-        begun = λ nothing. inl (refl, refl);
-        waited = inl refl;
-      })
+      grind (
+        arith,
+        append-nil,
+        found_after,
+        found-nil,
+        first_of-none,
+        detected_bytes-nil,
+        HasRead-none,
+      )
 
   -- it goes on with more room
   pub HasNone-room : (old now made : BufferState) (d d1 : DecoderState) (r r1 : R) (size free : ℕ)
@@ -115,62 +101,13 @@ module _ {R : Type 0} (remaining : R → Option (List ℕ)) (step : R → ReadRe
       } → free + length (held_bytes made) ≡ size → IsWithin made.limit size
       → (size ≡ now.size) ⊎ (now.size < size) × (now.free ≡ 0) × (size ≤ 2 * now.size + 1)
       → HasNone old d r made d1 r1
-  HasNone-room old now made d d1 r r1 size free before is rolled within grows =
-      let next : BufferState = record now { size = size; free = free } in
-      let f = before.filling in
-      let len : ℕ = length (held_bytes now) in
-      subst (λ w. HasNone old d r w d1 r1) (sym is) (record {
-        filling = record {
-          raw = f.raw;
-          came = f.came;
-          found = f.found;
-          uncut = f.uncut;
-          shown = f.shown;
-          unended = f.unended;
-          same = record {
-            offset = f.same.offset;
-            limit = f.same.limit;
-            terminator = f.same.terminator;
-            detection =
-                f.same.detection;
-          };
-          rolled = subst (λ w. free + length (held_bytes w) ≡ size) is rolled;
-          fits = fits grows;
-          within = subst (λ w. IsWithin w.limit size) is within;
-          grows = grows-more old now next f.grows refl (grew grows);
-          read = f.read;
-        };
-        none = before.none;
-        offset = before.offset;
-        going = before.going;
-        begun = before.begun;
-        waited = before.waited;
-      })
-    where
-      fits : (size ≡ now.size) ⊎ (now.size < size) × (now.free ≡ 0) × (size ≤ 2 * now.size + 1)
-          → length (held_bytes old) + length before.filling.raw ≤ size
-      fits (inl same) = omega (arith, before.filling.fits, same)
-      fits (inr more) = omega (arith, before.filling.fits, more.0)
-
-      grew : (size ≡ now.size) ⊎ (now.size < size) × (now.free ≡ 0) × (size ≤ 2 * now.size + 1)
-          → (size ≡ now.size) ⊎ (now.size < size) × (now.size ≤ length (held_bytes now))
-          × (size ≤ 2 * length (held_bytes now) + 1)
-      grew (inl same) = inl same
-      grew (inr more) =
-          let full : length (held_bytes now) ≡ now.size =
-          omega (arith, before.filling.rolled, more.1) in
-          inr (more.0, omega (arith, full), omega (arith, full, more.2))
+  HasNone-room old now made d d1 r r1 size free before is rolled within grows = grind arith
 
   -- nothing that ends the input was among the bytes that came
   going-none : (old now : BufferState) (d d1 : DecoderState) (r r1 : R)
       → (f : IsFilling old d r now d1 r1) → has_quit now ≡ false
       → is_quit old.detection ≡ true → found_in old.detection old.terminator f.raw ≡ None
-  going-none old now d d1 r r1 f going quits =
-      let none : now.binary ≡ None =
-      uncut-none old.detection now.binary (ap (λ x. is_quit x && is_some now.binary)
-      (sym f.same.detection) ∙ going) quits in
-      first-missing old.binary (found_in old.detection old.terminator f.raw) (λ i. old.offset
-      + length (held_bytes old) + i) (sym f.found ∙ none)
+  going-none old now d d1 r r1 f going quits = grind arith
 
   -- so there was none before a read that calls the reader
   HasNone-last : (old now : BufferState) (d d1 : DecoderState) (r r1 r2 : R)
@@ -178,28 +115,7 @@ module _ {R : Type 0} (remaining : R → Option (List ℕ)) (step : R → ReadRe
       → 0 < now.free → HasWaited remaining step d1 r1 r2 → HasWaitedForLine remaining step old d r
       r2
   HasNone-last old now d d1 r r1 r2 before some last =
-      let f = before.filling in
-      let uncut = going-none old now d d1 r r1 f before.going in
-      let P : List ℕ → Type 0 = Lacks old.terminator in
-      record {
-        given = f.raw;
-        waiting = d1;
-        mid = r1;
-        decodes = f.read.decodes;
-        unended = subst P f.came before.none;
-        uncut = uncut;
-        room = λ limit is. omega (
-          arith,
-          some,
-          f.rolled,
-          subst (λ m. IsWithin m now.size) (f.same.limit ∙ is) f.within,
-          ap (λ l. length (l ++ now.rest)) f.shown,
-          length-append (held_bytes old) now.rest,
-          ap (λ l. length l) f.came,
-          length-uncut old.detection old.terminator f.raw uncut,
-        );
-        last = last;
-      }
+      grind (arith, going-none, length-append, length-uncut)
 
   pub HasNone-waited : (old now : BufferState) (d d1 : DecoderState) (r r1 r2 : R)
       → HasNone old d r now d1 r1 → 0 < now.free → (r2 ≡ r1) ⊎ HasWaited remaining step d1 r1 r2
@@ -241,35 +157,7 @@ module _ {R : Type 0} (remaining : R → Option (List ℕ)) (step : R → ReadRe
       → (came : Appends remaining step count now d1 r1 next d2 r2) → Detects count next made
       → Comes count now came.given made
   Comes-detected now next made d1 d2 r1 r2 count came changed =
-      let grown : BufferState = record now {
-        rest = now.rest ++ came.given;
-        free = now.free - count;
-      } in
-      let len : length (now.rest ++ came.given) - count
-      ≡ length now.rest = omega (arith, length-append now.rest came.given, came.counted) in
-      let front : take (length (now.rest ++ came.given) - count) (now.rest ++ came.given)
-      ≡ now.rest =
-      ap (λ n. take n (now.rest ++ came.given)) len ∙ take-append_seam now.rest came.given in
-      let back : drop (length (now.rest ++ came.given) - count) (now.rest ++ came.given)
-      ≡ came.given =
-      ap (λ n. drop n (now.rest ++ came.given)) len ∙ drop_at now.rest came.given _ refl in
-      let all : length (now.shown ++ (now.rest ++ came.given)) ≡ length (held_bytes now) + count =
-      rw (length-append, length-append, length-append, came.counted) (omega arith) in
-      let base : length (now.shown ++ (now.rest ++ came.given)) - count ≡ length (held_bytes now) =
-      omega (arith, all) in
-      let of : Detects count grown made = subst (λ w. Detects count w made) came.appended changed in
-      record {
-        rest = of.appended ∙ ap (λ l. l ++ detected_bytes now.detection now.terminator
-            (drop (length (now.rest ++ came.given) - count) (now.rest ++ came.given))) front
-            ∙ ap (λ l. now.rest ++ detected_bytes now.detection now.terminator l) back;
-        binary = of.found ∙ ap (λ l. first_of now.binary (option_map (λ i. now.offset +
-            (length (now.shown ++ (now.rest ++ came.given)) - count) + i)
-            (found_in now.detection now.terminator l))) back
-            ∙ ap (λ n. first_of now.binary (option_map (λ i. now.offset + n + i)
-            (found_in now.detection now.terminator came.given))) base;
-        whole = omega (arith, of.free, all, came.fits);
-        others = of.others;
-      }
+      grind (arith, length-append, take-append_seam, drop_at)
 
   -- it goes on with one read
   pub IsFilling-more : (old now next made : BufferState) (d d1 d2 : DecoderState) (r r1 r2 : R)
@@ -340,36 +228,17 @@ module _ {R : Type 0} (remaining : R → Option (List ℕ)) (step : R → ReadRe
   pub record Outcome (old : BufferState) (d : DecoderState) (r : R) (new : BufferState)
       (d' : DecoderState) (r' : R) :
       Type 0 where
-    pub same : IsSameBuffer old new
-    pub within : IsWithin new.limit new.size
-    pub grows : GrowsIfFull old new
-    pub capacity : d'.capacity ≡ d.capacity
+    pub keeps : KeepsInput remaining step old d r new d' r'
     pub reads : Fills remaining step old d r new d' r'
-    pub stream : KeepsStream old new (yet d (remaining r)) (yet d' (remaining r'))
     pub ahead : has_quit new ≡ false → d'.mode ≡ Passing
         → TakesAtMost (remaining r) (remaining r') (length (held_bytes new)
         - length (held_bytes old) + runs_ahead d.mode)
-    pub stays : IsSettled d.mode → d'.mode ≡ d.mode
 
   -- a buffer is cut exactly if the byte was among those that came
   cut-found : (old now : BufferState) (d d1 : DecoderState) (r r1 : R)
       → (f : IsFilling old d r now d1 r1) → has_quit now ≡ true → (is_quit old.detection ≡ true)
       × ((n : ℕ) × (found_in old.detection old.terminator f.raw ≡ Some n))
-  cut-found old now d d1 r r1 f cut = by old.detection old.binary
-      (found_in old.detection old.terminator f.raw) refl
-      (sym (ap (λ x. is_quit x && is_some now.binary) f.same.detection) ∙ cut) f.found f.uncut
-    where
-      by : (D : Detection) (before later : Option ℕ) → found_in old.detection old.terminator f.raw
-          ≡ later → (is_quit D && is_some now.binary) ≡ true
-          → now.binary ≡ first_of before (option_map (λ i. old.offset + length (held_bytes old) + i)
-          later) → (is_quit D && is_some before) ≡ false → (is_quit D ≡ true)
-          × ((n : ℕ) × (found_in old.detection old.terminator f.raw ≡ Some n))
-      by (Quit b) before (Some n) same cut found uncut = (refl, (n, same))
-      by (Quit b) None None same cut found uncut =
-          absurd (false≢true (sym (ap (λ o. is_some o) found) ∙ cut))
-      by (Quit b) (Some m) None same cut found uncut = absurd (false≢true (sym uncut))
-      by no_detection before later same cut found uncut = absurd (false≢true cut)
-      by (Convert b) before later same cut found uncut = absurd (false≢true cut)
+  cut-found old now d d1 r r1 f cut = grind arith
 
   stream-filled : (old now new : BufferState) (d d' : DecoderState) (r r' : R)
       → (f : IsFilling old d r now d' r') (after : Option (List ℕ))
@@ -378,22 +247,7 @@ module _ {R : Type 0} (remaining : R → Option (List ℕ)) (step : R → ReadRe
       → new.terminator ≡ old.terminator → Consumes (yet d (remaining r)) after f.raw
       → KeepsStream old new (yet d (remaining r)) after
   stream-filled old now new d d' r r' f after is cut same-d same-t gives =
-      let D = old.detection in
-      let t = old.terminator in
-      let before = yet d (remaining r) in
-      let was : coming_to old before ≡ option_map (detected_bytes D t) before =
-      ap (λ b. if b then Some [] else option_map (detected_bytes D t) before) f.uncut in
-      let will : coming_to new after
-      ≡ (if has_quit new then Some [] else option_map (detected_bytes D t) after) =
-      ap (λ x. if has_quit new then Some [] else option_map (detected_bytes x new.terminator) after)
-      same-d
-      ∙ ap (λ x. if has_quit new then Some [] else option_map (detected_bytes D x) after) same-t in
-      subst (λ c. Keeps (prepend_known (held_bytes old) c) (stream new after)) (sym was)
-      (subst (λ c. Keeps (prepend_known (held_bytes old) (option_map (detected_bytes D t) before))
-      (prepend_known (held_bytes new) c)) (sym will)
-      (stream-moved D t before after (held_bytes old) f.raw (held_bytes new) (has_quit new) is
-      (λ going. going-none old now d d' r r' f (sym cut ∙ going))
-      (λ ended. cut-found old now d d' r r' f (sym cut ∙ ended)) gives))
+      grind (arith, stream-moved, going-none, cut-found)
 
   pub IsFilling-outcome : (old now new : BufferState) (d d' : DecoderState) (r r' : R)
       → IsFilling old d r now d' r'
@@ -411,15 +265,20 @@ module _ {R : Type 0} (remaining : R → Option (List ℕ)) (step : R → ReadRe
       (going-none old now d d' r r' f (sym cut ∙ going)) in
       rw (is, length-append) (omega (arith, full)) in
       record {
-        same = record {
-          offset = same.offset ∙ f.same.offset;
-          limit = same.limit ∙ f.same.limit;
-          terminator = same.terminator ∙ f.same.terminator;
-          detection = same.detection ∙ f.same.detection;
+        keeps = record {
+          same = record {
+            offset = same.offset ∙ f.same.offset;
+            limit = same.limit ∙ f.same.limit;
+            terminator = same.terminator ∙ f.same.terminator;
+            detection = same.detection ∙ f.same.detection;
+          };
+          within = rw (same.limit, size) f.within;
+          grows = grows-held old now new f.grows size (omega (arith, ap (λ l. length l) whole));
+          same_decoder = record { capacity = f.read.capacity; stays = f.read.stays };
+          stream = stream-filled old now new d d' r r' f (yet d' (remaining r')) is cut
+              (same.detection ∙ f.same.detection) (same.terminator ∙ f.same.terminator)
+              f.read.gives;
         };
-        within = rw (same.limit, size) f.within;
-        grows = grows-held old now new f.grows size (omega (arith, ap (λ l. length l) whole));
-        capacity = f.read.capacity;
         reads = record {
           given = f.raw;
           appended = is;
@@ -428,20 +287,20 @@ module _ {R : Type 0} (remaining : R → Option (List ℕ)) (step : R → ReadRe
           fits = λ some. omega (arith, f.fits, size);
           decodes = f.read.decodes;
         };
-        stream = stream-filled old now new d d' r r' f (yet d' (remaining r')) is cut
-            (same.detection ∙ f.same.detection) (same.terminator ∙ f.same.terminator) f.read.gives;
         ahead = λ going passing. rw (len going) (f.read.ahead passing);
-        stays = f.read.stays;
       }
 
   -- without a read
   pub Outcome-none : (old : BufferState) (d : DecoderState) (r : R)
       → Decodes remaining step d r [] d r → IsWithin old.limit old.size → Outcome old d r old d r
   Outcome-none old d r none within = record {
-    same = record { offset = refl; limit = refl; terminator = refl; detection = refl };
-    within = within;
-    grows = inl refl;
-    capacity = refl;
+    keeps = record {
+      same = record { offset = refl; limit = refl; terminator = refl; detection = refl };
+      within = within;
+      grows = inl refl;
+      same_decoder = record { capacity = refl; stays = λ settled. refl };
+      stream = Keeps-same (stream old (yet d (remaining r)));
+    };
     reads = record {
       given = [];
       appended = sym (ap (λ l. held_bytes old ++ l)
@@ -453,9 +312,7 @@ module _ {R : Type 0} (remaining : R → Option (List ℕ)) (step : R → ReadRe
       fits = λ some. absurd (omega (arith, some));
       decodes = none;
     };
-    stream = Keeps-same (stream old (yet d (remaining r)));
     ahead = λ going passing. ([], omega arith, Consumes-nil (remaining r));
-    stays = λ settled. refl;
   }
 
   -- the bytes that are held are moved to the front, and all of them are shown
@@ -467,19 +324,8 @@ module _ {R : Type 0} (remaining : R → Option (List ℕ)) (step : R → ReadRe
         rest = [];
         has_ended = true;
       } → Fills remaining step old d r new d r
-  Fills-none old rolled new d r free none moved ended = record {
-    given = [];
-    appended = ap (λ w. held_bytes w) ended ∙ append-nil (held_bytes rolled)
-        ∙ ap (λ w. held_bytes w) moved ∙ append-nil (held_bytes old)
-        ∙ sym (append-nil (held_bytes old)) ∙ ap (λ l. held_bytes old ++ l)
-        (sym (detected_bytes-nil old.detection old.terminator));
-    found = ap binary_of ended ∙ ap binary_of moved
-        ∙ sym (ap (λ o. first_of old.binary (option_map (λ i. old.offset + length (held_bytes old)
-        + i) o)) (found-nil old.detection old.terminator) ∙ first_of-none old.binary);
-    uncut = λ was. refl;
-    fits = λ some. absurd (omega (arith, some));
-    decodes = none;
-  }
+  Fills-none old rolled new d r free none moved ended =
+      grind (arith, append-nil, detected_bytes-nil, binary_of, found-nil, first_of-none)
 
   -- once nothing more can be read
   pub IsFilling-stopped : (old now new : BufferState) (d d' : DecoderState) (r r' : R)
@@ -521,17 +367,11 @@ module _ {R : Type 0} (remaining : R → Option (List ℕ)) (step : R → ReadRe
   pub record ReadFault (old : BufferState) (d : DecoderState) (r : R) (e : Error)
       (new : BufferState)
       (d' : DecoderState) (r' : R) : Type 0 where
-    pub same : IsSameBuffer old new
-    pub within : IsWithin new.limit new.size
-    pub grows : GrowsIfFull old new
-    pub capacity : d'.capacity ≡ d.capacity
-    pub read : FailsToFill remaining step e old d r new d' r'
-    pub stream : KeepsStream old new (yet d (remaining r)) (yet d' (remaining r'))
-    pub stays : IsSettled d.mode → d'.mode ≡ d.mode
+    pub keeps : KeepsInput remaining step old d r new d' r'
+    pub read : ReadFails remaining step e old d r new d' r'
     pub line : HasNoLine old new
     pub room : length (held_bytes new) < new.size
     pub unended : new.has_ended ≡ false
-    pub uncut : has_quit new ≡ false
 
   pub HasNone-fault : (old now new : BufferState) (d d1 d2 : DecoderState) (r r1 r2 : R) (e : Error)
       → HasNone old d r now d1 r1 → FailsToRead remaining step d1 r1 e d2 r2 → 0 < now.free
@@ -543,31 +383,50 @@ module _ {R : Type 0} (remaining : R → Option (List ℕ)) (step : R → ReadRe
       ap (λ l. l ++ now.rest) f.shown ∙ ap (λ l. held_bytes old ++ l) f.came in
       let out = HasRead-failed remaining step d d1 d2 r r1 r2 f.raw e f.read failed capacity in
       subst (λ w. ReadFault old d r e w d2 r2) (sym is) (record {
-        same = f.same;
-        within = f.within;
-        grows = f.grows;
-        capacity = out.capacity;
-        read = record {
-          mid = out.after.mid;
-          fills = record {
-            given = f.raw;
-            appended = appended;
-            found = f.found;
-            uncut = λ was. absurd (false≢true (sym f.uncut ∙ was));
-            fits = λ some. f.fits;
-            decodes = out.after.decodes;
-          };
-          unended = out.after.unended;
-          failed = out.after.failed;
+        keeps = record {
+          same = f.same;
+          within = f.within;
+          grows = f.grows;
+          same_decoder = record { capacity = out.capacity; stays = out.stays };
+          stream = stream-filled old now now d d1 r r1 f _ appended refl f.same.detection
+              f.same.terminator out.gives;
         };
-        stream = stream-filled old now now d d1 r r1 f _ appended refl f.same.detection
-            f.same.terminator out.gives;
-        stays = out.stays;
+        read = record {
+          fails = record {
+            mid = out.after.mid;
+            fills = record {
+              given = f.raw;
+              appended = appended;
+              found = f.found;
+              uncut = λ was. absurd (false≢true (sym f.uncut ∙ was));
+              fits = λ some. f.fits;
+              decodes = out.after.decodes;
+            };
+            unended = out.after.unended;
+            failed = out.after.failed;
+          };
+          fault = reads-fail remaining step _ _ _ _ _ _ _ _ f.read.decodes failed.failed;
+          uncut = before.going;
+          waiting = failed.waiting;
+        };
         line = record { shown = f.shown; none = before.none; unended = f.unended };
         room = omega (arith, f.rolled);
         unended = f.unended;
-        uncut = before.going;
       })
+
+  -- a fill that succeeds, after its last read
+  pub HasNone-shown : (old now new : BufferState) (d d1 d2 : DecoderState) (r r1 r2 : R)
+      (given : List ℕ) → HasNone old d r now d1 r1 → 0 < now.free
+      → Reads remaining step d1 r1 given d2 r2 → Outcome old d r new d2 r2 → IsFilled old new
+      → new.offset + length (held_bytes new) < 2 ^ 64 → HasShown remaining step old d r new d2 r2
+  HasNone-shown old now new d d1 d2 r r1 r2 given before some reads out shows fits = record {
+    shows = shows;
+    fits = fits;
+    begins = λ _ _. HasNone-begun old now d d1 r r1 r2 before some reads.begins reads.last;
+    last = HasNone-waited old now d d1 r r1 r2 before some reads.last;
+    ahead = out.ahead;
+    settled = λ _ _. reads.settled;
+  }
 
   -- what is shown at the end
   pub HasNone-end : (old now next new : BufferState) (d d1 d2 : DecoderState) (r r1 r2 : R)
@@ -579,35 +438,7 @@ module _ {R : Type 0} (remaining : R → Option (List ℕ)) (step : R → ReadRe
         has_ended = true;
       } → IsFilled old new
   HasNone-end old now next new d d1 d2 r r1 r2 count before came zero some is =
-      let f = before.filling in
-      let empty : came.given ≡ [] = nil_from_length came.given (came.counted ∙ zero) in
-      let rest : next.rest ≡ now.rest = ap rest_of came.appended ∙ ap (λ l. now.rest ++ l) empty
-      ∙ append-nil now.rest in
-      let free : next.free ≡ now.free - count = ap free_of came.appended in
-      let whole : held_bytes next ≡ held_bytes old ++ now.rest =
-      ap (λ l. l ++ next.rest) (ap shown_of came.appended ∙ f.shown)
-      ∙ ap (λ l. held_bytes old ++ l) rest in
-      let held-now : held_bytes now ≡ held_bytes old ++ now.rest =
-      ap (λ l. l ++ now.rest) f.shown in
-      let last : drop (length (held_bytes old)) (held_bytes next) ≡ now.rest =
-      ap (drop (length (held_bytes old))) whole ∙ drop_at (held_bytes old) now.rest _ refl in
-      let size : next.size ≡ now.size = ap size_of came.appended in
-      let P : List ℕ → Type 0 = Lacks old.terminator in
-      let none : P (drop (length (held_bytes old)) (held_bytes next)) =
-      subst P (sym last) before.none in
-      subst (IsFilled old) (sym is) (inr (inl (record {
-        none = none;
-        all = refl;
-        room = omega (
-          arith,
-          f.rolled,
-          some,
-          size,
-          ap (λ l. length l) whole,
-          ap (λ l. length l) held-now,
-        );
-        ended = refl;
-      })))
+      grind (arith, nil_from_length, rest_of, append-nil, free_of, shown_of, drop_at, size_of)
 
   -- the end of such a read, which gave none
   pub IsFilling-none : (old now next : BufferState) (d d1 d2 : DecoderState) (r r1 r2 : R)
@@ -653,13 +484,7 @@ module _ {R : Type 0} (remaining : R → Option (List ℕ)) (step : R → ReadRe
         rest = [];
         has_ended = true;
       } → IsFilled old new
-  IsFilling-byte old now new d d' r r' f cut room is =
-      subst (IsFilled old) (sym is) (inr (inr (record {
-        cut = cut;
-        all = refl;
-        room = room;
-        ended = refl;
-      })))
+  IsFilling-byte old now new d d' r r' f cut room is = grind arith
 
   -- if the input isn't cut, detection keeps the number of bytes
   pub Comes-counted : (old now made : BufferState) (d d1 d2 : DecoderState) (r r1 r2 : R)
@@ -667,12 +492,7 @@ module _ {R : Type 0} (remaining : R → Option (List ℕ)) (step : R → ReadRe
       → HasNone old d r now d1 r1 → Comes count now given made → length given ≡ count
       → has_quit made ≡ false → length (detected_bytes now.detection now.terminator given) ≡ count
   Comes-counted old now made d d1 d2 r r1 r2 count given before comes counted going =
-      length-uncut now.detection now.terminator given
-      (λ quits. first-missing now.binary (found_in now.detection now.terminator given)
-      (λ i. now.offset + length (held_bytes now) + i)
-      (sym comes.binary ∙ uncut-none now.detection made.binary
-      (ap (λ x. is_quit x && is_some made.binary) (sym (ap detection_of comes.others)) ∙ going)
-      quits)) ∙ counted
+      grind (arith, length-uncut, first-missing, uncut-none, detection_of)
 
   -- what is shown once a line ended
   pub IsFilling-line : (old now made new : BufferState) (d d1 d2 : DecoderState) (r r1 r2 : R)
@@ -726,44 +546,13 @@ module _ {R : Type 0} (remaining : R → Option (List ℕ)) (step : R → ReadRe
   pub IsFilling-past : (old now next : BufferState) (d d1 d2 : DecoderState) (r r1 r2 : R)
       → HasNone old d r now d1 r1 → IsFilling old d r next d2 r2
       → 2 ^ 64 ≤ next.offset + length (held_bytes next) → PassesOffsets old next
-  IsFilling-past old now next d d1 d2 r r1 r2 before f past =
-      let len = ap (λ l. length (l ++ now.rest)) before.filling.shown
-      ∙ length-append (held_bytes old) now.rest in
-      record {
-        past = past;
-        shown = λ _. f.shown;
-        same = λ passed. absurd (omega (
-          arith,
-          passed,
-          before.offset,
-          before.filling.same.offset,
-          len,
-        ));
-        unended = f.unended;
-      }
+  IsFilling-past old now next d d1 d2 r r1 r2 before f past = grind (arith, length-append)
 
   -- a full buffer that can't grow
   pub HasNone-full : (old now new : BufferState) (d d1 : DecoderState) (r r1 : R) (e : FillError)
       → HasNone old d r now d1 r1
       → new ≡ now → now.free ≡ 0 → IsFullFault now.limit now.size e → FillFails old new e
-  HasNone-full old now new d d1 r r1 HeapLimit before is none fault =
-      subst (λ w. HasNoLine old w × IsAtLimit w)
-      (sym is) (
-        record {
-          shown = before.filling.shown;
-          none = before.none;
-          unended = before.filling.unended;
-        },
-        record { full = omega (arith, before.filling.rolled, none); limit = fault },
-      )
-  HasNone-full old now new d d1 r r1 Memory before is none fault =
-      subst (λ w. HasNoLine old w × MayGrow w) (sym is) (
-        record {
-          shown = before.filling.shown;
-          none = before.none;
-          unended = before.filling.unended;
-        },
-        record { full = omega (arith, before.filling.rolled, none); limit = fault },
-      )
+  HasNone-full old now new d d1 r r1 HeapLimit before is none fault = grind arith
+  HasNone-full old now new d d1 r r1 Memory before is none fault = grind arith
   HasNone-full old now new d d1 r r1 Offset before is none fault = absurd fault
   HasNone-full old now new d d1 r r1 (Read e) before is none fault = absurd fault

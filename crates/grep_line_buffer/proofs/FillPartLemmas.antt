@@ -69,30 +69,19 @@ if-read-full X limit size Memory P fault = tt
 -- what a buffer shows that had seen the end
 pub filled-before : (w : BufferState) → w.has_ended ≡ true → w.rest ≡ [] → length w.shown < w.size
     → IsFilled w w
-filled-before w ended all room = inr (inl (record {
-  none = λ k x below. absurd
-      (omega (arith, length-drop (length (held_bytes w)) w.shown, length-append w.shown w.rest));
-  all = all;
-  room = room;
-  ended = ended;
-}))
+filled-before w ended all room = grind (arith, length-drop, length-append)
 
 -- a full buffer at its limit without the end of a line is an error of its own, and no other
 pub only-limit : (old new : BufferState) (result : Result Bool FillError)
     → IfErr result (FillFails old new) → OnOk result (IsFilled old new)
     → HasNoLine old new → IsAtLimit new → new.offset + length (held_bytes new) < 2 ^ 64 → result
     ≡ Err HeapLimit
-only-limit old new (Ok some) failed (inl line) none full fits =
-    absurd (omega (arith, ap (λ l. length l) none.shown, line.came))
-only-limit old new (Ok some) failed (inr (inl end)) none full fits =
-    absurd (false≢true (sym none.unended ∙ end.ended))
-only-limit old new (Ok some) failed (inr (inr cut)) none full fits =
-    absurd (false≢true (sym none.unended ∙ cut.ended))
-only-limit old new (Err (Read e)) failed filled none full fits =
-    absurd (omega (arith, failed.1, full.full))
+only-limit old new (Ok some) failed (inl line) none full fits = grind arith
+only-limit old new (Ok some) failed (inr (inl end)) none full fits = grind (arith, false≢true)
+only-limit old new (Ok some) failed (inr (inr cut)) none full fits = grind (arith, false≢true)
+only-limit old new (Err (Read e)) failed filled none full fits = grind arith
 only-limit old new (Err HeapLimit) failed filled none full fits = refl
-only-limit old new (Err Offset) failed filled none full fits =
-    absurd (omega (arith, failed.past, fits))
+only-limit old new (Err Offset) failed filled none full fits = grind arith
 only-limit old new (Err Memory) failed filled none full fits = absurd (failed.1.limit full.limit)
 
 -- bytes move from those to come to those that are held, as detection makes them
@@ -106,15 +95,9 @@ pub stream-moved : (detection : Detection) (t : ℕ) (before after : Option (Lis
 stream-moved detection t None after old raw now cut is going ended moved = tt
 stream-moved detection t (Some x) None old raw now cut is going ended moved = absurd moved
 stream-moved detection t (Some x) (Some y) old raw now true is going ended moved =
-    let found = ended refl in
-    append-nil now ∙ is ∙ ap (λ l. old ++ l)
-    (sym (detected_bytes-cut detection t raw y found.0 found.1.0 found.1.1)
-    ∙ ap (detected_bytes detection t) (sym moved))
+    grind (arith, append-nil, detected_bytes-cut)
 stream-moved detection t (Some x) (Some y) old raw now false is going ended moved =
-    ap (λ l. l ++ detected_bytes detection t y) is
-    ∙ append_assoc old (detected_bytes detection t raw) (detected_bytes detection t y)
-    ∙ ap (λ l. old ++ l) (sym (detected_bytes-append detection t raw y (going refl))
-    ∙ ap (detected_bytes detection t) (sym moved))
+    grind (arith, append_assoc, detected_bytes-append)
 
 -- what is known stays
 pub Keeps-same : (known : Option (List ℕ)) → Keeps known known
@@ -146,22 +129,15 @@ pub grows-more : (old now made : BufferState) → GrowsIfFull old now → length
     → (made.size ≡ now.size) ⊎ (now.size < made.size) × (now.size ≤ length (held_bytes now))
     × (made.size ≤ 2 * length (held_bytes now) + 1) → GrowsIfFull old made
 grows-more old now made (inl same) len (inl kept) = inl (kept ∙ same)
-grows-more old now made (inl same) len (inr grew) = inr
-    (omega (arith, grew.0), omega (arith, grew.1), omega (arith, grew.2))
-grows-more old now made (inr more) len (inl kept) = inr
-    (omega (arith, more.0), omega (arith, more.1), omega (arith, more.2))
-grows-more old now made (inr more) len (inr grew) = inr
-    (omega (arith, more.0, grew.0), omega (arith, more.1), omega (arith, grew.2))
+grows-more old now made (inl same) len (inr grew) = grind arith
+grows-more old now made (inr more) len (inl kept) = grind arith
+grows-more old now made (inr more) len (inr grew) = grind arith
 
 -- bytes that are held now don't leave
 pub grows-held : (old now new : BufferState) → GrowsIfFull old now → new.size ≡ now.size
     → length (held_bytes now) ≤ length (held_bytes new) → GrowsIfFull old new
 grows-held old now new (inl same) size more = inl (size ∙ same)
-grows-held old now new (inr grew) size more = inr (
-  omega (arith, grew.0),
-  omega (arith, grew.1),
-  omega (arith, grew.2),
-)
+grows-held old now new (inr grew) size more = grind arith
 
 -- what a buffer found, if reads gave these bytes after those that it held
 abbrev pub found_after : BufferState → List ℕ → Option ℕ

@@ -66,7 +66,7 @@ module _ {R : Type 0} (remaining : R → Option (List ℕ)) (step : R → ReadRe
   HasRead-more d d1 d2 r r1 r2 given came before read capacity = record {
     decodes = Decodes-append remaining step d d1 d2 r r1 r2 given came before.decodes read.decodes;
     gives = Consumes-trans _ _ _ given came before.gives read.gives;
-    begins = inl read.settled;
+    begins = inl read.settled.settled;
     stays = λ settled. read.stays (subst (λ m. IsSettled m) (sym (before.stays settled)) settled)
         ∙ before.stays settled;
     ahead = ahead-more d d1 d2 r r1 r2 given came before read before.begins;

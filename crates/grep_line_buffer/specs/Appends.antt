@@ -6,8 +6,8 @@ use Rattle.std.specs.Io.KnownBytes.{Consumes, Keeps, IsAtEnd}
 use Rattle.std.specs.declared.io.Error.{Error}
 use Rattle.grep_decode.specs.declared.mode.Mode.TheVariants.{Passing}
 use Rattle.grep_decode.specs.DecoderStates.{DecoderState, Decodes, FailsToDecode, IsDone, IsSettled}
-use Rattle.grep_decode.specs.DecoderStates.{HasReadNothing, HasWaited, IsWaiting, TakesAtMost}
-use Rattle.grep_decode.specs.DecoderStates.{runs_ahead, yet}
+use Rattle.grep_decode.specs.DecoderStates.{HasReadNothing, HasSettled, HasWaited, TakesAtMost}
+use Rattle.grep_decode.specs.DecoderStates.{WaitsForMore, runs_ahead, yet}
 use Rattle.grep_decode.specs.Source.{ReadResult}
 use Rattle.grep_line_buffer.specs.BufferStates.{BufferState, held_bytes}
 use Rattle.grep_line_buffer.specs.Detections.{detected_bytes, found_in, first_of}
@@ -30,12 +30,11 @@ module _ {R : Type 0} (remaining : R → Option (List ℕ)) (step : R → ReadRe
       (decoder' : DecoderState) (reader' : R) : Type 0 where
     pub decodes : Decodes remaining step decoder reader given decoder' reader'
     pub gives : Consumes (yet decoder (remaining reader)) (yet decoder' (remaining reader')) given
-    pub settled : IsSettled decoder'.mode
+    pub settled : HasSettled decoder'
     pub stays : IsSettled decoder.mode → decoder'.mode ≡ decoder.mode
     pub ahead : decoder'.mode ≡ Passing
         → TakesAtMost (remaining reader) (remaining reader')
         (length given + runs_ahead decoder.mode)
-    pub passing : decoder'.mode ≡ Passing → (length decoder'.ready ≤ 3) × (decoder'.held ≡ [])
     pub done : given ≡ [] → IsDone decoder'
     pub end : given ≡ [] → IsAtEnd (yet decoder' (remaining reader'))
     pub begins : HasReadNothing decoder → HasWaited remaining step decoder reader reader'
@@ -46,9 +45,8 @@ module _ {R : Type 0} (remaining : R → Option (List ℕ)) (step : R → ReadRe
       (decoder' : DecoderState) (reader' : R) : Type 0 where
     pub failed : FailsToDecode remaining step decoder reader error decoder' reader'
     pub keeps : Keeps (yet decoder (remaining reader)) (yet decoder' (remaining reader'))
-    pub empty : decoder'.ready ≡ []
     pub stays : IsSettled decoder.mode → decoder'.mode ≡ decoder.mode
-    pub waits : IsWaiting decoder'.mode decoder'.held
+    pub waiting : WaitsForMore decoder'
 
   -- One read of a decoder gave so many bytes, which the buffer holds after the others.
   pub record Appends (count : ℕ) (old : BufferState) (decoder : DecoderState) (reader : R)

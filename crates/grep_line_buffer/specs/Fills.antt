@@ -1,14 +1,20 @@
 -- What a fill of a line buffer reads, and why it fails.
-use Rattle.std.specs.Prelude.{◌≡◌, ◌≢◌, ℕ, ◌+◌, ◌^◌, ◌<◌, ◌≤◌, List, [], ◌++◌, length, Option}
-use Rattle.std.specs.Prelude.{None, Some, true, false, Result, Ok, Err}
+use Rattle.std.specs.Prelude.{◌≡◌, ◌≢◌, ◌⊎◌, ℕ, ◌+◌, ◌-◌, ◌^◌, ◌<◌, ◌≤◌, List, [], ◌++◌, length}
+use Rattle.std.specs.Prelude.{Option, None, Some, true, false, Result, Ok, Err}
 use Rattle.std.specs.Option.{option_map}
 use Rattle.std.specs.declared.io.Error.{Error}
-use Rattle.grep_decode.specs.DecoderStates.{DecoderState, Decodes, HasWaited}
+use Rattle.grep_decode.specs.declared.mode.Mode.TheVariants.{Passing}
+use Rattle.grep_decode.specs.DecoderStates.{DecoderState, Decodes, HasReadNothing, HasSettled}
+use Rattle.grep_decode.specs.DecoderStates.{HasWaited, IsSameDecoder, TakesAtMost, WaitsForMore}
+use Rattle.grep_decode.specs.DecoderStates.{runs_ahead, yet}
+use Rattle.grep_decode.specs.Reading.{FailsWith}
 use Rattle.grep_decode.specs.Source.{ReadResult}
 use Rattle.grep_line_buffer.specs.declared.fill_error.FillError.{FillError}
 use Rattle.grep_line_buffer.specs.declared.fill_error.FillError.TheVariants.{Read, HeapLimit}
 use Rattle.grep_line_buffer.specs.declared.fill_error.FillError.TheVariants.{Offset, Memory}
 use Rattle.grep_line_buffer.specs.BufferStates.{BufferState, held_bytes, has_quit, HasNoLine, Lacks}
+use Rattle.grep_line_buffer.specs.BufferStates.{GrowsIfFull, IsFilled, IsSameBuffer, IsWithin}
+use Rattle.grep_line_buffer.specs.BufferStates.{KeepsStream}
 use Rattle.grep_line_buffer.specs.Detections.{detected_bytes, found_in, first_of, is_quit}
 
 -- the fact holds of the reader's error, if the result is one
@@ -79,6 +85,17 @@ module _ {R : Type 0} (remaining : R → Option (List ℕ)) (step : R → ReadRe
     pub unended : decoder'.has_ended ≡ false
     pub failed : step mid (Err error) reader'
 
+  -- What a fill keeps whatever it returns: of the bytes that are held and are still to come through
+  -- the decoder none is lost, and a full buffer alone grows.
+  pub record KeepsInput (old : BufferState) (decoder : DecoderState) (reader : R)
+      (new : BufferState) (decoder' : DecoderState) (reader' : R) : Type 0 where
+    pub same : IsSameBuffer old new
+    pub within : IsWithin new.limit new.size
+    pub grows : GrowsIfFull old new
+    pub same_decoder : IsSameDecoder decoder decoder'
+    pub stream : KeepsStream old new (yet decoder (remaining reader))
+        (yet decoder' (remaining reader'))
+
   -- Before the last read that called the reader, the decoder had given some bytes. As detection
   -- makes them, none ends a line and none the input, and with those that the buffer held they are
   -- fewer than its limit.
@@ -92,3 +109,25 @@ module _ {R : Type 0} (remaining : R → Option (List ℕ)) (step : R → ReadRe
     pub uncut : is_quit old.detection ≡ true → found_in old.detection old.terminator given ≡ None
     pub room : (limit : ℕ) → old.limit ≡ Some limit → length (held_bytes old) + length given < limit
     pub last : HasWaited remaining step waiting mid reader'
+
+  -- A fill succeeded. The reader was called at first, and again only as long as no line had come;
+  -- if the bytes pass unchanged, it is at most three bytes ahead of what was appended.
+  pub record HasShown (old : BufferState) (decoder : DecoderState) (reader : R)
+      (new : BufferState) (decoder' : DecoderState) (reader' : R) : Type 0 where
+    pub shows : IsFilled old new
+    pub fits : new.offset + length (held_bytes new) < 2 ^ 64
+    pub begins : old.has_ended ≡ false → has_quit old ≡ false → HasReadNothing decoder
+        → HasWaitedForLine old decoder reader reader'
+    pub last : (reader' ≡ reader) ⊎ HasWaitedForLine old decoder reader reader'
+    pub ahead : has_quit new ≡ false → decoder'.mode ≡ Passing
+        → TakesAtMost (remaining reader) (remaining reader')
+        (length (held_bytes new) - length (held_bytes old) + runs_ahead decoder.mode)
+    pub settled : old.has_ended ≡ false → has_quit old ≡ false → HasSettled decoder'
+
+  -- A fill ended in this error of the reader.
+  pub record ReadFails (error : Error) (old : BufferState) (decoder : DecoderState) (reader : R)
+      (new : BufferState) (decoder' : DecoderState) (reader' : R) : Type 0 where
+    pub fails : FailsToFill error old decoder reader new decoder' reader'
+    pub fault : FailsWith step reader error reader'
+    pub uncut : has_quit new ≡ false
+    pub waiting : WaitsForMore decoder'

@@ -7,18 +7,13 @@ ghost use Rattle.std.specs.Io.KnownBytes.{IsAtEnd};
 ghost use Rattle.std.specs.Option.{option_map};
 ghost use Rattle.std.specs.Io.{ReadsAtMost};
 ghost use lib.Seq.{paste};
-ghost use Rattle.grep_decode.specs.Reading.{FailsWith};
-ghost use Rattle.grep_decode.specs.declared.mode.Mode.TheVariants.{Passing};
-ghost use Rattle.grep_decode.specs.DecoderStates.{HasReadNothing, IsDone, IsSettled, IsWaiting};
-ghost use Rattle.grep_decode.specs.DecoderStates.{TakesAtMost, runs_ahead, yet};
+ghost use Rattle.grep_decode.specs.DecoderStates.{IsDone, yet};
 ghost use Rattle.grep_line_buffer.specs.BufferStates.{BufferState, empty_buffer, held_bytes, Lacks};
-ghost use Rattle.grep_line_buffer.specs.BufferStates.{IsWithin, IsSameBuffer, GrowsIfFull};
-ghost use Rattle.grep_line_buffer.specs.BufferStates.{ShowsLine, IsFilled, HasNoLine, KeepsStream};
-ghost use Rattle.grep_line_buffer.specs.BufferStates.{has_quit};
+ghost use Rattle.grep_line_buffer.specs.BufferStates.{HasNoLine, IsWithin, ShowsLine, has_quit};
 ghost use Rattle.grep_line_buffer.specs.Widening.{Widens};
 ghost use Rattle.grep_line_buffer.specs.Detections.{byte_offset, first_of, is_quit};
 ghost use Rattle.grep_line_buffer.specs.Fills.{IfRead, UnlessRead, IsAtLimit, FillFails, Fills};
-ghost use Rattle.grep_line_buffer.specs.Fills.{FailsToFill, HasWaitedForLine};
+ghost use Rattle.grep_line_buffer.specs.Fills.{HasShown, KeepsInput, ReadFails};
 ghost use Rattle.grep_line_buffer.specs.declared.fill_error.FillError.TheVariants.{HeapLimit};
 ghost use Rattle.grep_line_buffer.specs.Appends.{Appends, Detects, FailsToRead};
 ghost use Rattle.grep_line_buffer.specs.Room.{IsFullFault};
@@ -224,38 +219,26 @@ impl<A: Allocator> LineBuffer<A> {
         decoder: &mut Decoder<B>,
         reader: &mut R,
     ) -> Result<bool, FillError>
-        ensures same { IsSameBuffer self.old self.new }
-        ensures within { IsWithin self.new.limit self.new.size }
-        ensures grows { GrowsIfFull self.old self.new }
-        ensures capacity { decoder.new.capacity ≡ decoder.old.capacity }
-
-        // what was held is followed by what detection makes of bytes that the decoder gave, and
         // nothing is lost
+        ensures keeps { KeepsInput R.remaining R.step self.old decoder.old reader.old
+            self.new decoder.new reader.new }
+
+        // what was held is followed by what detection makes of bytes that the decoder gave
         ensures reads { UnlessRead result
             (Fills R.remaining R.step self.old decoder.old reader.old self.new decoder.new
             reader.new) }
         ensures read { IfRead result (λ e.
-            FailsToFill R.remaining R.step e self.old decoder.old reader.old self.new decoder.new
+            ReadFails R.remaining R.step e self.old decoder.old reader.old self.new decoder.new
             reader.new) }
-        ensures stream { KeepsStream self.old self.new
-            (yet decoder.old (R.remaining reader.old)) (yet decoder.new (R.remaining reader.new)) }
 
         // what is shown
         ensures some { IfOk result (λ some. IsTrue some ↔ (0 < length self.new.shown)) }
-        ensures filled { OnOk result (IsFilled self.old self.new) }
+        ensures filled { OnOk result
+            (HasShown R.remaining R.step self.old decoder.old reader.old self.new decoder.new
+            reader.new) }
         ensures error { IfErr result (FillFails self.old self.new) }
         ensures limit { HasNoLine self.old self.new → IsAtLimit self.new
             → self.new.offset + length (held_bytes self.new) < 2 ^ 64 → result ≡ Err HeapLimit }
-        ensures fault { IfRead result (λ e. FailsWith R.step reader.old e reader.new) }
-        ensures uncut { IfRead result (λ _. has_quit self.new ≡ false) }
-        ensures fits { OnOk result (self.new.offset + length (held_bytes self.new) < 2 ^ 64) }
-
-        // the reader is called at first, and again only as long as no line has come
-        ensures begins { self.old.has_ended ≡ false → has_quit self.old ≡ false
-            → HasReadNothing decoder.old → OnOk result
-            (HasWaitedForLine R.remaining R.step self.old decoder.old reader.old reader.new) }
-        ensures last { OnOk result ((reader.new ≡ reader.old)
-            ⊎ HasWaitedForLine R.remaining R.step self.old decoder.old reader.old reader.new) }
 
         // Nothing is left once the end was seen, unless a byte ended the input, and nothing is read
         // then.
@@ -267,21 +250,6 @@ impl<A: Allocator> LineBuffer<A> {
             → IsAtEnd (yet decoder.new (R.remaining reader.new)) }
         ensures ended { self.old.has_ended ≡ true → IsOk result × (self.new ≡ self.old)
             × (decoder.new ≡ decoder.old) × (reader.new ≡ reader.old) }
-
-        // how far the reader is ahead of what was appended, and what the decoder holds, if the
-        // bytes pass unchanged
-        ensures ahead { OnOk result (has_quit self.new ≡ false → decoder.new.mode ≡ Passing
-            → TakesAtMost (R.remaining reader.old) (R.remaining reader.new)
-            (length (held_bytes self.new) - length (held_bytes self.old)
-            + runs_ahead decoder.old.mode)) }
-        ensures passing { OnOk result (self.old.has_ended ≡ false → has_quit self.old ≡ false
-            → decoder.new.mode ≡ Passing
-            → (length decoder.new.ready ≤ 3) × (decoder.new.held ≡ [])) }
-        ensures settled { OnOk result (self.old.has_ended ≡ false → has_quit self.old ≡ false
-            → IsSettled decoder.new.mode) }
-        ensures stays { IsSettled decoder.old.mode → decoder.new.mode ≡ decoder.old.mode }
-        ensures empty { IfRead result (λ _. decoder.new.ready ≡ []) }
-        ensures waits { IfRead result (λ _. IsWaiting decoder.new.mode decoder.new.held) }
     {
         if self.has_ended() {
             return Ok(!self.buffer().is_empty());

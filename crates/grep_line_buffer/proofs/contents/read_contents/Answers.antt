@@ -87,7 +87,7 @@ returns-in-Ok-eq0 g c =
       error = tt;
       fault = tt;
       ahead = out.ahead;
-      settled = read.settled;
+      settled = read.settled.settled;
       stays = out.stays;
       empty = tt;
       waits = tt;
@@ -133,8 +133,8 @@ returns-in-Err g c =
       ahead = tt;
       settled = tt;
       stays = out.stays;
-      empty = failed.empty;
-      waits = failed.waits;
+      empty = failed.waiting.empty;
+      waits = failed.waiting.waits;
     }
 
 pub reads-init : goal.reads-init

@@ -9,10 +9,9 @@ returns-in-Ok-clause-reads g c =
     record {
       decodes = made.decodes;
       gives = made.gives;
-      settled = made.settled (omega arith);
+      settled = record { settled = made.settled (omega arith); passing = made.passing };
       stays = made.stays;
       ahead = λ passing. rw len (made.ahead passing);
-      passing = made.passing;
       done = λ none. made.done (sym len ∙ ap (λ l. length l) none) (omega arith);
       begins = λ nothing. made.begins nothing (omega arith);
       last = made.last;

@@ -13,7 +13,7 @@ use Rattle.grep_core.proofs.ReadingLemmas as reading
 use Rattle.grep_core.proofs.UnreadLemmas.{IsShort, short-filled}
 use Rattle.grep_core.specs.BinaryCalls.{Noted, PassesBinary}
 use Rattle.grep_core.specs.Rolls.{IsStartAt, not_passed}
-use Rattle.grep_line_buffer.specs.Fills.{FailsToFill, IfRead}
+use Rattle.grep_line_buffer.specs.Fills.{IfRead, ReadFails}
 use Rattle.grep_definitions.specs.Plans.{IsLawful, all_true, begins}
 use Rattle.grep_definitions.specs.Searches.{is_detecting, IsReadForLine, reports_nothing}
 use Rattle.grep_definitions.specs.CallOrder.{HasCalled, of_call}
@@ -58,14 +58,13 @@ filled g c =
     record {
       fills = fill.reads;
       fitting = c.fills.invariant.fitting;
-      same = c.fill.ensures.same;
-      filled = fill.filled;
+      same = c.fill.ensures.keeps.same;
+      filled = fill.filled.shows;
       room = c.binary_byte_offset.ensures.room;
       tight = c.binary_byte_offset.ensures.cut;
-      within = c.fill.ensures.within;
+      within = c.fill.ensures.keeps.within;
       done = c.fill.ensures.done;
-      settled = fill.settled;
-      passing = fill.passing;
+      settled = fill.filled.settled;
     }
 
 -- it finds no byte if none is looked for
@@ -77,7 +76,7 @@ unfound g c = passed.clear-filled _ c.fills.lines c.fill.new.self _ c.in_default
 -- a byte that it finds is the one of which the sink is passed
 exact : (g : Over) (c : goal.After-passes_binary g) → c.binary_byte_offset.result
     ≡ c.fill.new.self.binary
-exact g c = c.binary_byte_offset.ensures.exact c.in_default.ensures.fits
+exact g c = c.binary_byte_offset.ensures.exact c.in_default.ensures.filled.fits
 
 -- after that no offset is known if no byte is looked for
 clear : (g : Over) (c : goal.After-passes_binary g) (goes : Bool)
@@ -137,15 +136,12 @@ short g c lawful first begun has_buffers =
     (c.fills.invariant.rolling lawful first begun).rolling _ c.io_error.ensures (record {
       fitting = c.fills.invariant.fitting;
       allowed = c.requires.allowed;
-      same = c.fill.ensures.same;
-      grows = c.fill.ensures.grows;
-      within = c.fill.ensures.within;
+      same = c.fill.ensures.keeps.same;
+      grows = c.fill.ensures.keeps.grows;
+      within = c.fill.ensures.keeps.within;
       fails = fill.error;
       reads = fill.reads;
       read = fill.read;
-      uncut = fill.uncut;
-      empty = fill.empty;
-      waits = fill.waits;
     })
 
 -- a search that may report nothing has read for one line
@@ -154,7 +150,7 @@ read-once : (g : Over) (c : goal.After-passes_binary g) → reports_nothing c.ar
     → IsReadForLine g.R.Source.remaining g.R.Source.step c.args.self.now.config c.args.reader.now
     c.fill.new.reader
 read-once g c idle = reading.read-once c.requires.fitting
-    c.requires.empty c.requires.started (c.fills.invariant.fresh idle) c.in_default.ensures.begins
+    c.requires.empty c.requires.started (c.fills.invariant.fresh idle) c.in_default.ensures.filled.begins
 
 pub fills-init : goal.fills-init
 fills-init g c =
@@ -258,7 +254,7 @@ fills-preserved g c =
     let reads = c.in_default.ensures.reads in
     record {
       fitting = c.search_shown.ensures.fitting _ _ (rolling.fitting-filled c.fills.invariant.fitting
-          c.fill.ensures.same c.fill.ensures.grows c.fill.ensures.within);
+          c.fill.ensures.keeps.same c.fill.ensures.keeps.grows c.fill.ensures.keeps.within);
       at = c.in_ok-search_shown.ensures.at moves;
       below = c.in_ok-search_shown.ensures.below moves;
       ordered = c.in_ok-search_shown.ensures.ordered;
@@ -269,7 +265,7 @@ fills-preserved g c =
             _ c.fills.invariant.decoded.1 reads.decodes,
       );
       detects = c.in_ok-search_shown.ensures.detection
-          ∙ (c.fill.ensures.same.detection ∙ c.fills.invariant.detects);
+          ∙ (c.fill.ensures.keeps.same.detection ∙ c.fills.invariant.detects);
       clear = λ none. c.in_ok-search_shown.ensures.binary ∙ unfound g at none;
       noted_clear = clear g (goal.at.fills-preserved g c).After-passes_binary _
           c.in_ok-passes_binary.ensures.passes;
@@ -290,13 +286,13 @@ returns-in-Err-clause-in_order g c = inr (
   c.io_error.result,
   passed.reading-error _ _ _ _ _ _ (λ e is.
       let fails = subst (λ fault. IfRead {X = Bool} (Err fault)
-      (λ e. FailsToFill g.R.Source.remaining g.R.Source.step e c.fills.lines
+      (λ e. ReadFails g.R.Source.remaining g.R.Source.step e c.fills.lines
       c.fills.decoder c.fills.reader c.fill.new.self c.fill.new.decoder c.fill.new.reader)) is
       c.in-Err.ensures.read in
       passed.failed-read _ _ _ (ap (λ d. d.has_ended) c.requires.started)
       (Decodes-append g.R.Source.remaining g.R.Source.step _ c.fills.decoder _ _ c.fills.reader _ _
-      _ c.fills.invariant.decoded.1 fails.fills.decodes)
-      fails.unended fails.failed) c.io_error.ensures,
+      _ c.fills.invariant.decoded.1 fails.fails.fills.decodes)
+      fails.fails.unended fails.fails.failed) c.io_error.ensures,
   c.error_io.ensures,
   order.called-most _ _ (passed.once _) _ _ _ c.fills.invariant.calls,
 )

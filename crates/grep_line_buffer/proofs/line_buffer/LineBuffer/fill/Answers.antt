@@ -3,7 +3,7 @@ use Rattle.std.proofs.Common.{arith}
 use Rattle.std.proofs.lemmas.Bool.{false≢true}
 use Rattle.std.proofs.lemmas.List.{nil_from_length}
 use Rattle.std.proofs.lemmas.Result.{err_from_is_err_and}
-use Rattle.grep_decode.proofs.DecoderLemmas.{Decodes-none, reads-fail}
+use Rattle.grep_decode.proofs.DecoderLemmas.{Decodes-none}
 use Rattle.grep_line_buffer.specs.BufferStates.{held_bytes, has_quit, HasNoLine}
 use Rattle.grep_line_buffer.specs.Fills.{PassesOffsets}
 use Rattle.grep_line_buffer.proofs.FillLemmas.{Fills-none, Outcome-none, IsFilling-stopped}
@@ -12,7 +12,7 @@ use Rattle.grep_line_buffer.proofs.FillLemmas.{IsFilling-ended, IsFilling-line, 
 use Rattle.grep_line_buffer.proofs.FillLemmas.{IsFilling-none, IsFilling-past, HasNone-first}
 use Rattle.grep_line_buffer.proofs.FillLemmas.{HasNone-room, HasNone-fault, HasNone-end}
 use Rattle.grep_line_buffer.proofs.FillLemmas.{HasNone-more, HasNone-full, HasNone-begun}
-use Rattle.grep_line_buffer.proofs.FillLemmas.{HasNone-waited}
+use Rattle.grep_line_buffer.proofs.FillLemmas.{HasNone-shown, HasNone-waited}
 use Rattle.grep_line_buffer.proofs.FillPartLemmas.{only-limit, filled-before, unless-read}
 use Rattle.grep_line_buffer.proofs.FillPartLemmas.{if-read-full, ended_of, size_of}
 use Rattle.grep_line_buffer.proofs.line_buffer.LineBuffer.fill.Goals as goal
@@ -26,31 +26,23 @@ returns-then-has_ended g c =
     (Decodes-none g.R.Source.remaining g.R.Source.step _ _) c.has_ended.ensures.within in
     let filled = filled-before c.args.self.now was shown.0 shown.1 in
     record {
-      same = out.same;
-      within = out.within;
-      grows = out.grows;
-      capacity = out.capacity;
+      keeps = out.keeps;
       reads = out.reads;
       read = tt;
-      stream = out.stream;
       some = search rules;
-      filled = filled;
+      filled = record {
+        shows = filled;
+        fits = search rules;
+        begins = λ unended. absurd (false≢true (sym unended ∙ was));
+        last = inl refl;
+        ahead = out.ahead;
+        settled = λ unended. absurd (false≢true (sym unended ∙ was));
+      };
       error = tt;
       limit = only-limit _ _ _ tt filled;
-      fault = tt;
-      uncut = tt;
-      fits = search rules;
-      begins = λ unended going nothing. absurd (false≢true (sym unended ∙ was));
-      last = inl refl;
       done = λ before ended going. before was going;
       end = λ before ended going. before was going;
       ended = λ ended. (refl, refl, refl, refl);
-      ahead = out.ahead;
-      passing = λ unended going. absurd (false≢true (sym unended ∙ was));
-      settled = λ unended going. absurd (false≢true (sym unended ∙ was));
-      stays = out.stays;
-      empty = tt;
-      waits = tt;
     }
 
 pub returns-then-not-has_offsets : goal.returns-then-not-has_offsets
@@ -67,31 +59,16 @@ returns-then-not-has_offsets g c =
     let out = Outcome-none g.R.Source.remaining g.R.Source.step c.args.self.now _ _
     (Decodes-none g.R.Source.remaining g.R.Source.step _ _) c.has_ended.ensures.within in
     record {
-      same = out.same;
-      within = out.within;
-      grows = out.grows;
-      capacity = out.capacity;
+      keeps = out.keeps;
       reads = out.reads;
       read = tt;
-      stream = out.stream;
       some = tt;
       filled = tt;
       error = error;
       limit = only-limit _ _ _ error tt;
-      fault = tt;
-      uncut = tt;
-      fits = tt;
-      begins = λ _ _ _. tt;
-      last = tt;
       done = λ unended ended going. absurd (false≢true (sym was ∙ ended));
       end = λ unended ended going. absurd (false≢true (sym was ∙ ended));
       ended = λ ended. absurd (false≢true (sym was ∙ ended));
-      ahead = tt;
-      passing = tt;
-      settled = tt;
-      stays = out.stays;
-      empty = tt;
-      waits = tt;
     }
 
 pub returns-in_err-make_room : goal.returns-in_err-make_room
@@ -108,31 +85,16 @@ returns-in_err-make_room g c =
     let error = HasNone-full g.R.Source.remaining g.R.Source.step _ _ _ _ _ _ _ e before full.0
     full.1 full.2 in
     rw (p.1, p.2) (record {
-      same = out.same;
-      within = out.within;
-      grows = out.grows;
-      capacity = out.capacity;
+      keeps = out.keeps;
       reads = unless-read Bool e out.reads;
       read = if-read-full Bool c.reads.self.limit c.reads.self.size e _ full.2;
-      stream = out.stream;
       some = tt;
       filled = tt;
       error = error;
       limit = only-limit _ _ _ error tt;
-      fault = if-read-full Bool c.reads.self.limit c.reads.self.size e _ full.2;
-      uncut = if-read-full Bool c.reads.self.limit c.reads.self.size e _ full.2;
-      fits = tt;
-      begins = λ _ _ _. tt;
-      last = tt;
       done = λ _ ended going. absurd (false≢true (sym unended ∙ ended));
       end = λ _ ended going. absurd (false≢true (sym unended ∙ ended));
       ended = λ ended. absurd (false≢true (sym was ∙ ended));
-      ahead = tt;
-      passing = tt;
-      settled = tt;
-      stays = out.stays;
-      empty = if-read-full Bool c.reads.self.limit c.reads.self.size e _ full.2;
-      waits = if-read-full Bool c.reads.self.limit c.reads.self.size e _ full.2;
     })
 
 pub returns-in-Err : goal.returns-in-Err
@@ -142,38 +104,21 @@ returns-in-Err g c =
     let made = c.make_room.ensures in
     let room = HasNone-room _ _ _ _ _ _ _ _ _ _ _ c.reads.invariant made.same made.free made.within
     made.grows in
-    let failed = c.in-Err.ensures.failed in
-    let out = HasNone-fault _ _ _ _ _ _ _ _ _ _ _ c.in-Err.e room failed
+    let out = HasNone-fault _ _ _ _ _ _ _ _ _ _ _ c.in-Err.e room c.in-Err.ensures.failed
     c.in_ok-make_room.ensures.ok c.read.ensures.capacity c.in-Err.ensures.same in
     let error : HasNoLine c.args.self.now c.read.new.self
     × (length (held_bytes c.read.new.self) < c.read.new.self.size) = (out.line, out.room) in
     record {
-      same = out.same;
-      within = out.within;
-      grows = out.grows;
-      capacity = out.capacity;
+      keeps = out.keeps;
       reads = tt;
       read = out.read;
-      stream = out.stream;
       some = tt;
       filled = tt;
       error = error;
       limit = only-limit _ _ _ error tt;
-      fault = reads-fail g.R.Source.remaining g.R.Source.step _ _ _ _ _ _ _ _
-          room.filling.read.decodes failed.failed;
-      uncut = out.uncut;
-      fits = tt;
-      begins = λ _ _ _. tt;
-      last = tt;
       done = λ _ ended going. absurd (false≢true (sym out.unended ∙ ended));
       end = λ _ ended going. absurd (false≢true (sym out.unended ∙ ended));
       ended = λ ended. absurd (false≢true (sym was ∙ ended));
-      ahead = tt;
-      passing = tt;
-      settled = tt;
-      stays = out.stays;
-      empty = failed.empty;
-      waits = failed.waits;
     }
 
 pub returns-then-count-eq0 : goal.returns-then-count-eq0
@@ -191,33 +136,17 @@ returns-then-count-eq0 g c =
     let filled = HasNone-end _ _ _ _ _ _ _ _ _ _ _ _ _ room came c.if-count-eq0.true
     c.in_ok-make_room.ensures.ok c.end-then-count-eq0.ensures.same in
     record {
-      same = out.same;
-      within = out.within;
-      grows = out.grows;
-      capacity = out.capacity;
+      keeps = out.keeps;
       reads = out.reads;
       read = tt;
-      stream = out.stream;
       some = rw c.end-then-count-eq0.ensures.same c.end-then-count-eq0.ensures.some;
-      filled = filled;
+      filled = HasNone-shown g.R.Source.remaining g.R.Source.step _ _ _ _ _ _ _ _ _ _ room
+          c.in_ok-make_room.ensures.ok came.reads out filled (search rules);
       error = tt;
       limit = only-limit _ _ _ tt filled;
-      fault = tt;
-      uncut = tt;
-      fits = search rules;
-      begins = λ _ _. HasNone-begun g.R.Source.remaining g.R.Source.step _ _ _ _ _ _ _ room
-          c.in_ok-make_room.ensures.ok came.reads.begins came.reads.last;
-      last = HasNone-waited g.R.Source.remaining g.R.Source.step _ _ _ _ _ _ _ room
-          c.in_ok-make_room.ensures.ok came.reads.last;
       done = λ _ _ going. came.reads.done none;
       end = λ _ _ going. came.reads.end none;
       ended = λ ended. absurd (false≢true (sym was ∙ ended));
-      ahead = out.ahead;
-      passing = λ _ going. came.reads.passing;
-      settled = λ _ going. came.reads.settled;
-      stays = out.stays;
-      empty = tt;
-      waits = tt;
     }
 
 pub returns-then-not-has_offsets-2 : goal.returns-then-not-has_offsets-2
@@ -234,31 +163,16 @@ returns-then-not-has_offsets-2 g c =
     let out = IsFilling-stopped _ _ _ _ _ _ _ _ _ next refl in
     let error = IsFilling-past _ _ _ _ _ _ _ _ _ _ _ room next c.if-not-has_offsets-2.ensures in
     record {
-      same = out.same;
-      within = out.within;
-      grows = out.grows;
-      capacity = out.capacity;
+      keeps = out.keeps;
       reads = out.reads;
       read = tt;
-      stream = out.stream;
       some = tt;
       filled = tt;
       error = error;
       limit = only-limit _ _ _ error tt;
-      fault = tt;
-      uncut = tt;
-      fits = tt;
-      begins = λ _ _ _. tt;
-      last = tt;
       done = λ _ ended going. absurd (false≢true (sym next.unended ∙ ended));
       end = λ _ ended going. absurd (false≢true (sym next.unended ∙ ended));
       ended = λ ended. absurd (false≢true (sym was ∙ ended));
-      ahead = tt;
-      passing = tt;
-      settled = tt;
-      stays = out.stays;
-      empty = tt;
-      waits = tt;
     }
 
 pub returns-then-show_lines : goal.returns-then-show_lines
@@ -279,33 +193,17 @@ returns-then-show_lines g c =
     let filled = IsFilling-line _ _ _ _ _ _ _ _ _ _ _ _ _ _ room comes came.counted going next
     shows in
     record {
-      same = out.same;
-      within = out.within;
-      grows = out.grows;
-      capacity = out.capacity;
+      keeps = out.keeps;
       reads = out.reads;
       read = tt;
-      stream = out.stream;
       some = (λ _. shows.ends.some, λ _. refl);
-      filled = filled;
+      filled = HasNone-shown g.R.Source.remaining g.R.Source.step _ _ _ _ _ _ _ _ _ _ room
+          c.in_ok-make_room.ensures.ok came.reads out filled (search rules);
       error = tt;
       limit = only-limit _ _ _ tt filled;
-      fault = tt;
-      uncut = tt;
-      fits = search rules;
-      begins = λ _ _. HasNone-begun g.R.Source.remaining g.R.Source.step _ _ _ _ _ _ _ room
-          c.in_ok-make_room.ensures.ok came.reads.begins came.reads.last;
-      last = HasNone-waited g.R.Source.remaining g.R.Source.step _ _ _ _ _ _ _ room
-          c.in_ok-make_room.ensures.ok came.reads.last;
       done = λ _ ended going. absurd (false≢true (sym unended ∙ ended));
       end = λ _ ended going. absurd (false≢true (sym unended ∙ ended));
       ended = λ ended. absurd (false≢true (sym was ∙ ended));
-      ahead = out.ahead;
-      passing = λ _ going. came.reads.passing;
-      settled = λ _ going. came.reads.settled;
-      stays = out.stays;
-      empty = tt;
-      waits = tt;
     }
 
 pub reads-init : goal.reads-init
@@ -350,33 +248,17 @@ returns-then-has_quit-2 g c =
     let filled = IsFilling-byte _ _ _ _ _ _ _ _ _ next cut
     (c.has_quit-in-reads.ensures.room c.if-has_quit-2.true) c.end-then-has_quit-2.ensures.same in
     record {
-      same = out.same;
-      within = out.within;
-      grows = out.grows;
-      capacity = out.capacity;
+      keeps = out.keeps;
       reads = out.reads;
       read = tt;
-      stream = out.stream;
       some = rw c.end-then-has_quit-2.ensures.same c.end-then-has_quit-2.ensures.some;
-      filled = filled;
+      filled = HasNone-shown g.R.Source.remaining g.R.Source.step _ _ _ _ _ _ _ _ _ _ room
+          c.in_ok-make_room.ensures.ok came.reads out filled (search rules);
       error = tt;
       limit = only-limit _ _ _ tt filled;
-      fault = tt;
-      uncut = tt;
-      fits = search rules;
-      begins = λ _ _. HasNone-begun g.R.Source.remaining g.R.Source.step _ _ _ _ _ _ _ room
-          c.in_ok-make_room.ensures.ok came.reads.begins came.reads.last;
-      last = HasNone-waited g.R.Source.remaining g.R.Source.step _ _ _ _ _ _ _ room
-          c.in_ok-make_room.ensures.ok came.reads.last;
       done = λ _ _ going. absurd (false≢true (sym going ∙ still));
       end = λ _ _ going. absurd (false≢true (sym going ∙ still));
       ended = λ ended. absurd (false≢true (sym was ∙ ended));
-      ahead = out.ahead;
-      passing = λ _ going. came.reads.passing;
-      settled = λ _ going. came.reads.settled;
-      stays = out.stays;
-      empty = tt;
-      waits = tt;
     }
 
 pub returns-then-has_quit-clause-reads : goal.returns-then-has_quit-clause-reads
