@@ -146,10 +146,7 @@ module _ (k : Settings) (meaning : Meaning) (bytes : List ℕ) where
   -- a selected line that is in the unit of the line before it has no report
   unreported : (i : ℕ) → selected i ≡ true → continues k bytes selection i ≡ true
       → report_calls (T i) ≡ []
-  unreported i here goes_on =
-      let kind : Plans.kind k bytes selection i ≡ Some matched = rw here refl in
-      report_calls-broken (breaks_before k bytes selection i) _ _
-      ∙ (ap (λ o. report_calls (report k bytes selection i o)) kind ∙ (rw goes_on refl))
+  unreported i here goes_on = grind arith
 
   -- a line has one report at most, of its bytes or of those of the unit that begins there
   reported-line : (i : ℕ) → i < n → (report_calls (T i) ≡ []) ⊎ IsReported T at i
@@ -218,12 +215,7 @@ module _ (k : Settings) (meaning : Meaning) (bytes : List ℕ) where
   matches-report : (i : ℕ) (kind : Option Kind) → Plans.kind k bytes selection i ≡ kind
       → matches_in (report k bytes selection i kind) ≤ (if begins_unit i then 1 else 0)
   matches-report i None is = omega arith
-  matches-report i (Some matched) is =
-      let here = kind-selected (selected i) (follows_selected k bytes selection i)
-      (precedes_selected k bytes selection i) k.passthru is in
-      ⊎_elim (λ yes. rw yes (omega arith))
-      (λ (no : continues k bytes selection i ≡ false). rw (here, no) (omega arith))
-      (cases_Bool (continues k bytes selection i))
+  matches-report i (Some matched) is = grind (arith, kind-selected, cases_Bool)
   matches-report i (Some (in_context c)) is = omega arith
 
   matches-line : (i : ℕ) → matches_in (T i) ≤ (if begins_unit i then 1 else 0)

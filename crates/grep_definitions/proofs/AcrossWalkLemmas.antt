@@ -187,18 +187,7 @@ module _ (k : Settings) (meaning : Meaning) (bytes : List ℕ) where
 
     -- a later line of it has none
     later-is : (j : ℕ) → i < j → j < e → T j ≡ []
-    later-is j less below =
-        let plain : selects_free k ≡ false = ⊎_elim (λ yes. absurd (omega (arith, alone yes)))
-        (λ no. no) (cases_Bool (selects_free k)) in
-        let kind : Plans.kind k bytes selection j
-        ≡ Some matched = let here = hits j (omega arith) below in rw here refl in
-        let before = hits (j - 1) (omega arith) (omega arith) in
-        let above = lt-ltb 0 j (omega arith) in
-        let goes_on : continues k bytes selection j ≡ true =
-        ap (λ b. not b && nat_lt 0 j && S (j - 1)) plain ∙ rw (above, before) refl in
-        let reported : is_reported (j - 1) ≡ true = let test = lt-ltb (j - 1) n (omega arith) in rw
-        (before, test) refl in
-        rw (kind, reported, and-false (nat_lt 0 (A + B) && true), goes_on) refl
+    later-is j less below = grind arith
 
   -- the calls of a unit: those of the lines before it, and the match at its first line
   pub front-unit : {v i left : ℕ} (e : ℕ) → Near v i left → i < e → e ≤ n

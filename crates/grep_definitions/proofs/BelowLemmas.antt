@@ -86,11 +86,7 @@ count_below-le p i (suc q) le = ⊎_elim
 
 -- a limit that has no room has none for more lines, and none for as many as it has
 pub room-le : (k : Settings) (n m : ℕ) → n ≤ m → has_room k n ≡ false → has_room k m ≡ false
-room-le k n m le = go k.max_matches
-  where
-    go : (o : Option ℕ) → is_below n o ≡ false → is_below m o ≡ false
-    go None is = is
-    go (Some x) is = let over = ltb-false n x is in le-ltb m x (omega arith)
+room-le k n m le = grind arith
 
 pub room-first : (k : Settings) (m : ℕ) → has_room k m ≡ true → has_room k 0 ≡ true
 room-first k m room =
@@ -201,24 +197,12 @@ some_below-find p (suc n) is = go (p n) refl (λ h. some_below-find p n h)
 -- if no number passes, there is no first
 pub first_below-nowhere : (p : ℕ → Bool) (n : ℕ) → some_below p n ≡ false → first_below p n ≡ None
 first_below-nowhere p zero none = refl
-first_below-nowhere p (suc n) none = go (some_below p n) (p n) refl refl (first_below-nowhere p n)
-  where
-    go : (a b : Bool) → some_below p n ≡ a → p n ≡ b → (some_below p n ≡ false → first_below p n
-        ≡ None) → first_below p (suc n) ≡ None
-    go true b e f later = absurd (let at = rw e at none in cc)
-    go false true e f later = absurd (let at = rw (e, f) at none in cc)
-    go false false e f later = rw (e, f) refl
+first_below-nowhere p (suc n) none = grind (arith, first_below-nowhere p n)
 
 -- and if there is no first, none passes
 pub first_below-none : (p : ℕ → Bool) (n : ℕ) → first_below p n ≡ None → some_below p n ≡ false
 first_below-none p zero none = refl
-first_below-none p (suc n) none = go (some_below p n) (p n) refl refl (first_below-none p n)
-  where
-    go : (a b : Bool) → some_below p n ≡ a → p n ≡ b → (first_below p n ≡ None → some_below p n
-        ≡ false) → some_below p (suc n) ≡ false
-    go true b e f earlier = absurd (clash e (earlier (let at = rw e at none in at)))
-    go false true e f earlier = absurd (let at = rw (e, f) at none in cc)
-    go false false e f earlier = rw (e, f) refl
+first_below-none p (suc n) none = grind (arith, clash, first_below-none p n)
 
 -- no number before the first that passes does
 pub first_below-before : (p : ℕ → Bool) (n q j : ℕ) → first_below p n ≡ Some q → j < q → p j ≡ false
@@ -272,18 +256,4 @@ pub count_below-either : (p q r : ℕ → Bool) (n : ℕ)
     → ((i : ℕ) → r i ≡ true → (p i ≡ true) ⊎ (q i ≡ true))
     → count_below r n ≤ count_below p n + count_below q n
 count_below-either p q r zero either = omega arith
-count_below-either p q r (suc n) either = go (p n) (q n) (r n) (either n)
-    (count_below-either p q r n either)
-  where
-    go : (a b c : Bool) → (c ≡ true → (a ≡ true) ⊎ (b ≡ true)) → count_below r n ≤ count_below p n
-        + count_below q n → (if c then count_below r n + 1 else count_below r n)
-        ≤ (if a then count_below p n + 1 else count_below p n)
-        + (if b then count_below q n + 1 else count_below q n)
-    go true true true some before = omega arith
-    go true false true some before = omega arith
-    go false true true some before = omega arith
-    go false false true some before = ⊎_elim (λ no. cc) (λ no. cc) (some refl)
-    go true true false some before = omega arith
-    go true false false some before = omega arith
-    go false true false some before = omega arith
-    go false false false some before = before
+count_below-either p q r (suc n) either = grind (arith, count_below-either p q r n either)

@@ -38,26 +38,18 @@ inner-one k call end inner = All-cons (IsInner k) (planned call end) [] inner (A
 pub inner-broken : (k : Settings) (gap : Bool) (call : Call) (end : ℕ)
     → comes_between (is_detecting k.binary_detection) call ≡ true
     → AreInner k (broken_calls gap call end)
-inner-broken k true call end inner =
-    All-cons (IsInner k) (planned breaks end) (one_call call end) refl (inner-one k call end inner)
+inner-broken k true call end inner = grind (arith, All-cons, inner-one)
 inner-broken k false call end inner = inner-one k call end inner
 
 -- the calls of a line before a match
 pub inner-before : (k : Settings) (v j i : ℕ) (number : Option ℕ) (offset end : ℕ) (line : List ℕ)
     → AreInner k (before_calls k v j i number offset end line)
-inner-before k v j i number offset end line =
-    elim (nat_le (i - j) k.before_context) as (λ near. AreInner k
-    (if near then broken_calls (breaks_near k v j i) (context Before number offset line) end else [])) [
-      | true ↦ inner-broken k (breaks_near k v j i) (context Before number offset line) end refl
-      | false ↦ All-nil (IsInner k)
-    ]
+inner-before k v j i number offset end line = grind arith
 
 -- and of a match
 pub inner-match : (k : Settings) (v i offset end : ℕ) (line : List ℕ)
     → AreInner k (selected_calls k v i offset end line)
-inner-match k v i offset end line =
-    inner-broken k (nat_lt 0 k.after_context && breaks_near k v i i)
-    (matches (number_of k i) offset line) end refl
+inner-match k v i offset end line = grind arith
 
 -- how many calls are `binary_data`
 binary-append : (front back : List Planned) → binary_count (front ++ back) ≡ binary_count front
@@ -83,20 +75,12 @@ binary-one call end plain = binary-cons (planned call end) [] ∙ ap (λ b. cond
 
 binary-broken : (gap : Bool) (call : Call) (end : ℕ) → is_binary_data call ≡ false
     → binary_count (broken_calls gap call end) ≡ 0
-binary-broken true call end plain =
-    binary-cons (planned breaks end) (one_call call end)
-    ∙ ap (λ n. 0 + n) (binary-one call end plain)
+binary-broken true call end plain = grind (arith, binary-cons, binary-one)
 binary-broken false call end plain = binary-one call end plain
 
 binary-before : (k : Settings) (v j i : ℕ) (number : Option ℕ) (offset end : ℕ) (line : List ℕ)
     → binary_count (before_calls k v j i number offset end line) ≡ 0
-binary-before k v j i number offset end line =
-    elim (nat_le (i - j) k.before_context) as (λ near. binary_count
-    (if near then broken_calls (breaks_near k v j i) (context Before number offset line) end else [])
-    ≡ 0) [
-      | true ↦ binary-broken (breaks_near k v j i) (context Before number offset line) end refl
-      | false ↦ refl
-    ]
+binary-before k v j i number offset end line = grind arith
 
 -- none of the calls is if at most none is
 none-binary : (call : Planned) (later : List Planned) → binary_count (call ∷ later) ≤ 0
@@ -149,29 +133,13 @@ module _ {S E : Type 0} (step : Steps S E) (k : Settings) where
       (outcome : Outcome E) (new : S)
       → AreMade step k old (before_calls k v j i number offset end line) outcome new
       → HasCalled step k 0 old outcome new
-  called-before v j i number offset end line old outcome new reported =
-      record {
-        calls = before_calls k v j i number offset end line;
-        inner = inner-before k v j i number offset end line;
-        few = omega (arith, binary-before k v j i number offset end line);
-        reported = reported;
-      }
+  called-before v j i number offset end line old outcome new reported = grind arith
 
   -- and of a match
   pub called-match : (v i offset end : ℕ) (line : List ℕ) (old : S) (outcome : Outcome E) (new : S)
       → AreMade step k old (selected_calls k v i offset end line) outcome new
       → HasCalled step k 0 old outcome new
-  called-match v i offset end line old outcome new reported =
-      record {
-        calls = selected_calls k v i offset end line;
-        inner = inner-match k v i offset end line;
-        few = omega (
-          arith,
-          binary-broken (nat_lt 0 k.after_context && breaks_near k v i i)
-              (matches (number_of k i) offset line) end refl,
-        );
-        reported = reported;
-      }
+  called-match v i offset end line old outcome new reported = grind arith
 
   -- calls after calls that all returned true
   pub called-after : {before after bound : ℕ} → before + after ≤ bound
@@ -191,12 +159,7 @@ module _ {S E : Type 0} (step : Steps S E) (k : Settings) where
       → (old mid : S) (count : ℕ) (new : S)
       → HasCalled step k before old all_true mid → HasCalledTo step k after mid count new
       → HasCalledTo step k bound old count new
-  called-after-to enough old mid count new first to =
-      record {
-        outcome = to.outcome;
-        ends = to.ends;
-        called = called-after enough old mid to.outcome new first to.called;
-      }
+  called-after-to enough old mid count new first to = grind (arith, called-after)
 
   -- reports after them
   pub called-then : {bound : ℕ} (old mid : S) (outcome : Outcome E) (new : S)
@@ -207,42 +170,22 @@ module _ {S E : Type 0} (step : Steps S E) (k : Settings) where
   -- more of them may be `binary_data`
   pub called-most : {bound most : ℕ} → bound ≤ most → (old : S) (outcome : Outcome E) (new : S)
       → HasCalled step k bound old outcome new → HasCalled step k most old outcome new
-  called-most enough old outcome new called = record {
-    calls = called.calls;
-    inner = called.inner;
-    few = omega arith;
-    reported = called.reported;
-  }
+  called-most enough old outcome new called = grind arith
 
   -- `begin`, by what it returned
   pub begun-one : {bound : ℕ} (old : S) (result : Result Bool E) (new : S)
       → step old k begins result new → HasBegunWith step k bound old (outcome_of 0 result) new
-  begun-one old result new made = record {
-    calls = [];
-    inner = All-nil (IsInner k);
-    few = omega arith;
-    reported = AreMade-one step k begins 0 old result new made;
-  }
+  begun-one old result new made = grind arith
 
   -- calls after `begin`
   pub begun-then : {bound : ℕ} (old mid : S) (outcome : Outcome E) (new : S)
       → step old k begins (Ok true) mid
       → HasCalled step k bound mid outcome new → HasBegunWith step k bound old outcome new
-  begun-then old mid outcome new begun called = record {
-    calls = called.calls;
-    inner = called.inner;
-    few = called.few;
-    reported = inl (mid, begun, called.reported);
-  }
+  begun-then old mid outcome new begun called = grind arith
 
   pub begun-to : {bound : ℕ} (old mid : S) (count : ℕ) (new : S) → step old k begins (Ok true) mid
       → HasCalledTo step k bound mid count new → HasBegunTo step k bound old count new
-  begun-to old mid count new begun to =
-      record {
-        outcome = to.outcome;
-        ends = to.ends;
-        called = begun-then old mid to.outcome new begun to.called;
-      }
+  begun-to old mid count new begun to = grind arith
 
   -- `begin` returned false, or true and nothing followed
   pub begun-to-0 : {bound : ℕ} (old : S) (begun : Bool) (new : S) → step old k begins (Ok begun) new
@@ -267,9 +210,7 @@ module _ {S E : Type 0} (step : Steps S E) (k : Settings) where
         binary = binary;
       }) result new
   finished all_true mid count binary result new ends made = made
-  finished (stopped finish) mid count binary result new ends made =
-      subst (λ (f : Finish). step mid k (finishes f.count binary) (finish_result result) new)
-      (sym ends) made
+  finished (stopped finish) mid count binary result new ends made = grind arith
   finished (failed e) mid count binary result new ends made = absurd ends
 
   -- what each call keeps is kept
@@ -510,14 +451,8 @@ module _ {S T E : Type 0} (step : Steps S E) (around : Steps T E) (k : Settings)
     passed-ended : (old : T) (count : ℕ) (outcome : Outcome E) (new : T) → EndsAt outcome count
         → HasPassed old outcome new
         → HasCalledTo step k 1 (view old) (count_of new count) (view new)
-    passed-ended old count all_true new ends (holds, called) = record {
-      outcome = all_true;
-      ends = tt;
-      called = called-most step k (omega arith) (view old) all_true (view new) called;
-    }
-    passed-ended old count (stopped finish) new ends to =
-        subst (λ (f : Finish). HasCalledTo step k 1 (view old) (count_of new f.count) (view new))
-        ends to
+    passed-ended old count all_true new ends (holds, called) = grind (arith, called-most)
+    passed-ended old count (stopped finish) new ends to = grind arith
     passed-ended old count (failed e) new ends called = absurd ends
 
     module _ {F : Type 0} (errors : ErrorMakers F E) (matcher : MatcherFacts F) where
@@ -528,63 +463,18 @@ module _ {S T E : Type 0} (step : Steps S E) (around : Steps T E) (k : Settings)
         passed-begun : (old : T) (e : E) (new : T) → Holds old
             → HasBegunWith around k 0 old (failed e) new
             → HasBegunWith step k 1 (view old) (failed e) (view new)
-        passed-begun old e new holds with_calls =
-            go with_calls.calls with_calls.inner with_calls.few with_calls.reported
-          where
-            go : (calls : List Planned) → AreInner k calls → binary_count calls ≤ 0
-                → AreMade around k old (planned begins 0 ∷ calls) (failed e) new
-                → HasBegunWith step k 1 (view old) (failed e) (view new)
-            go calls inner few (inl (mid, made, reported)) =
-                let first = begun old (Ok true) mid holds made in
-                begun-then step k (view old) (view mid) (failed e) (view new) first.1
-                (passed-all calls mid (failed e) new inner few first.0 reported)
-            go calls inner few (inr (inl (is, made))) = cc
-            go calls inner few (inr (inr (error, is, made))) =
-                let same : error ≡ e = cc in
-                subst (λ x. HasBegunWith step k 1 (view old) (failed x) (view new)) same
-                (begun-one step k (view old) (Err error) (view new)
-                (begun old (Err error) new holds made).1)
+        passed-begun old e new holds with_calls = grind (arith, begun-then, passed-all, begun-one)
 
         passed-begun-true : (old new : T) → Holds old → HasBegunWith around k 0 old all_true new
             → HasBegunWith step k 1 (view old) all_true (view new)
         passed-begun-true old new holds with_calls =
-            go with_calls.calls with_calls.inner with_calls.few with_calls.reported
-          where
-            go : (calls : List Planned) → AreInner k calls → binary_count calls ≤ 0
-                → AreMade around k old (planned begins 0 ∷ calls) all_true new
-                → HasBegunWith step k 1 (view old) all_true (view new)
-            go calls inner few (inl (mid, made, reported)) =
-                let first = begun old (Ok true) mid holds made in
-                begun-then step k (view old) (view mid) all_true (view new) first.1
-                (called-most step k (omega arith) (view mid) all_true (view new)
-                (passed-all calls mid all_true new inner few first.0 reported).1)
-            go calls inner few (inr (inl (is, made))) = cc
-            go calls inner few (inr (inr (error, is, made))) = cc
+            grind (arith, begun-then, called-most, passed-all)
 
         pub passed-begun-to : (old : T) (count : ℕ) (new : T) → Holds old
             → HasBegunTo around k 0 old count new
             → HasBegunTo step k 1 (view old) (count_of new count) (view new)
         passed-begun-to old count new holds to =
-            go to.outcome to.ends to.called.calls to.called.inner to.called.few to.called.reported
-          where
-            go : (outcome : Outcome E) → EndsAt outcome count → (calls : List Planned)
-                → AreInner k calls
-                → binary_count calls ≤ 0 → AreMade around k old (planned begins 0 ∷ calls) outcome
-                new → HasBegunTo step k 1 (view old) (count_of new count) (view new)
-            go outcome ends calls inner few (inl (mid, made, reported)) =
-                let first = begun old (Ok true) mid holds made in
-                begun-to step k (view old) (view mid) (count_of new count) (view new) first.1
-                (passed-ended mid count outcome new ends
-                (passed-all calls mid outcome new inner few first.0 reported))
-            go outcome ends calls inner few (inr (inl (is, made))) =
-                let first = begun old (Ok false) new holds made in
-                let none : count ≡ 0 =
-                sym (ap (λ (f : Finish). f.count) (subst (λ o. EndsAt o count) is ends)) in
-                subst (λ n. HasBegunTo step k 1 (view old) n (view new))
-                (sym (held new count first.0 ∙ none))
-                (begun-to-0 step k (view old) false (view new) first.1)
-            go outcome ends calls inner few (inr (inr (error, is, made))) =
-                absurd (subst (λ o. EndsAt o count) is ends)
+            grind (arith, begun-to, passed-ended, passed-all, begun-to-0)
 
         pub passed-begun-failed : (old : T) (e : E) (new : T) → Holds old
             → HasFailedIn around k errors matcher (HasBegunWith around k 0 old) e new

@@ -34,18 +34,17 @@ pub ended-by : (at : ℕ) (first : List Planned) (T : ℕ → List Planned) (v m
     → ((j : ℕ) → v ≤ j → j < v + m → All (λ call. at < call.if_false.count) (T j))
     → through at (first ++ joined_from T v m) ≡ first
 ended-by at first T v m ended late =
-    filter-append passes first (joined_from T v m)
-    ∙ (ap (λ xs. xs ++ filter passes (joined_from T v m)) (filter-all passes first
-    (All-weaker (λ call. call.if_false.count ≤ at) (λ call. passes call ≡ true)
-    (λ call low. le-leb call.if_false.count at low) first ended))
-    ∙ (ap (λ xs. first ++ xs) (filter-none passes (joined_from T v m)
-    (All-joined_from (λ call. passes call ≡ false) T v m
-    (λ j low high. All-weaker (λ call. at < call.if_false.count)
-    (λ call. passes call ≡ false) (λ call high. lt-leb call.if_false.count at high) (T j)
-    (late j low high)))) ∙ append-nil first))
-  where
-    passes : Planned → Bool
-    passes call = nat_le call.if_false.count at
+    search (
+      arith,
+      filter-append,
+      filter-all,
+      All-weaker,
+      le-leb,
+      filter-none,
+      All-joined_from,
+      lt-leb,
+      append-nil,
+    )
 
 -- a call and the break before it end alike
 pub ends-one : (call : Call) (end : ℕ) → All (λ call. call.if_false.count ≡ end) (one_call call end)
@@ -55,9 +54,7 @@ ends-one call end =
 
 ends-broken : (gap : Bool) (call : Call) (end : ℕ) → All (λ call. call.if_false.count ≡ end)
     (broken_calls gap call end)
-ends-broken true call end =
-    All-cons (λ x. x.if_false.count ≡ end) (planned breaks end) (one_call call end) refl
-    (ends-one call end)
+ends-broken true call end = grind (arith, All-cons, ends-one)
 ends-broken false call end = ends-one call end
 
 module _ (k : Settings) (bytes : List ℕ) (v i end : ℕ) where
@@ -66,15 +63,7 @@ module _ (k : Settings) (bytes : List ℕ) (v i end : ℕ) where
 
   -- the calls of a chosen line and of those before it end with that line
   ends-listed : (q : ℕ) → EndThere (listed_calls k bytes v i end q)
-  ends-listed q =
-      go (nat_le (i - q) k.before_context)
-      (context Before (number k bytes q) (line_start (byte_of k.line_terminator) bytes q)
-      (slice_index_or (lines (byte_of k.line_terminator) bytes) q []))
-    where
-      go : (near : Bool) (call : Call)
-          → EndThere (if near then broken_calls (breaks_near k v q i) call end else [])
-      go true call = ends-broken (breaks_near k v q i) call end
-      go false call = All-nil (λ x. x.if_false.count ≡ end)
+  ends-listed q = grind arith
 
   pub ends-pending : (j n : ℕ) → EndThere (pending_calls k bytes v i end j n)
   ends-pending j n = All-joined_from (λ x. x.if_false.count ≡ end) (listed_calls k bytes v i end) j

@@ -62,9 +62,7 @@ module _ (k : Settings) (meaning : Meaning) (front back : List ℕ)
 
   -- the whole has the lines of the front and those of the back
   pub more_lines : all ≡ n + length (lines (byte_of k.line_terminator) back)
-  more_lines = ap length (prefix.all_lines k meaning front back closed)
-      ∙ length-append (lines (byte_of k.line_terminator) front)
-      (lines (byte_of k.line_terminator) back)
+  more_lines = grind (arith, prefix.all_lines, length-append)
 
   -- whether a line of the front is selected
   abbrev pub selected : ℕ → Bool
@@ -87,22 +85,11 @@ module _ (k : Settings) (meaning : Meaning) (front back : List ℕ)
 
   -- what the test says
   pub near-from : (bytes : List ℕ) (i j : ℕ) → near_before bytes i j ≡ true → IsNearMatch bytes i j
-  near-from bytes i j is =
-      let both = and_parts (nat_lt i j && nat_le (j - i) k.before_context)
-      (is_selected k meaning bytes j) is in
-      let near = and_parts (nat_lt i j) (nat_le (j - i) k.before_context) both.0 in
-      record {
-        beyond = ltb-true i j near.0;
-        within = leb-true (j - i) k.before_context near.1;
-        chosen = both.1;
-      }
+  near-from bytes i j is = grind arith
 
   -- the test, if that holds
   pub near-to : (bytes : List ℕ) (i j : ℕ) → IsNearMatch bytes i j → near_before bytes i j ≡ true
-  near-to bytes i j h = and_from (nat_lt i j && nat_le (j - i) k.before_context)
-      (is_selected k meaning bytes j)
-      (and_from (nat_lt i j) (nat_le (j - i) k.before_context) (lt-ltb i j h.beyond)
-      (le-leb (j - i) k.before_context h.within)) h.chosen
+  near-to bytes i j h = grind arith
 
   -- a line before a match in the front is so in the whole
   precedes-more : (i : ℕ) → precedes_selected k front (selection front) i ≡ true
@@ -286,37 +273,17 @@ module _ (k : Settings) (meaning : Meaning) (front back : List ℕ)
   -- a line that is reported as one before a match is before one
   kind-before : (i : ℕ) → kind k front (selection front) i ≡ Some (in_context Before)
       → precedes_selected k front (selection front) i ≡ true
-  kind-before i is = go (selected i) (follows_selected k front (selection front) i)
-      (precedes_selected k front (selection front) i) k.passthru refl refl refl refl
-    where
-      unlike : (x : Bool) → Some (if x then matched else in_context After)
-          ≡ Some (in_context Before) → ⊥
-      unlike true at = cc
-      unlike false at = cc
-
-      go : (a b c d : Bool) → selected i ≡ a → follows_selected k front (selection front) i ≡ b
-          → precedes_selected k front (selection front) i ≡ c → k.passthru ≡ d
-          → precedes_selected k front (selection front) i ≡ true
-      go true b c d p q r t = absurd (let at = rw p at is in cc)
-      go false true c d p q r t = absurd (unlike (is_trailing k meaning front i) (rw (p, q) at is))
-      go false false true d p q r t = r
-      go false false false true p q r t = absurd (let at = rw (p, q, r, t) at is in cc)
-      go false false false false p q r t = absurd (let at = rw (p, q, r, t) at is in cc)
+  kind-before i is = grind arith
 
   -- the count of a line of the front is the same in the whole
   end-same : (i : ℕ) → i < n → (kd : Option Kind) → kind k front (selection front) i ≡ kd
       → count_at k whole (selection whole) i kd ≡ count_at k front (selection front) i kd
-  end-same i below None is = prefix.start-same k meaning front back closed (i + 1) (omega arith)
-  end-same i below (Some matched) is = prefix.start-same k meaning front back closed (i + 1)
-      (omega arith)
+  end-same i below None is = grind (arith, prefix.start-same)
+  end-same i below (Some matched) is = grind (arith, prefix.start-same)
   end-same i below (Some (in_context Before)) is =
-      let through = through-same i below (kind-before i is) in
-      ap (Plans.start k whole) through.0 ∙ prefix.start-same k meaning front back closed
-      (next_report_end k front (selection front) i) through.1
-  end-same i below (Some (in_context After)) is = prefix.start-same k meaning front back closed
-      (i + 1) (omega arith)
-  end-same i below (Some (in_context Other)) is = prefix.start-same k meaning front back closed
-      (i + 1) (omega arith)
+      grind (arith, prefix.start-same, through-same, kind-before)
+  end-same i below (Some (in_context After)) is = grind (arith, prefix.start-same)
+  end-same i below (Some (in_context Other)) is = grind (arith, prefix.start-same)
 
   -- a line of the front has the same report in the whole
   report-same : (i : ℕ) → i < n → (kd : Option Kind) → kind k front (selection front) i ≡ kd
@@ -364,39 +331,23 @@ module _ (k : Settings) (meaning : Meaning) (front back : List ℕ)
   -- such bounds give as many lines of the front
   bounded : (far near : Option ℕ) → Bounds far near → (x : ℕ) → min (at_most far x) n
       ≡ at_most near (min x n)
-  bounded far near (inl same) x = rw same (go near)
-    where
-      go : (o : Option ℕ) → min (at_most o x) n ≡ at_most o (min x n)
-      go None = refl
-      go (Some u) = omega arith
+  bounded far near (inl same) x = grind arith
   bounded far near (inr (none, u, is, past)) x = rw (none, is) (omega arith)
 
   -- a bound by the first line that passes is such a bound
   first-bounds : (f : ℕ → ℕ) → ((u : ℕ) → u ≤ f u) → (p q : ℕ → Bool)
       → ((j : ℕ) → j < n → p j ≡ q j)
       → Bounds (option_map f (first_below p all)) (option_map f (first_below q n))
-  first-bounds f grows p q same = go (some_below p n) refl
-      (first_below p (n + length (lines (byte_of k.line_terminator) back))) refl
-    where
-      sum : first_below p all ≡ first_below p (n + length (lines (byte_of k.line_terminator) back))
-      sum = ap (first_below p) more_lines
-
-      go : (b : Bool) → some_below p n ≡ b → (o : Option ℕ)
-          → first_below p (n + length (lines (byte_of k.line_terminator) back)) ≡ o
-          → Bounds (option_map f (first_below p all)) (option_map f (first_below q n))
-      go true is o at = inl (ap (option_map f) (sum ∙ first_below-far p n _ is
-          ∙ first_below-same p q n same))
-      go false is None at =
-          let none : first_below q n ≡ None =
-          first_below-nowhere q n (sym (some_below-same p q n same) ∙ is) in
-          inl (ap (option_map f) (sum ∙ at ∙ sym none))
-      go false is (Some u) at =
-          let none : first_below q n ≡ None =
-          first_below-nowhere q n (sym (some_below-same p q n same) ∙ is) in
-          let far = first_below-late p n (n + length (lines (byte_of k.line_terminator) back)) u is
-          at in
-          let more = grows u in
-          inr (ap (option_map f) none, f u, ap (option_map f) (sum ∙ at), omega arith)
+  first-bounds f grows p q same =
+      grind (
+        arith,
+        more_lines,
+        first_below-far,
+        first_below-same,
+        first_below-nowhere,
+        some_below-same,
+        first_below-late,
+      )
 
   -- so is the bound by the stop
   stop-bounds : Bounds (end_by_stop k meaning whole) (end_by_stop k meaning front)
@@ -422,11 +373,7 @@ module _ (k : Settings) (meaning : Meaning) (front back : List ℕ)
 
   -- the lines of the front that may be reported are the same
   pub count-same : min count_whole n ≡ count_front
-  count-same =
-      let all_in : min all n ≡ n = omega (arith, more_lines) in
-      bounded _ _ limit-bounds (at_most (end_by_stop k meaning whole) all)
-      ∙ ap (at_most (end_by_limit k meaning front))
-      (bounded _ _ stop-bounds all ∙ ap (at_most (end_by_stop k meaning front)) all_in)
+  count-same = grind (arith, more_lines, bounded, limit-bounds, stop-bounds)
 
   -- up to line i the kinds are the same
   abbrev pub Same : ℕ → Type 0
@@ -435,12 +382,7 @@ module _ (k : Settings) (meaning : Meaning) (front back : List ℕ)
   -- a line up to there is reported in both or in neither
   reported-same : (i j : ℕ) → Same (i + 1) → i < count_front → j ≤ i
       → is_reported k whole (selection whole) j ≡ is_reported k front (selection front) j
-  reported-same i j same below inside =
-      let near : nat_lt j count_front ≡ true = lt-ltb j count_front (omega arith) in
-      let far : nat_lt j count_whole ≡ true = lt-ltb j count_whole (omega (arith, count-same)) in
-      let kinds = same j (omega arith) in
-      ap (λ b. b && is_some (kind k whole (selection whole) j)) (far ∙ sym near)
-      ∙ ap (λ o. nat_lt j count_front && is_some o) kinds
+  reported-same i j same below inside = grind (arith, lt-ltb, count-same)
 
   -- a break may come before the same kinds
   breaks-same : (o : Option Kind) → can_break o ≡ can_break o
@@ -606,9 +548,7 @@ module _ (k : Settings) (meaning : Meaning) (front back : List ℕ)
             rw (unselected, unfollowed, unpreceded, plain) refl
 
         passed-calls : (j : ℕ) → v ≤ j → j < n → calls_at k front (selection front) j ≡ []
-        passed-calls j low below =
-            let none = passed-kind j low below in
-            rw (none, and-false (nat_lt 0 (k.after_context + k.before_context))) refl
+        passed-calls j low below = grind (arith, passed-kind, and-false)
 
         -- the calls of a line before
         ended-at : (i : ℕ) → i < v → All (λ call. call.if_false.count ≤ Plans.start k whole n)

@@ -33,29 +33,17 @@ module _ (t : ℕ) where
   -- two closed parts are closed
   pub closed-append : (front back : List ℕ) → IsClosed t front → IsClosed t back
       → IsClosed t (front ++ back)
-  closed-append front [] shut closed = subst (IsClosed t) (sym (append-nil front)) shut
-  closed-append front (b ∷ back) shut closed = λ some.
-      let last : (length (front ++ (b ∷ back)) - 1) - length front ≡ length (b ∷ back) - 1 =
-      omega (arith, length-append front (b ∷ back)) in
-      get_or-append_right front (b ∷ back) (length (front ++ (b ∷ back)) - 1) 0
-      (omega (arith, length-append front (b ∷ back)))
-      ∙ (ap (λ i. get_or (b ∷ back) i 0) last ∙ closed (omega arith))
+  closed-append front [] shut closed = grind (arith, append-nil)
+  closed-append front (b ∷ back) shut closed = grind (arith, length-append, get_or-append_right)
 
   -- so is what follows a position in closed bytes
   pub closed-drop : (bytes : List ℕ) (r : ℕ) → IsClosed t bytes → IsClosed t (drop r bytes)
-  closed-drop bytes r closed = λ some.
-      let last : r + (length (drop r bytes) - 1) ≡ length bytes - 1 =
-      omega (arith, length-drop r bytes) in
-      get_or-drop r bytes (length (drop r bytes) - 1) 0
-      ∙ (ap (λ i. get_or bytes i 0) last ∙ closed (omega (arith, length-drop r bytes)))
+  closed-drop bytes r closed = grind (arith, length-drop, get_or-drop)
 
   -- and what comes before a position right after the terminator
   pub closed-take : (bytes : List ℕ) (r : ℕ) → r ≤ length bytes
       → (0 < r → slice_index bytes (r - 1) ≡ t) → IsClosed t (take r bytes)
-  closed-take bytes r within ends = λ some.
-      let size = length-take-le r bytes within in
-      ap (λ n. get_or (take r bytes) (n - 1) 0) size
-      ∙ (get_or-take r bytes (r - 1) 0 (omega arith) ∙ ends (omega arith))
+  closed-take bytes r within ends = grind (arith, length-take-le, get_or-take)
 
 -- of two ways to cut a list the longer front begins with the shorter one
 pub longer-front : (front back whole rest : List ℕ) → front ++ back ≡ whole ++ rest → length front
@@ -70,26 +58,14 @@ longer-front front back whole rest same long =
 pub lines-fit : (t size : ℕ) (bytes : List ℕ) → length bytes ≤ size
     → (length bytes ≡ size → IsClosed t bytes)
     → All (λ line. IsTooLong t size line → ⊥) (lines t bytes)
-lines-fit t size bytes within full = λ k x below. go (get_or (lines t bytes) k x)
-    (lines-within t bytes k x below) (λ closed. lines-end t bytes closed k x below)
-  where
-    go : (line : List ℕ) → length line ≤ length bytes
-        → (IsClosed t bytes → slice_index line (length line - 1) ≡ t) → IsTooLong t size line → ⊥
-    go line short ends (inl long) = absurd (omega arith)
-    go line short ends (inr (same, broken)) =
-        broken (ap (λ n. slice_index line (n - 1)) (sym same) ∙ ends (full (omega arith)))
+lines-fit t size bytes within full = grind (arith, lines-within, lines-end)
 
 module _ (t : ℕ) (front back : List ℕ) (closed : IsClosed t front) where
   -- where the lines after a front begin
   pub start-after : (i : ℕ) → line_start t (front ++ back) (length (lines t front) + i)
       ≡ length front + line_start t back i
   start-after i =
-      ap (λ ls. length (concat (take (length (lines t front) + i) ls)))
-      (lines-append t front back closed)
-      ∙ (ap (λ ls. length (concat ls)) (take-append-add (lines t front) (lines t back) i)
-      ∙ (ap length (concat-append (lines t front) (take i (lines t back)))
-      ∙ (length-append (concat (lines t front)) (concat (take i (lines t back)))
-      ∙ ap (λ xs. length xs + line_start t back i) (AreLines-lines t front).joined)))
+      grind (arith, lines-append, take-append-add, concat-append, length-append, AreLines-lines)
 
   -- how many there are
   pub count-after : length (lines t (front ++ back)) ≡ length (lines t front)
@@ -109,11 +85,7 @@ module _ (t : ℕ) (front back : List ℕ) (closed : IsClosed t front) where
   -- the first of them
   pub line-after : slice_index_or (lines t (front ++ back)) (length (lines t front)) []
       ≡ slice_index_or (lines t back) 0 []
-  line-after =
-      let none : length (lines t front) ≡ length (lines t front) + 0 = omega arith in
-      ap (λ ls. get_or ls (length (lines t front)) []) (lines-append t front back closed)
-      ∙ (ap (λ i. get_or (lines t front ++ lines t back) i []) none
-      ∙ get_or-append-add (lines t front) (lines t back) 0 [])
+  line-after = grind (arith, lines-append, get_or-append-add)
 
 -- a list with something at its front isn't empty
 some-first : (ls : List (List ℕ)) → 0 < length (get_or ls 0 []) → 0 < length ls
@@ -146,26 +118,7 @@ pub unreported-passed : (k : Settings) (meaning : Meaning) (bytes : List ℕ) (v
     → IsNear k bytes (selected_lines k meaning bytes) v (line_count k bytes) left → (i : ℕ) → v ≤ i
     → i < line_count k bytes → is_reported k bytes (selected_lines k meaning bytes) i ≡ false
 unreported-passed k meaning bytes v left near i low below =
-    let out = near.passed i low below in
-    let plain : k.passthru ≡ false = ⊎_elim (λ yes. absurd (omega (arith, near.bare yes)))
-    (λ no. no) (cases_Bool k.passthru) in
-    let apart = unpreceded in
-    let none : kind k bytes (selected_lines k meaning bytes) i ≡ None =
-    rw (out.0, out.1, apart, plain) refl in
-    ap (λ o. nat_lt i (reports_end k meaning bytes) && is_some o) none
-    ∙ and-false (nat_lt i (reports_end k meaning bytes))
-  where
-    before : ℕ → Bool
-    before j = nat_lt i j && nat_le (j - i) k.before_context && is_selected k meaning bytes j
-
-    unpreceded : precedes_selected k bytes (selected_lines k meaning bytes) i ≡ false
-    unpreceded = ⊎_elim (λ holds.
-        let found = some_below-find before (line_count k bytes) holds in
-        let both = and_parts (nat_lt i found.0 && nat_le (found.0 - i) k.before_context)
-        (is_selected k meaning bytes found.0) found.2 in
-        let above = ltb-true i found.0 (and_parts (nat_lt i found.0) _ both.0).0 in
-        absurd (clash both.1 (near.passed found.0 (omega arith) found.1).0)) (λ no. no)
-        (cases_Bool (precedes_selected k bytes (selected_lines k meaning bytes) i))
+    grind (arith, cases_Bool, and-false, some_below-find, and_parts, ltb-true, clash)
 
 -- a buffer that shows some lines after those that are gone, and holds bytes after them that end
 -- none, can't hold the next line
@@ -248,22 +201,8 @@ calls-within k meaning seen back closed within = go back closed within
 
 -- no lines are at the front of every input
 pub front-none : {k : Settings} {bytes : List ℕ} → IsFront k bytes []
-front-none {bytes} = record {
-  after = bytes;
-  whole = refl;
-  closed = λ more some. absurd (omega (arith, some));
-  held = λ limit is i x below. absurd (omega (arith, below));
-}
+front-none {bytes} = grind arith
 
 -- bytes below the heap limit are a front of themselves: no line of theirs is too long
 pub front-whole : (k : Settings) (bytes : List ℕ) → IsBelowLimit k bytes → IsFront k bytes bytes
-front-whole k bytes below = record {
-  after = [];
-  whole = sym (append-nil bytes);
-  closed = λ more. absurd (omega (arith, more));
-  held = λ limit is. All-weaker (λ line. length line ≤ length bytes)
-      (λ line. IsTooLong (byte_of k.line_terminator) limit line → ⊥)
-      (λ line within. λ long. ⊎_elim (λ more. absurd (omega (arith, more, within, below limit is)))
-      (λ full. absurd (omega (arith, full.0, within, below limit is))) long)
-      (lines (byte_of k.line_terminator) bytes) (lines-within (byte_of k.line_terminator) bytes);
-}
+front-whole k bytes below = grind (arith, append-nil, All-weaker, lines-within)

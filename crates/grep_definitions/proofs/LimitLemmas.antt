@@ -67,27 +67,10 @@ module _ (k : Settings) (meaning : Meaning) (bytes : List ℕ) where
 
   -- in a search without a limit that bounds nothing
   pub by_limit-none : ((count : ℕ) → has_room k count ≡ true) → by_limit ≡ None
-  by_limit-none room = go k.passthru
-    where
-      none : first_below fills n ≡ None
-      none = first_below-nowhere fills n (some_below-none fills n (λ j less.
-          let next = room (count_below hits j + 1) in rw next (and-false (is_chosen j))))
-
-      go : (s : Bool) → (if s then None else (if has_room k 0
-          then option_map (λ m. suc (m + k.after_context)) (first_below fills n) else Some 0))
-          ≡ None
-      go true = refl
-      go false = rw (room 0, none) refl
+  by_limit-none room = grind (arith, first_below-nowhere, some_below-none, and-false)
 
   pub IsOpen-none : (k.passthru ≡ false → has_room k 0 ≡ false → ⊥) → IsOpen k meaning bytes 0 0 0
-  IsOpen-none starts = record {
-    below = refl;
-    counted = λ _. refl;
-    any = refl;
-    unended = refl;
-    unfilled = λ _. refl;
-    filled = λ plain full. absurd (starts plain full);
-  }
+  IsOpen-none starts = grind arith
 
   -- the limit of a search in which a line fills it isn't 0
   filled-room : (m : ℕ) → fills m ≡ true → has_room k 0 ≡ true
@@ -101,39 +84,21 @@ module _ (k : Settings) (meaning : Meaning) (bytes : List ℕ) where
       rw (plain, some, is) refl
 
   stop_bound : {i left c : ℕ} → IsOpen k meaning bytes i left c → IfSome by_stop (λ b. i < b)
-  stop_bound {i} {left} {c} opened = go (first_below ends n) refl
-    where
-      go : (found : Option ℕ) → first_below ends n ≡ found → IfSome (option_map suc found)
-          (λ b. i < b)
-      go None is = tt
-      go (Some u) is = let late = first_below-late ends i n u opened.unended is in omega arith
+  stop_bound {i} {left} {c} opened = grind (arith, first_below-late)
 
   limit_bound : {i left c : ℕ} → i ≤ n → IsOpen k meaning bytes i left c
       → IfSome by_limit (λ b. i < b)
-  limit_bound {i} {left} {c} inside opened = go k.passthru (has_room k 0) refl refl
-    where
-      inner : (found : Option ℕ) → first_below fills n ≡ found → k.passthru ≡ false
-          → IfSome (option_map (λ m. suc (m + k.after_context)) found) (λ b. i < b)
-      inner None is plain = tt
-      inner (Some m) is plain = ⊎_elim
-          (λ free. let late = first_below-late fills i n m (opened.unfilled free) is in omega arith)
-          (λ full.
-          let f = opened.filled plain full in
-          let more = first_below-more fills i n f.0 inside f.1 in
-          let same : m ≡ f.0 = cc in
-          omega arith) (cases_Bool (has_room k c))
-
-      go : (s room : Bool) → k.passthru ≡ s → has_room k 0 ≡ room
-          → IfSome (if s then None else (if room
-          then option_map (λ m. suc (m + k.after_context)) (first_below fills n) else Some 0))
-          (λ b. i < b)
-      go true room plain some = tt
-      go false true plain some = inner (first_below fills n) refl plain
-      go false false plain none = absurd (⊎_elim
-          (λ (free : has_room k c ≡ true). clash (room-first k c free) none) (λ full.
-          let f = opened.filled plain full in
-          clash (filled-room f.0 (first_below-of fills i f.0 f.1).1) none)
-          (cases_Bool (has_room k c)))
+  limit_bound {i} {left} {c} inside opened =
+      grind (
+        arith,
+        first_below-late,
+        first_below-more,
+        cases_Bool,
+        clash,
+        room-first,
+        filled-room,
+        first_below-of,
+      )
 
   -- the line that the walk is at may be reported
   pub reportable-above : {i left c : ℕ} → IsOpen k meaning bytes i left c → i < n → i < reportable
@@ -207,20 +172,10 @@ module _ (k : Settings) (meaning : Meaning) (bytes : List ℕ) where
       none-fills = rw no refl
 
       count_keep : has_room k c ≡ true → (j : ℕ) → j ≡ suc i → count_below hits j ≡ c
-      count_keep free j is =
-          let fits : has_room k (count_below hits i) ≡ true = opened.below ∙ free in
-          let miss : hits i ≡ false = go (hits i) refl fits in
-          rw (is, miss, opened.counted free) refl
-        where
-          go : (h : Bool) → hits i ≡ h → has_room k (count_below hits i) ≡ true → hits i ≡ false
-          go false is_h fits = is_h
-          go true is_h fits = absurd
-              (clash (let both : is_chosen i ≡ true = rw (is_h, fits) refl in both) no)
+      count_keep free j is = grind arith
 
       below-more : (j : ℕ) → j ≡ suc i → has_room k (count_below hits j) ≡ has_room k c
-      below-more j is = ⊎_elim (λ free. ap (has_room k) (count_keep free j is)) (λ full.
-          room-le k _ _ (count_below-le hits i j (omega arith)) (opened.below ∙ full) ∙ sym full)
-          (cases_Bool (has_room k c))
+      below-more j is = grind arith
 
       pub IsOpen-missed : stops_next k (nat_lt 0 c) ≡ false
           → (k.passthru ≡ false → has_room k c ≡ false → 1 < left)
@@ -274,9 +229,4 @@ module _ (k : Settings) (meaning : Meaning) (bytes : List ℕ) where
   reportable-none plain full = let x : ℕ = at_most by_stop n in rw (plain, full) (omega arith)
 
   pub IsDone-none : k.passthru ≡ false → has_room k 0 ≡ false → IsDone 0
-  IsDone-none plain full = record {
-    last = reportable-none plain full;
-    silent = λ q low below. selected-none q (
-        let none : has_room k (count_below hits q) ≡ false = room-le k 0 _ (omega arith) full in rw
-        none (and-false _));
-  }
+  IsDone-none plain full = grind arith

@@ -51,13 +51,7 @@ module _ (t : ℕ) (bytes : List ℕ) where
       && nat_le (line_start t bytes (i + 1)) (block_end t bytes m))
       ≡ (nat_le (block_start t bytes m) (line_start t bytes i) && nat_lt (line_start t bytes i)
       (block_end t bytes m))
-  within-block i m here =
-      let stop = block_end-edge m in
-      ap (λ b. nat_le (block_start t bytes m) (line_start t bytes i) && b)
-      (same-tests (line_start t bytes (i + 1)) (block_end t bytes m) (line_start t bytes i)
-      (block_end t bytes m) (λ early over. omega (arith, rises t bytes i here)) (λ over late. ⊎_elim
-      (λ less. omega (arith, line_start-le t bytes (i + 1) stop.0 (omega (arith, less))))
-      (λ more. omega (arith, line_start-le t bytes stop.0 i more)) (cases_lt i stop.0)))
+  within-block i m here = grind (arith, block_end-edge, same-tests, rises, line_start-le, cases_lt)
 
   -- a later position has no fewer lines before it
   lines_before-le : (p q : ℕ) → p ≤ q → lines_before t bytes p ≤ lines_before t bytes q
@@ -114,15 +108,7 @@ module _ (t : ℕ) (bytes : List ℕ) where
   -- the bytes from a line on
   module _ (e a : ℕ) (here : IsLineStart t bytes e a) (below : e < length bytes) where
     line_start-part : (k : ℕ) → line_start t bytes (a + k) ≡ e + line_start t (drop e bytes) k
-    line_start-part k =
-        let at = IsAt-start t bytes e a here in
-        let cut = ap (λ ls. length (concat ls)) (take-add a k (lines t bytes)) in
-        let joined = ap length
-        (concat-append (take a (lines t bytes)) (take k (drop a (lines t bytes)))) in
-        let rest = ap (λ ls. length (concat (take k ls))) at.rest in
-        let sizes = length-append (concat (take a (lines t bytes)))
-        (concat (take k (drop a (lines t bytes)))) in
-        omega arith
+    line_start-part k = grind (arith, IsAt-start, take-add, concat-append, length-append)
 
     lines_before-part : (p : ℕ) → e ≤ p → lines_before t bytes p ≡ a + lines_before t (drop e bytes)
         (p - e)
@@ -136,10 +122,7 @@ module _ (t : ℕ) (bytes : List ℕ) where
     -- the block of a match that starts there or later
     pub block_start-part : (m o : ℕ × ℕ) → e ≤ m.0 → o.0 ≡ m.0 - e → e
         + block_start t (drop e bytes) o ≡ block_start t bytes m
-    block_start-part m o low is =
-        sym (line_start-part (lines_before t (drop e bytes) o.0))
-        ∙ (ap (λ p. line_start t bytes (a + lines_before t (drop e bytes) p)) is
-        ∙ ap (line_start t bytes) (sym (lines_before-part m.0 low)))
+    block_start-part m o low is = grind (arith, line_start-part, lines_before-part)
 
     -- and of one that ends there or later
     pub block_end-part : (m o : ℕ × ℕ) → e ≤ m.1 → (m.0 < m.1 → e < m.1) → o.1 ≡ m.1 - e

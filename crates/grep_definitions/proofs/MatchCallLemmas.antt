@@ -85,41 +85,24 @@ first-passing p (suc n) =
     go : (found : Option ℕ) → first_below p n ≡ found → slice_get (joined_from (passing p) 0 n) 0
         ≡ first_below p n
         → slice_get (joined_from (passing p) 0 n ++ passing p n) 0 ≡ first_below p (suc n)
-    go None is before =
-        let none : some_below p n ≡ false = first_below-none p n is in
-        slice_get-back (joined_from (passing p) 0 n) (passing p n) (before ∙ is)
-        ∙ (rw none (last (p n)))
-    go (Some q) is before =
-        slice_get-front (joined_from (passing p) 0 n) (passing p n) q (before ∙ is)
-        ∙ sym (first_below-more p n (suc n) q (omega arith) is)
+    go x0 x1 x2 =
+        grind (arith, first_below-none, slice_get-back, last, slice_get-front, first_below-more)
 
 -- what is made of each number that passes
 map-passing : {X : Type 0} (f : ℕ → X) (p : ℕ → Bool) (i n : ℕ)
     → map f (joined_from (passing p) i n) ≡ joined_from (λ j. if p j then f j ∷ [] else []) i n
 map-passing f p i zero = refl
-map-passing f p i (suc n) =
-    map-append f (passing p i) (joined_from (passing p) (i + 1) n)
-    ∙ (rw (map-passing f p (i + 1) n) (go (p i)))
-  where
-    go : (b : Bool) → map f (if b then i ∷ [] else []) ++ joined_from (λ j. if p j then f j ∷ []
-        else []) (i + 1) n
-        ≡ (if b then f i ∷ [] else []) ++ joined_from (λ j. if p j then f j ∷ [] else []) (i + 1) n
-    go true = refl
-    go false = refl
+map-passing f p i (suc n) = grind (arith, map-append, map-passing f p (i + 1) n)
 
 -- the matches of joined calls
 match_calls-append : (front back : List Planned) → match_calls (front ++ back) ≡ match_calls front
     ++ match_calls back
-match_calls-append front back =
-    rw (map-append (λ call. call.call) front back)
-    (filter-append is_match (map (λ call. call.call) front) (map (λ call. call.call) back))
+match_calls-append front back = grind (arith, map-append, filter-append)
 
 match_calls-joined : (f : ℕ → List Planned) (i n : ℕ) → match_calls (joined_from f i n)
     ≡ joined_from (λ j. match_calls (f j)) i n
 match_calls-joined f i zero = refl
-match_calls-joined f i (suc n) =
-    match_calls-append (f i) (joined_from f (i + 1) n)
-    ∙ ap (λ xs. match_calls (f i) ++ xs) (match_calls-joined f (i + 1) n)
+match_calls-joined f i (suc n) = grind (arith, match_calls-append, match_calls-joined f (i + 1) n)
 
 module _ (k : Settings) (meaning : Meaning) (bytes : List ℕ) where
   abbrev selection : Selection
@@ -142,13 +125,7 @@ module _ (k : Settings) (meaning : Meaning) (bytes : List ℕ) where
 
   -- a selected line comes before each bound of the reports
   stop-bound : (i : ℕ) → selected i ≡ true → IfSome (end_by_stop k meaning bytes) (λ b. i < b)
-  stop-bound i taken = go (first_below ends n) refl
-      (not-true _ (and_parts (is_chosen k meaning bytes i) _ taken).1)
-    where
-      go : (found : Option ℕ) → first_below ends n ≡ found → some_below ends i ≡ false
-          → IfSome (option_map suc found) (λ b. i < b)
-      go None is none = tt
-      go (Some u) is none = let late = first_below-late ends i n u none is in omega arith
+  stop-bound i taken = grind (arith, not-true, and_parts, first_below-late)
 
   limit-bound : (i : ℕ) → is_chosen k meaning bytes i ≡ true
       → IfSome (end_by_limit k meaning bytes) (λ b. i < b)
@@ -169,17 +146,11 @@ module _ (k : Settings) (meaning : Meaning) (bytes : List ℕ) where
       go : (s some : Bool) → has_room k 0 ≡ some → (found : Option ℕ) → first_below fills n ≡ found
           → IfSome (if s then None else (if some
           then option_map (λ m. suc (m + k.after_context)) found else Some 0)) (λ b. i < b)
-      go true some is found first = tt
-      go false true is None first = tt
-      go false true is (Some m) first = let bound =
-          late m (first_below-of fills n m first).1 in omega arith
-      go false false is found first = absurd (clash (room-first k _ room) is)
+      go x0 x1 x2 x3 x4 = grind (arith, late, first_below-of, clash, room-first, room)
 
   -- it is one of the lines
   selected-inside : (i : ℕ) → selected i ≡ true → i < n
-  selected-inside i taken =
-      let hit = and_parts (hits i) _ (and_parts (is_chosen k meaning bytes i) _ taken).0 in
-      ltb-true i n (and_parts (nat_lt i n) _ hit.0).0
+  selected-inside i taken = grind arith
 
   -- so it may be reported
   pub selected-reportable : (i : ℕ) → selected i ≡ true → i < reports_end k meaning bytes
@@ -214,26 +185,13 @@ module _ (k : Settings) (meaning : Meaning) (bytes : List ℕ) where
           else (if c then Some (in_context Before)
           else (if d then Some (in_context Other) else None)))))
           ≡ (if a || (b && t) then match_of k bytes i ∷ [] else [])
-      go true b t c d = one
-      go false true true c d = one
-      go false true false c d = refl
-      go false false t true d = refl
-      go false false t false true = refl
-      go false false t false false = refl
+      go x0 x1 x2 x3 x4 = grind (arith, one)
 
   abbrev report : ℕ → List Planned
   report i = Plans.report k bytes selection i (kind k bytes selection i)
 
   match_calls-line : (i : ℕ) → i < n → match_calls (calls_at k bytes selection i) ≡ match_at i
-  match_calls-line i inside =
-      go (breaks_before k bytes selection i)
-      (count_at k bytes selection i (kind k bytes selection i))
-    where
-      go : (b : Bool) (end : ℕ) → match_calls (if b then planned breaks end ∷ report i
-          else report i)
-          ≡ match_at i
-      go true end = match_calls-kind i inside
-      go false end = match_calls-kind i inside
+  match_calls-line i inside = grind (arith, match_calls-kind)
 
   -- the matches are those of the matched lines
   pub match_calls-plan : match_calls (line_plan k meaning bytes).calls
@@ -246,9 +204,7 @@ module _ (k : Settings) (meaning : Meaning) (bytes : List ℕ) where
 
   pub length-match_calls : length (match_calls (line_plan k meaning bytes).calls)
       ≡ count_below (is_matched k meaning bytes) reportable
-  length-match_calls =
-      ap length match_calls-plan ∙ length-map (matched_lines k meaning bytes) (match_of k bytes)
-      ∙ length-passing (is_matched k meaning bytes) reportable
+  length-match_calls = search (arith, match_calls-plan, length-map, length-passing)
 
   -- the first matched line is the first selected one
   first-matched : first_below (is_matched k meaning bytes) reportable ≡ first_below selected n
@@ -257,11 +213,7 @@ module _ (k : Settings) (meaning : Meaning) (bytes : List ℕ) where
       -- before the first selected line, no line is matched
       unmatched : (j : ℕ) → ((i : ℕ) → i ≤ j → selected i ≡ false) → is_matched k meaning bytes j
           ≡ false
-      unmatched j none =
-          let follows : follows_selected k bytes selection j ≡ false =
-          some_below-none _ j (λ i less. let no = none i (omega arith) in rw no
-          (and-false (nat_le (j - i) k.after_context))) in
-          rw (none j (omega arith), follows) refl
+      unmatched j none = grind (arith, some_below-none, and-false)
 
       go : (found : Option ℕ) → first_below selected n ≡ found
           → first_below (is_matched k meaning bytes) reportable ≡ found
@@ -287,25 +239,14 @@ module _ (k : Settings) (meaning : Meaning) (bytes : List ℕ) where
 -- no more numbers pass than there are
 pub count_below-few : (p : ℕ → Bool) (n : ℕ) → count_below p n ≤ n
 count_below-few p zero = omega arith
-count_below-few p (suc n) = go (p n) (count_below-few p n)
-  where
-    go : (b : Bool) → count_below p n ≤ n → (if b then count_below p n + 1 else count_below p n)
-        ≤ suc n
-    go true before = omega arith
-    go false before = omega arith
+count_below-few p (suc n) = grind (arith, count_below-few p n)
 
 -- by line these are the matched lines, as many, and the first is the first selected line
 pub matches-are_matched_lines : MatchesAreMatchedLines
-matches-are_matched_lines k meaning bytes by_line =
-    ap (λ plan. match_calls plan.calls) (plan-by_line k meaning bytes by_line)
-    ∙ match_calls-plan k meaning bytes
+matches-are_matched_lines k meaning bytes by_line = grind (arith, plan-by_line, match_calls-plan)
 
 pub matches-are_counted : MatchesAreCounted
-matches-are_counted k meaning bytes by_line =
-    ap (λ plan. length (match_calls plan.calls)) (plan-by_line k meaning bytes by_line)
-    ∙ length-match_calls k meaning bytes
+matches-are_counted k meaning bytes by_line = grind (arith, plan-by_line, length-match_calls)
 
 pub first_match-is_first : FirstMatchIsFirst
-first_match-is_first k meaning bytes by_line =
-    ap (λ plan. slice_get (match_calls plan.calls) 0) (plan-by_line k meaning bytes by_line)
-    ∙ first-match_calls k meaning bytes
+first_match-is_first k meaning bytes by_line = grind (arith, plan-by_line, first-match_calls)

@@ -22,18 +22,7 @@ begins_run p i = p i && not (nat_lt 0 i && p (i - 1))
 pub begins_run-either : (p q r : ℕ → Bool) → ((i : ℕ) → r i ≡ true → (p i ≡ true) ⊎ (q i ≡ true))
     → ((i : ℕ) → p i ≡ true → r i ≡ true) → ((i : ℕ) → q i ≡ true → r i ≡ true) → (i : ℕ)
     → begins_run r i ≡ true → (begins_run p i ≡ true) ⊎ (begins_run q i ≡ true)
-begins_run-either p q r either first second i is =
-    let parts = and_parts (r i) (not (nat_lt 0 i && r (i - 1))) is in
-    ⊎_elim
-    (λ here. inl (and_from (p i) _ here (fewer (nat_lt 0 i) (p (i - 1)) (r (i - 1)) (first (i - 1))
-    parts.1)))
-    (λ here. inr (and_from (q i) _ here (fewer (nat_lt 0 i) (q (i - 1)) (r (i - 1)) (second (i - 1))
-    parts.1))) (either i parts.0)
-  where
-    fewer : (z x y : Bool) → (x ≡ true → y ≡ true) → not (z && y) ≡ true → not (z && x) ≡ true
-    fewer true true y weaker none = absurd (clash (weaker refl) (not-true y none))
-    fewer true false y weaker none = refl
-    fewer false x y weaker none = refl
+begins_run-either p q r either first second i is = grind arith
 
 -- whether what f gives for a number and the next one is between two bounds
 abbrev pub is_inside : (ℕ → ℕ) → ℕ → ℕ → ℕ → ℕ → Bool
@@ -105,32 +94,18 @@ module _ (p : ℕ → Bool) (n : ℕ) where
 
   -- no run from number i on ends at two numbers
   pub IsRunEnd-one : (i d e : ℕ) → IsRunEnd i d → IsRunEnd i e → d ≡ e
-  IsRunEnd-one i d e one other = ⊎_elim
-      (λ less. absurd (clash (other.inner d one.low less) (one.closed (omega arith))))
-      (λ over. ⊎_elim
-      (λ more. absurd (clash (one.inner e other.low more) (other.closed (omega arith))))
-      (λ under. omega arith) (cases_lt e d)) (cases_lt d e)
+  IsRunEnd-one i d e one other = grind arith
 
   -- a run that begins earlier ends at the same number
   IsRunEnd-next : (i e : ℕ) → i < n → p i ≡ true → IsRunEnd i e → IsRunEnd (i + 1) e
-  IsRunEnd-next i e inside here run = record {
-    low = ⊎_elim (λ less. omega arith) (λ over.
-        let same : e ≡ i = omega arith in
-        absurd (clash here (ap p (sym same) ∙ run.closed (omega arith)))) (cases_lt i e);
-    high = run.high;
-    inner = λ j low below. run.inner j (omega arith) below;
-    closed = run.closed;
-  }
+  IsRunEnd-next i e inside here run = grind arith
 
   -- whether a number goes on with the run of the one before it
   abbrev pub continues : ℕ → Bool
   continues i = nat_lt 0 i && p (i - 1)
 
   continues-next : (i : ℕ) → continues (i + 1) ≡ p i
-  continues-next i =
-      let back : (i + 1) - 1 ≡ i = omega arith in
-      let above = lt-ltb 0 (i + 1) (omega arith) in
-      rw (above, back) refl
+  continues-next i = grind arith
 
   -- what is joined over all numbers, if each run is in the list of its first number
   module _ {X : Type 0} (whole each : ℕ → List X) (skipped : (i : ℕ) → p i ≡ false → whole i ≡ [])

@@ -41,15 +41,7 @@ at_most-le (Some m) n = omega arith
 pub count_below-weaker : (p q : ℕ → Bool) (n : ℕ) → ((j : ℕ) → p j ≡ true → q j ≡ true)
     → count_below p n ≤ count_below q n
 count_below-weaker p q zero weaker = omega arith
-count_below-weaker p q (suc n) weaker = go (p n) (q n) (weaker n) (count_below-weaker p q n weaker)
-  where
-    go : (a b : Bool) → (a ≡ true → b ≡ true) → count_below p n ≤ count_below q n
-        → (if a then count_below p n + 1 else count_below p n)
-        ≤ (if b then count_below q n + 1 else count_below q n)
-    go true true both before = omega arith
-    go true false both before = absurd (let never = both refl in cc)
-    go false true both before = omega arith
-    go false false both before = before
+count_below-weaker p q (suc n) weaker = grind (arith, count_below-weaker p q n weaker)
 
 -- a number in front of larger ones
 pub IsStrictlyIncreasing-cons : (x : ℕ) (xs : List ℕ) → IsStrictlyIncreasing xs
@@ -96,21 +88,16 @@ pub count_below-limited : (k : Settings) (p : ℕ → Bool) (limit m : ℕ) → 
     → count_below (λ i. p i && has_room k (count_below p i)) m ≤ limit
 count_below-limited k p limit zero shut = omega arith
 count_below-limited k p limit (suc m) shut =
-    go (p m) (has_room k (count_below p m)) refl (count_below-limited k p limit m shut)
-  where
-    few : count_below (λ i. p i && has_room k (count_below p i)) m ≤ count_below p m
-    few = count_below-weaker (λ i. p i && has_room k (count_below p i)) p m
-        (λ j yes. (and_parts (p j) (has_room k (count_below p j)) yes).0)
-
-    go : (a b : Bool) → has_room k (count_below p m) ≡ b
-        → count_below (λ i. p i && has_room k (count_below p i)) m ≤ limit
-        → (if a && b then count_below (λ i. p i && has_room k (count_below p i)) m + 1
-        else count_below (λ i. p i && has_room k (count_below p i)) m) ≤ limit
-    go true true room before = ⊎_elim (λ less. omega (arith, few, less))
-        (λ over. absurd (clash room (room-le k limit _ over shut)))
-        (cases_lt (count_below p m) limit)
-    go true false room before = before
-    go false b room before = before
+    grind (
+      arith,
+      count_below-weaker,
+      and_parts,
+      clash,
+      room-le,
+      cases_lt,
+      count_below-limited k p
+          limit m shut,
+    )
 
 -- which kind of report a line has
 pub kind-matched : (a b t c d : Bool) → (if a then Some matched
@@ -129,9 +116,7 @@ pub kind-selected : (a b c d : Bool) → (if a then Some matched
     else (if b then Some (in_context After)
     else (if c then Some (in_context Before) else (if d then Some (in_context Other) else None))))
     ≡ Some matched → a ≡ true
-kind-selected a b c d is =
-    ⊎_elim (λ yes. yes) (λ no. absurd (clash no (and-false b)))
-    (or_cases a (b && false) (kind-matched a b false c d is))
+kind-selected a b c d is = grind arith
 
 module _ (k : Settings) (meaning : Meaning) (bytes : List ℕ) where
   abbrev selection : Selection
@@ -158,12 +143,7 @@ module _ (k : Settings) (meaning : Meaning) (bytes : List ℕ) where
 
   -- no more lines may be reported than there are
   pub reports_end-le : reports_end k meaning bytes ≤ n
-  reports_end-le =
-      omega (
-        arith,
-        at_most-le (end_by_limit k meaning bytes) (at_most (end_by_stop k meaning bytes) n),
-        at_most-le (end_by_stop k meaning bytes) n,
-      )
+  reports_end-le = grind arith
 
   -- a line after a selected one follows it
   follows-near : (i j : ℕ) → selected j ≡ true → j < i → i - j ≤ k.after_context
@@ -259,10 +239,7 @@ module _ (k : Settings) (meaning : Meaning) (bytes : List ℕ) where
       → matches_in (report k bytes selection i kind) ≤ (if is_matched k meaning bytes i then 1
       else 0)
   matches-report i None is = omega arith
-  matches-report i (Some matched) is =
-      let here = kind-matched (selected i) (follows_selected k bytes selection i)
-      (is_trailing k meaning bytes i) (precedes_selected k bytes selection i) k.passthru is in
-      rw here (omega arith)
+  matches-report i (Some matched) is = grind (arith, kind-matched)
   matches-report i (Some (in_context c)) is = omega arith
 
   -- only such a line is reported as a match, and once
@@ -291,21 +268,7 @@ module _ (k : Settings) (meaning : Meaning) (bytes : List ℕ) where
     shut : is_open i ≡ false
 
   late-is : (i : ℕ) → late i ≡ true → IsLate i
-  late-is i is =
-      let parts = and_parts (follows_selected k bytes selection i) (is_trailing k meaning bytes i)
-      is in
-      let found = some_below-find (λ j. nat_le (i - j) k.after_context && selected j) i parts.0 in
-      let near = and_parts (nat_le (i - found.0) k.after_context) (selected found.0) found.2 in
-      let chosen = (and_parts (chosen found.0) _ near.1).0 in
-      let past = and_parts (hits k meaning bytes i) (not (is_open i)) parts.1 in
-      record {
-        line = found.0;
-        before = found.1;
-        near = leb-true (i - found.0) k.after_context near.0;
-        chosen = chosen;
-        room = (and_parts (hits k meaning bytes found.0) (is_open found.0) chosen).1;
-        shut = not-true (is_open i) past.1;
-      }
+  late-is i is = grind (arith, and_parts, some_below-find, leb-true, not-true)
 
   -- the limit has no room after a line before which it has none
   shut-later : (i j : ℕ) → i ≤ j → is_open i ≡ false → is_open j ≡ false

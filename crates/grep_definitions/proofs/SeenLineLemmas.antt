@@ -37,9 +37,7 @@ use Rattle.grep_definitions.specs.SinkRuns.{plan_of}
 -- a part of the first bytes
 slice-front : (front back : List ℕ) (a b : ℕ) → a ≤ length front → b ≤ length front
     → slice_range (front ++ back) a b ≡ slice_range front a b
-slice-front front back a b low high =
-    ap (take (b - a)) (drop-append-le a front back low)
-    ∙ take-append-le (b - a) (drop a front) back (omega (arith, length-drop a front))
+slice-front front back a b low high = grind (arith, drop-append-le, take-append-le, length-drop)
 
 -- whether a call ends at an offset or before it
 abbrev ends-by : ℕ → Planned → Bool
@@ -48,9 +46,7 @@ ends-by offset call = nat_le call.if_false.count offset
 -- calls that end after an offset aren't among those that end at or before it
 through-none : (offset : ℕ) (calls : List Planned) → All (λ call. offset < call.if_false.count)
     calls → through offset calls ≡ []
-through-none offset calls after = filter-none (ends-by offset) calls
-    (All-weaker (λ call. offset < call.if_false.count) (λ call. ends-by offset call ≡ false)
-    (λ call above. lt-leb call.if_false.count offset above) calls after)
+through-none offset calls after = grind (arith, filter-none, All-weaker, lt-leb)
 
 module _ (k : Settings) (meaning : Meaning) where
   abbrev selection : List ℕ → Selection

@@ -56,26 +56,7 @@ module _ {S E : Type 0} (step : Steps S E) (k : Settings) {old : S} {result : Re
   run-more : (front whole : Plan) (later : List Planned) → whole.calls ≡ front.calls ++ later
       → (run : IsRun step k old front result new) → (run.outcome ≡ all_true → whole ≡ front)
       → IsRun step k old whole result new
-  run-more front whole later is run all = go run.outcome refl
-    where
-      ended : (outcome : Outcome E) → run.outcome ≡ outcome → (outcome ≡ all_true → ⊥)
-          → IsFinished step k outcome run.mid whole.finish result new
-          → IsRun step k old whole result new
-      ended outcome same some finished = record {
-        outcome = outcome;
-        mid = run.mid;
-        made = subst (λ calls. AreMade step k old calls outcome run.mid) (sym is)
-            (AreMade-ended step k front.calls later old outcome run.mid some
-            (subst (λ o. AreMade step k old front.calls o run.mid) same run.made));
-        finished = finished;
-      }
-
-      go : (outcome : Outcome E) → run.outcome ≡ outcome → IsRun step k old whole result new
-      go all_true same = subst (λ plan. IsRun step k old plan result new) (sym (all same)) run
-      go (stopped finish) same = ended (stopped finish) same (λ all. cc)
-          (subst (λ o. IsFinished step k o run.mid front.finish result new) same run.finished)
-      go (failed e) same = ended (failed e) same (λ all. cc)
-          (subst (λ o. IsFinished step k o run.mid front.finish result new) same run.finished)
+  run-more front whole later is run all = grind (arith, AreMade-ended)
 
   -- with `binary_data` among the first calls too
   pub along-more : (d : BinaryDetection) (point : Option BinaryPoint) (front whole : Plan)
@@ -145,11 +126,8 @@ points-within : (k : Settings) (meaning : Meaning) (bytes : List ℕ) (look : Lo
     → IsPoint k meaning bytes look n (search_plan k meaning seen).calls point
     → IfSome point (λ p. p.position ≤ length (search_plan k meaning seen).calls)
     ⊎ (search_plan k meaning (view_in k look bytes) ≡ search_plan k meaning seen)
-points-within k meaning bytes nowhere n seen front point at =
-    inl (subst (λ o. IfSome o (λ p. p.position ≤ length (search_plan k meaning seen).calls))
-    (sym at) tt)
-points-within k meaning bytes (in_contents b) n seen front point at =
-    inr (ap (search_plan k meaning) (sym front))
+points-within k meaning bytes nowhere n seen front point at = grind arith
+points-within k meaning bytes (in_contents b) n seen front point at = grind arith
 points-within k meaning bytes on_stream n seen front None at = inl tt
 points-within k meaning bytes on_stream n seen front (Some point) at = inl at.within
 

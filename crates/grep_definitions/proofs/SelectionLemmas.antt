@@ -22,36 +22,13 @@ use Rattle.grep_definitions.proofs.BoolLemmas.{clash}
 module _ (k : Settings) (bytes : List ℕ) (selection : Selection) where
   -- before the first line
   pub IsNear-none : IsNear k bytes selection 0 0 0
-  IsNear-none = record {
-    low = omega arith;
-    few = omega arith;
-    close = λ above. absurd (omega arith);
-    window = λ x low. sym (le-ltb (x - 0) 0 (omega arith));
-    passed = λ j low high. absurd (omega arith);
-    shown = λ above. absurd (omega arith);
-    bare = λ _. refl;
-  }
+  IsNear-none = grind arith
 
   -- after a selected line
   pub IsNear-hit : (i : ℕ) → i < selection.end → selection.selected i ≡ true
       → IsNear k bytes selection (i + 1) (i + 1) k.after_context
-  IsNear-hit i has hit = record {
-    low = omega arith;
-    few = omega arith;
-    close = λ above. refl;
-    window = λ x low. ⊎_elim
-        (λ less. some_below-some (λ j. nat_le (x - j) k.after_context && selection.selected j)
-        (i + 1) i (omega arith)
-        (let near = le-leb (x - i) k.after_context (omega arith) in rw (near, hit) refl)
-        ∙ sym (lt-ltb (x - (i + 1)) k.after_context less))
-        (λ over. some_below-none (λ j. nat_le (x - j) k.after_context && selection.selected j)
-        (i + 1) (λ j below. let far = lt-leb (x - j) k.after_context (omega arith) in rw far refl)
-        ∙ sym (le-ltb (x - (i + 1)) k.after_context over)) (cases_lt (x - (i + 1)) k.after_context);
-    passed = λ j low high. absurd (omega arith);
-    shown = λ above. let back : (i + 1) - 1 ≡ i = omega arith in let test =
-        lt-ltb i selection.end has in rw (back, hit, test) refl;
-    bare = λ _. refl;
-  }
+  IsNear-hit i has hit =
+      grind (arith, some_below-some, le-leb, lt-ltb, some_below-none, lt-leb, le-ltb, cases_lt)
 
 -- what a walk at line i knows of the lines before it
 module _ {k : Settings} {bytes : List ℕ} {selection : Selection} {v i left : ℕ}
@@ -93,22 +70,7 @@ module _ {k : Settings} {bytes : List ℕ} {selection : Selection} {v i left : �
   pub kind-done : ((q : ℕ) → i ≤ q → q < n → selected q ≡ false) → (j : ℕ) → v ≤ j → j < i
       → kind k bytes selection j ≡ None
   kind-done silent j low high =
-      let out = near.passed j low high in
-      let alone : precedes j ≡ false = some_below-none _ n none in
-      let plain = never_bare j low high in
-      rw (out.0, out.1, alone) (ap (λ p. if p then Some (in_context Other) else None) plain)
-    where
-      miss : (q : ℕ) → q < n → nat_lt j q ≡ true → selected q ≡ false
-      miss q below is = ⊎_elim (λ early. (near.passed q (omega (arith, ltb-true j q is)) early).0)
-          (λ late. silent q late below) (cases_lt q i)
-
-      none : (q : ℕ) → q < n → (nat_lt j q && nat_le (q - j) B && selected q) ≡ false
-      none q below = go (nat_lt j q) refl
-        where
-          go : (less : Bool) → nat_lt j q ≡ less → (nat_lt j q && nat_le (q - j) B && selected q)
-              ≡ false
-          go false is = rw is refl
-          go true is = let out = miss q below is in rw out (and-false _)
+      grind (arith, some_below-none, never_bare, ltb-true, cases_lt, and-false)
 
   -- line i follows a selected line just if some of the window is left
   pub follows-here : follows i ≡ nat_lt 0 left
@@ -121,28 +83,11 @@ module _ {k : Settings} {bytes : List ℕ} {selection : Selection} {v i left : �
       ≡ nat_lt (x - (i + 1)) next) → (x : ℕ)
       → i + 1 ≤ x → some_below (λ j. nat_le (x - j) A && selected j) (i + 1)
       ≡ nat_lt (x - (i + 1)) next
-  window-more next goes x low = unfolded (i + 1) (omega arith)
-    where
-      unfolded : (m : ℕ) → m ≡ suc i → some_below (λ j. nat_le (x - j) A && selected j) m
-          ≡ nat_lt (x - (i + 1)) next
-      unfolded m is = rw (is, near.window x (omega arith)) (goes x low)
+  window-more next goes x low = grind arith
 
   -- a line that is not selected and follows none stays unreported so far
   pub IsNear-pass : selected i ≡ false → left ≡ 0 → k.passthru ≡ false → Near v (i + 1) 0
-  IsNear-pass misses empty shut = record {
-    low = omega arith;
-    few = omega arith;
-    close = λ above. absurd (omega arith);
-    window = window-more 0
-        (λ x low. let ended = le-ltb (x - i) left (omega arith) in let ended_next = le-ltb
-        (x - (i + 1)) 0 (omega arith) in
-        rw (ended, misses, and-false (nat_le (x - i) A), ended_next) refl);
-    passed = λ j low high. ⊎_elim (λ less. near.passed j low less)
-        (λ over. let same : j ≡ i = omega arith in let out = le-ltb 0 left (omega arith) in
-        (rw same misses, rw same (follows-here ∙ out))) (cases_lt j i);
-    shown = near.shown;
-    bare = λ yes. absurd (clash yes shut);
-  }
+  IsNear-pass misses empty shut = grind arith
 
   -- a line after a selected one
   pub kind-after : selected i ≡ false → 0 < left
@@ -154,100 +99,28 @@ module _ {k : Settings} {bytes : List ℕ} {selection : Selection} {v i left : �
   pub gap-after : 0 < left
       → (nat_lt 0 (A + B) && true && not (is_reported (i - 1)) && some_below is_reported i)
       ≡ (nat_lt 0 A && breaks_near k v i i)
-  gap-after some =
-      let same = near.close some in
-      let first : 0 < i = ⊎_elim (λ less. less) (λ none. absurd (begins (omega (arith, none))))
-      (cases_lt 0 i) in
-      let shown : is_reported (i - 1) ≡ true = ap (λ x. is_reported (x - 1)) (sym same)
-      ∙ near.shown (omega arith) in
-      let late = le-ltb v i (omega arith) in
-      rw (shown, late) (unbroken (nat_lt 0 (A + B)) (some_below is_reported i)
-      ∙ sym (joined (nat_lt 0 A) (nat_lt 0 v) (nat_eq (i - i) B)))
-    where
-      begins : i ≡ 0 → ⊥
-      begins none = clash (lt-ltb 0 left some) (sym follows-here ∙ ap follows none)
-
-      unbroken : (a b : Bool) → (((a && true) && false) && b) ≡ false
-      unbroken true b = refl
-      unbroken false b = refl
-
-      joined : (a b c : Bool) → (a && ((b && false) && c)) ≡ false
-      joined true true c = refl
-      joined true false c = refl
-      joined false b c = refl
+  gap-after some = grind arith
 
   pub IsNear-after : i < reportable → (rest : ℕ) → selected i ≡ false → left ≡ rest + 1
       → Near (i + 1) (i + 1) rest
-  IsNear-after has rest misses is = record {
-    low = omega arith;
-    few = omega arith;
-    close = λ above. refl;
-    window = window-more rest (λ x low. rw (misses, and-false (nat_le (x - i) A))
-        (or-false (nat_lt (x - i) left) ∙ shifted x low));
-    passed = λ j low high. absurd (omega arith);
-    shown = λ above. let back : (i + 1) - 1 ≡ i = omega arith in let kind =
-        kind-after misses (omega arith) in
-        let test = lt-ltb i reportable has in rw (back, kind, test) refl;
-    bare = λ _. refl;
-  }
-    where
-      shifted : (x : ℕ) → i + 1 ≤ x → nat_lt (x - i) left ≡ nat_lt (x - (i + 1)) rest
-      shifted x low = ⊎_elim (λ less. lt-ltb (x - i) left less
-          ∙ sym (lt-ltb (x - (i + 1)) rest (omega arith)))
-          (λ over. le-ltb (x - i) left over ∙ sym (le-ltb (x - (i + 1)) rest (omega arith)))
-          (cases_lt (x - i) left)
+  IsNear-after has rest misses is = grind arith
 
   precedes-bare : k.before_context ≡ 0 → precedes i ≡ false
-  precedes-bare none = some_below-none _ n (λ q below. go q (nat_lt i q) refl)
-    where
-      go : (q : ℕ) (less : Bool) → nat_lt i q ≡ less
-          → (nat_lt i q && nat_le (q - i) k.before_context && selected q) ≡ false
-      go q false is = rw is refl
-      go q true is = let high = ltb-true i q is in let out = lt-leb (q - i) k.before_context
-          (omega arith) in
-          rw (is, out) refl
+  precedes-bare none = grind (arith, some_below-none, ltb-true, lt-leb)
 
   -- a line that is reported under passthru alone
   pub kind-other : selected i ≡ false → left ≡ 0 → k.passthru ≡ true → k.before_context ≡ 0
       → kind k bytes selection i ≡ Some (in_context Other)
-  kind-other misses empty bare none = let follows_it = follows-here
-      ∙ le-ltb 0 left (omega arith) in let ahead = precedes-bare none in
-      rw (misses, follows_it, ahead, bare) refl
+  kind-other misses empty bare none = grind (arith, follows-here, le-ltb, precedes-bare)
 
   pub IsNear-other : i < reportable → selected i ≡ false → left ≡ 0 → k.passthru ≡ true
       → k.before_context ≡ 0 → Near (i + 1) (i + 1) 0
-  IsNear-other has misses empty bare none = record {
-    low = omega arith;
-    few = omega arith;
-    close = λ above. refl;
-    window = window-more 0
-        (λ x low. let ended = le-ltb (x - i) left (omega arith) in let ended_next = le-ltb
-        (x - (i + 1)) 0 (omega arith) in
-        rw (ended, misses, and-false (nat_le (x - i) A), ended_next) refl);
-    passed = λ j low high. absurd (omega arith);
-    shown = λ above. let back : (i + 1) - 1 ≡ i = omega arith in let kind =
-        kind-other misses empty bare none in
-        let test = lt-ltb i reportable has in rw (back, kind, test) refl;
-    bare = λ _. refl;
-  }
+  IsNear-other has misses empty bare none = grind arith
 
   -- after any line that isn't selected
   pub IsNear-missed : (k.passthru ≡ true → k.before_context ≡ 0) → i < reportable → selected i
       ≡ false → Near (if nat_lt 0 left || k.passthru then i + 1 else v) (i + 1) (left - 1)
-  IsNear-missed bare has misses = go (nat_lt 0 left) k.passthru refl refl
-    where
-      go : (b p : Bool) → nat_lt 0 left ≡ b → k.passthru ≡ p → Near (if b || p then i + 1 else v)
-          (i + 1) (left - 1)
-      go true p is_b is_p = let some = ltb-true 0 left is_b in IsNear-after has (left - 1) misses
-          (omega arith)
-      go false true is_b is_p =
-          let none : left ≡ 0 = let le = ltb-false 0 left is_b in omega arith in
-          let rest : 0 ≡ left - 1 = omega arith in
-          subst (λ l. Near (i + 1) (i + 1) l) rest (IsNear-other has misses none is_p (bare is_p))
-      go false false is_b is_p =
-          let none : left ≡ 0 = let le = ltb-false 0 left is_b in omega arith in
-          let rest : 0 ≡ left - 1 = omega arith in
-          subst (λ l. Near v (i + 1) l) rest (IsNear-pass misses none is_p)
+  IsNear-missed bare has misses = grind arith
 
   -- what is joined over the lines grows by that line's part, if it is reported
   pub headed-missed : {X : Type 0} (first : X) (f : ℕ → List X) (after other : List X)
@@ -284,29 +157,14 @@ module _ {k : Settings} {bytes : List ℕ} {selection : Selection} {v i left : �
             ∙ sym (le-leb (i - j) B close)
 
         is_far : B < i - j → precedes j ≡ nat_le (i - j) B
-        is_far far = some_below-none _ n none ∙ sym (lt-leb (i - j) B far)
-          where
-            none : (q : ℕ) → q < n → (nat_lt j q && nat_le (q - j) B && selected q) ≡ false
-            none q below = ⊎_elim
-                (λ early. ⊎_elim (λ follows_it. let c = (near.passed q (omega arith) early).0 in rw
-                c (and-false _)) (λ ahead. let c = le-ltb j q ahead in rw c refl) (cases_lt j q))
-                (λ late. let c = lt-leb (q - j) B (omega arith) in rw (c, and-false (nat_lt j q))
-                refl) (cases_lt q i)
+        is_far far = grind (arith, some_below-none, lt-leb, and-false, le-ltb, cases_lt)
 
     pub kind-passed : (j : ℕ) → v ≤ j → j < i → kind k bytes selection j
         ≡ (if nat_le (i - j) B then Some (in_context Before) else None)
-    kind-passed j low less = let out = near.passed j low less in let p =
-        precedes-passed j low less in
-        let plain = never_bare j low less in rw (out.0, out.1, p, plain) refl
+    kind-passed j low less = grind (arith, precedes-passed, never_bare)
 
     reported-passed : (j : ℕ) → v ≤ j → j < i → is_reported j ≡ nat_le (i - j) B
-    reported-passed j low less = let test = lt-ltb j reportable (omega arith) in let kind =
-        kind-passed j low less in
-        rw (kind, test) (settled (nat_le (i - j) B))
-      where
-        settled : (b : Bool) → is_some (if b then Some (in_context Before) else None) ≡ b
-        settled true = refl
-        settled false = refl
+    reported-passed j low less = grind (arith, lt-ltb, kind-passed)
 
     -- whether a break comes before line j, which is reported
     break-here : (j : ℕ) → v ≤ j → j ≤ i → i - j ≤ B → is_reported j ≡ true
@@ -355,27 +213,11 @@ module _ {k : Settings} {bytes : List ℕ} {selection : Selection} {v i left : �
     pub gap-passed : (j : ℕ) → v ≤ j → j < i → i - j ≤ B
         → (nat_lt 0 (A + B) && true && not (is_reported (j - 1)) && some_below is_reported j)
         ≡ breaks_near k v j i
-    gap-passed j low less close =
-        let wide : nat_lt 0 (A + B) ≡ true = lt-ltb 0 (A + B) (omega arith) in
-        let gap = break-here j low (omega arith) close (reported-passed j low less
-        ∙ le-leb (i - j) B close) in
-        rw wide gap
+    gap-passed j low less close = grind (arith, lt-ltb, break-here, reported-passed, le-leb)
 
     pub gap-hit : (nat_lt 0 (A + B) && true && not (is_reported (i - 1))
         && some_below is_reported i) ≡ (nat_lt 0 A && breaks_near k v i i)
-    gap-hit = guard (not (is_reported (i - 1))) (some_below is_reported i)
-        (break-here i near.low (omega arith) (omega arith) reported-here)
-      where
-        guard : (r s : Bool) → (r && s) ≡ breaks_near k v i i → (((nat_lt 0 (A + B) && true) && r) && s)
-            ≡ (nat_lt 0 A && breaks_near k v i i)
-        guard r s same = ⊎_elim
-            (λ some. let a = lt-ltb 0 A some in let w = lt-ltb 0 (A + B) (omega arith) in rw
-            (a, w) same) (λ none. ⊎_elim
-            (λ some. let a = le-ltb 0 A none in let w = lt-ltb 0 (A + B) (omega arith) in
-            let apart = ne_eqb (i - i) B (λ e. omega arith) in rw (a, w)
-            (same ∙ rw (apart) (and-false (nat_lt 0 v && nat_lt v i))))
-            (λ both. let a = le-ltb 0 A none in let w = le-ltb 0 (A + B) (omega arith) in rw
-            (a, w) refl) (cases_lt 0 B)) (cases_lt 0 A)
+    gap-hit = grind (arith, break-here, reported-here, lt-ltb, le-ltb, ne_eqb, and-false, cases_lt)
 
     -- the next selected line after a passed one
     pub next-passed : (j : ℕ) → v ≤ j → j < i → first_below (λ q. nat_lt j q && selected q) n

@@ -18,9 +18,7 @@ use Rattle.grep_definitions.proofs.BoolLemmas.{clash}
 
 -- after a match that doesn't end before it starts, the next is looked for at a later position
 pub position_after-later : (p : ℕ) (m : ℕ × ℕ) → p ≤ m.0 → m.0 ≤ m.1 → p < position_after m
-position_after-later p m low order = ⊎_elim
-    (λ less. let yes = lt-ltb m.0 m.1 less in rw yes (omega arith))
-    (λ over. let no = le-ltb m.0 m.1 over in rw no (omega arith)) (cases_lt m.0 m.1)
+position_after-later p m low order = grind arith
 
 -- and not before its start
 pub position_after-start : (m : ℕ × ℕ) → m.0 ≤ m.1 → m.0 ≤ position_after m
@@ -37,38 +35,19 @@ position_past-last p (x ∷ found) m = position_past-last (position_after x) fou
 pub if_within-same : (haystack : List ℕ) (found : Option (ℕ × ℕ)) → IsWithin haystack found
     → if_within haystack found ≡ found
 if_within-same haystack None inside = refl
-if_within-same haystack (Some m) inside =
-    let both = and_from _ _ (le-leb m.0 m.1 inside.0) (le-leb m.1 (length haystack) inside.1) in rw
-    both refl
+if_within-same haystack (Some m) inside = grind (arith, and_from, le-leb)
 
 if_within-is : (haystack : List ℕ) (found : Option (ℕ × ℕ))
     → IsWithin haystack (if_within haystack found)
 if_within-is haystack None = tt
-if_within-is haystack (Some m) = go _ refl
-  where
-    go : (b : Bool) → (nat_le m.0 m.1 && nat_le m.1 (length haystack)) ≡ b
-        → IsWithin haystack (if b then Some m else None)
-    go true is = let parts = and_parts _ _ is in (leb-true _ _ parts.0, leb-true _ _ parts.1)
-    go false is = tt
+if_within-is haystack (Some m) = grind (arith, and_parts, leb-true)
 
 module _ (meaning : Meaning) (bytes : List ℕ) where
   -- a match that is found starts at the position or after it, ends no earlier than it starts, and
   -- is within the bytes
   pub match_from-order : (p : ℕ) → IfSome {T = ℕ × ℕ} (match_from meaning bytes p)
       (λ m. (p ≤ m.0) × (m.0 ≤ m.1) × (m.1 ≤ length bytes))
-  match_from-order p = go (nat_lt p (length bytes)) refl
-      (if_within (drop p bytes) (meaning.first (drop p bytes)))
-      (if_within-is (drop p bytes) (meaning.first (drop p bytes)))
-    where
-      go : (b : Bool) → nat_lt p (length bytes) ≡ b → (found : Option (ℕ × ℕ))
-          → IsWithin (drop p bytes) found
-          → IfSome {T = ℕ × ℕ} (if b then option_map (λ m. (p + m.0, p + m.1)) found else None)
-          (λ m. (p ≤ m.0) × (m.0 ≤ m.1) × (m.1 ≤ length bytes))
-      go true is None inside = tt
-      go true is (Some m) inside =
-          let below = ltb-true p (length bytes) is in
-          (omega arith, omega arith, omega (arith, length-drop p bytes))
-      go false is found inside = tt
+  match_from-order p = grind (arith, if_within-is, ltb-true, length-drop)
 
   -- none is found from the end on
   match_from-end : (p : ℕ) → length bytes ≤ p → match_from meaning bytes p ≡ None
@@ -107,20 +86,15 @@ module _ (meaning : Meaning) (bytes : List ℕ) where
   matches_from-found : (p : ℕ) (m : ℕ × ℕ) → match_from meaning bytes p ≡ Some m
       → matches_from meaning bytes p (length bytes) ≡ m
       ∷ matches_from meaning bytes (position_after m) (length bytes)
-  matches_from-found p m is = ⊎_elim (λ some.
-      let size : length bytes ≡ suc (length bytes - 1) = omega arith in
-      let first : matches_from meaning bytes p (suc (length bytes - 1))
-      ≡ m ∷ matches_from meaning bytes (position_after m) (length bytes - 1) =
-      rw (is, matches_from) refl in
-      let later = matches_from-enough (position_after m) (length bytes - 1) (length bytes)
-      (omega (arith, position_after-later p m order.0 order.1)) (omega arith) in
-      ap (matches_from meaning bytes p) size ∙ (first ∙ ap (λ xs. m ∷ xs) later))
-      (λ none. absurd (let over = match_from-end p (omega arith) in let clash : None
-      ≡ Some m = sym over ∙ is in cc))
-      (cases_lt p (length bytes))
-    where
-      order : (p ≤ m.0) × (m.0 ≤ m.1) × (m.1 ≤ length bytes)
-      order = let at = match_from-order p in rw is at at
+  matches_from-found p m is =
+      grind (
+        arith,
+        matches_from-enough,
+        position_after-later,
+        match_from-end,
+        cases_lt,
+        match_from-order,
+      )
 
   -- where none is found there are none
   matches_from-none : (p : ℕ) (n : ℕ) → match_from meaning bytes p ≡ None
@@ -156,13 +130,8 @@ module _ (meaning : Meaning) (bytes : List ℕ) where
       → matches_left meaning bytes p left ≡ m ∷ matches_left meaning bytes (position_after m)
       (option_map (λ n. n - 1) left)
   matches_left-found p None m is room = matches_from-found p m is
-  matches_left-found p (Some zero) m is room = absurd (let no : is_below 0 (Some 0)
-      ≡ false = refl in clash room no)
-  matches_left-found p (Some (suc left)) m is room =
-      let one : suc left - 1 ≡ left = omega arith in
-      ap (take (suc left)) (matches_from-found p m is)
-      ∙ ap (λ n. m ∷ take n (matches_from meaning bytes (position_after m) (length bytes)))
-      (sym one)
+  matches_left-found p (Some zero) m is room = grind (arith, clash)
+  matches_left-found p (Some (suc left)) m is room = grind (arith, matches_from-found)
 
   pub matches_left-none : (p : ℕ) (left : Option ℕ) → match_from meaning bytes p ≡ None
       → matches_left meaning bytes p left ≡ []
@@ -176,11 +145,9 @@ module _ (meaning : Meaning) (bytes : List ℕ) where
 
   pub matches_left-full : (p : ℕ) (left : Option ℕ) → is_below 0 left ≡ false
       → matches_left meaning bytes p left ≡ []
-  matches_left-full p None full = absurd (let room : is_below 0 None
-      ≡ true = refl in clash room full)
+  matches_left-full p None full = grind (arith, clash)
   matches_left-full p (Some zero) full = refl
-  matches_left-full p (Some (suc left)) full =
-      absurd (clash (lt-ltb 0 (suc left) (omega arith)) full)
+  matches_left-full p (Some (suc left)) full = grind (arith, clash, lt-ltb)
 
   pub matches_left-after : (p : ℕ) (left : Option ℕ)
       → All (λ m. p ≤ m.0) (matches_left meaning bytes p left)
@@ -198,16 +165,8 @@ module _ (meaning : Meaning) (bytes : List ℕ) where
   -- what a matcher finds in the rest of the bytes is the next match
   pub match_from-found : (p : ℕ) (m : ℕ × ℕ) → p < length bytes → IsWithin (drop p bytes) (Some m)
       → meaning.first (drop p bytes) ≡ Some m → match_from meaning bytes p ≡ Some (p + m.0, p + m.1)
-  match_from-found p m below inside is =
-      let yes = lt-ltb p (length bytes) below in
-      let same = if_within-same (drop p bytes) (Some m) inside in
-      rw (yes, is, same) refl
+  match_from-found p m below inside is = grind arith
 
   pub match_from-missed : (p : ℕ) → meaning.first (drop p bytes) ≡ None → match_from meaning bytes p
       ≡ None
-  match_from-missed p is = go (nat_lt p (length bytes))
-    where
-      go : (b : Bool) → (if b then option_map {T = ℕ × ℕ} {U = ℕ × ℕ} (λ m. (p + m.0, p + m.1))
-          (if_within (drop p bytes) (meaning.first (drop p bytes))) else None) ≡ None
-      go true = rw is refl
-      go false = refl
+  match_from-missed p is = grind arith

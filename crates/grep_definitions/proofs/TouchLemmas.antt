@@ -20,10 +20,7 @@ use Rattle.grep_matcher.proofs.LineStartLemmas.{line_start-last, line_start-le}
 
 -- a test for at most that passes if a test for less does, and no other time
 pub same-tests : (x y z w : ℕ) → (x ≤ y → w ≤ z → ⊥) → (z < w → y < x → ⊥) → nat_le x y ≡ nat_lt z w
-same-tests x y z w first second = ⊎_elim (λ less. ⊎_elim (λ over. absurd (second less over))
-    (λ low. le-leb x y low ∙ sym (lt-ltb z w less)) (cases_lt y x)) (λ over. ⊎_elim
-    (λ high. lt-leb x y high ∙ sym (le-ltb z w over)) (λ low. absurd (first low over))
-    (cases_lt y x)) (cases_lt z w)
+same-tests x y z w first second = grind arith
 
 module _ (t : ℕ) (bytes : List ℕ) where
   -- how many lines there are, and where each begins
@@ -80,37 +77,24 @@ module _ (t : ℕ) (bytes : List ℕ) where
   -- the block of a match that isn't empty and ends in a line ends with the line
   pub block_end-line : (m : ℕ × ℕ) (b : ℕ) → m.0 < m.1 → b < n → from b < m.1 → m.1 ≤ from (b + 1)
       → from (b + 1) ≡ block_end t bytes m
-  block_end-line m b some inside low below = ⊎_elim (λ less.
-      let open_end : slice_index bytes (m.1 - 1) ≢ t =
-      (IsLastStart-line t bytes b m.1 inside (omega arith) less).inner (m.1 - 1) (omega arith)
-      (omega arith) in
-      block_end-open t bytes m (from (b + 1)) (λ _. open_end)
-      (next (lines_before-line m.1 b inside (omega arith) less))) (λ over. ⊎_elim
-      (λ same. let whole : from (b + 1) ≡ m.1 = omega arith in whole
-      ∙ block_end-closed t bytes m some within same)
-      (λ other. block_end-open t bytes m (from (b + 1)) (λ _. other) (next (before other)))
-      (cases_eq (slice_index bytes (m.1 - 1)) t)) (cases_lt m.1 (from (b + 1)))
-    where
-      within : m.1 ≤ length bytes
-      within = omega (arith, high (b + 1))
-
-      next : lines_before t bytes m.1 ≡ b → from (b + 1) ≡ from (lines_before t bytes m.1 + 1)
-      next is = ap (λ q. from (q + 1)) (sym is)
-
-      before : slice_index bytes (m.1 - 1) ≢ t → lines_before t bytes m.1 ≡ b
-      before other =
-          let back : (m.1 - 1) + 1 ≡ m.1 = omega arith in
-          let fails = ne_eqb (slice_index bytes (m.1 - 1)) t other in
-          ap (lines_before t bytes) (sym back)
-          ∙ (count_by_more_no (λ x. x == t) bytes (m.1 - 1) 0 (omega (arith, within)) fails
-          ∙ lines_before-line (m.1 - 1) b inside (omega arith) (omega arith))
+  block_end-line m b some inside low below =
+      grind (
+        arith,
+        IsLastStart-line,
+        block_end-open,
+        lines_before-line,
+        block_end-closed,
+        cases_eq,
+        cases_lt,
+        high,
+        ne_eqb,
+        count_by_more_no,
+      )
 
   -- the block of an empty match in a line ends with the line
   pub block_end-empty : (p a : ℕ) → a < n → from a ≤ p → p < from (a + 1) → from (a + 1)
       ≡ block_end t bytes (p, p)
-  block_end-empty p a inside low below =
-      block_end-open t bytes (p, p) (from (a + 1)) (λ less. absurd (omega arith))
-      (ap (λ q. from (q + 1)) (sym (lines_before-line p a inside low below)))
+  block_end-empty p a inside low below = grind (arith, block_end-open, lines_before-line)
 
   -- whether a line is within the whole lines of a match
   abbrev is_within : ℕ → ℕ × ℕ → Bool
@@ -120,23 +104,12 @@ module _ (t : ℕ) (bytes : List ℕ) where
   -- a line's start and the next one's against those of the lines that a match starts and ends in
   starts-late : (s a i : ℕ) → a < n → i < n → from a ≤ s → s < from (a + 1)
       → nat_le (from a) (from i) ≡ nat_lt s (from (i + 1))
-  starts-late s a i inside here low below = same-tests (from a) (from i) s (from (i + 1))
-      (λ early over. ⊎_elim
-      (λ less. omega (arith, rises i here, line_start-le t bytes (i + 1) a (omega (arith, less))))
-      (λ more. omega (arith, line_start-le t bytes (a + 1) (i + 1) (omega (arith, more))))
-      (cases_lt i a)) (λ over late. ⊎_elim
-      (λ less. omega (arith, line_start-le t bytes (i + 1) a (omega (arith, less))))
-      (λ more. omega (arith, line_start-le t bytes a i more)) (cases_lt i a))
+  starts-late s a i inside here low below =
+      grind (arith, same-tests, rises, line_start-le, cases_lt)
 
   ends-early : (e b i : ℕ) → b < n → i < n → from b < e → e ≤ from (b + 1)
       → nat_le (from (i + 1)) (from (b + 1)) ≡ nat_lt (from i) e
-  ends-early e b i inside here low below = same-tests (from (i + 1)) (from (b + 1)) (from i) e
-      (λ early over. ⊎_elim
-      (λ less. omega (arith, rises i here, line_start-le t bytes (b + 1) i (omega (arith, less))))
-      (λ more. omega (arith, line_start-le t bytes i b more)) (cases_lt b i)) (λ over late. ⊎_elim
-      (λ less. omega (arith, line_start-le t bytes (b + 1) i (omega (arith, less))))
-      (λ more. omega (arith, line_start-le t bytes (i + 1) (b + 1) (omega (arith, more))))
-      (cases_lt b i))
+  ends-early e b i inside here low below = grind (arith, same-tests, rises, line_start-le, cases_lt)
 
   -- a match that isn't empty touches the lines that it has a byte of
   pub is_within-some : (m : ℕ × ℕ) (i : ℕ) → m.0 < m.1 → m.1 ≤ length bytes → i < n

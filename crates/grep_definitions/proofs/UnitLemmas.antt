@@ -43,9 +43,7 @@ kind-other false b c d kind is other = refl
 flat_map-joined : (g : Planned → List ℕ) (f : ℕ → List Planned) (i n : ℕ)
     → flat_map g (joined_from f i n) ≡ joined_from (λ j. flat_map g (f j)) i n
 flat_map-joined g f i zero = refl
-flat_map-joined g f i (suc n) =
-    flat_map-append g (f i) (joined_from f (i + 1) n)
-    ∙ ap (λ xs. flat_map g (f i) ++ xs) (flat_map-joined g f (i + 1) n)
+flat_map-joined g f i (suc n) = grind (arith, flat_map-append, flat_map-joined g f (i + 1) n)
 
 -- two slices, one after the other, are one
 slice-join : (bytes : List ℕ) (a b c : ℕ) → a ≤ b → b ≤ c → slice_range bytes a b
@@ -114,45 +112,21 @@ module _ (k : Settings) (meaning : Meaning) (bytes : List ℕ) where
 
     gathered-report : (i : ℕ) (kind : Option Kind) → Plans.kind k bytes selection i ≡ kind
         → flat_map (λ call. g call.call) (report k bytes selection i kind) ≡ gathered i
-    gathered-report i None is =
-        let none = kind-other (selected i) (follows_selected k bytes selection i)
-        (precedes_selected k bytes selection i) k.passthru None is (λ same. cc) in
-        rw none refl
-    gathered-report i (Some matched) is =
-        let here = kind-selected (selected i) (follows_selected k bytes selection i)
-        (precedes_selected k bytes selection i) k.passthru is in
-        ⊎_elim (λ (later : goes_on i ≡ true). rw (here, later) refl)
-        (λ (first : goes_on i ≡ false). rw (here, first) (append-nil (g (report_at i))))
-        (cases_Bool (goes_on i))
-    gathered-report i (Some (in_context c)) is =
-        let none = kind-other (selected i) (follows_selected k bytes selection i)
-        (precedes_selected k bytes selection i) k.passthru (Some (in_context c)) is (λ same. cc) in
-        rw (none, in_context_none c (number k bytes i) (at i) (line k bytes i)) refl
+    gathered-report i None is = grind (arith, kind-other)
+    gathered-report i (Some matched) is = grind (arith, kind-selected, append-nil, cases_Bool)
+    gathered-report i (Some (in_context c)) is = grind (arith, kind-other)
 
     gathered-line : (i : ℕ) → flat_map (λ call. g call.call) (calls_at k bytes selection i)
         ≡ gathered i
-    gathered-line i =
-        go (breaks_before k bytes selection i)
-        (count_at k bytes selection i (Plans.kind k bytes selection i))
-      where
-        go : (b : Bool) (end : ℕ) → flat_map (λ call. g call.call) (if b then (planned breaks end)
-            ∷ report k bytes selection i (Plans.kind k bytes selection i)
-            else report k bytes selection i (Plans.kind k bytes selection i)) ≡ gathered i
-        go true end = rw in_breaks_none (gathered-report i (Plans.kind k bytes selection i) refl)
-        go false end = gathered-report i (Plans.kind k bytes selection i) refl
+    gathered-line i = grind (arith, gathered-report)
 
     gathered-lines : flat_map (λ call. g call.call) (joined_from (calls_at k bytes selection) 0 n)
         ≡ joined_from gathered 0 n
-    gathered-lines =
-        flat_map-joined (λ call. g call.call) (calls_at k bytes selection) 0 n
-        ∙ joined_from-equal (λ j. flat_map (λ call. g call.call) (calls_at k bytes selection j))
-        gathered 0 n (λ j low high. gathered-line j)
+    gathered-lines = grind (arith, flat_map-joined, joined_from-equal, gathered-line)
 
   -- under inversion a report has one line
   alone : selects_free k ≡ true → (i : ℕ) → i < n → whole i ≡ each i
-  alone inverted i inside = ⊎_elim
-      (λ (here : selected i ≡ true). rw (here, inverted) (slice-line k bytes i))
-      (λ (none : selected i ≡ false). rw none refl) (cases_Bool (selected i))
+  alone inverted i inside = grind (arith, slice-line, cases_Bool)
 
   -- and otherwise those of a longest run of selected lines
   together : selects_free k ≡ false → joined_from whole 0 n ≡ joined_from each 0 n
@@ -185,16 +159,14 @@ module _ (k : Settings) (meaning : Meaning) (bytes : List ℕ) where
   unit-end : (i : ℕ) → i < n → selected i ≡ true → selects_free k ≡ false
       → at i + length (report_lines k bytes selection i) ≡ at (run_end selected n i)
   unit-end i inside here plain =
-      let end : report_end k bytes selection i ≡ run_end selected n i =
-      ap (λ b. if not b then run_end selected n i else i + 1) plain in
-      let run = IsRunEnd-run_end selected n i inside here in
-      omega (
+      grind (
         arith,
-        ap (λ e. length (slice_range bytes (at i) (at e))) end,
-        length-take (at (run_end selected n i) - at i) (drop (at i) bytes),
-        length-drop (at i) bytes,
-        line_start-le (byte_of k.line_terminator) bytes i (run_end selected n i) run.low,
-        line_start-within (byte_of k.line_terminator) bytes (run_end selected n i),
+        run_end,
+        IsRunEnd-run_end,
+        length-take,
+        length-drop,
+        line_start-le,
+        line_start-within,
       )
 
   -- the lines of the unit that begins at a selected line, and where its bytes end

@@ -73,14 +73,7 @@ module _ (k : Settings) (meaning : Meaning) (bytes : List ℕ) where
       → IsLineStart t bytes start w.line
       → (is_done k w ≡ false → start ≡ old.end) → IsUnit k meaning bytes old.end unit → new.end
       ≡ unit.1 → AreLeft k meaning bytes new → IsAtUnit k meaning bytes start w unit new
-  ready-next start w unit old new some at same is_unit end left = record {
-    left = left;
-    end = end;
-    ordered = is_unit.range.ordered;
-    within = is_unit.range.within;
-    before = λ goes. omega (arith, same goes);
-    coming = λ goes less. coming-next start w.line old.end unit some at (same goes) is_unit;
-  }
+  ready-next start w unit old new some at same is_unit end left = grind (arith, coming-next)
 
   pub ready-found : {E : Type 0} (start : ℕ) (w : Walk) (old new : Blocks)
       (found : Result (ℕ × ℕ) E) → start < length bytes
@@ -223,18 +216,7 @@ module _ {k : Settings} {meaning : Meaning} {bytes : List ℕ} {start : ℕ} {w 
 
   pub ready-past : (new : Walk) (p : ℕ) → p ≡ next → new.match_count ≡ w.match_count
       → IsAtUnit k meaning bytes p new unit blocks
-  ready-past new p is same = record {
-    left = ready.left;
-    end = ready.end;
-    ordered = ready.ordered;
-    within = ready.within;
-    before = λ goes. omega (arith, (coming-past (back goes)).0);
-    coming = λ goes less. subst (λ p. IsComing k meaning bytes p unit) (sym is)
-        ((coming-past (back goes)).1 (omega arith));
-  }
-    where
-      back : is_done k new ≡ false → is_done k w ≡ false
-      back goes = ap (λ c. selects_free k && not (has_room k c)) (sym same) ∙ goes
+  ready-past new p is same = grind (arith, coming-past)
 
   -- after a line it comes to the unit, or is in it
   coming-line : (end : ℕ) → IsLine (byte_of k.line_terminator) bytes w.line start end → is_done k w

@@ -27,13 +27,7 @@ module _ (k : Settings) (bytes : List ℕ) (v i end : ℕ) where
   -- a line as the walk sees it
   here-is : (q start next : ℕ) → IsLine t bytes q start next
       → before_calls k v q i (number_of k q) start end (slice_range bytes start next) ≡ at_line q
-  here-is q start next line =
-      ap (λ m. before_calls k v q i m start end (slice_range bytes start next))
-      (sym (number-line k bytes q line.listed))
-      ∙ (ap (λ p. before_calls k v q i (number k bytes q) p end (slice_range bytes start next))
-      (sym line.begins)
-      ∙ ap (λ l. before_calls k v q i (number k bytes q) (line_start t bytes q) end l)
-      (sym line.line))
+  here-is q start next line = grind arith
 
   -- the lines that the context doesn't reach have no calls
   pub pending-near : (a : ℕ) → v ≤ i → a ≡ i - min k.before_context (i - v)
@@ -72,25 +66,12 @@ module _ (k : Settings) (bytes : List ℕ) (v i end : ℕ) where
     where
       through : AreMade step k old (pending_calls k bytes v i end first ((q - first) + 1)) outcome
           new
-      through =
-          let at : first + (q - first) ≡ q = omega arith in
-          let there : at_line q ≡ at_line (first + (q - first)) = ap at_line (sym at) in
-          subst (λ calls. AreMade step k old calls outcome new)
-          (sym (joined_from-more at_line first (q - first)))
-          (AreMade-append step k (joined_from at_line first (q - first))
-          (at_line (first + (q - first))) old mid outcome new before
-          (subst (λ calls. AreMade step k mid calls outcome new)
-          (ap (λ o. before_calls k v q i (number_of k q) o end own) same
-          ∙ (ap (before_calls k v q i (number_of k q) start end) (sym bytes_same)
-          ∙ (here-is q start next line ∙ there))) here))
+      through = grind (arith, joined_from-more, AreMade-append, here-is)
 
       -- one more line
       pub reported-more : AreMade step k old (pending_calls k bytes v i end first ((q + 1) - first))
           outcome new
-      reported-more =
-          let sum : (q - first) + 1 ≡ (q + 1) - first = omega arith in
-          subst (λ m. AreMade step k old (pending_calls k bytes v i end first m) outcome new) sum
-          through
+      reported-more = grind (arith, through)
 
       -- a line whose calls end early ends them all
       pub reported-ended : q < i → (outcome ≡ all_true → ⊥)
@@ -129,16 +110,12 @@ module _ (k : Settings) (gone window input : List ℕ) (w : Walk) (start : ℕ)
 
   pub window-more : AreMade step k old (pending_calls k input w.next_unreported w.line end first
       ((q + 1) - first)) outcome new
-  window-more = reported-more k input w.next_unreported w.line end step old mid new first q
-      (length gone + p) (length gone + next) offset
-      shown_line (slice_range window p next) shown_bytes (omega arith) low before outcome here
+  window-more = grind (arith, reported-more, shown_line, shown_bytes)
 
   pub window-ended : q < w.line → (outcome ≡ all_true → ⊥)
       → AreMade step k old (pending_calls k input w.next_unreported w.line end first
       (w.line - first)) outcome new
-  window-ended = reported-ended k input w.next_unreported w.line end step old mid new first q
-      (length gone + p) (length gone + next) offset
-      shown_line (slice_range window p next) shown_bytes (omega arith) low before outcome here
+  window-ended = grind (arith, reported-ended, shown_line, shown_bytes)
 
 -- a window that has the lines before a walk does not end among them
 pub window-short : (k : Settings) (gone window input : List ℕ) (w : Walk) (start : ℕ)
@@ -149,5 +126,4 @@ pub window-short : (k : Settings) (gone window input : List ℕ) (w : Walk) (sta
     ≡ length (lines (byte_of k.line_terminator) window))
     → q < w.line → AreMade step k old calls outcome new
 window-short k gone window input w start inside step old new calls outcome q p at last below =
-    absurd (let all = last (q - length (lines (byte_of k.line_terminator) gone)) at.begins in
-    omega arith)
+    grind arith

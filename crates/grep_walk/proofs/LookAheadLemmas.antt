@@ -39,30 +39,13 @@ pub IsLocated-empty : (t u position : ℕ) (bytes part : List ℕ) (m line : ℕ
     ≡ bytes → m ≡ (position, position)
     → line ≡ (block_start u part m, block_end u part m) → line.0 ≤ m.0 → m.1 ≤ line.1
     → IsLocated t bytes position line
-IsLocated-empty t u position bytes part m line same whole empty is low high = record {
-  begins = ap (λ (x : ℕ × ℕ). x.0) block;
-  ends = grind (arith, nat_tests, ap (λ (x : ℕ × ℕ). x.1) block);
-  low = omega (arith, low, ap (λ (x : ℕ × ℕ). x.0) empty);
-  high = omega (arith, high, ap (λ (x : ℕ × ℕ). x.1) empty);
-}
-  where
-    block : line ≡ (
-      block_start t bytes (position, position),
-      block_end t bytes (position, position),
-    )
-    block = rw (same, whole, empty) at is
+IsLocated-empty t u position bytes part m line same whole empty is low high = grind arith
 
 -- at most as many lines end before a position as there are lines
 before-few : (t : ℕ) (bytes : List ℕ) (position : ℕ) → lines_before t bytes position
     ≤ length (lines t bytes)
-before-few t bytes position = ⊎_elim
-    (λ closed. omega (arith, fewer, lines-closed t bytes (λ some. closed))) (λ other. ⊎_elim
-    (λ some. omega (arith, fewer, lines-unclosed t bytes some other))
-    (λ none. omega (arith, fewer, lines-closed t bytes (λ some. absurd (omega arith))))
-    (cases_lt 0 (length bytes))) (cases_eq (slice_index bytes (length bytes - 1)) t)
-  where
-    fewer : lines_before t bytes position ≤ count t bytes
-    fewer = sum_by-take-le (λ b. cond (b == t) 1 0) bytes position
+before-few t bytes position =
+    grind (arith, lines-closed, lines-unclosed, cases_lt, cases_eq, count, sum_by-take-le)
 
 -- which lines hold a position
 module _ (terminator : LineTerminator) (meaning : Meaning) (bytes : List ℕ) (position : ℕ) (line : ℕ
@@ -80,14 +63,9 @@ module _ (terminator : LineTerminator) (meaning : Meaning) (bytes : List ℕ) (p
 
   -- a line before its line doesn't
   unheld : (i : ℕ) → i < holder → HoldsPosition terminator meaning bytes i position → ⊥
-  unheld i before (low, inl below) =
-      omega (arith, line_start-le byte bytes (i + 1) holder (omega arith))
+  unheld i before (low, inl below) = grind (arith, line_start-le)
   unheld i before (low, inr (last, end, other)) =
-      omega (
-        arith,
-        before-all end,
-        lines-unclosed byte bytes (omega (arith, lines-at-most byte bytes)) other,
-      )
+      grind (arith, before-all, lines-unclosed, lines-at-most)
 
   -- its line does, if there is one
   held : holder < length (lines byte bytes) → HoldsPosition terminator meaning bytes holder position
@@ -131,12 +109,7 @@ module _ (t : ℕ) (bytes : List ℕ) (start first : ℕ) (here : IsLineStart t 
 
   -- in the bytes they start as much later
   later-start : (j : ℕ) → line_start t bytes (first + j) ≡ start + line_start t rest j
-  later-start j =
-      ap (λ ls. length (concat ls)) (take-add first j (lines t bytes)
-      ∙ ap (λ ls. take first (lines t bytes) ++ take j ls) later)
-      ∙ (ap length (concat-append (take first (lines t bytes)) (take j (lines t rest)))
-      ∙ (length-append (concat (take first (lines t bytes))) (concat (take j (lines t rest)))
-      ∙ ap (λ n. n + line_start t rest j) here.begins))
+  later-start j = grind (arith, take-add, later, concat-append, length-append)
 
   -- the lines of the bytes are those before the start and these
   later-count : length (lines t bytes) ≡ first + length (lines t rest)
@@ -207,14 +180,7 @@ module _ (k : Settings) (meaning : Meaning) (window : List ℕ) (start first : �
     located = lines_before t asked (position_of found)
 
     start-located : IsLineStart t window candidate (first + located)
-    start-located = record {
-      listed = omega (
-        arith,
-        later-count t window start first here,
-        before-few t asked (position_of found),
-      );
-      begins = omega (arith, later-start t window start first here located, begins);
-    }
+    start-located = grind (arith, later-count, before-few, later-start)
 
     -- no line before it matches
     miss-before : (i p q : ℕ) → IsLine t window i p q → start ≤ p → p < candidate

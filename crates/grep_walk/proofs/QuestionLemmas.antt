@@ -55,18 +55,7 @@ module _ (k : Settings) (meaning : Meaning) (bytes : List ℕ) where
   -- before a match was found, at the first line
   pub asked-first : (haystack : List ℕ) → IsAskedAfter k meaning bytes [] haystack
       → IsAskedAt k meaning bytes 0 haystack
-  asked-first haystack question = record {
-    found = [];
-    question = question;
-    after = λ above. absurd (omega arith);
-    apart = λ above. absurd (omega arith);
-    first = 0;
-    last = 0;
-    low = omega arith;
-    some = λ above. absurd (omega arith);
-    run = λ j low. and-false (nat_lt j n)
-        ∙ sym (ap (λ b. nat_le 0 j && b) (le-ltb j 0 (omega arith)) ∙ and-false (nat_le 0 j));
-  }
+  asked-first haystack question = grind arith
 
   -- while a unit is put together, at the line after the one before it
   module _ (end position : ℕ) (found : List (ℕ × ℕ)) (u : ℕ × ℕ)

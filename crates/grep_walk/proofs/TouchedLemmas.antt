@@ -63,25 +63,17 @@ module _ (k : Settings) (meaning : Meaning) (bytes : List ℕ) where
   -- one match more
   touches-more : (found : List (ℕ × ℕ)) (m : ℕ × ℕ) (j : ℕ) → j < n
       → touched_of (found ++ m ∷ []) j ≡ (touched_of found j || is_in (Some (block m)) (from j))
-  touches-more found m j inside =
-      list_any-append (touches k meaning bytes j) found (m ∷ [])
-      ∙ ap (λ b. touched_of found j || b) (or-false (touches k meaning bytes j m)
-      ∙ within-block t bytes j m inside)
+  touches-more found m j inside = grind (arith, list_any-append, or-false, within-block)
 
   -- whether a line is touched, by the matches that were found and those after them
   hit-of : (found later : List (ℕ × ℕ)) → counted_matches k meaning bytes ≡ found ++ later → (j : ℕ)
       → j < n → is_counted k meaning bytes j ≡ (touched_of found j || touched_of later j)
-  hit-of found later all j inside =
-      let yes = lt-ltb j n inside in
-      rw (yes, all) (list_any-append (touches k meaning bytes j) found later)
+  hit-of found later all j inside = grind (arith, lt-ltb, list_any-append)
 
   -- matches whose blocks start after a line starts don't touch it
   missed-before : (later : List (ℕ × ℕ)) (j : ℕ) → All (λ m. from j < block_start t bytes m) later
       → touched_of later j ≡ false
-  missed-before later j after =
-      list_any_none (touches k meaning bytes j) later
-      (All-weaker (λ m. from j < block_start t bytes m) (λ m. touches k meaning bytes j m ≡ false)
-      (λ m low. and_left _ _ (lt-leb (block_start t bytes m) (from j) low)) later after)
+  missed-before later j after = grind (arith, list_any_none, All-weaker, and_left, lt-leb)
 
   -- a line that was touched is touched by one match more
   touched-still : (found : List (ℕ × ℕ)) (m : ℕ × ℕ) (j : ℕ) → j < n → touched_of found j ≡ true
@@ -250,36 +242,14 @@ module _ (k : Settings) (meaning : Meaning) (bytes : List ℕ) where
       → AreTouched k meaning bytes low position found None
       → counted_matches k meaning bytes ≡ found → low ≤ length bytes
       → IsUnit k meaning bytes low (length bytes, length bytes)
-  unit-none low position found touched all inside = record {
-    range = record {
-      first = n;
-      begins = end-start t bytes;
-      last = n;
-      ends = end-start t bytes;
-      ordered = omega arith;
-      within = omega arith;
-      after = inside;
-      apart = λ some below. below;
-      some = λ below. absurd (omega arith);
-    };
-    miss = λ j here over before.
-        let none : is_counted k meaning bytes j ≡ (touched_of found j || false) = hit-of found []
-        (all ∙ sym (append-nil found)) j here in
-        none ∙ (or-false (touched_of found j) ∙ touched.same j here over);
-    hit = λ j here over before. absurd (omega arith);
-    past = λ j here at. absurd (omega (arith, starts-inside j here));
-  }
+  unit-none low position found touched all inside =
+      grind (arith, end-start, hit-of, append-nil, or-false, starts-inside)
 
   -- the end of the bytes is after all lines
   pub touched-end : (low position : ℕ) (found : List (ℕ × ℕ))
       → AreTouched k meaning bytes low position found None
       → AreTouched k meaning bytes (length bytes) position found None
-  touched-end low position found touched = record {
-    same = λ j inside over. absurd (omega (arith, starts-inside j inside));
-    range = tt;
-    before = λ below. absurd (omega arith);
-    later = tt;
-  }
+  touched-end low position found touched = grind (arith, starts-inside)
 
   -- the whole lines of a match from a line start on
   module _ (e a : ℕ) (here : IsLineStart t bytes e a) (m p : ℕ × ℕ) (part : IsPart t bytes e m p)
@@ -287,11 +257,7 @@ module _ (k : Settings) (meaning : Meaning) (bytes : List ℕ) where
       (reach : e ≤ m.1) where
     -- if the match starts before it, they start there
     part-before : m.0 < e → p.0 ≡ e
-    part-before before =
-        let none : m.0 - e ≡ 0 = omega arith in
-        let first : block_start t (drop e bytes) (m.0 - e, m.1 - e)
-        ≡ 0 = ap (λ x. block_start t (drop e bytes) (x, m.1 - e)) none in
-        omega arith
+    part-before before = grind arith
 
     -- if not, they start with the block of the match
     part-start : e < length bytes → e ≤ m.0 → p.0 ≡ block_start t bytes m
@@ -316,11 +282,7 @@ module _ (k : Settings) (meaning : Meaning) (bytes : List ℕ) where
         (λ after. after) (cases_lt m.0 e)
 
     pub part-apart : e < p.0 → p ≡ block m
-    part-apart apart =
-        let after = starts-there apart in
-        let below : e < length bytes = omega (arith, part.before after) in
-        ap₂ (λ x y. (x, y)) (part-start below after)
-        (part-end below (λ before. absurd (omega arith)))
+    part-apart apart = grind (arith, starts-there, ap₂, part-start, part-end)
 
   -- a match whose lines lead on from the range
   pub touched-part : (low position : ℕ) (found : List (ℕ × ℕ)) (u m p : ℕ × ℕ)

@@ -164,12 +164,10 @@ module _ (k : Settings) (meaning : Meaning) (bytes : List ℕ) where
 
           module _ (apart : u.1 < p.0) where
             after : u.1 ≤ m.0
-            after = starts-there k meaning bytes u.1 so_far.touched.range.last
-                so_far.touched.range.ends m p part found.ordered reach apart
+            after = grind arith
 
             is_block : p ≡ (block_start t bytes m, block_end t bytes m)
-            is_block = part-apart k meaning bytes u.1 so_far.touched.range.last
-                so_far.touched.range.ends m p part found.ordered reach apart
+            is_block = search (arith, part-apart, reach)
 
             high : u.1 < block_start t bytes m
             high = omega (arith, ap (λ x. x.0) is_block)

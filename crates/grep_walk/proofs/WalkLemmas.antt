@@ -120,12 +120,7 @@ module _ (k : Settings) (meaning : Meaning) (bytes : List ℕ) where
   }
 
   pub placed-start : IsPlaced k meaning bytes start_walk
-  placed-start = record {
-    at = record { listed = omega arith; begins = refl };
-    inside = omega arith;
-    low = omega arith;
-    few = omega arith;
-  }
+  placed-start = grind arith
 
   -- the count of `begin` is 0
   pub ended-start : All (λ call. call.if_false.count ≤ 0) (front 0)
@@ -133,12 +128,7 @@ module _ (k : Settings) (meaning : Meaning) (bytes : List ℕ) where
       (All-nil (λ call. call.if_false.count ≤ 0))
 
   walk-start : (k.passthru ≡ false → has_room k 0 ≡ false → ⊥) → IsWalk k meaning bytes start_walk
-  walk-start busy = record {
-    placed = placed-start;
-    near = IsNear-none k meaning bytes;
-    opened = IsOpen-none k meaning bytes busy;
-    ended = ended-start;
-  }
+  walk-start busy = grind arith
 
   front-through : (v i : ℕ) → v ≤ i → front i ≡ front v ++ joined_from T v (i - v)
   front-through = headed-through (planned begins 0) T
@@ -168,12 +158,7 @@ module _ (k : Settings) (meaning : Meaning) (bytes : List ℕ) where
     -- where the walk is after the line
     pub placed-next : IsPlaced k meaning bytes w → (chosen : Bool)
         → IsPlaced k meaning bytes (after_line k w here chosen)
-    placed-next placed chosen = record {
-      at = after;
-      inside = within;
-      low = grind (arith, placed.low);
-      few = grind (arith, placed.few);
-    }
+    placed-next placed chosen = grind (arith, after, within)
 
     -- what is known of the line, by whether it is chosen
     module _ (bare : Bare) (walk : IsWalk k meaning bytes w) where
@@ -188,12 +173,7 @@ module _ (k : Settings) (meaning : Meaning) (bytes : List ℕ) where
 
       pub chosen-here : (b r : Bool) → IsDecided k meaning w here b r
           → is_chosen k meaning bytes w.line ≡ b
-      chosen-here b r decided = grind (
-        arith,
-        chosen-is k meaning bytes walk.opened,
-        hits-here,
-        decided.chosen_is,
-      )
+      chosen-here b r decided = grind arith
 
       pub trailing-here : (b r : Bool) → IsDecided k meaning w here b r → 0 < w.after_context_left
           → is_trailing k meaning bytes w.line ≡ r
@@ -440,20 +420,13 @@ module _ (k : Settings) (meaning : Meaning) (bytes : List ℕ) where
     -- only `begin` was called, and no line may be reported
     pub counted-idle : (new : S) → reports_nothing k ≡ true
         → AreMadeFrom step k old (front 0) all_true new → IsCounted 0 all_true new
-    counted-idle new idle begun = counted-done start_walk new (placed-start).at
-        (IsNear-none k meaning bytes)
-        (IsDone-none k meaning bytes (grind (arith, idle)) (grind (arith, idle))) begun
+    counted-idle new idle begun = grind arith
 
   -- of a sink that had no call
   module _ {S E : Type 0} (step : Steps S E) (old : S) where
     pub counted-unbegun : (new : S) → step old k begins (Ok false) new
         → IsCounted step (fresh old) 0 (stopped (counted 0)) new
-    counted-unbegun new stops = record {
-      made = from-ended step k (fresh old) (front 0) (joined_from T 0 reportable)
-          (stopped (counted 0)) new (λ is. cc)
-          (from-fresh step k old (front 0) (stopped (counted 0)) new (inr (inl (refl, stops))));
-      ending = refl;
-    }
+    counted-unbegun new stops = grind arith
 
     pub reported-begin : (new : S) → step old k begins (Ok true) new
         → AreMadeFrom step k (fresh old) (front 0) all_true new
@@ -462,10 +435,7 @@ module _ (k : Settings) (meaning : Meaning) (bytes : List ℕ) where
 
     pub reported-start : (new : S) → reports_nothing k ≡ false → step old k begins (Ok true) new
         → HasReported k meaning bytes step (fresh old) start_walk new
-    reported-start new busy goes = record {
-      walk = walk-start (λ plain full. grind (arith, busy, plain, full));
-      reported = reported-begin new goes;
-    }
+    reported-start new busy goes = grind arith
 
 -- how a search ends in a fault
 module _ {S E F : Type 0} (step : Steps S E) (errors : ErrorMakers F E) (matcher : MatcherFacts F)
@@ -524,8 +494,4 @@ pub counted-fresh : {S E : Type 0} (step : Steps S E) (k : Settings) (old : S) (
     (finish : Finish)
     (outcome : Outcome E) (new : S) → IsMadeToFrom step k (fresh old) plan outcome finish new
     → IsMadeTo step k old plan outcome finish new
-counted-fresh step k old plan finish outcome new counted =
-    record {
-      made = fresh-made step k old plan.calls outcome new counted.made;
-      ending = counted.ending;
-    }
+counted-fresh step k old plan finish outcome new counted = grind arith

@@ -22,29 +22,14 @@ use Rattle.grep_walk.specs.Windows.{IsWindow, IsLineIn, IsInWindow}
 
 -- the whole input is a window of itself
 pub own-window : (t : ℕ) (bytes : List ℕ) → IsWindow t [] bytes bytes
-own-window t bytes = record {
-  after = [];
-  whole = sym (append-nil bytes);
-  line = λ i start end line.
-      let zero_i : i ≡ 0 + i = omega arith in
-      let zero_start : start ≡ 0 + start = omega arith in
-      let zero_end : end ≡ 0 + end = omega arith in
-      subst (λ j. IsLine t bytes j (0 + start) (0 + end)) zero_i
-      (subst (λ p. IsLine t bytes i p (0 + end)) zero_start
-      (subst (IsLine t bytes i start) zero_end line));
-}
+own-window t bytes = grind (arith, append-nil)
 
 -- bytes of a window are bytes of the input
 pub slice-in : (gone window after input : List ℕ) → input ≡ gone ++ (window ++ after) → (p q : ℕ)
     → p ≤ q → q ≤ length window
     → slice_range input (length gone + p) (length gone + q) ≡ slice_range window p q
 slice-in gone window after input whole p q low high =
-    let size : (length gone + q) - (length gone + p) ≡ q - p = omega arith in
-    let rest = ap (drop (length gone + p)) whole
-    ∙ (drop-append-add gone (window ++ after) p ∙ drop-append-le p window after (omega arith)) in
-    ap (λ n. take n (drop (length gone + p) input)) size
-    ∙ (ap (take (q - p)) rest ∙ take-append-le (q - p) (drop p window) after
-    (omega (arith, length-drop p window)))
+    grind (arith, drop-append-add, drop-append-le, take-append-le, length-drop)
 
 -- a line of the input that extends from p up to q of the window
 module _ (k : Settings) (gone window input : List ℕ) (i p q : ℕ) (at : IsLineIn k gone window p i)
@@ -65,15 +50,7 @@ module _ (k : Settings) (gone window input : List ℕ) (i p q : ℕ) (at : IsLin
 
   -- the line after it
   pub next-line : IsLineIn k gone window q (i + 1)
-  next-line =
-      let sum : (i + 1) - before ≡ (i - before) + 1 = omega arith in
-      record {
-        low = omega arith;
-        begins = record {
-          listed = omega (arith, own.listed);
-          begins = ap (line_start (byte_of k.line_terminator) window) sum ∙ own.ends;
-        };
-      }
+  next-line = grind arith
 
 -- lines on both sides of a position
 module _ {t : ℕ} (window : List ℕ) (r : ℕ) where
@@ -122,18 +99,8 @@ module _ (t : ℕ) (gone window after : List ℕ) (opens : IsClosed t gone) (clo
 
     start-in : (position i : ℕ) → IsLineStart t window position i
         → IsLineStart t input (length gone + position) (length (lines t gone) + i)
-    start-in position i here = record {
-      listed = omega (
-        arith,
-        count-after t gone (window ++ after) opens,
-        ap length both,
-        length-append (lines t window) (lines t after),
-      );
-      begins = start-after t gone (window ++ after) opens i ∙ ap (λ n. length gone + n)
-          (ap (λ ls. length (concat (take i ls))) both
-          ∙ (ap (λ ls. length (concat ls)) (take-append-le i (lines t window) (lines t after)
-          here.listed) ∙ here.begins));
-    }
+    start-in position i here =
+        grind (arith, count-after, both, length-append, start-after, take-append-le)
 
     line-in : (i p q : ℕ) → IsLine t window i p q
         → IsLine t input (length (lines t gone) + i) (length gone + p) (length gone + q)

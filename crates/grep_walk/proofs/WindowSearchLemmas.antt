@@ -33,11 +33,7 @@ use Rattle.grep_walk.proofs.WindowLemmas as windows
 -- a line leaves the counts of a walk in order
 pub ordered-next : (k : Settings) (w : Walk) (p q : ℕ) (window : List ℕ) (chosen : Bool) → p < q → q
     ≤ length window → IsOrdered w → IsOrdered (after_line k w (slice_range window p q) chosen)
-ordered-next k w p q window chosen below within ordered = record {
-  few = omega (arith, ordered.few, length-take (q - p) (drop p window), length-drop p window);
-  low = grind (arith, ordered.low);
-  chosen = grind (arith, ordered.chosen);
-}
+ordered-next k w p q window chosen below within ordered = grind (arith, length-take, length-drop)
 
 -- a walk begins with the first window of the input, once `begin` returned true
 pub searched-start : {S E : Type 0} (step : Steps S E) (k : Settings) (meaning : Meaning)
@@ -67,12 +63,7 @@ pub searched-rolled : {S E : Type 0} (step : Steps S E) (k : Settings) (meaning 
     (with_counts w passed.searched.line passed.searched.next_unreported)
     → HasSearched step k meaning gone' window' input first start w now
 searched-rolled step k meaning gone window input first w now passed gone' window' start inside =
-    record {
-      line = passed.searched.line;
-      next_unreported = passed.searched.next_unreported;
-      counts = passed.searched.counts;
-      walked = record { inside = inside; reported = passed.searched.walked.reported };
-    }
+    grind arith
 
 -- at the end of the window all its lines are passed
 pub passed-all : {S E : Type 0} (step : Steps S E) (k : Settings) (meaning : Meaning)
@@ -134,7 +125,7 @@ pub counted-either : {S E F : Type 0} (step : Steps S E) (errors : ErrorMakers F
     → (outcome : Outcome E) × IsCounted step k matcher.meaning input first w.offset outcome now
 counted-either step errors matcher k gone window input first false w now goes ends all = ends refl
 counted-either step errors matcher k gone window input first true w now goes ends all =
-    (all_true, counted-passed step k matcher.meaning gone window input first w now (goes refl) all)
+    grind (arith, counted-passed)
 
 -- one line, from p up to q of the window
 module _ {S E : Type 0} {step : Steps S E} {k : Settings} {meaning : Meaning}
