@@ -19,3 +19,6 @@ pub mod SeenMatchLemmas
 pub mod MatchedLineLemmas
 pub mod TrustLemmas
 pub mod TextsLemmas
+pub mod RunLemmas
+pub mod TellLemmas
+pub mod ToldLemmas

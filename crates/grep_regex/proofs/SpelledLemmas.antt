@@ -1,6 +1,6 @@
 -- A pattern that is a literal finds where the literal first occurs.
 use Rattle.std.proofs.Common.{◌≡◌, ℕ, zero, suc, ◌+◌, ◌-◌, ◌<◌, ◌≤◌, List, [], ◌∷◌}
-use Rattle.std.proofs.Common.{length, drop, All, Option, Some, is_some, refl, sym, ◌∙◌, ap, arith}
+use Rattle.std.proofs.Common.{length, drop, All, Option, Some, refl, sym, ◌∙◌, ap, arith}
 use Rattle.std.proofs.Common.{⊎_elim, length-drop, false, get_or, subst, IfSome}
 use Rattle.std.proofs.Math.Logic.{∥∥₁_elim}
 use Rattle.std.proofs.lemmas.List.{get_or-drop, get_or_default}
@@ -22,9 +22,8 @@ use Rattle.grep_matcher.specs.Literals.{literal_match}
 use Rattle.grep_regex.specs.Patterns.{leftmost_match_at}
 use Rattle.grep_regex.specs.Views.{program_re, regex_text_at, IsAnswer}
 use Rattle.grep_regex.specs.declared.asked.Asked.{Asked}
-use Rattle.grep_regex.specs.declared.asked.Asked.TheVariants.{FirstMatch, AnyMatch}
 use Rattle.grep_regex.specs.declared.regex.Regex.{Regex}
-use Rattle.grep_regex.proofs.EngineLemmas.{finds-at}
+use Rattle.grep_regex.proofs.EngineLemmas.{finds-at, first-answers}
 use Rattle.grep_regex.specs.Spelled.{IsSpelled}
 
 module _ (bytes : List ℕ) where
@@ -105,11 +104,6 @@ literal-first r kept bytes hay start spells is are-bytes fits =
     let spelled : IsSpelled (program_re r) bytes = subst (λ k. IfSome k (IsSpelled (program_re r))) is s in
     sym (spelled.at hay start (λ k d inside. rw (get_or_default hay k d 0 inside) (are-bytes k)) fits)
     ∙ finds-at r hay start are-bytes fits)
-
--- the first match itself is an answer to each question
-pub first-answers : (asked : Asked) (first found : Option (ℕ × ℕ)) → found ≡ first → IsAnswer asked first found
-first-answers FirstMatch first found same = same
-first-answers AnyMatch first found same = ap is_some same
 
 pub literal-answers : (r : Regex) (kept : Option (List ℕ)) (bytes hay : List ℕ) (start : ℕ) (asked : Asked)
     (found : Option (ℕ × ℕ)) → ∥ IfSome kept (IsSpelled (program_re r)) ∥₁ → kept ≡ Some bytes

@@ -4,8 +4,8 @@ use Rattle.grep_matcher.specs.FindResults.{IsFrom}
 use Rattle.grep_regex.specs.Views.{regex_text_at, IsAnswer}
 use Rattle.grep_regex.specs.declared.asked.Asked.{Asked}
 use Rattle.grep_regex.specs.declared.regex.Regex.{Regex}
-use Rattle.grep_regex.specs.declared.shortcut.Known.{Known}
-use Rattle.grep_regex.specs.declared.shortcut.Known.TheVariants.{Answer, From}
+use Rattle.grep_regex.specs.declared.known.Known.{Known}
+use Rattle.grep_regex.specs.declared.known.Known.TheVariants.{Answer, From}
 
 -- of the first match of a text from a position on: the answer, or a position up to which no match starts
 abbrev pub IsKnown : Regex → Asked → List ℕ → ℕ → Known → Type 0

@@ -1,5 +1,5 @@
 -- What contracts see of a compiled expression.
-use Rattle.std.specs.Prelude.{◌≡◌, ℕ, List, Option, is_some}
+use Rattle.std.specs.Prelude.{◌≡◌, ℕ, List, Option, is_some, option_map}
 use Rattle.std.specs.Arc.{arc_value}
 use Rattle.regex_hir.specs.Meaning.{meaning}
 use Rattle.regex_hir.specs.Re.{Re}
@@ -8,7 +8,7 @@ use Rattle.regex_meta.specs.declared.searcher.Searcher.{Searcher}
 use Rattle.grep_matcher.specs.Meanings.{Meaning}
 use Rattle.grep_regex.specs.Patterns.{first_match_at, text_match_at, meaning_of}
 use Rattle.grep_regex.specs.declared.asked.Asked.{Asked}
-use Rattle.grep_regex.specs.declared.asked.Asked.TheVariants.{FirstMatch, AnyMatch}
+use Rattle.grep_regex.specs.declared.asked.Asked.TheVariants.{FirstMatch, AnyMatch, Start}
 use Rattle.grep_regex.specs.declared.engine.Engine.{Engine}
 use Rattle.grep_regex.specs.declared.matcher.RegexMatcher.{RegexMatcher}
 use Rattle.grep_regex.specs.declared.options.Options.{Options}
@@ -44,10 +44,12 @@ regex_first_at r = first_match_at (regex_options r) (regex_patterns r)
 abbrev pub regex_first : Regex → List ℕ → Option (ℕ × ℕ)
 regex_first r haystack = regex_first_at r haystack 0
 
--- what is found is the first match; for `AnyMatch` it is some pair exactly if there is a match
+-- what is found is the first match; for `AnyMatch` it is some pair exactly if there is a match, and for `Start` one
+-- that starts where the match does
 abbrev pub IsAnswer : Asked → Option (ℕ × ℕ) → Option (ℕ × ℕ) → Type 0
 IsAnswer FirstMatch first found = found ≡ first
 IsAnswer AnyMatch first found = is_some found ≡ is_some first
+IsAnswer Start first found = option_map (λ m. m.0) found ≡ option_map (λ m. m.0) first
 
 -- the expression for which an engine was made
 abbrev pub engine_regex : Engine → Regex

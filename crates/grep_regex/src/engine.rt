@@ -39,7 +39,7 @@ impl<'r> Engine<'r> {
     }
 
     // The first match from a position on in a haystack of which all is seen; for `AnyMatch` some
-    // pair exactly if there is a match.
+    // pair exactly if there is a match, and for `Start` one that starts there.
     pub(crate) fn find_at(
         &mut self,
         haystack: &[u8],
@@ -53,7 +53,6 @@ impl<'r> Engine<'r> {
         ensures same { self.new.regex.now ≡ self.old.regex.now }
     {
         match asked {
-            Asked::FirstMatch => self.searcher.find(haystack, start),
             Asked::AnyMatch => {
                 if self.searcher.is_match(haystack, start) {
                     Some((start, start))
@@ -61,6 +60,7 @@ impl<'r> Engine<'r> {
                     None
                 }
             }
+            _ => self.searcher.find(haystack, start),
         }
     }
 

@@ -7,8 +7,9 @@ ghost use Rattle.grep_regex.specs.Views.{regex_meaning, IsAnswer};
 
 use crate::asked::Asked;
 use crate::engine::Engine;
+use crate::known::Known;
 use crate::regex::Regex;
-use crate::shortcut::{Known, Shortcut};
+use crate::shortcut::Shortcut;
 use grep_matcher::{LineMatchKind, Match};
 use std::alloc::{AllocError, Global};
 use std::cell::RefCell;
@@ -21,7 +22,7 @@ pub(crate) trait Finder {
     ghost is_known: { Regex → Type 0 };
 
     // The first match from a position on in a haystack of which all is seen; for `AnyMatch` some
-    // pair exactly if there is a match. It is `None` if this is for another expression.
+    // pair exactly if there is a match, and for `Start` one that starts there. It is `None` if this is for another expression.
     fn find_for(
         &mut self,
         regex: &Regex,
@@ -36,8 +37,8 @@ pub(crate) trait Finder {
         ensures within { IfSome result (IsFrom start haystack.now) };
 }
 
-// The first match from a position on; for `AnyMatch` some pair exactly if there is a match. It is
-// found by what is in the cell if that is needed.
+// The first match from a position on; for `AnyMatch` some pair exactly if there is a match, and
+// for `Start` one that starts there. It is found by what is in the cell if that is needed.
 fn find_by<F: Finder>(
     alloc: Global,
     shortcut: &Shortcut<'_>,
@@ -138,7 +139,7 @@ pub(crate) fn candidate_line<F: Finder>(
     if !shortcut.regex.is_by_line() {
         return Ok(Some(LineMatchKind::Candidate(0)));
     }
-    match find_by(alloc, shortcut, cell, haystack, 0, Asked::FirstMatch) {
+    match find_by(alloc, shortcut, cell, haystack, 0, Asked::Start) {
         Ok(Some((start, _))) => Ok(Some(LineMatchKind::Confirmed(start))),
         Ok(None) => Ok(None),
         Err(error) => Err(error),

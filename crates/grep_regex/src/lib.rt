@@ -4,10 +4,13 @@
 mod absent;
 mod asked;
 mod builder;
+mod class_tree;
+mod classes;
 mod engine;
 mod error;
 mod finder;
 mod frame;
+mod known;
 pub mod laws;
 mod literal;
 mod locality;

@@ -29,10 +29,23 @@ impl Regex {
     pub fn matcher(&self, alloc: Global) -> Result<RegexMatcher<'_>, AllocError>
         ensures { IfOk result (λ m. matcher_regex m ≡ self.now) }
     {
-        match Engine::new(alloc, self) {
+        match Shortcut::new(alloc, self) {
+            Ok(shortcut) => RegexMatcher::of(alloc, shortcut),
+            Err(error) => Err(error),
+        }
+    }
+}
+
+impl<'r> RegexMatcher<'r> {
+    ghost use Rattle.grep_regex.specs.Views.{matcher_regex};
+
+    fn of(alloc: Global, shortcut: Shortcut<'r>) -> Result<RegexMatcher<'r>, AllocError>
+        ensures { IfOk result (λ m. matcher_regex m ≡ shortcut.entry.regex.now) }
+    {
+        match Engine::new(alloc, shortcut.regex) {
             Ok(engine) => Ok(RegexMatcher {
                 alloc,
-                shortcut: Shortcut::new(self),
+                shortcut,
                 engine: RefCell::new(engine),
             }),
             Err(error) => Err(error),

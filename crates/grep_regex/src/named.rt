@@ -75,10 +75,24 @@ impl Regex {
         requires { IsNamed N.options N.patterns self.now }
         ensures { IfOk result (λ m. named_regex m ≡ self.now) }
     {
-        match Engine::new(alloc, self) {
+        match Shortcut::new(alloc, self) {
+            Ok(shortcut) => NamedMatcher::of(alloc, shortcut),
+            Err(error) => Err(error),
+        }
+    }
+}
+
+impl<'r, N: Naming> NamedMatcher<'r, N> {
+    ghost use Rattle.grep_regex.specs.NamedViews.{named_regex};
+
+    fn of(alloc: Global, shortcut: Shortcut<'r>) -> Result<NamedMatcher<'r, N>, AllocError>
+        requires { IsNamed N.options N.patterns shortcut.regex.now }
+        ensures { IfOk result (λ m. named_regex m ≡ shortcut.entry.regex.now) }
+    {
+        match Engine::new(alloc, shortcut.regex) {
             Ok(engine) => Ok(NamedMatcher {
                 alloc,
-                shortcut: Shortcut::new(self),
+                shortcut,
                 engine: RefCell::new(NamedEngine {
                     engine,
                     name: PhantomData,

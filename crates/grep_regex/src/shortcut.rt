@@ -1,22 +1,16 @@
 //! What is known of the matches of an expression without an engine.
-ghost use Rattle.std.specs.Prelude.{◌≡◌, ◌≤◌, length, IfSome};
+ghost use Rattle.std.specs.Prelude.{◌≡◌, ◌≤◌, length, IfOk, IfSome};
 ghost use Rattle.std.specs.Arc.{arc_value};
 ghost use Rattle.regex_hir.specs.Meaning.{meaning};
+ghost use Rattle.grep_regex.specs.Classes.{IsTold};
 ghost use Rattle.grep_regex.specs.Spelled.{IsSpelled};
 
 use crate::asked::Asked;
+use crate::known::{Known, known_by};
 use crate::literal::{matcher_of, occurrence};
 use crate::regex::Regex;
-use grep_matcher::LiteralMatcher;
-
-// What is known of the first match from a position on.
-#[derive(Clone, Copy)]
-pub(crate) enum Known {
-    // The answer to what is asked.
-    Answer(Option<(usize, usize)>),
-    // No match starts before this position.
-    From(usize),
-}
+use grep_matcher::{ByteSet, LiteralMatcher};
+use std::alloc::{AllocError, Global};
 
 // An expression, with what finds its matches sooner than an engine does. It isn't written to, so it
 // is in no cell.
@@ -24,8 +18,12 @@ pub(crate) struct Shortcut<'r> {
     pub(crate) regex: &'r Regex,
     // For an expression that is a literal.
     literal: Option<LiteralMatcher<'r>>,
+    // For an expression whose matches their first bytes tell: the sets of these, one after another.
+    sets: Option<Vec<ByteSet>>,
     ghost spelled: { ∥ IfSome literal
         (IsSpelled (meaning (arc_value regex.now.shared).program.hir)) ∥₁ },
+    ghost told: { ∥ IfSome sets
+        (λ s. IsTold (meaning (arc_value regex.now.shared).program.hir) s.items) ∥₁ },
 }
 
 // Written out, so that a caller's proof sees one call.
@@ -34,6 +32,7 @@ impl<'r> Drop for Shortcut<'r> {
         let Shortcut {
             regex: _regex,
             literal: _literal,
+            sets: _sets,
         } = self;
     }
 }
@@ -41,12 +40,16 @@ impl<'r> Drop for Shortcut<'r> {
 impl<'r> Shortcut<'r> {
     ghost use Rattle.grep_regex.specs.Known.{IsKnown};
 
-    pub(crate) fn new(regex: &'r Regex) -> Shortcut<'r>
-        ensures { result.regex.now ≡ regex.now }
+    pub(crate) fn new(alloc: Global, regex: &'r Regex) -> Result<Shortcut<'r>, AllocError>
+        ensures { IfOk result (λ s. s.regex.now ≡ regex.now) }
     {
-        Shortcut {
-            regex,
-            literal: matcher_of(regex),
+        match regex.sets(alloc) {
+            Ok(sets) => Ok(Shortcut {
+                regex,
+                literal: matcher_of(regex),
+                sets,
+            }),
+            Err(error) => Err(error),
         }
     }
 
@@ -58,6 +61,18 @@ impl<'r> Shortcut<'r> {
     {
         match &self.literal {
             Some(literal) => Known::Answer(occurrence(literal, haystack, start)),
+            None => self.look_by_sets(haystack, start, asked),
+        }
+    }
+
+    // The same for an expression that is no literal.
+    #[inline]
+    fn look_by_sets(&self, haystack: &[u8], start: usize, asked: Asked) -> Known
+        requires { start ≤ length haystack.now }
+        ensures { IsKnown self.now.regex.now asked haystack.now start result }
+    {
+        match &self.sets {
+            Some(sets) => known_by(self.regex, sets, haystack, start, asked),
             None => Known::From(start),
         }
     }

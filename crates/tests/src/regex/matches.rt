@@ -88,6 +88,26 @@ const ROWS: &[Row] = &[
     ("vF", r"a b", b"aba b", Some((2, 5))),
     ("o", r"\141", b"xa", Some((1, 2))),
     ("d", r"((a))", b"xa", Some((1, 2))),
+    // What the bytes tell with which a match begins, and where a byte isn't ASCII.
+    ("", r".", b"a", Some((0, 1))),
+    ("", r".", b"\n\n", None),
+    ("", r".", b"\xff\xce\xb2", Some((1, 3))),
+    ("", r"(?-u:.)", b"\xff", Some((0, 1))),
+    ("", r"[aeiou]{3}", b"ba\xc3\xa9aei", Some((4, 7))),
+    ("", r".{3}", b"a\xc3\xa9b\n", Some((0, 4))),
+    ("", r".{3}", b"a\xff\xffbcd", Some((3, 6))),
+    ("", r".ab", b"\xc3\xa9ab", Some((0, 4))),
+    ("", r".{4,}", b"abc\nabcd", Some((4, 8))),
+    ("", r"\d{3}\.\d+", b"12.3 456.78", Some((5, 11))),
+    ("", r"(ab){2}c?", b"abaabab", Some((3, 7))),
+    ("", r"a[0-9]", b"ab a", None),
+    ("", r"[ab]{3}c", b"ababababababababababababababababababac", Some((34, 38))),
+    ("i", r"k[0-9]", b"k\xe2\x84\xaa5", Some((1, 5))),
+    ("", r"x{0}[ab]{2}", b"xab", Some((1, 3))),
+    ("n", r"[\na]b", b"\nb ab", Some((3, 5))),
+    ("r", r".+", b"\r\n", None),
+    ("w", r"\w", b"ab c", Some((3, 4))),
+    ("x", r"\w", b"ab\nc", Some((3, 4))),
 ];
 
 // Whether a matcher finds this range, or nothing.

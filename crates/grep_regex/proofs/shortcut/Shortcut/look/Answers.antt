@@ -1,4 +1,3 @@
-use Rattle.std.proofs.Common.{◌∙◌}
 use Rattle.grep_regex.proofs.SpelledLemmas.{literal-answers}
 use Rattle.grep_regex.proofs.shortcut.Shortcut.look.Goals as goal
 

@@ -1,0 +1,14 @@
+use Rattle.std.proofs.Common.{◌+◌, ◌-◌, ◌≤◌, length}
+use Rattle.grep_regex.specs.Told.{IsPassed}
+use Rattle.grep_regex.proofs.classes.find_start.Given as goal
+
+abbrev pub invariant-positions : goal.invariant-positions
+invariant-positions l = record {
+  low : l.start ≤ l.from;
+  within : l.from ≤ length l.haystack;
+  moved : l.tried + l.start ≤ l.from;
+  passed : IsPassed l.sets l.haystack l.start l.from;
+}
+
+abbrev pub decreases-positions : goal.decreases-positions
+decreases-positions l = length l.haystack - l.from

@@ -1,0 +1,57 @@
+-- Patterns whose matches the first bytes tell: a byte of each of some sets, one after another.
+use Rattle.std.specs.Prelude.{◌≡◌, ℕ, ◌+◌, ◌<◌, Bool, true, false, if◌then◌else◌, nat_lt, List, [], ◌∷◌}
+use Rattle.std.specs.Prelude.{length, Option, None, Some, slice_get, zero, suc, ◌++◌}
+use Rattle.regex_class.specs.Ranges.{in_ranges}
+use Rattle.regex_hir.specs.Matches.{Matches}
+use Rattle.regex_hir.specs.Re.{Re}
+use Rattle.grep_matcher.specs.ByteSets.{holds}
+
+-- what a set tells of a byte, where one is told of the bytes after it: nothing if it isn't ASCII
+abbrev pub told_by : List Bool → Option Bool → Option ℕ → Option Bool
+told_by set after None = Some false
+told_by set after (Some byte) =
+    if nat_lt byte 128 then (if holds set byte then after else Some false) else None
+
+-- whether a byte of each set follows from a position on; nothing is told where a byte that isn't ASCII comes first
+abbrev pub tells : List (List Bool) → List ℕ → ℕ → Option Bool
+tells [] hay i = Some true
+tells (set ∷ sets) hay i = told_by set (tells sets hay (i + 1)) (slice_get hay i)
+
+-- the ASCII members of the class are those of the set
+abbrev pub IsAsciiOf : List (ℕ × ℕ) → List Bool → Type 0
+IsAsciiOf ranges set = (byte : ℕ) → byte < 128 → holds set byte ≡ in_ranges ranges byte
+
+-- each set has one of the bytes alone
+abbrev pub AreBytes : List ℕ → List (List Bool) → Type 0
+AreBytes [] [] = Unit {0}
+AreBytes [] (set ∷ sets) = ⊥
+AreBytes (b ∷ bytes) [] = ⊥
+AreBytes (b ∷ bytes) (set ∷ sets) = IsAsciiOf ((b, b) ∷ []) set × AreBytes bytes sets
+
+-- where it is told, the pattern matches a byte of each set, and nothing else
+pub record IsRun (re : Re) (sets : List (List Bool)) : Type 0 where
+  pub yes : (hay : List ℕ) (i : ℕ) → tells sets hay i ≡ Some true → Matches hay re i (i + length sets)
+  pub only : (hay : List ℕ) (i j : ℕ) → tells sets hay i ≡ Some true → Matches hay re i j → j ≡ i + length sets
+  pub no : (hay : List ℕ) (i j : ℕ) → tells sets hay i ≡ Some false → Matches hay re i j → ⊥
+
+-- where it is told, the pattern matches or it doesn't
+pub record IsTold (re : Re) (sets : List (List Bool)) : Type 0 where
+  pub yes : (hay : List ℕ) (i : ℕ) → tells sets hay i ≡ Some true → (j : ℕ) × Matches hay re i j
+  pub no : (hay : List ℕ) (i j : ℕ) → tells sets hay i ≡ Some false → Matches hay re i j → ⊥
+
+-- the sets, as often as a number says
+abbrev pub repeated : ℕ → List (List Bool) → List (List Bool)
+repeated zero sets = []
+repeated (suc n) sets = sets ++ repeated n sets
+
+-- the sets are those of a run, as often as a number says
+pub record IsRepeated (re : Re) (times : ℕ) (sets : List (List Bool)) : Type 0 where
+  pub one : List (List Bool)
+  pub run : IsRun re one
+  pub is : sets ≡ repeated times one
+
+-- one set has the ASCII members of the class
+abbrev pub IsClassSet : List (ℕ × ℕ) → List (List Bool) → Type 0
+IsClassSet ranges [] = ⊥
+IsClassSet ranges (set ∷ []) = IsAsciiOf ranges set
+IsClassSet ranges (set ∷ (other ∷ sets)) = ⊥

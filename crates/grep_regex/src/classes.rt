@@ -1,0 +1,91 @@
+//! A search for bytes of some sets, one after another.
+ghost use Rattle.std.specs.Prelude.{◌≡◌, ◌≤◌, length, All, false};
+ghost use Rattle.grep_matcher.specs.ByteSets.{holds};
+ghost use Rattle.grep_regex.specs.Told.{IsPlace, IsVerdict};
+
+use grep_matcher::ByteSet;
+
+// How often a search may fail before that has to pay, since an engine reads each byte once.
+const TRIED: usize = 8;
+
+// How many bytes a search then has to pass for each time that it fails.
+const SAVED: usize = 8;
+
+// Where the first match starts, as far as it is told.
+#[derive(Clone, Copy)]
+pub(crate) enum Place {
+    // Here.
+    Match(usize),
+    // Not before this position.
+    From(usize),
+    // There is none.
+    Nowhere,
+}
+
+// What is told of a position.
+#[derive(Clone, Copy)]
+pub(crate) enum Verdict {
+    // A match starts here.
+    Matches,
+    // None starts before this later position.
+    Passes(usize),
+    Unknown,
+}
+
+// Where the first match from a position on starts of a pattern that these sets tell.
+#[inline]
+pub(crate) fn find_start(sets: &[ByteSet], haystack: &[u8], start: usize) -> Place
+    requires { start ≤ length haystack.now }
+    ensures { IsPlace sets.now haystack.now start result }
+{
+    let mut from = start;
+    let mut tried = 0;
+    'positions: loop {
+        match tell(sets, haystack, from) {
+            Verdict::Matches => return Place::Match(from),
+            Verdict::Unknown => return Place::From(from),
+            Verdict::Passes(next) if next > haystack.len() => return Place::Nowhere,
+            Verdict::Passes(next) => from = next,
+        }
+        tried += 1;
+        if tried > TRIED && (from - start) / SAVED < tried {
+            return Place::From(from);
+        }
+    }
+}
+
+// What the sets tell of a position.
+#[inline]
+fn tell(sets: &[ByteSet], haystack: &[u8], at: usize) -> Verdict
+    requires { at ≤ length haystack.now }
+    ensures { IsVerdict sets.now haystack.now at result }
+{
+    for k in 0..sets.len() {
+        if at + k >= haystack.len() {
+            return Verdict::Passes(haystack.len() + 1);
+        }
+        let byte = haystack[at + k];
+        if byte >= 128 {
+            return Verdict::Unknown;
+        }
+        if !sets[k].contains(byte) {
+            if is_in_any(&sets[..k], byte) {
+                return Verdict::Passes(at + 1);
+            }
+            return Verdict::Passes(at + k + 1);
+        }
+    }
+    Verdict::Matches
+}
+
+// Whether one of the sets has the byte.
+fn is_in_any(sets: &[ByteSet], byte: u8) -> bool
+    ensures { result ≡ false → All (λ set. holds set byte ≡ false) sets.now }
+{
+    for i in 0..sets.len() {
+        if sets[i].contains(byte) {
+            return true;
+        }
+    }
+    false
+}
