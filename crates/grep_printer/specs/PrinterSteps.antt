@@ -1,7 +1,6 @@
 -- What the sink of a printer does at a call of a search, and in a whole search, of any format.
 use Rattle.std.specs.Prelude.{◌≡◌, ◌⊎◌, ℕ, Bool, true, ◌&&◌, ◌||◌, List, [], ◌∷◌, ◌++◌}
-use Rattle.std.specs.Prelude.{MatchResult, Option, Result, Ok, Err}
-use Rattle.std.specs.Result.{IsErrAnd}
+use Rattle.std.specs.Prelude.{Option, Result, Ok, Err}
 use Rattle.std.specs.Global.{Global}
 use Rattle.std.specs.declared.io.Error.{Error}
 use Rattle.grep_output.specs.Outputs.{Begins, FailsToWrite, OutputCall}
@@ -49,86 +48,6 @@ module _ {F M W : Type 0} (rules : Rules F) where
   HasFound Shown facts first_at sink settings format printed =
       HasParts Shown (first_at sink.matcher) settings (facts sink.matcher).meaning
       (has_match settings printed.call && rules.asks format printed.call) printed
-
--- What a sink does with the text of a call whose parts are at hand. It stays the same sink.
-module _ {F M W : Type 0} (rules : Rules F) (write_step : W → OutputCall → W → Type 0) where
-  -- the text comes after what is pending, and nothing else is written
-  pub record HasPut (old : PrinterSink F M W) (settings : Settings) (printed : PrintedCall)
-      (goes : Bool) (new : PrinterSink F M W) : Type 0 where
-    pub same : IsSameSink old new
-    pub goes_on : goes ≡ rules.goes_on old.format (scene_of old settings) printed
-    pub put : PutsAll write_step old.printer.now.writer (pending_bytes old.printer.now.pending)
-        (text_of rules old settings printed) new.printer.now.writer
-        (pending_bytes new.printer.now.pending)
-    pub format : new.format ≡ rules.next old.format (scene_of old settings) printed
-    pub has_written : new.printer.now.has_written
-        ≡ (old.printer.now.has_written || is_text (text_of rules old settings printed))
-    pub has_failed : new.printer.now.has_failed ≡ old.printer.now.has_failed
-
-  -- the writer failed after some first bytes of what was pending and of the text
-  pub record HasCut (old : PrinterSink F M W) (settings : Settings) (printed : PrintedCall)
-      (e : SearchError Global) (new : PrinterSink F M W) : Type 0 where
-    pub error : Error
-    pub is_io : e ≡ Io error
-    pub failed : FailsToWrite write_step old.printer.now.writer
-        (pending_bytes old.printer.now.pending ++ text_of rules old settings printed) error
-        new.printer.now.writer
-    pub pending : pending_bytes new.printer.now.pending ≡ []
-    pub format : new.format ≡ rules.next old.format (scene_of old settings) printed
-    pub has_failed : new.printer.now.has_failed ≡ true
-
-  -- there was no memory for it, and nothing changed
-  pub record HasNone (old : PrinterSink F M W) (e : SearchError Global) (new : PrinterSink F M W)
-      : Type 0 where
-    pub unwritten : new.printer.now.writer ≡ old.printer.now.writer
-    pub pending : pending_bytes new.printer.now.pending ≡ pending_bytes old.printer.now.pending
-    pub format : new.format ≡ old.format
-    pub has_failed : new.printer.now.has_failed ≡ old.printer.now.has_failed
-    pub memory : IsOutOfMemory e
-
-  -- it isn't put whole
-  pub record FailsToPut (old : PrinterSink F M W) (settings : Settings) (printed : PrintedCall)
-      (e : SearchError Global) (new : PrinterSink F M W) : Type 0 where
-    pub same : IsSameSink old new
-    pub has_written : new.printer.now.has_written ≡ old.printer.now.has_written
-    pub cause : HasCut old settings printed e new ⊎ HasNone old e new
-
-  abbrev pub PutsCall : PrinterSink F M W → Settings → PrintedCall
-      → Result Bool (SearchError Global) → PrinterSink F M W → Type 0
-  PutsCall old settings printed (Ok goes) new = HasPut old settings printed goes new
-  PutsCall old settings printed (Err e) new = FailsToPut old settings printed e new
-
--- the text of a call is dropped, for which there was no memory
-pub record CancelsCall {F M W : Type 0} (old : PrinterSink F M W) (before : F)
-    (result : Result Bool (SearchError Global)) (new : PrinterSink F M W) : Type 0 where
-  pub same : IsSameSink old new
-  pub unwritten : new.printer.now.writer ≡ old.printer.now.writer
-  pub before_text : new.printer.now.pending.before ≡ old.printer.now.pending.before
-  pub text : new.printer.now.pending.text ≡ []
-  pub format : new.format ≡ before
-  pub has_written : new.printer.now.has_written ≡ old.printer.now.has_written
-  pub has_failed : new.printer.now.has_failed ≡ old.printer.now.has_failed
-  pub memory : IsErrAnd result IsOutOfMemory
-
--- the text of a call is written with what is pending before it
-pub record WritesCall {F M W : Type 0} (write_step : W → OutputCall → W → Type 0)
-    (old : PrinterSink F M W) (goes : Bool) (result : Result Bool (SearchError Global))
-    (new : PrinterSink F M W) : Type 0 where
-  pub same : IsSameSink old new
-  pub format : new.format ≡ old.format
-  pub cause : MatchResult result
-      (λ g. (g ≡ goes)
-      × PutsAll write_step old.printer.now.writer old.printer.now.pending.before
-      old.printer.now.pending.text new.printer.now.writer (pending_bytes new.printer.now.pending)
-      × (new.printer.now.has_written
-      ≡ (old.printer.now.has_written || is_text old.printer.now.pending.text))
-      × (new.printer.now.has_failed ≡ old.printer.now.has_failed))
-      (λ e. (error : Error) × (e ≡ Io error)
-      × FailsToWrite write_step old.printer.now.writer
-      (pending_bytes old.printer.now.pending) error new.printer.now.writer
-      × (pending_bytes new.printer.now.pending ≡ [])
-      × (new.printer.now.has_written ≡ old.printer.now.has_written)
-      × (new.printer.now.has_failed ≡ true))
 
 module _ {F M W E : Type 0} (rules : Rules F) (output : E → Option (List ℕ))
     (facts : M → MatcherFacts E) (first_at : M → List ℕ → ℕ → Option (ℕ × ℕ))

@@ -10,8 +10,8 @@ ghost use Rattle.grep_searcher.specs.SinkArguments.{match_call};
 ghost use Rattle.grep_printer.specs.CallParts.{FailsAtParts, around_match, has_match};
 ghost use Rattle.grep_printer.specs.Formats.{is_text};
 ghost use Rattle.grep_printer.specs.MatchedParts.{AreInOrder};
-ghost use Rattle.grep_printer.specs.PrinterSteps.{CancelsCall, HasFound, IsPreparing, PrintsCall};
-ghost use Rattle.grep_printer.specs.PrinterSteps.{PrintsShown, PutsCall, WritesCall};
+ghost use Rattle.grep_printer.specs.PrinterSteps.{HasFound, IsPreparing, PrintsCall};
+ghost use Rattle.grep_printer.specs.PrinterSteps.{PrintsShown};
 ghost use Rattle.grep_printer.specs.Reports.{FitsEvent, IsAround, IsShownEvent, event_call};
 
 use crate::format::{Event, Format};
@@ -284,8 +284,7 @@ impl<'s, F: Format, M: FindAt, W: Output> PrinterSink<'s, F, M, W> {
     }
 
     // Prints a call, and returns whether the search goes on. It is inlined, so that each method
-    // knows which call it prints. What can fail is in functions of its own: where a result with
-    // room for an error is made, that room is set to 0 first.
+    // knows which call it prints; where nothing can fail, no room for an error is copied.
     #[inline(always)]
     fn print<A: Allocator + Copy>(
         &mut self,
@@ -301,78 +300,26 @@ impl<'s, F: Format, M: FindAt, W: Output> PrinterSink<'s, F, M, W> {
             self.old searcher.now.settings (event_call event.now) result self.new }
     {
         if self.asks(searcher, event) {
-            return self.print_with_parts(searcher, event);
+            match self.find_parts(searcher, event) {
+                Ok(()) => {}
+                Err(error) => return Err(error),
+            }
+        } else {
+            self.clear_parts(searcher, event);
         }
-        self.clear_parts(searcher, event);
-        self.put(searcher, event)
-    }
-
-    // Prints a call, the parts of whose report are asked for.
-    #[inline(never)]
-    fn print_with_parts<A: Allocator + Copy>(
-        &mut self,
-        searcher: &Searcher<A>,
-        event: &Event<'_>,
-    ) -> Result<bool, SearchError>
-        requires fits { FitsEvent event.now }
-        requires shown { IsShownEvent event.now }
-        requires asked { (has_match searcher.now.settings (event_call event.now)
-            && F.rules.asks self.old.format (event_call event.now)) ≡ true }
-        ensures shown { PrintsShown F.rules M.Error.output M.facts M.first_at W.step
-            (IsAround event.now) self.old searcher.now.settings (event_call event.now) result
-            self.new }
-        ensures step { PrintsCall F.rules M.Error.output M.facts M.first_at W.step
-            self.old searcher.now.settings (event_call event.now) result self.new }
-    {
-        match self.find_parts(searcher, event) {
-            Ok(()) => self.put(searcher, event),
-            Err(error) => Err(error),
-        }
-    }
-
-    // Puts the text of a call, the parts of which are at hand, after what isn't written yet.
-    #[inline(always)]
-    fn put<A: Allocator + Copy>(
-        &mut self,
-        searcher: &Searcher<A>,
-        event: &Event<'_>,
-    ) -> Result<bool, SearchError>
-        requires fits { FitsEvent event.now }
-        requires ordered { AreInOrder 0 (length (reported_bytes (event_call event.now)))
-            self.old.printer.now.parts.items }
-        ensures { PutsCall F.rules W.step self.old searcher.now.settings
-            (record { call = event_call event.now; parts = self.old.printer.now.parts.items })
-            result self.new }
-    {
         let before = self.format;
         let printer = &mut *self.printer;
         printer.pending.begin();
         let (text, parts) = (&mut printer.pending, &printer.parts);
         let goes_on = self.format.push(text, searcher, self.path, event, parts);
         if printer.pending.has_failed() {
-            return self.cancel(before);
+            printer.pending.cancel();
+            self.format = before;
+            return Err(SearchError::from(AllocError));
         }
         if printer.keeps_text() {
             return Ok(goes_on);
         }
-        self.write(goes_on)
-    }
-
-    // Drops the text of a call for which there was no memory.
-    #[inline(never)]
-    fn cancel(&mut self, before: F) -> Result<bool, SearchError>
-        ensures { CancelsCall self.old before result self.new }
-    {
-        self.format = before;
-        self.printer.pending.cancel();
-        Err(SearchError::from(AllocError))
-    }
-
-    // Writes the text of a call with what wasn't written before.
-    #[inline(never)]
-    fn write(&mut self, goes_on: bool) -> Result<bool, SearchError>
-        ensures { WritesCall W.step self.old goes_on result self.new }
-    {
         match self.printer.end_text() {
             Ok(()) => Ok(goes_on),
             Err(error) => Err(SearchError::Io(error)),
