@@ -1,0 +1,15 @@
+//! Which paths the lines of ignore files leave out, by the rules of gitignore(5): the wildcards of a
+//! glob, a rule, which is a line, and the rules of a file, of which the last that matches decides.
+#![tactic(auto)]
+
+mod glob;
+mod rows;
+mod rules;
+#[cfg(test)]
+mod tests;
+mod trim;
+mod wildcards;
+
+pub use glob::GlobError;
+pub use rules::{Decision, Rules};
+pub use wildcards::{Piece, Wildcards};
