@@ -8,3 +8,4 @@ pub mod LineLemmas
 pub mod LineStartLemmas
 pub mod LineLengthLemmas
 pub mod LineMatchLemmas
+pub mod FromLemmas

@@ -13,6 +13,7 @@ mod matcher;
 mod plain;
 mod probe;
 mod range;
+mod short;
 
 pub use byte_set::ByteSet;
 pub use find_at::FindAt;

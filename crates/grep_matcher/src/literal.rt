@@ -1,7 +1,8 @@
 //! A pattern that matches a literal.
-ghost use Rattle.std.specs.Prelude.{◌≡◌, ℕ, IfOk};
+ghost use Rattle.std.specs.Prelude.{◌≡◌, ◌≤◌, ℕ, IfOk, drop, length};
 ghost use Rattle.grep_matcher.specs.ByteSets.{holds};
-ghost use Rattle.grep_matcher.specs.Literals.{lacks};
+ghost use Rattle.grep_matcher.specs.FindResults.{Avoids, IsFrom, match_from};
+ghost use Rattle.grep_matcher.specs.Literals.{lacks, literal_match};
 ghost use Rattle.memchr.specs.Find.{FindsNeedle};
 
 use crate::byte_set::ByteSet;
@@ -11,12 +12,13 @@ use crate::line_terminator::LineTerminator;
 use crate::matcher::Matcher;
 use crate::probe::Probe;
 use crate::range::Match;
+use crate::short::find_from;
 use memchr::memmem::Finder;
 use std::alloc::{AllocError, Global};
 use std::io;
 use std::marker::Model;
 
-// Haystacks up to this length, such as one line, are searched by the finder alone.
+// Haystacks up to this length, such as one line, are searched as short ones.
 const SHORT: usize = 512;
 
 /// A pattern that matches a literal: some bytes, exactly. The empty literal matches every haystack,
@@ -82,7 +84,21 @@ impl<'n> LiteralMatcher<'n> {
     {
         match &self.probe {
             Some(probe) if haystack.len() > SHORT => probe.find(&self.finder, haystack),
-            _ => self.finder.find(haystack),
+            _ => find_from(&self.finder, haystack, 0),
+        }
+    }
+
+    // The first match from a position on, in a short haystack.
+    #[inline]
+    fn short_match(&self, haystack: &[u8], start: usize) -> Option<Match>
+        requires { start ≤ length haystack.now }
+        ensures value { result ≡ match_from start (literal_match self.now (drop start haystack.now)) }
+        ensures within { IsFrom start haystack.now result }
+        ensures avoids { Avoids (lacks self.now) haystack.now result }
+    {
+        match find_from(&self.finder, haystack, start) {
+            Some(at) => Some(Match::new(at, at + self.finder.needle().len())),
+            None => None,
         }
     }
 }
@@ -156,6 +172,9 @@ impl FindAt for LiteralMatcher<'_> {
 
     #[inline]
     fn find_at(&self, haystack: &[u8], start: usize) -> Result<Option<Match>, io::Error> {
+        if haystack.len() - start <= SHORT {
+            return Ok(self.short_match(haystack, start));
+        }
         match self.find(&haystack[start..])? {
             Some(found) => Ok(Some(found.offset(start))),
             None => Ok(None),

@@ -199,7 +199,7 @@ fn rarest_other(literal: &[u8], first: usize, second: usize) -> Option<usize>
 }
 
 // Some bytes of a literal, which are looked for in a haystack.
-trait Bytes {
+pub(crate) trait Bytes {
     ghost haystack: { Self → List ℕ };
 
     ghost literal: { Self → List ℕ };
@@ -250,9 +250,9 @@ impl<'a> Bytes for OneByte<'a> {
 
 // Three bytes of a literal.
 #[derive(Drop)]
-struct ThreeBytes<'a> {
-    haystack: &'a [u8],
-    literal: &'a [u8],
+pub(crate) struct ThreeBytes<'a> {
+    pub(crate) haystack: &'a [u8],
+    pub(crate) literal: &'a [u8],
     first: usize,
     second: usize,
     third: usize,
@@ -267,7 +267,7 @@ struct ThreeBytes<'a> {
 
 impl<'a> ThreeBytes<'a> {
     #[inline(always)]
-    fn new(
+    pub(crate) fn new(
         haystack: &'a [u8],
         literal: &'a [u8],
         first: usize,

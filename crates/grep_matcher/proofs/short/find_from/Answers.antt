@@ -1,0 +1,54 @@
+use Rattle.std.proofs.Common.{◌+◌, ap, arith, length}
+use Rattle.memchr.proofs.lemmas.FindLemmas.{Nowhere-then}
+use Rattle.memchr.specs.Find.{OccursAt}
+use Rattle.grep_matcher.proofs.FromLemmas.{finds-after, window-first, window-none}
+use Rattle.grep_matcher.proofs.short.find_from.Goals as goal
+
+pub find_rest-requires-then-marks-ne0 : goal.find_rest-requires-then-marks-ne0
+find_rest-requires-then-marks-ne0 c =
+    let size = ap length c.needle-literal.ensures in
+    omega (arith, c.min.ensures, c.min-position.ensures, c.if-haystack-len.false, size)
+
+pub returns-then-marks-ne0 : goal.returns-then-marks-ne0
+returns-then-marks-ne0 c =
+    let occurs = OccursAt c.args.haystack.now c.args.finder.now in
+    let marks = rw (c.new-bytes.ensures.haystack, c.new-bytes.ensures.literal, c.needle-literal.ensures)
+    at c.marks_from-marks.ensures in
+    finds-after occurs c.args.start c.min.result (length c.args.haystack.now + 1) c.find_rest-then-marks-ne0.result
+    (omega (arith, c.min.ensures, c.min-position.ensures, c.windows.invariant.low, c.windows.invariant.near))
+    (Nowhere-then c.windows.invariant.passed
+    (window-first occurs c.windows.from (c.min-position.result + 32) c.marks_from-marks.result marks
+    (omega (arith, c.if-marks-ne0.true)) (omega (arith, c.marks_from-marks.type_inv)) c.min.result
+    (omega (arith, c.min.ensures)) (omega (arith, c.min.ensures))))
+    c.find_rest-then-marks-ne0.ensures
+
+pub returns-then-from-last : goal.returns-then-from-last
+returns-then-from-last c = λ k low below occurs.
+    let marks = rw (c.new-bytes.ensures.haystack, c.new-bytes.ensures.literal, c.needle-literal.ensures)
+    at c.marks_from-marks.ensures in
+    let size = ap length c.needle-literal.ensures in
+    Nowhere-then c.windows.invariant.passed
+    (window-none (OccursAt c.args.haystack.now c.args.finder.now) c.windows.from (c.min-position.result + 32)
+    c.marks_from-marks.result marks c.if-marks-ne0.false) k low
+    (omega (
+      arith,
+      occurs.fits,
+      size,
+      c.min-position.ensures,
+      c.if-from-last.true,
+      c.if-haystack-len.false,
+    )) occurs
+
+pub windows-preserved : goal.windows-preserved
+windows-preserved c =
+    let marks = rw (c.new-bytes.ensures.haystack, c.new-bytes.ensures.literal, c.needle-literal.ensures)
+    at c.marks_from-marks.ensures in
+    record {
+      low = omega (arith, c.windows.invariant.low);
+      near = omega (arith, c.if-from-last.false);
+      passed = Nowhere-then c.windows.invariant.passed
+          (window-none (OccursAt c.args.haystack.now c.args.finder.now) c.windows.from (c.windows.from + 32)
+          c.marks_from-marks.result
+          (λ k above below. marks k above (omega (arith, c.min-position.ensures, c.if-from-last.false, below)))
+          c.if-marks-ne0.false);
+    }

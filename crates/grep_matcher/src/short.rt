@@ -1,0 +1,65 @@
+//! A search for a literal in a short haystack, such as one line. `memchr` goes over the last 31
+//! positions one by one. Here they are looked at with others that come before them.
+ghost use Rattle.std.specs.Prelude.{◌≡◌, ◌≤◌, ◌<◌, ◌+◌, ◌-◌, ℕ, length};
+ghost use Rattle.std.specs.Int.{bit_at};
+ghost use Rattle.memchr.specs.Find.{FindsNeedle, OccursAt};
+
+use crate::lanes::{WIDTH, highest_bits};
+use crate::probe::{Bytes, ThreeBytes};
+use memchr::memmem::Finder;
+
+// The length of the longest literal that is searched for in this way.
+const LONGEST: usize = 32;
+
+/// The position of the first occurrence of the literal that a finder has from `start` on. The caller
+/// ensures that `start` is in the haystack, or at its end.
+pub(crate) fn find_from(finder: &Finder<'_>, haystack: &[u8], start: usize) -> Option<usize>
+    requires { start ≤ length haystack.now }
+    ensures { FindsNeedle haystack.now finder.now start result }
+{
+    let literal = finder.needle();
+    let len = literal.len();
+    if len == 0 || len > LONGEST || haystack.len() - start < len || haystack.len() < WIDTH + len {
+        return find_rest(finder, haystack, start);
+    }
+    let bytes = ThreeBytes::new(haystack, literal, 0, len / 2, len - 1);
+    let last = haystack.len() - len - (WIDTH - 1);
+    let mut from = start;
+    'windows: loop {
+        let position = from.min(last);
+        let marks = marks_from(&bytes, position, from);
+        if marks != 0 {
+            let at = from + marks.trailing_zeros() as usize;
+            return find_rest(finder, haystack, at.min(position + WIDTH));
+        }
+        if from >= last {
+            return None;
+        }
+        from += WIDTH;
+    }
+}
+
+// Bit k is set if the bytes are where the literal would have them at `from + k`: of the positions
+// from `position` on that a vector has.
+#[inline(always)]
+fn marks_from(bytes: &ThreeBytes<'_>, position: usize, from: usize) -> u64
+    requires room { position + WIDTH + length bytes.now.literal.now
+        ≤ length bytes.now.haystack.now + 1 }
+    requires low { position ≤ from }
+    requires high { from < position + 64 }
+    ensures { (k : ℕ) → from ≤ k → k < position + WIDTH
+        → OccursAt bytes.now.haystack.now bytes.now.literal.now k → bit_at result (k - from) ≡ 1 }
+{
+    highest_bits(bytes.marks(position)) >> (from - position)
+}
+
+// The position of the first occurrence from `start` on.
+fn find_rest(finder: &Finder<'_>, haystack: &[u8], start: usize) -> Option<usize>
+    requires { start ≤ length haystack.now }
+    ensures { FindsNeedle haystack.now finder.now start result }
+{
+    match finder.find(&haystack[start..]) {
+        Some(position) => Some(start + position),
+        None => None,
+    }
+}
