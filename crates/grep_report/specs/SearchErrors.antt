@@ -1,11 +1,14 @@
 -- What an error of a search holds.
-use Rattle.std.specs.Prelude.{◌≡◌, ◌⊎◌, ℕ, List, [], Option, IfSome, String}
+use Rattle.std.specs.Prelude.{◌≡◌, ◌⊎◌, ℕ, Bool, true, false, List, [], Option, IfSome, String}
 use Rattle.std.specs.IoError.{error_kind}
 use Rattle.std.specs.String.{string_bytes}
 use Rattle.std.specs.declared.io.Error.{Error}
+use Rattle.std.specs.declared.io.ErrorKind.{ErrorKind}
 use Rattle.std.specs.declared.io.ErrorKind.TheVariants.{OutOfMemory}
+use Rattle.grep_report.specs.declared.config_error.ConfigError.{ConfigError}
+use Rattle.grep_report.specs.declared.config_error.ConfigError.TheVariants.{Memory}
 use Rattle.grep_report.specs.declared.sink_error.SearchError.{SearchError}
-use Rattle.grep_report.specs.declared.sink_error.SearchError.TheVariants.{Message, Io}
+use Rattle.grep_report.specs.declared.sink_error.SearchError.TheVariants.{Message, Io, Config}
 
 -- the error is a message with this text, if it is known, or with no text
 abbrev pub IsMessageOf : {A : Type 0} → Option (List ℕ) → SearchError A → Type 0
@@ -16,3 +19,18 @@ IsMessageOf {A} text e =
 -- the error is an `io::Error` of the kind `OutOfMemory`
 abbrev pub IsOutOfMemory : {A : Type 0} → SearchError A → Type 0
 IsOutOfMemory {A} e = (error : Error) × (e ≡ Io error) × (error_kind error ≡ OutOfMemory)
+
+-- whether a kind of error, or a fault of the configuration, is being out of memory
+abbrev pub is_memory_kind : ErrorKind → Bool
+is_memory_kind OutOfMemory = true
+is_memory_kind _ = false
+
+abbrev pub is_memory_fault : ConfigError → Bool
+is_memory_fault Memory = true
+is_memory_fault _ = false
+
+-- whether the error is of being out of memory, in either form
+abbrev pub is_out_of_memory : {A : Type 0} → SearchError A → Bool
+is_out_of_memory (Message text) = false
+is_out_of_memory (Io error) = is_memory_kind (error_kind error)
+is_out_of_memory (Config error) = is_memory_fault error

@@ -49,6 +49,22 @@ pub enum SearchError<A: Allocator = Global> {
     Config(ConfigError),
 }
 
+impl<A: Allocator> SearchError<A> {
+    ghost use Rattle.grep_report.specs.SearchErrors.{is_out_of_memory};
+
+    /// Whether the error is of being out of memory: an `io::Error` of the kind `OutOfMemory`, or
+    /// `ConfigError::Memory`.
+    pub fn is_out_of_memory(&self) -> bool
+        ensures { result ≡ is_out_of_memory self.now }
+    {
+        match self {
+            SearchError::Message(_) => false,
+            SearchError::Io(cause) => matches!(cause.kind(), io::ErrorKind::OutOfMemory),
+            SearchError::Config(cause) => matches!(cause, ConfigError::Memory),
+        }
+    }
+}
+
 impl<A: Allocator + Copy> SinkError<A> for SearchError<A> {
     ghost use Rattle.grep_report.specs.SearchErrors.{IsMessageOf};
     ghost use Rattle.grep_report.specs.declared.sink_error.SearchError.TheVariants.{Io, Config};

@@ -1,12 +1,12 @@
 -- How far a search has read that its handler ended.
-use Rattle.std.proofs.Common.{◌≡◌, ◌⊎◌, ℕ, ◌+◌, ◌<◌, ◌≤◌, Bool, true, false, not, ◌&&◌, List, []}
+use Rattle.std.proofs.Common.{◌≡◌, ◌⊎◌, ℕ, zero, suc, ◌+◌, ◌-◌, ◌<◌, ◌≤◌, Bool, true, false, not, ◌&&◌, List, []}
 use Rattle.std.proofs.Common.{◌∷◌, ◌++◌, length, Result, Option, Some, None, Ok, refl, sym, ap}
 use Rattle.std.proofs.Common.{subst, ◌∙◌, inl, inr, arith, if◌then◌else◌, ⊎_elim}
-use Rattle.std.proofs.lemmas.Bool.{false≢true}
-use Rattle.std.proofs.lemmas.List.{map-append}
+use Rattle.std.proofs.lemmas.Bool.{false≢true, le-ltb, lt-ltb}
+use Rattle.std.proofs.lemmas.List.{length-append, map-append}
 use Rattle.std.proofs.lemmas.List.Elements.{All-cons, All-head, All-nil, All-tail, filter-append}
 use Rattle.std.proofs.lemmas.Option.{same_Some}
-use Rattle.std.specs.Prelude.{All, is_some, nat_eq, slice_get}
+use Rattle.std.specs.Prelude.{All, is_some, nat_eq, nat_lt, slice_get}
 use Rattle.std.specs.List.{concat, starts_with}
 use Rattle.std.specs.Option.{option_map}
 use Rattle.std.specs.Io.KnownBytes.{Consumes}
@@ -40,8 +40,9 @@ use Rattle.grep_definitions.proofs.ListLemmas.{All-joined_from}
 use Rattle.grep_definitions.proofs.SearchLawLemmas.{reports_end-le}
 use Rattle.grep_searcher.proofs.SinkFoldLemmas.{known_readers-run, reader_searches-run}
 use Rattle.grep_searcher.specs.BoundedReads.{ending_call, EndedKnownReadersStop, EndedReadersStop}
-use Rattle.grep_searcher.specs.BoundedReads.{IsReadUpTo, ReadersFindLines}
-use Rattle.grep_searcher.specs.MatchHandlers.{IsFoundStep, IsHandlerStep}
+use Rattle.grep_searcher.specs.BoundedReads.{FirstEnds, IsReadUpTo, ReadersFindLines}
+use Rattle.grep_searcher.specs.MatchHandlers.{FirstReports, has_room, IsFoundStep, IsHandlerStep}
+use Rattle.grep_searcher.specs.MatchHandlers.{kept_of, KeptReport, with_first, with_match}
 use Rattle.grep_searcher.proofs.MatchHandlerLemmas.{runs-find_selected}
 
 -- ---- the count after a match is where its line ends
@@ -345,3 +346,33 @@ module _ {F E : Type 0} (errors : ErrorMakers F E) (matcher : MatcherFacts F) {R
             remaining read_step state reader input old reader' new by all searched
             (match_of k input i) limit ends limited as_it_is),
       )
+
+-- ---- the match at which `First` ends a search
+
+abbrev first_of : ℕ → List KeptReport → FirstReports
+first_of limit kept = record { limit = limit; kept = kept }
+
+-- with room for one more and some after it
+ending-first_room : (limit room : ℕ) (kept : List KeptReport) (calls : List Call)
+    → length kept + suc room ≡ limit
+    → ending_call (λ old call. has_room (with_first old call)) with_first (first_of limit kept)
+    calls ≡ slice_get calls room
+ending-first_room limit room kept [] fits = refl
+ending-first_room limit zero kept (call ∷ later) fits =
+    let here : nat_lt (length kept) limit ≡ true = lt-ltb (length kept) limit
+    (omega (arith, fits)) in
+    let full : nat_lt (length (with_match kept call)) limit ≡ false =
+    le-ltb _ _ (omega (arith, fits, length-append kept (kept_of call ∷ []))) in
+    rw (here, full) refl
+ending-first_room limit (suc room) kept (call ∷ later) fits =
+    let size = length-append kept (kept_of call ∷ []) in
+    let here : nat_lt (length kept) limit ≡ true = lt-ltb (length kept) limit
+    (omega (arith, fits)) in
+    let more : nat_lt (length (with_match kept call)) limit ≡ true =
+    lt-ltb (length (with_match kept call)) limit (omega (arith, fits, size)) in
+    rw (here, more) (ending-first_room limit room (with_match kept call) later
+    (omega (arith, fits, size)))
+
+pub first-ends : FirstEnds
+first-ends limit calls above =
+    ending-first_room limit (limit - 1) [] calls (omega (arith, above))

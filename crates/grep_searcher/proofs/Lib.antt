@@ -7,6 +7,7 @@ pub mod HandledLineLemmas
 pub mod HitLineLemmas
 pub mod InputSearchLemmas
 pub mod KeptReportLemmas
+pub mod KeptFirstLemmas
 pub mod KeptMatchLemmas
 pub mod LentMatchLemmas
 pub mod LineCountLemmas

@@ -8,7 +8,7 @@ use Rattle.std.proofs.lemmas.Bool.{and_parts, false≢true, lt-leb, lt-ltb, ltb-
 use Rattle.std.proofs.lemmas.Bool.{ltb-true}
 use Rattle.std.proofs.lemmas.List.{append-nil, ext_get_or, length-append, take-append-le, take-map}
 use Rattle.std.proofs.lemmas.List.{take_all}
-use Rattle.std.proofs.lemmas.List.Elements.{All-cons, All-map, All-nil, All-weaker}
+use Rattle.std.proofs.lemmas.List.Elements.{All-cons, All-map, All-nil, All-weaker, filter_agree}
 use Rattle.std.proofs.lemmas.List.FromFn.{get_or-map-range_with_len, length-map-range_with_len}
 use Rattle.std.specs.Prelude.{◌||◌, ◌&&◌, not, cond, nat_lt, nat_le, filter, is_some, All}
 use Rattle.std.specs.Prelude.{slice_index_or}
@@ -28,9 +28,12 @@ use Rattle.grep_definitions.proofs.ListLemmas.{All-joined_from}
 use Rattle.grep_definitions.proofs.MatchCallLemmas.{length-passing, matches-are_matched_lines}
 use Rattle.grep_definitions.proofs.MatchCallLemmas.{passing, selected-reportable}
 use Rattle.grep_definitions.proofs.SearchLawLemmas.{reports_end-le}
+use Rattle.grep_searcher.specs.EveryLines.{every_line_facts, EveryLineHits}
 use Rattle.grep_searcher.specs.HitLines.{hit_matches, HitsAreLines, IsFilter, is_hit, items_up_to}
-use Rattle.grep_searcher.specs.HitLines.{lines_as_matches, LinesAreFiltered, MatchedLinesHit}
-use Rattle.grep_searcher.specs.HitLines.{MatchedLinesMatch}
+use Rattle.grep_searcher.specs.HitLines.{lines_as_matches, LinesAreFiltered, LinesAreListed}
+use Rattle.grep_searcher.specs.HitLines.{MatchedLinesHit}
+use Rattle.grep_searcher.specs.HitLines.{MatchedLinesMatch, PredicatesAreFiltered}
+use Rattle.grep_searcher.specs.HitLines.{PredicatesAreLines}
 use Rattle.grep_searcher.proofs.HitLineLemmas.{hits_if-plain}
 
 -- ---- the numbers that pass
@@ -219,14 +222,40 @@ lines-are_filtered k meaning bytes by_line by =
     ∙ map-up_to (match_of k bytes) k.max_matches _
     ∙ ap (items_up_to k.max_matches) (matches-hits k meaning bytes)
 
+pub lines-are_listed : LinesAreListed
+lines-are_listed k bytes =
+    map-twice reported_bytes (match_of k bytes) (range_with_len 0 (line_count k bytes))
+    ∙ map-indices [] (lines (byte_of k.line_terminator) bytes)
+
 pub hits-are_lines : HitsAreLines
 hits-are_lines k meaning bytes =
-    let all = lines (byte_of k.line_terminator) bytes in
     map-up_to reported_bytes k.max_matches _
     ∙ ap (items_up_to k.max_matches) (map-filter reported_bytes (is_hit k meaning)
-    (lines_as_matches k bytes) ∙ ap (filter (is_hit k meaning))
-    (map-twice reported_bytes (match_of k bytes) (range_with_len 0 (line_count k bytes))
-    ∙ map-indices [] all))
+    (lines_as_matches k bytes) ∙ ap (filter (is_hit k meaning)) (lines-are_listed k bytes))
+
+-- ---- without inversion a line hits if a predicate holds
+
+hit-holds : (k : Settings) (meaning : Meaning) (holds : List ℕ → Bool) → k.invert_match ≡ false
+    → ((line : List ℕ) → is_some (meaning.first line) ≡ holds line) → (line : List ℕ)
+    → is_hit k meaning line ≡ holds (strip k.line_terminator line)
+hit-holds k meaning holds plain same line =
+    hits_if-plain k (is_some (meaning.first (strip k.line_terminator line))) plain
+    ∙ same (strip k.line_terminator line)
+
+pub predicates-are_filtered : PredicatesAreFiltered
+predicates-are_filtered k meaning bytes holds plain same =
+    ap (items_up_to k.max_matches)
+    (filter_agree (λ (found : Call). is_hit k meaning (reported_bytes found))
+    (λ found. holds (strip k.line_terminator (reported_bytes found)))
+    (λ found. hit-holds k meaning holds plain same (reported_bytes found))
+    (lines_as_matches k bytes))
+
+pub predicates-are_lines : PredicatesAreLines
+predicates-are_lines k meaning bytes holds plain same =
+    hits-are_lines k meaning bytes
+    ∙ ap (items_up_to k.max_matches) (filter_agree (is_hit k meaning)
+    (λ line. holds (strip k.line_terminator line)) (hit-holds k meaning holds plain same)
+    (lines (byte_of k.line_terminator) bytes))
 
 -- ---- whatever is set, a matched line hits
 
@@ -275,3 +304,13 @@ matched-lines_match k meaning bytes by_line plain =
   where
     has_match : List ℕ → Bool
     has_match line = is_some (meaning.first (strip k.line_terminator line))
+
+-- all lines hit that are asked about by `EveryLine`
+filter-true : {X : Type 0} (xs : List X) → filter (λ x. true) xs ≡ xs
+filter-true [] = refl
+filter-true (x ∷ xs) = ap (λ ys. x ∷ ys) (filter-true xs)
+
+pub every_line-hits : EveryLineHits
+every_line-hits k bytes plain =
+    predicates-are_filtered k every_line_facts.meaning bytes (λ line. true) plain (λ line. refl)
+    ∙ ap (items_up_to k.max_matches) (filter-true (lines_as_matches k bytes))

@@ -1,5 +1,5 @@
 -- How far a search reads that its sink ended.
-use Rattle.std.specs.Prelude.{◌≡◌, ℕ, ◌+◌, ◌≤◌, Bool, true, false, if◌then◌else◌, List, [], ◌∷◌}
+use Rattle.std.specs.Prelude.{◌≡◌, ℕ, ◌+◌, ◌-◌, ◌<◌, ◌≤◌, slice_get, Bool, true, false, if◌then◌else◌, List, [], ◌∷◌}
 use Rattle.std.specs.Prelude.{◌++◌, length, Option, None, Some, Ok}
 use Rattle.std.specs.List.{concat}
 use Rattle.grep_decode.specs.Source.{ReadResult}
@@ -12,7 +12,8 @@ use Rattle.grep_definitions.specs.Plans.{Call, search_plan, SearcherState}
 use Rattle.grep_definitions.specs.SearchLaws.{match_calls, reported_to}
 use Rattle.grep_definitions.specs.SliceSearches.{is_searched_unchanged}
 use Rattle.grep_searcher.specs.LineCounts.{IsLineSearch}
-use Rattle.grep_searcher.specs.MatchHandlers.{has_selected, IsFoundStep, IsHandlerStep}
+use Rattle.grep_searcher.specs.MatchHandlers.{has_room, has_selected, IsFoundStep, IsHandlerStep}
+use Rattle.grep_searcher.specs.MatchHandlers.{with_first}
 
 -- of an input of which this is left, at most so many bytes were read
 pub record IsReadUpTo (input : List ℕ) (left : Option (List ℕ)) (count : ℕ) : Type 0 where
@@ -28,6 +29,14 @@ abbrev pub ending_call : {H : Type 0} → (H → Call → Bool) → (H → Call 
 ending_call goes next old [] = None
 ending_call goes next old (call ∷ later) =
     if goes old call then ending_call goes next (next old call) later else Some call
+
+-- `First` ends a search at the last match that it may keep
+abbrev pub FirstEnds : Type 0
+FirstEnds =
+    (limit : ℕ) (calls : List Call) → 0 < limit
+    → ending_call (λ old call. has_room (with_first old call)) with_first
+    (record { limit = limit; kept = [] }) calls
+    ≡ slice_get calls (limit - 1)
 
 module _ {H E F : Type 0} (goes : H → Call → Bool) (next : H → Call → H)
     (fails : H → Call → E → H → Type 0) (errors : ErrorMakers F E) (matcher : MatcherFacts F) where

@@ -8,6 +8,7 @@ use Rattle.grep_definitions.specs.Plans.{is_across, search_plan, Call, reported_
 use Rattle.grep_definitions.specs.Plans.{line_count, hits_if, is_selected, Settings}
 use Rattle.grep_definitions.specs.SearchLaws.{is_matched, match_calls, match_of}
 use Rattle.grep_searcher.specs.LineCounts.{matched_count}
+use Rattle.grep_searcher.specs.MatchHandlers.{KeptReport, kept_of}
 
 -- a line hits if whether it matches without its terminator differs from inversion
 abbrev pub is_hit : Settings → Meaning → List ℕ → Bool
@@ -62,12 +63,23 @@ abbrev pub lines_as_matches : Settings → List ℕ → List Call
 lines_as_matches settings bytes =
     map (match_of settings bytes) (range_with_len 0 (line_count settings bytes))
 
+-- their bytes are the lines
+abbrev pub LinesAreListed : Type 0
+LinesAreListed =
+    (settings : Settings) (bytes : List ℕ)
+    → map reported_bytes (lines_as_matches settings bytes)
+    ≡ lines (byte_of settings.line_terminator) bytes
+
 -- those of them that hit; under a limit the first of these
 abbrev pub hit_matches : Settings → Meaning → List ℕ → List Call
 hit_matches settings meaning bytes =
     items_up_to settings.max_matches
     (filter (λ found. is_hit settings meaning (reported_bytes found))
     (lines_as_matches settings bytes))
+
+-- what is kept of these
+abbrev pub kept_hits : Settings → Meaning → List ℕ → List KeptReport
+kept_hits settings meaning bytes = map kept_of (hit_matches settings meaning bytes)
 
 -- no stop is set, and no line is trailing: there is no limit, or no context after a match
 pub record IsFilter (settings : Settings) : Type 0 where
@@ -88,6 +100,28 @@ HitsAreLines =
     → map reported_bytes (hit_matches settings meaning bytes)
     ≡ items_up_to settings.max_matches
     (filter (is_hit settings meaning) (lines (byte_of settings.line_terminator) bytes))
+
+-- without inversion, of a matcher that has a match exactly where a predicate holds, they are the
+-- lines of which it holds without their terminators
+abbrev pub PredicatesAreFiltered : Type 0
+PredicatesAreFiltered =
+    (settings : Settings) (meaning : Meaning) (bytes : List ℕ) (holds : List ℕ → Bool)
+    → settings.invert_match ≡ false
+    → ((line : List ℕ) → is_some (meaning.first line) ≡ holds line)
+    → hit_matches settings meaning bytes
+    ≡ items_up_to settings.max_matches
+    (filter (λ found. holds (strip settings.line_terminator (reported_bytes found)))
+    (lines_as_matches settings bytes))
+
+abbrev pub PredicatesAreLines : Type 0
+PredicatesAreLines =
+    (settings : Settings) (meaning : Meaning) (bytes : List ℕ) (holds : List ℕ → Bool)
+    → settings.invert_match ≡ false
+    → ((line : List ℕ) → is_some (meaning.first line) ≡ holds line)
+    → map reported_bytes (hit_matches settings meaning bytes)
+    ≡ items_up_to settings.max_matches
+    (filter (λ line. holds (strip settings.line_terminator line))
+    (lines (byte_of settings.line_terminator) bytes))
 
 -- whatever is set, each line that is reported as a match hits: without inversion it has a match
 -- without its terminator

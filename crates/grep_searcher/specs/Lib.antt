@@ -3,9 +3,11 @@ pub mod BoundedReads
 pub mod ClosureSinks
 pub mod CountSinks
 pub mod DetectedRuns
+pub mod EveryLines
 pub mod FileSearches
 pub mod HandledLines
 pub mod HitLines
+pub mod KeptFirst
 pub mod KeptReports
 pub mod LentMatches
 pub mod LineCounts

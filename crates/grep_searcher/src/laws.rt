@@ -7,17 +7,21 @@ ghost use Rattle.grep_searcher.specs.ClosureSinks.{IsLossyText, IsWholeText};
 ghost use Rattle.grep_searcher.specs.AppendedParts.{CallsAppend, RunsAppend, RunsAppendByState};
 ghost use Rattle.grep_searcher.specs.AppendedParts.{RunsAppendLines, RunsAppendMatches};
 ghost use Rattle.grep_searcher.specs.BoundedReads.{EndedKnownReadersStop, EndedReadersStop};
-ghost use Rattle.grep_searcher.specs.BoundedReads.{ReadersFindLines};
+ghost use Rattle.grep_searcher.specs.BoundedReads.{FirstEnds, ReadersFindLines};
 ghost use Rattle.grep_searcher.specs.CountSinks.{RunsCount, RunsCountAll};
 ghost use Rattle.grep_searcher.specs.DetectedRuns.{DecodedSlicesFailWith, DecodedSlicesRunWith};
 ghost use Rattle.grep_searcher.specs.DetectedRuns.{KnownReadersFailWith, KnownReadersRunWith};
 ghost use Rattle.grep_searcher.specs.DetectedRuns.{ReadersFailWith, ReadersRunWith};
 ghost use Rattle.grep_searcher.specs.DetectedRuns.{SlicesFailWith, SlicesRunWith};
+ghost use Rattle.grep_searcher.specs.EveryLines.{EveryLineHits};
 ghost use Rattle.grep_searcher.specs.HandledLines.{KnownReadersHandleLines, ReadersHandleLines};
 ghost use Rattle.grep_searcher.specs.HandledLines.{SlicesHandleLines};
 ghost use Rattle.grep_searcher.specs.HitLines.{HitsAreSelected, HitsAreMatched, HitsAreCounted};
-ghost use Rattle.grep_searcher.specs.HitLines.{HitsAreLines, LinesAreFiltered, MatchedLinesHit};
-ghost use Rattle.grep_searcher.specs.HitLines.{MatchedLinesMatch, PredicatesAreCounted};
+ghost use Rattle.grep_searcher.specs.HitLines.{HitsAreLines, LinesAreFiltered, LinesAreListed};
+ghost use Rattle.grep_searcher.specs.HitLines.{MatchedLinesHit, MatchedLinesMatch};
+ghost use Rattle.grep_searcher.specs.HitLines.{PredicatesAreCounted};
+ghost use Rattle.grep_searcher.specs.HitLines.{PredicatesAreFiltered, PredicatesAreLines};
+ghost use Rattle.grep_searcher.specs.KeptFirst.{ReadersKeepFirst, search_error_makers};
 ghost use Rattle.grep_searcher.specs.KeptReports.{RunsKeep, RunsKeepUntil};
 ghost use Rattle.grep_searcher.specs.LentMatches.{ClosuresAppendByState, ClosuresAppendMatches};
 ghost use Rattle.grep_searcher.specs.LentMatches.{ClosuresAreLent};
@@ -75,10 +79,15 @@ pub fn hits_are_selected()
 /// In a search by line, without a stop and without a limit, or without a context after matches, the
 /// matches that are reported are the lines that hit, in order, each with its number, its offset and
 /// its bytes; under a limit the first of these, as many as the limit has. Their bytes are the lines
-/// that hit.
+/// that hit. Without inversion, of a matcher that has a match exactly where a predicate holds, these
+/// are the lines of which it holds without their terminators; of `EveryLine` these are all lines.
 pub fn lines_are_filtered()
     ensures matches { LinesAreFiltered }
     ensures lines { HitsAreLines }
+    ensures predicates { PredicatesAreFiltered }
+    ensures predicate_lines { PredicatesAreLines }
+    ensures every_line { EveryLineHits }
+    ensures all_lines { LinesAreListed }
 {}
 
 /// In a search by line each line that is reported as a match hits, whatever is set. So without
@@ -171,10 +180,12 @@ pub fn runs_find_selected<E>()
 {}
 
 /// A run of a new `First` that ended in `Ok` kept the first matches that are reported, up to its
-/// limit; by line these are the first matched lines.
+/// limit; by line these are the first matched lines. At the last of them it ends the search, as
+/// `ended_readers_stop` wants it.
 pub fn runs_keep_first<A: Allocator + Copy>()
     ensures all { RunsKeepFirst A }
     ensures lines { RunsKeepFirstLines A }
+    ensures ends { FirstEnds }
 {}
 
 /// A run of `Collect` that ended in `Ok` kept the matches that are reported, after those that it
@@ -566,5 +577,23 @@ where
         F.remaining (IsFileRead F.remaining) }
     ensures known { (matcher : M) → EndedKnownReadersStop H.goes H.next H.fails
         (makers_of M.Error.output H.Error.makers) (M.facts matcher)
+        F.remaining (IsFileRead F.remaining) }
+{}
+
+/// A search of a reader that says which bytes remain, by line and without binary detection, with a
+/// lawful matcher and a new `First`, without a stop and without a limit or without a context after
+/// matches, if it ended in `Ok`, kept the first lines that hit. Under a heap limit it read at most
+/// that many bytes, and three, beyond the last that it may keep, if the input is searched as it is.
+pub fn readers_keep_first<A: Allocator + Copy, M: Matcher, R: Source>()
+    ensures { (matcher : M) → ReadersKeepFirst {A = A}
+        (makers_of M.Error.output search_error_makers) (M.facts matcher)
+        R.remaining R.step }
+{}
+
+/// What `readers_keep_first` says of a reader, of a file that says which bytes remain. After
+/// `search_path` such a file is one that was opened.
+pub fn files_keep_first<A: Allocator + Copy, M: Matcher, F: Read>()
+    ensures { (matcher : M) → ReadersKeepFirst {A = A}
+        (makers_of M.Error.output search_error_makers) (M.facts matcher)
         F.remaining (IsFileRead F.remaining) }
 {}

@@ -6,12 +6,14 @@
 //! `specs/Searches.antt` what a search does, with its faults.
 #![tactic(auto)]
 
+mod every_line;
 pub mod laws;
 mod open;
 mod searcher;
 mod sink;
 pub mod sinks;
 
+pub use every_line::EveryLine;
 pub use grep_decode::{Reading, Source};
 pub use grep_lines::{LineIter, LineStep, without_terminator};
 pub use grep_matcher::{
