@@ -1,4 +1,7 @@
 //! The sink that puts together the text of what is reported.
+//!
+//! A printer of grep_printer asks for memory in the middle of a search; a run is out of memory only
+//! before anything is read, so this one writes a line piece by piece where there is no room for it.
 ghost use Rattle.std.specs.Prelude.{◌≡◌, [], true, false, Ok, Err, MatchResult};
 ghost use Rattle.grep_matcher.specs.Lines.{lines};
 ghost use Rattle.lgrep_cli.specs.PrintedTexts.{match_text, next_number};
