@@ -5,9 +5,10 @@ use grep_output::Writing;
 use grep_searcher::Reading;
 use linegrep_cli::{FileId, Streams, run};
 use std::env::{Env, FillError};
-use std::io;
 use std::io::IsTerminal;
+use std::os::unix::fs::FileTypeExt;
 use std::process::ExitCode;
+use std::{fs, io};
 
 fn main(rt: HostRuntime) -> ExitCode {
     match grep(&rt) {
@@ -30,10 +31,22 @@ fn grep(rt: &HostRuntime) -> io::Result<u8> {
     let mut errors = Writing::new(rt.stderr());
     let streams = Streams {
         is_terminal,
+        has_input: has_input(rt),
         input: FileId::at(rt, "/proc/self/fd/0"),
         output: FileId::at(rt, "/proc/self/fd/1"),
     };
     Ok(run(rt, streams, &arguments, &mut input, output, &mut errors))
+}
+
+// Whether standard input is a file, a pipe or a socket.
+fn has_input(rt: &HostRuntime) -> bool {
+    match fs::metadata(rt, "/proc/self/fd/0") {
+        Ok(metadata) => {
+            let kind = metadata.file_type();
+            kind.is_file() || kind.is_fifo() || kind.is_socket()
+        }
+        Err(_) => false,
+    }
 }
 
 // The arguments after the program's name, as the system has them.

@@ -7,7 +7,7 @@ use std::env::VarError;
 /// environment asks for none.
 pub fn color_specs(rt: &HostRuntime, choice: Option<&str>, is_terminal: bool) -> ColorSpecs {
     let is_colored = match choice {
-        Some("always") => true,
+        Some("always" | "ansi") => true,
         Some("never") => false,
         _ => is_terminal && has_colors(rt) && allows_colors(rt),
     };

@@ -1,5 +1,5 @@
 //! The command line.
-use crate::help::HELP;
+use crate::help::SHORT_HELP;
 use crate::option_id::OptionId;
 use clap::{Arg, ArgAction, Command};
 use std::alloc::{AllocError, Global};
@@ -13,17 +13,17 @@ pub struct Row {
     letter: Option<char>,
 }
 
-// The options. Help has no letter, since -h stands for the option without paths.
-const ROWS: &[Row] = &[
+// What is searched for.
+const PATTERN_ROWS: &[Row] = &[
     Row {
-        id: OptionId::Help,
-        name: "help",
-        letter: None,
+        id: OptionId::Regexp,
+        name: "regexp",
+        letter: Some('e'),
     },
     Row {
-        id: OptionId::Color,
-        name: "color",
-        letter: None,
+        id: OptionId::File,
+        name: "file",
+        letter: Some('f'),
     },
     Row {
         id: OptionId::FixedStrings,
@@ -31,9 +31,24 @@ const ROWS: &[Row] = &[
         letter: Some('F'),
     },
     Row {
+        id: OptionId::NoFixedStrings,
+        name: "no-fixed-strings",
+        letter: None,
+    },
+    Row {
+        id: OptionId::CaseSensitive,
+        name: "case-sensitive",
+        letter: Some('s'),
+    },
+    Row {
         id: OptionId::IgnoreCase,
         name: "ignore-case",
         letter: Some('i'),
+    },
+    Row {
+        id: OptionId::SmartCase,
+        name: "smart-case",
+        letter: Some('S'),
     },
     Row {
         id: OptionId::WordRegexp,
@@ -51,10 +66,128 @@ const ROWS: &[Row] = &[
         letter: Some('v'),
     },
     Row {
+        id: OptionId::NoInvertMatch,
+        name: "no-invert-match",
+        letter: None,
+    },
+    Row {
         id: OptionId::Multiline,
         name: "multiline",
         letter: Some('U'),
     },
+    Row {
+        id: OptionId::NoMultiline,
+        name: "no-multiline",
+        letter: None,
+    },
+    Row {
+        id: OptionId::StopOnNonmatch,
+        name: "stop-on-nonmatch",
+        letter: None,
+    },
+    Row {
+        id: OptionId::MaxCount,
+        name: "max-count",
+        letter: Some('m'),
+    },
+    Row {
+        id: OptionId::Crlf,
+        name: "crlf",
+        letter: None,
+    },
+    Row {
+        id: OptionId::NoCrlf,
+        name: "no-crlf",
+        letter: None,
+    },
+    Row {
+        id: OptionId::NullData,
+        name: "null-data",
+        letter: None,
+    },
+];
+
+// Which files are searched, and how they are read.
+const FILE_ROWS: &[Row] = &[
+    Row {
+        id: OptionId::Glob,
+        name: "glob",
+        letter: Some('g'),
+    },
+    Row {
+        id: OptionId::Hidden,
+        name: "hidden",
+        letter: Some('.'),
+    },
+    Row {
+        id: OptionId::NoHidden,
+        name: "no-hidden",
+        letter: None,
+    },
+    Row {
+        id: OptionId::Follow,
+        name: "follow",
+        letter: Some('L'),
+    },
+    Row {
+        id: OptionId::NoFollow,
+        name: "no-follow",
+        letter: None,
+    },
+    Row {
+        id: OptionId::Text,
+        name: "text",
+        letter: Some('a'),
+    },
+    Row {
+        id: OptionId::NoText,
+        name: "no-text",
+        letter: None,
+    },
+    Row {
+        id: OptionId::Binary,
+        name: "binary",
+        letter: None,
+    },
+    Row {
+        id: OptionId::NoBinary,
+        name: "no-binary",
+        letter: None,
+    },
+    Row {
+        id: OptionId::Encoding,
+        name: "encoding",
+        letter: Some('E'),
+    },
+    Row {
+        id: OptionId::NoEncoding,
+        name: "no-encoding",
+        letter: None,
+    },
+    Row {
+        id: OptionId::Sort,
+        name: "sort",
+        letter: None,
+    },
+    Row {
+        id: OptionId::Threads,
+        name: "threads",
+        letter: Some('j'),
+    },
+    Row {
+        id: OptionId::Messages,
+        name: "messages",
+        letter: None,
+    },
+    Row {
+        id: OptionId::NoMessages,
+        name: "no-messages",
+        letter: None,
+    },
+];
+
+// What is written of a line.
+const LINE_ROWS: &[Row] = &[
     Row {
         id: OptionId::LineNumber,
         name: "line-number",
@@ -73,7 +206,7 @@ const ROWS: &[Row] = &[
     Row {
         id: OptionId::NoFilename,
         name: "no-filename",
-        letter: Some('h'),
+        letter: Some('I'),
     },
     Row {
         id: OptionId::ByteOffset,
@@ -81,14 +214,29 @@ const ROWS: &[Row] = &[
         letter: Some('b'),
     },
     Row {
+        id: OptionId::NoByteOffset,
+        name: "no-byte-offset",
+        letter: None,
+    },
+    Row {
         id: OptionId::Column,
         name: "column",
+        letter: None,
+    },
+    Row {
+        id: OptionId::NoColumn,
+        name: "no-column",
         letter: None,
     },
     Row {
         id: OptionId::OnlyMatching,
         name: "only-matching",
         letter: Some('o'),
+    },
+    Row {
+        id: OptionId::MaxColumns,
+        name: "max-columns",
+        letter: Some('M'),
     },
     Row {
         id: OptionId::Null,
@@ -101,38 +249,62 @@ const ROWS: &[Row] = &[
         letter: None,
     },
     Row {
-        id: OptionId::Text,
-        name: "text",
-        letter: Some('a'),
+        id: OptionId::AfterContext,
+        name: "after-context",
+        letter: Some('A'),
     },
     Row {
-        id: OptionId::NullData,
-        name: "null-data",
-        letter: Some('z'),
+        id: OptionId::BeforeContext,
+        name: "before-context",
+        letter: Some('B'),
     },
     Row {
-        id: OptionId::Crlf,
-        name: "crlf",
+        id: OptionId::Context,
+        name: "context",
+        letter: Some('C'),
+    },
+];
+
+// How it is written, or what in its place.
+const OUTPUT_ROWS: &[Row] = &[
+    Row {
+        id: OptionId::Color,
+        name: "color",
         letter: None,
     },
     Row {
-        id: OptionId::NoMessages,
-        name: "no-messages",
-        letter: Some('s'),
+        id: OptionId::Heading,
+        name: "heading",
+        letter: None,
     },
     Row {
-        id: OptionId::SmartCase,
-        name: "smart-case",
-        letter: Some('S'),
+        id: OptionId::NoHeading,
+        name: "no-heading",
+        letter: None,
     },
     Row {
-        id: OptionId::Recursive,
-        name: "recursive",
-        letter: Some('r'),
+        id: OptionId::Pretty,
+        name: "pretty",
+        letter: Some('p'),
     },
     Row {
-        id: OptionId::Hidden,
-        name: "hidden",
+        id: OptionId::LineBuffered,
+        name: "line-buffered",
+        letter: None,
+    },
+    Row {
+        id: OptionId::NoLineBuffered,
+        name: "no-line-buffered",
+        letter: None,
+    },
+    Row {
+        id: OptionId::BlockBuffered,
+        name: "block-buffered",
+        letter: None,
+    },
+    Row {
+        id: OptionId::NoBlockBuffered,
+        name: "no-block-buffered",
         letter: None,
     },
     Row {
@@ -153,7 +325,17 @@ const ROWS: &[Row] = &[
     Row {
         id: OptionId::FilesWithoutMatch,
         name: "files-without-match",
-        letter: Some('L'),
+        letter: None,
+    },
+    Row {
+        id: OptionId::Json,
+        name: "json",
+        letter: None,
+    },
+    Row {
+        id: OptionId::NoJson,
+        name: "no-json",
+        letter: None,
     },
     Row {
         id: OptionId::Quiet,
@@ -161,86 +343,89 @@ const ROWS: &[Row] = &[
         letter: Some('q'),
     },
     Row {
-        id: OptionId::Heading,
-        name: "heading",
-        letter: None,
-    },
-    Row {
-        id: OptionId::NoHeading,
-        name: "no-heading",
-        letter: None,
-    },
-    Row {
-        id: OptionId::Regexp,
-        name: "regexp",
-        letter: Some('e'),
-    },
-    Row {
-        id: OptionId::File,
-        name: "file",
-        letter: Some('f'),
-    },
-    Row {
-        id: OptionId::Glob,
-        name: "glob",
-        letter: Some('g'),
-    },
-    Row {
-        id: OptionId::MaxCount,
-        name: "max-count",
-        letter: Some('m'),
-    },
-    Row {
-        id: OptionId::MaxColumns,
-        name: "max-columns",
-        letter: Some('M'),
-    },
-    Row {
-        id: OptionId::AfterContext,
-        name: "after-context",
-        letter: Some('A'),
-    },
-    Row {
-        id: OptionId::BeforeContext,
-        name: "before-context",
-        letter: Some('B'),
-    },
-    Row {
-        id: OptionId::Context,
-        name: "context",
-        letter: Some('C'),
-    },
-    Row {
-        id: OptionId::Encoding,
-        name: "encoding",
-        letter: Some('E'),
-    },
-    Row {
-        id: OptionId::Json,
-        name: "json",
+        id: OptionId::Help,
+        name: "help",
         letter: None,
     },
 ];
 
-/// The options of the command line.
-pub fn rows() -> &'static [Row] {
-    ROWS
+// Options that make no difference here, as `--mmap`.
+const NOTHING: &[&str] = &[
+    "no-mmap",
+    "no-config",
+    "sort-files",
+    "no-sort-files",
+    "no-search-zip",
+    "no-pre",
+    "no-pcre2",
+    "no-auto-hybrid-regex",
+    "pcre2-unicode",
+    "unicode",
+    "no-multiline-dotall",
+    "no-glob-case-insensitive",
+    "no-one-file-system",
+    "no-include-zero",
+    "no-max-columns-preview",
+    "no-stats",
+    "no-trim",
+];
+
+/// The options of the command line, in tables, since a long one is proved slowly.
+pub fn tables() -> [&'static [Row]; 4] {
+    [PATTERN_ROWS, FILE_ROWS, LINE_ROWS, OUTPUT_ROWS]
 }
 
-/// The command line of the program. The only error is being out of memory. A `match` is proved
-/// sooner than a `?` here.
+/// The command line of the program. The only error is being out of memory.
 pub fn command<'a>(alloc: Global) -> Result<Command<'a>, AllocError> {
+    let mut command = first_command(alloc);
+    for rows in tables() {
+        command = add_rows(alloc, command, rows);
+    }
+    command
+}
+
+// The command line with the options that aren't in a table.
+fn first_command<'a>(alloc: Global) -> Result<Command<'a>, AllocError> {
     let operands = Arg::new(alloc, "operands")
         .num_args(0..)
         .action(ArgAction::Append);
-    let mut command = Command::new(alloc, "linegrep")
+    let short_help = Arg::new(alloc, "short-help")
+        .short('h')
+        .action(ArgAction::HelpShort);
+    Command::new(alloc, "linegrep")
         .version("0.1.0")
-        .override_help(HELP)
+        .override_help(SHORT_HELP)
         .disable_help_flag(true)
         .no_binary_name(true)
         .args_override_self(true)
-        .arg(operands);
-    for row in rows() {
+        .arg(operands)?
+        .arg(nothing(alloc)?)?
+        .arg(short_help)
+}
+
+// The options that make no difference.
+fn nothing<'a>(alloc: Global) -> Result<Arg<'a>, AllocError> {
+    let mut arg = Ok(
+        Arg::new(alloc, "mmap")
+            .long("mmap")
+            .action(ArgAction::SetTrue),
+    );
+    for name in NOTHING {
+        arg = match arg {
+            Ok(arg) => arg.alias(name),
+            Err(error) => return Err(error),
+        };
+    }
+    arg
+}
+
+// Adds the options of a table. A `match` is proved sooner than a `?` here.
+fn add_rows<'a>(
+    alloc: Global,
+    mut command: Result<Command<'a>, AllocError>,
+    rows: &'static [Row],
+) -> Result<Command<'a>, AllocError> {
+    for row in rows {
         command = match command {
             Ok(command) => command.arg(row.arg(alloc)),
             Err(error) => return Err(error),

@@ -1,4 +1,5 @@
 //! What the program says on standard error of what goes wrong.
+use crate::refused::{ONE_ORDER, reason};
 use crate::words::shown;
 use clap::error::ErrorKind;
 use grep_output::{Output, write_all};
@@ -66,11 +67,24 @@ fn cause_text<D: Display>(alloc: Global, name: &str, error: &D) -> Result<String
 /// What the parser of the command line says: what is wrong with it, help or the version.
 pub fn usage_text(alloc: Global, error: &clap::Error) -> Result<String, AllocError> {
     let text = format!(in alloc; "{error}")?;
-    if error.use_stderr() {
-        arguments_text(alloc, cause_of(text.as_str()), tip(error.kind()))
-    } else {
-        Ok(text)
+    if !error.use_stderr() {
+        return Ok(text);
     }
+    let cause = cause_of(text.as_str());
+    match refused(cause) {
+        Some((option, reason)) => format!(in alloc; "linegrep: {option}: {reason}\n"),
+        None => arguments_text(alloc, cause, tip(error.kind())),
+    }
+}
+
+// The option that an error is about, and why it can't be used, if ripgrep has it.
+fn refused(cause: &str) -> Option<(&str, &'static str)> {
+    if cause.contains("'--sort <ORDER>'") {
+        return Some(("--sort", ONE_ORDER));
+    }
+    let (_, rest) = cause.split_once("unexpected argument '")?;
+    let (option, _) = rest.split_once('\'')?;
+    Some((option, reason(option)?))
 }
 
 // What the text of an error says is wrong: its start, up to an empty line.

@@ -3,7 +3,7 @@ use std::fs;
 use std::fs::Metadata;
 use std::os::unix::fs::MetadataExt;
 
-/// A regular file of the system, which may have several paths.
+/// A file or a folder of the system, which may have several paths.
 #[derive(Clone, Copy)]
 pub struct FileId {
     device: u64,
@@ -23,12 +23,17 @@ impl FileId {
     /// The file that metadata are of, if it is a regular one.
     pub fn of(metadata: &Metadata) -> Option<FileId> {
         if metadata.is_file() {
-            Some(FileId {
-                device: metadata.dev(),
-                inode: metadata.ino(),
-            })
+            Some(FileId::of_any(metadata))
         } else {
             None
+        }
+    }
+
+    /// What metadata are of.
+    pub fn of_any(metadata: &Metadata) -> FileId {
+        FileId {
+            device: metadata.dev(),
+            inode: metadata.ino(),
         }
     }
 

@@ -17,18 +17,21 @@ const STDIN: &str = "<stdin>";
 
 const NO_FILE: &str = "no file was searched: none is chosen by -g, or all are hidden";
 
-const IS_FOLDER: &str = "it is a folder, use -r to search its files";
-
 const IS_OUTPUT: &str = "input file is also the output";
 
 /// What the options say of a run.
 #[derive(Clone, Copy)]
 pub struct Scope {
-    is_recursive: bool,
+    // Whether standard input is searched if there is no path.
+    searches_input: bool,
+    // Whether the search of a file of a folder goes on after a NUL.
+    searches_binary: bool,
     shows_hidden: bool,
+    follows_links: bool,
     shows_paths: bool,
     is_silent: bool,
     is_quiet: bool,
+    seeks_unmatched: bool,
     // The file that isn't searched, and whether it is standard input.
     left_out: Option<FileId>,
     leaves_out_input: bool,
@@ -37,15 +40,18 @@ pub struct Scope {
 impl Scope {
     /// What the options say of a run over the files at their paths.
     pub fn new(rt: &HostRuntime, options: &Options<'_, '_>) -> Scope {
-        let paths = options.paths();
-        let is_recursive = options.has(OptionId::Recursive);
-        let names_folder = is_recursive && names_folder(rt, paths);
+        let searches_input = options.searches_input();
         Scope {
-            is_recursive,
+            searches_input,
+            searches_binary: options.has(OptionId::Binary),
             shows_hidden: options.has(OptionId::Hidden),
-            shows_paths: options.shows_paths(names_folder || paths.len() > 1),
+            follows_links: options.has(OptionId::Follow),
+            shows_paths: options.shows_paths(
+                !searches_input && searches_several(rt, options.paths()),
+            ),
             is_silent: options.has(OptionId::NoMessages),
             is_quiet: options.has(OptionId::Quiet),
+            seeks_unmatched: options.seeks_unmatched(),
             left_out: options.left_out(),
             leaves_out_input: is_same(options.left_out(), options.streams.input),
         }
@@ -56,6 +62,15 @@ impl Scope {
         match (self.left_out, file.metadata()) {
             (Some(_), Ok(metadata)) => is_same(self.left_out, FileId::of(&metadata)),
             _ => false,
+        }
+    }
+
+    // Whether a search found what is looked for.
+    fn has_found(&self, searched: &Searched) -> bool {
+        if self.seeks_unmatched {
+            searched.result.is_ok() && !searched.has_match
+        } else {
+            searched.has_match
         }
     }
 
@@ -123,10 +138,10 @@ impl<'r, E: Engine> Run<'r, E> {
         }
     }
 
-    // Searches what is searched without a path: the current folder, or the input. If no file is
+    // Searches what is searched without a path: the input, or the current folder. If no file is
     // chosen, that is said.
     fn search_default(&mut self) {
-        if !self.scope.is_recursive {
+        if self.scope.searches_input {
             return self.search_input();
         }
         self.search_folder("");
@@ -142,12 +157,10 @@ impl<'r, E: Engine> Run<'r, E> {
             self.search_input();
         } else if is_escaped(path) {
             self.report(path, &NOT_UTF8);
-        } else if !is_folder(self.rt, path) {
-            self.search_path(path);
-        } else if self.scope.is_recursive {
+        } else if is_folder(self.rt, path) {
             self.search_folder(path);
         } else {
-            self.report(path, &IS_FOLDER);
+            self.search_path(path);
         }
     }
 
@@ -156,11 +169,16 @@ impl<'r, E: Engine> Run<'r, E> {
         self.failure.is_some() || self.scope.is_quiet && self.has_match
     }
 
-    // Searches the files of a folder. The search of one that has a NUL ends there, unless files are
-    // searched as text.
+    // Searches the files of a folder. The search of one that has a NUL ends there, unless the options
+    // ask for binary files too.
     fn search_folder(&mut self, folder: &str) {
-        self.engine.set_quits(true);
-        let mut walk = Walk::new(self.rt, self.scope.shows_hidden, folder);
+        self.engine.set_quits(!self.scope.searches_binary);
+        let mut walk = Walk::new(
+            self.rt,
+            self.scope.shows_hidden,
+            self.scope.follows_links,
+            folder,
+        );
         self.visit_all(&mut walk);
         self.engine.set_quits(false);
     }
@@ -216,7 +234,7 @@ impl<'r, E: Engine> Run<'r, E> {
     // Goes on after a search. An error of reading is reported; one of writing ends the run.
     fn keep(&mut self, path: &str, searched: Searched) {
         self.has_searched = true;
-        self.has_match = self.has_match || searched.has_match;
+        self.has_match = self.has_match || self.scope.has_found(&searched);
         match searched.result {
             Ok(()) => {}
             Err(error) if self.engine.has_failed() => self.failure = Some(written_error(error)),
@@ -283,14 +301,12 @@ fn is_same(one: Option<FileId>, other: Option<FileId>) -> bool {
     }
 }
 
-// Whether there is a folder at one of the paths, or no path at all.
-fn names_folder(rt: &HostRuntime, paths: &[&str]) -> bool {
-    for path in paths {
-        if *path != "-" && is_folder(rt, path) {
-            return true;
-        }
+// Whether several files may be searched: there isn't one path alone, or it is that of a folder.
+fn searches_several(rt: &HostRuntime, paths: &[&str]) -> bool {
+    match paths {
+        [path] => is_folder(rt, path),
+        _ => true,
     }
-    paths.is_empty()
 }
 
 // Whether there is a folder at a path.

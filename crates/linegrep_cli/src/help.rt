@@ -1,20 +1,39 @@
-//! The text of `--help`.
+//! The texts of help.
+
+/// What `-h` writes.
+pub const SHORT_HELP: &str = "\
+Usage: linegrep [OPTIONS] PATTERN [PATH ...]
+
+Searches files for the lines that match a pattern. Without a path it searches
+standard input if that is a file or a pipe, and else the current folder.
+
+Patterns: -e PATTERN, -f FILE, -F (literals), -i, -s, -S (case), -w (words),
+          -x (lines), -U (across lines)
+Lines:    -v, -m NUM, -A NUM, -B NUM, -C NUM, --passthru, --crlf, --null-data
+Files:    -g GLOB, -. (hidden), -L (follow links), -a (text), --binary, -E LABEL
+Output:   -n, -N (numbers), -H, -I (paths), -b, --column, -o, -M NUM, -0,
+          --heading, --color WHEN, -p (pretty), --json
+Instead:  -c, --count-matches, -l, --files-without-match, -q
+
+--help says more of each.
+";
 
 /// What `--help` writes.
 pub const HELP: &str = "\
-Searches files, or standard input, for the lines that match a pattern.
+Searches files, folders or standard input for the lines that match a pattern.
 
 Usage: linegrep [OPTIONS] PATTERN [PATH ...]
        linegrep [OPTIONS] -e PATTERN ... [PATH ...]
 
-Without a path it searches standard input, or with -r the current folder. The
-path - is standard input.
+A path is a file, a folder, of which all files are searched and those of the
+folders in it, or -, which is standard input. Without a path standard input is
+searched if it is a file, a pipe or a socket, and else the current folder.
 
 Examples:
   linegrep -n 'fn \\w+' lib.rs         the lines of a file that match, with numbers
   ps | linegrep -v root               the lines of standard input that don't
-  linegrep -r -g '*.md' -i todo       the Markdown files of the current folder
-  linegrep -rl -F 'a[0]' src          which files of a folder have a literal
+  linegrep -g '*.md' -i todo          the Markdown files of the current folder
+  linegrep -l -F 'a[0]' src           which files of a folder have a literal
   linegrep -C 2 -e warn -e error log  either of two patterns, with two lines around
   linegrep -o '\\d+' log               the parts that match, each in a line
   linegrep -c error a.log b.log       how many lines of each file match
@@ -25,6 +44,7 @@ Patterns:
   -e, --regexp PATTERN       A pattern; may be given several times
   -f, --file FILE            The lines of a file are patterns; - is standard input
   -F, --fixed-strings        Patterns are literals
+  -s, --case-sensitive       Letters match in their own case
   -i, --ignore-case          Letters match in either case
   -S, --smart-case           Letters match in either case if no pattern has a capital
   -w, --word-regexp          Matches are whole words
@@ -38,22 +58,24 @@ Lines:
   -B, --before-context NUM   Write NUM lines before each match
   -C, --context NUM          Write NUM lines before and after each match
       --passthru             Write all lines
+      --stop-on-nonmatch     Stop in a file at the first line after a match that doesn't
       --crlf                 Lines may end at a carriage return and a line feed
-  -z, --null-data            Lines end at a NUL
+      --null-data            Lines end at a NUL
 
 Files:
-  -r, --recursive            Search the files of folders, and of the folders in them
   -g, --glob GLOB            Search the files of folders that match GLOB
-      --hidden               Search hidden files and folders too
+  -., --hidden               Search hidden files and folders too
+  -L, --follow               Follow links in folders
+      --binary               Search all of a binary file of a folder
   -a, --text                 Search binary files as text
   -E, --encoding LABEL       The encoding of the files
-  -s, --no-messages          Don't say which files can't be read
+      --no-messages          Don't say which files can't be read
 
 Output:
   -n, --line-number          Write line numbers
   -N, --no-line-number       Write no line numbers
   -H, --with-filename        Write the path before each line
-  -h, --no-filename          Write no paths
+  -I, --no-filename          Write no paths
       --heading              Write the path once, above the lines of a file
       --no-heading           Write the path before each line
   -b, --byte-offset          Write the offset of each line
@@ -63,16 +85,24 @@ Output:
                              0 is no limit
   -0, --null                 Write a NUL after each path
       --color WHEN           Write colors: always, never, or auto, for a terminal
+  -p, --pretty               As --color always --heading -n
+      --line-buffered        Write each line at once, as for a terminal
+      --block-buffered       Write many lines together
       --json                 Write messages in JSON
 
 In place of lines:
   -c, --count                Write how many lines match, for each file
       --count-matches        Write how many single matches there are, for each file
   -l, --files-with-matches   Write the paths of the files with a match
-  -L, --files-without-match  Write the paths of the files without one
+      --files-without-match  Write the paths of the files without one
   -q, --quiet                Write nothing, and stop at the first match
-      --help                 Write this help
+  -h, --help                 Write a short help, or this one
   -V, --version              Write the version
+
+Of options that exclude each other the last decides, and many are taken back by
+--no- before their name. As with ripgrep, -j NUM, --mmap, --no-mmap, --no-config,
+--sort none and --sort path may be given: files are read one after another, in
+the order of their paths.
 
 Globs have * (any characters of a name), ? (one), ** as a whole name (any
 folders), [a-z] and [!a-z] (one of some, or of all others) and {a,b} (either).
@@ -80,8 +110,9 @@ With ! before it a glob leaves files out, and the last glob that matches decides
 Without a slash it is about names, with one about whole paths, and with one at
 its end about folders alone.
 
-Encodings are utf-8, utf-16, utf-16le and utf-16be, and auto, which is meant if
-none is given: UTF-8 or what else the mark at the start of a file says.
+Encodings are utf-8, utf-16, utf-16le and utf-16be, auto, which is meant if none
+is given: UTF-8 or what else the mark at the start of a file says, and none: the
+bytes as they are.
 
 The status is 0 if a line matches, 1 if none does, and 2 if something can't be
 read or written, or the arguments are wrong.

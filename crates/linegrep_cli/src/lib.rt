@@ -20,6 +20,7 @@ mod options;
 mod patterns;
 mod printers;
 mod program;
+mod refused;
 mod search;
 mod settings;
 mod walk;

@@ -6,37 +6,60 @@ use clap::builder::ValueParser;
 #[derive(Clone, Copy)]
 pub enum OptionId {
     Help,
-    Color,
     FixedStrings,
+    NoFixedStrings,
+    CaseSensitive,
     IgnoreCase,
     SmartCase,
     WordRegexp,
     LineRegexp,
     InvertMatch,
+    NoInvertMatch,
     Multiline,
+    NoMultiline,
+    StopOnNonmatch,
     LineNumber,
     NoLineNumber,
     WithFilename,
     NoFilename,
     ByteOffset,
+    NoByteOffset,
     Column,
+    NoColumn,
     OnlyMatching,
     Null,
     Passthru,
     Text,
+    NoText,
+    Binary,
+    NoBinary,
     NullData,
     Crlf,
+    NoCrlf,
+    Messages,
     NoMessages,
-    Recursive,
     Hidden,
+    NoHidden,
+    Follow,
+    NoFollow,
     Count,
     CountMatches,
     FilesWithMatches,
     FilesWithoutMatch,
+    Json,
+    NoJson,
     Quiet,
     Heading,
     NoHeading,
-    Json,
+    Pretty,
+    LineBuffered,
+    NoLineBuffered,
+    BlockBuffered,
+    NoBlockBuffered,
+    NoEncoding,
+    Threads,
+    Sort,
+    Color,
     Regexp,
     File,
     Glob,
@@ -48,25 +71,63 @@ pub enum OptionId {
     Encoding,
 }
 
+/// A number above that of each option.
+pub const COUNT: usize = 128;
+
 /// What a use of an option does, or what its value is.
 #[derive(Clone, Copy)]
 pub enum Kind {
-    Help,
     Flag,
     Number,
     Label,
     Color,
+    Order,
     Pattern,
     File,
     Glob,
 }
 
+const MODES: &[OptionId] = &[
+    OptionId::Count,
+    OptionId::CountMatches,
+    OptionId::FilesWithMatches,
+    OptionId::FilesWithoutMatch,
+    OptionId::Json,
+    OptionId::NoJson,
+];
+
+const CASES: &[OptionId] = &[
+    OptionId::CaseSensitive,
+    OptionId::IgnoreCase,
+    OptionId::SmartCase,
+];
+
+const BINARY_MODES: &[OptionId] = &[
+    OptionId::Text,
+    OptionId::NoText,
+    OptionId::Binary,
+    OptionId::NoBinary,
+];
+
+const BUFFER_MODES: &[OptionId] = &[
+    OptionId::LineBuffered,
+    OptionId::NoLineBuffered,
+    OptionId::BlockBuffered,
+    OptionId::NoBlockBuffered,
+];
+
+const CONTEXTS: &[OptionId] = &[
+    OptionId::AfterContext,
+    OptionId::BeforeContext,
+    OptionId::Context,
+];
+
 impl OptionId {
     /// What a use does.
     pub fn kind(self) -> Kind {
         match self {
-            OptionId::Help => Kind::Help,
             OptionId::Color => Kind::Color,
+            OptionId::Sort => Kind::Order,
             OptionId::Regexp => Kind::Pattern,
             OptionId::File => Kind::File,
             OptionId::Glob => Kind::Glob,
@@ -75,14 +136,62 @@ impl OptionId {
             | OptionId::MaxColumns
             | OptionId::AfterContext
             | OptionId::BeforeContext
-            | OptionId::Context => Kind::Number,
+            | OptionId::Context
+            | OptionId::Threads => Kind::Number,
             _ => Kind::Flag,
+        }
+    }
+
+    /// The options that take this one back if they are used after it.
+    pub fn contraries(self) -> &'static [OptionId] {
+        match self {
+            OptionId::Count
+            | OptionId::CountMatches
+            | OptionId::FilesWithMatches
+            | OptionId::FilesWithoutMatch
+            | OptionId::Json => MODES,
+            OptionId::IgnoreCase | OptionId::SmartCase => CASES,
+            OptionId::Text | OptionId::Binary => BINARY_MODES,
+            OptionId::LineBuffered | OptionId::BlockBuffered => BUFFER_MODES,
+            OptionId::Passthru => CONTEXTS,
+            OptionId::AfterContext | OptionId::BeforeContext | OptionId::Context => {
+                &[OptionId::Passthru]
+            }
+            OptionId::WordRegexp => &[OptionId::LineRegexp],
+            OptionId::LineRegexp => &[OptionId::WordRegexp],
+            OptionId::NullData => &[OptionId::Crlf],
+            OptionId::Crlf => &[OptionId::NoCrlf, OptionId::NullData],
+            OptionId::Multiline => &[OptionId::NoMultiline, OptionId::StopOnNonmatch],
+            OptionId::StopOnNonmatch => &[OptionId::Multiline],
+            _ => self.own_contraries(),
+        }
+    }
+
+    // Those of an option that only its opposite takes back.
+    fn own_contraries(self) -> &'static [OptionId] {
+        match self {
+            OptionId::FixedStrings => &[OptionId::NoFixedStrings],
+            OptionId::InvertMatch => &[OptionId::NoInvertMatch],
+            OptionId::ByteOffset => &[OptionId::NoByteOffset],
+            OptionId::Column => &[OptionId::NoColumn],
+            OptionId::NoMessages => &[OptionId::Messages],
+            OptionId::Hidden => &[OptionId::NoHidden],
+            OptionId::Follow => &[OptionId::NoFollow],
+            OptionId::Encoding => &[OptionId::NoEncoding],
+            OptionId::WithFilename => &[OptionId::NoFilename],
+            OptionId::NoFilename => &[OptionId::WithFilename],
+            OptionId::LineNumber => &[OptionId::NoLineNumber],
+            OptionId::NoLineNumber => &[OptionId::LineNumber, OptionId::Pretty],
+            OptionId::Heading => &[OptionId::NoHeading],
+            OptionId::NoHeading => &[OptionId::Heading, OptionId::Pretty],
+            OptionId::Color => &[OptionId::Pretty],
+            _ => &[],
         }
     }
 }
 
 impl Kind {
-    /// Whether it is an option without a value, but for help.
+    /// Whether it is an option without a value.
     pub fn is_flag(self) -> bool {
         matches!(self, Kind::Flag)
     }
@@ -90,20 +199,20 @@ impl Kind {
     /// What `clap` does at a use.
     pub fn action(self) -> ArgAction {
         match self {
-            Kind::Help => ArgAction::Help,
             Kind::Flag => ArgAction::SetTrue,
             Kind::Pattern | Kind::File | Kind::Glob => ArgAction::Append,
-            Kind::Number | Kind::Label | Kind::Color => ArgAction::Set,
+            Kind::Number | Kind::Label | Kind::Color | Kind::Order => ArgAction::Set,
         }
     }
 
     /// What help calls the value, if there is one.
     pub fn value_names(self) -> &'static [&'static str] {
         match self {
-            Kind::Help | Kind::Flag => &[],
+            Kind::Flag => &[],
             Kind::Number => &["NUM"],
             Kind::Label => &["LABEL"],
             Kind::Color => &["WHEN"],
+            Kind::Order => &["ORDER"],
             Kind::Pattern => &["PATTERN"],
             Kind::File => &["FILE"],
             Kind::Glob => &["GLOB"],
@@ -115,7 +224,8 @@ impl Kind {
         match self {
             Kind::Flag => ValueParser::Bool,
             Kind::Number => ValueParser::Unsigned(0, u64::MAX),
-            Kind::Color => ValueParser::Names(&["auto", "always", "never"]),
+            Kind::Color => ValueParser::Names(&["auto", "always", "never", "ansi"]),
+            Kind::Order => ValueParser::Names(&["none", "path"]),
             _ => ValueParser::String,
         }
     }

@@ -1,94 +1,61 @@
 //! The options of the command line.
-use crate::command::{Row, rows};
+use crate::command::{Row, tables};
 use crate::file_id::FileId;
-use crate::option_id::OptionId;
-use crate::patterns::names_patterns;
+use crate::option_id::{COUNT, OptionId};
+use crate::patterns::{names_patterns, reads_patterns};
 use crate::program::Streams;
 use clap::ArgMatches;
 use grep_printer::SummaryKind;
 use grep_searcher::{BinaryDetection, LineTerminator};
 
-// Two flags, by name, of which the last that is given decides.
-struct Opposites {
-    first: (&'static str, OptionId),
-    second: (&'static str, OptionId),
-}
-
-const OPPOSITES: &[Opposites] = &[
-    Opposites {
-        first: ("ignore-case", OptionId::IgnoreCase),
-        second: ("smart-case", OptionId::SmartCase),
-    },
-    Opposites {
-        first: ("line-number", OptionId::LineNumber),
-        second: ("no-line-number", OptionId::NoLineNumber),
-    },
-    Opposites {
-        first: ("with-filename", OptionId::WithFilename),
-        second: ("no-filename", OptionId::NoFilename),
-    },
-    Opposites {
-        first: ("heading", OptionId::Heading),
-        second: ("no-heading", OptionId::NoHeading),
-    },
-];
-
-// The flags that are given.
+// When each option was used last.
 #[derive(Clone, Copy)]
-struct Flags {
-    // A bit for each.
-    bits: u64,
+struct Uses {
+    // By the option's number, its place among the words, or 0 if it isn't used.
+    last: [usize; COUNT],
 }
 
-impl Flags {
-    // Reads them from parsed arguments. Of two opposites the last is given.
-    fn read(matches: &ArgMatches<'_>) -> Flags {
-        let mut flags = Flags { bits: 0 };
-        flags.add(matches, rows());
-        flags.settle(matches, OPPOSITES);
-        flags
+impl Uses {
+    // Those of parsed arguments.
+    fn read(matches: &ArgMatches<'_>) -> Uses {
+        let mut uses = Uses { last: [0; COUNT] };
+        for rows in tables() {
+            uses.add(matches, rows);
+        }
+        uses
     }
 
-    // Adds the flags of a table that are given.
+    // Adds those of the options of a table.
     fn add(&mut self, matches: &ArgMatches<'_>, rows: &[Row]) {
         for row in rows {
-            if row.id.kind().is_flag() {
-                self.set(row.id, matches.get_flag(row.name));
+            if let Some(last) = self.last.get_mut(row.id as usize) {
+                *last = last_use(matches, row);
             }
         }
     }
 
-    // Leaves of opposites that are given only the last.
-    fn settle(&mut self, matches: &ArgMatches<'_>, opposites: &[Opposites]) {
-        for Opposites { first, second } in opposites {
-            if self.has(first.1) && self.has(second.1) {
-                let is_first = last_index(matches, first.0) > last_index(matches, second.0);
-                self.set(first.1, is_first);
-                self.set(second.1, !is_first);
-            }
-        }
+    // Whether an option is used, and none after it that takes it back.
+    fn has(&self, option: OptionId) -> bool {
+        let last = self.last_of(option);
+        last > 0
+            && option
+                .contraries()
+                .iter()
+                .all(|contrary| self.last_of(*contrary) <= last)
     }
 
-    fn set(&mut self, flag: OptionId, is_given: bool) {
-        if is_given {
-            self.bits = self.bits | bit_of(flag);
-        } else {
-            self.bits = self.bits & !bit_of(flag);
-        }
-    }
-
-    fn has(self, flag: OptionId) -> bool {
-        self.bits & bit_of(flag) != 0
+    fn last_of(&self, option: OptionId) -> usize {
+        self.last.get(option as usize).copied().unwrap_or(0)
     }
 }
 
-fn bit_of(flag: OptionId) -> u64 {
-    1u64.wrapping_shl(flag as u32)
-}
-
-// Where a flag is last among the words.
-fn last_index(matches: &ArgMatches<'_>, name: &str) -> usize {
-    match matches.indices_of(name) {
+// The place of the last use of an option among the words, from 1, or 0 if it isn't used. A flag
+// that isn't used has a place too.
+fn last_use(matches: &ArgMatches<'_>, row: &Row) -> usize {
+    if row.id.kind().is_flag() && !matches.get_flag(row.name) {
+        return 0;
+    }
+    match matches.indices_of(row.name) {
         Some(indices) => indices.last().copied().unwrap_or(0),
         None => 0,
     }
@@ -99,7 +66,7 @@ fn last_index(matches: &ArgMatches<'_>, name: &str) -> usize {
 pub struct Options<'m, 'w> {
     /// What the run knows of its standard streams.
     pub streams: Streams,
-    flags: Flags,
+    uses: Uses,
     /// After how many matched lines of a file its search stops.
     pub max_count: Option<u64>,
     /// How many bytes a line has at most that is written; 0 is no limit.
@@ -107,13 +74,13 @@ pub struct Options<'m, 'w> {
     after_context: Option<u64>,
     before_context: Option<u64>,
     context: Option<u64>,
-    /// When there are colors.
-    pub color: Option<&'w str>,
-    /// The label of the files' encoding.
-    pub encoding: Option<&'w str>,
+    color: Option<&'w str>,
+    encoding: Option<&'w str>,
     /// The globs, which choose among the files of folders.
     pub globs: Option<&'m [&'w str]>,
     operands: Option<&'m [&'w str]>,
+    // Whether patterns are read from standard input.
+    reads_patterns: bool,
     // Whether the first operand is a path like the others, and no pattern.
     names_patterns: bool,
 }
@@ -123,7 +90,7 @@ impl<'m, 'w> Options<'m, 'w> {
     pub fn read(matches: &'m ArgMatches<'w>, streams: Streams) -> Options<'m, 'w> {
         Options {
             streams,
-            flags: Flags::read(matches),
+            uses: Uses::read(matches),
             max_count: matches.get_one::<u64>("max-count"),
             max_columns: matches.get_one::<u64>("max-columns"),
             after_context: matches.get_one::<u64>("after-context"),
@@ -133,22 +100,34 @@ impl<'m, 'w> Options<'m, 'w> {
             encoding: matches.get_str("encoding"),
             globs: matches.get_strs("glob"),
             operands: matches.get_strs("operands"),
+            reads_patterns: reads_patterns(matches),
             names_patterns: names_patterns(matches),
         }
     }
 
-    /// Whether a flag is given, and not its opposite after it.
-    pub fn has(&self, flag: OptionId) -> bool {
-        self.flags.has(flag)
+    /// Whether an option is used, and none after it that takes it back.
+    pub fn has(&self, option: OptionId) -> bool {
+        self.uses.has(option)
     }
 
-    /// Whether counts or paths are asked for, and messages in JSON too, which have neither.
-    pub fn has_conflict(&self) -> bool {
-        self.has(OptionId::Json)
-            && (self.has(OptionId::Count)
-                || self.has(OptionId::CountMatches)
-                || self.has(OptionId::FilesWithMatches)
-                || self.has(OptionId::FilesWithoutMatch))
+    /// When there are colors.
+    pub fn color(&self) -> Option<&'w str> {
+        if self.has(OptionId::Color) {
+            self.color
+        } else if self.has(OptionId::Pretty) {
+            Some("always")
+        } else {
+            None
+        }
+    }
+
+    /// The label of the files' encoding.
+    pub fn encoding(&self) -> Option<&'w str> {
+        if self.has(OptionId::Encoding) {
+            self.encoding
+        } else {
+            None
+        }
     }
 
     /// The paths of what is searched.
@@ -160,13 +139,13 @@ impl<'m, 'w> Options<'m, 'w> {
         }
     }
 
-    /// The kind of the summary that is asked for, if one is.
-    pub fn summary_kind(&self) -> Option<SummaryKind> {
+    /// The kind of the summary that is asked for, if one is, of a search by line or across lines.
+    pub fn summary_kind(&self, is_across: bool) -> Option<SummaryKind> {
         if self.has(OptionId::Quiet) {
             Some(SummaryKind::Quiet)
-        } else if self.counts_matches() {
+        } else if self.counts_matches(is_across) {
             Some(SummaryKind::CountMatches)
-        } else if self.has(OptionId::Count) || self.has(OptionId::CountMatches) {
+        } else if self.counts() {
             Some(SummaryKind::Count)
         } else if self.has(OptionId::FilesWithMatches) {
             Some(SummaryKind::PathWithMatch)
@@ -177,13 +156,35 @@ impl<'m, 'w> Options<'m, 'w> {
         }
     }
 
-    // Whether single matches are counted, and not lines. An inverted count is one of lines, but for
-    // the options `-c` and `-o`.
-    fn counts_matches(&self) -> bool {
-        if self.has(OptionId::CountMatches) {
-            !self.has(OptionId::InvertMatch)
-        } else {
-            self.has(OptionId::Count) && self.has(OptionId::OnlyMatching)
+    // Whether lines or matches are counted.
+    fn counts(&self) -> bool {
+        self.has(OptionId::Count) || self.has(OptionId::CountMatches)
+    }
+
+    // Whether single matches are counted, and not lines: across lines `-c` counts them too. An
+    // inverted count is one of lines.
+    fn counts_matches(&self, is_across: bool) -> bool {
+        let counts_parts = self.has(OptionId::OnlyMatching) || is_across;
+        !self.has(OptionId::InvertMatch)
+            && (self.has(OptionId::CountMatches) || self.has(OptionId::Count) && counts_parts)
+    }
+
+    // Whether something is written in place of lines, or nothing.
+    fn is_summary(&self) -> bool {
+        self.has(OptionId::Quiet) || self.counts() || self.is_summary_of_paths()
+    }
+
+    /// Whether a file counts as a match if it has none.
+    pub fn seeks_unmatched(&self) -> bool {
+        self.has(OptionId::FilesWithoutMatch) && self.has(OptionId::Quiet)
+    }
+
+    /// Whether standard input is searched, and nothing else.
+    pub fn searches_input(&self) -> bool {
+        match self.paths() {
+            [] => self.streams.has_input && !self.reads_patterns,
+            [path] => *path == "-",
+            _ => false,
         }
     }
 
@@ -199,32 +200,42 @@ impl<'m, 'w> Options<'m, 'w> {
     /// The file that isn't searched, if there is one: that which the lines are written to. Without
     /// lines nothing grows while it is searched.
     pub fn left_out(&self) -> Option<FileId> {
-        match self.summary_kind() {
-            Some(_) => None,
-            None => self.streams.output,
+        if self.is_summary() {
+            None
+        } else {
+            self.streams.output
         }
     }
 
     fn is_summary_of_paths(&self) -> bool {
-        matches!(
-            self.summary_kind(),
-            Some(SummaryKind::PathWithMatch | SummaryKind::PathWithoutMatch)
-        )
+        self.has(OptionId::FilesWithMatches) || self.has(OptionId::FilesWithoutMatch)
     }
 
-    /// Whether lines are numbered. For a terminal they are, if nothing else is asked for.
+    /// Whether lines are numbered. For a terminal they are, if nothing else is asked for and not
+    /// standard input alone is searched.
     pub fn shows_numbers(&self) -> bool {
         !self.has(OptionId::NoLineNumber)
             && (self.has(OptionId::LineNumber)
+                || self.has(OptionId::Pretty)
                 || self.has(OptionId::Column)
                 || self.has(OptionId::Json)
-                || self.streams.is_terminal)
+                || self.streams.is_terminal && !self.searches_input())
     }
 
     /// Whether a path is written once, above the lines of its file. For a terminal it is, if
     /// nothing else is asked for.
     pub fn shows_headings(&self) -> bool {
-        !self.has(OptionId::NoHeading) && (self.has(OptionId::Heading) || self.streams.is_terminal)
+        !self.has(OptionId::NoHeading)
+            && (self.has(OptionId::Heading)
+                || self.has(OptionId::Pretty)
+                || self.streams.is_terminal)
+    }
+
+    /// Whether each line is written at once, and not many together. For a terminal it is, if nothing
+    /// else is asked for.
+    pub fn is_line_buffered(&self) -> bool {
+        self.has(OptionId::LineBuffered)
+            || self.streams.is_terminal && !self.has(OptionId::BlockBuffered)
     }
 
     /// What ends a line.
@@ -240,22 +251,27 @@ impl<'m, 'w> Options<'m, 'w> {
 
     /// How many lines of context are after a match.
     pub fn after_context(&self) -> usize {
-        self.context_of(self.after_context)
+        self.context_of(self.value(OptionId::AfterContext, self.after_context))
     }
 
     /// How many lines of context are before a match.
     pub fn before_context(&self) -> usize {
-        self.context_of(self.before_context)
+        self.context_of(self.value(OptionId::BeforeContext, self.before_context))
     }
 
-    // How many lines of context are on a side: by its own option, or else by the one for both. A
-    // summary has none, so that its counts end at the limit, and where all lines are written there
-    // are none besides.
+    // How many lines of context are on a side: by its own option, or else by the one for both. Where
+    // all lines are written there are none besides.
     fn context_of(&self, own: Option<u64>) -> usize {
-        if self.summary_kind().is_some() || self.has(OptionId::Passthru) {
+        if self.has(OptionId::Passthru) {
             return 0;
         }
-        own.or(self.context).unwrap_or(0) as usize
+        let both = self.value(OptionId::Context, self.context);
+        own.or(both).unwrap_or(0) as usize
+    }
+
+    // The value of an option, unless one after it takes it back.
+    fn value(&self, option: OptionId, value: Option<u64>) -> Option<u64> {
+        if self.has(option) { value } else { None }
     }
 
     /// What is done about a file with a NUL, which is binary unless it is to be searched as text.

@@ -8,9 +8,10 @@ use grep_searcher::{LineTerminator, Source};
 use std::alloc::{AllocError, Global};
 use std::{fs, io};
 
-/// Reads the texts of the patterns: those of `-e`, then those in the lines of the files of `-f`, of
-/// which `-` is standard input, or if neither is used the first operand. An error is that there is
-/// no pattern, that a file can't be read, or that there is no memory.
+/// Reads the texts of the patterns: those of `-e` and those in the lines of the files of `-f`, of
+/// which `-` is standard input, in the order of these options, or if neither is used the first
+/// operand. An error is that there is no pattern, that a file can't be read, or that there is no
+/// memory.
 pub fn read_patterns<R: Source>(
     rt: &HostRuntime,
     matches: &ArgMatches<'_>,
@@ -26,6 +27,14 @@ pub fn names_patterns(matches: &ArgMatches<'_>) -> bool {
     matches.contains_id("regexp") || matches.contains_id("file")
 }
 
+/// Whether patterns are read from standard input.
+pub fn reads_patterns(matches: &ArgMatches<'_>) -> bool {
+    match matches.get_strs("file") {
+        Some(files) => files.iter().any(|file| *file == "-"),
+        None => false,
+    }
+}
+
 // Adds the texts of the patterns.
 fn add_patterns<R: Source>(
     rt: &HostRuntime,
@@ -34,17 +43,38 @@ fn add_patterns<R: Source>(
     input: &mut R,
 ) -> Result<(), Failure> {
     if names_patterns(matches) {
-        add_texts(
-            rt.alloc(),
-            patterns,
-            matches.get_strs("regexp").unwrap_or(&[]),
-        )?;
-        return add_files(rt, patterns, matches.get_strs("file").unwrap_or(&[]), input);
+        return add_named(rt, matches, patterns, input);
     }
     match matches.get_str("operands") {
         Some(pattern) => add_text(rt.alloc(), patterns, pattern),
         None => Err(Failure::of_arguments(rt.alloc(), "there is no pattern")),
     }
+}
+
+// Adds the texts of `-e` and the lines of the files of `-f`, in the order of these options.
+fn add_named<R: Source>(
+    rt: &HostRuntime,
+    matches: &ArgMatches<'_>,
+    patterns: &mut Vec<String>,
+    input: &mut R,
+) -> Result<(), Failure> {
+    let files = matches.get_strs("file").unwrap_or(&[]);
+    let places = matches.indices_of("file").unwrap_or(&[]);
+    let texts = matches.get_strs("regexp").unwrap_or(&[]);
+    let text_places = matches.indices_of("regexp").unwrap_or(&[]);
+    let mut added = 0;
+    for (text, at) in texts.iter().zip(text_places) {
+        let before = count_before(places, *at);
+        add_files(rt, patterns, files.get(added..before).unwrap_or(&[]), input)?;
+        add_text(rt.alloc(), patterns, text)?;
+        added = before;
+    }
+    add_files(rt, patterns, files.get(added..).unwrap_or(&[]), input)
+}
+
+// How many places are before one.
+fn count_before(places: &[usize], at: usize) -> usize {
+    places.iter().filter(|place| **place < at).count()
 }
 
 // Adds the lines of files.
@@ -90,13 +120,6 @@ fn read_input<R: Source>(alloc: Global, input: &mut R) -> io::Result<Vec<u8>> {
 fn add_lines(alloc: Global, texts: &mut Vec<String>, text: &str) -> Result<(), Failure> {
     for line in text.lines() {
         add_text(alloc, texts, line)?;
-    }
-    Ok(())
-}
-
-fn add_texts(alloc: Global, texts: &mut Vec<String>, added: &[&str]) -> Result<(), Failure> {
-    for text in added {
-        add_text(alloc, texts, text)?;
     }
     Ok(())
 }

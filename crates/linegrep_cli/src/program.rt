@@ -2,6 +2,8 @@
 use crate::command::command;
 use crate::failures::{Failure, say, usage_text};
 use crate::file_id::FileId;
+use crate::help::HELP;
+use crate::option_id::OptionId;
 use crate::options::Options;
 use crate::patterns::read_patterns;
 use crate::search::search_all;
@@ -12,13 +14,14 @@ use grep_searcher::Source;
 use std::alloc::Global;
 use std::io;
 
-const CONFLICT: &str = "--json can't be used with -c, --count-matches, -l or -L";
-
 /// What a run knows of its standard streams besides their bytes.
 #[derive(Clone, Copy)]
 pub struct Streams {
     /// Whether the output is a terminal.
     pub is_terminal: bool,
+    /// Whether the input is a file, a pipe or a socket, and no terminal or other device: then it is
+    /// searched if there is no path.
+    pub has_input: bool,
     /// The file that the input comes from, if it is a regular one.
     pub input: Option<FileId>,
     /// The file that the output goes to, if it is a regular one. Its lines aren't searched.
@@ -26,9 +29,9 @@ pub struct Streams {
 }
 
 /// Does what the arguments ask for, which are without the program's name and as the system has
-/// them, whether they are UTF-8 or not: searches the files at their paths or, if there are none,
-/// what `input` gives or, with `-r`, the files of the current folder, writes to `output` what is
-/// found, and says on `errors` what goes wrong.
+/// them, whether they are UTF-8 or not: searches the files at their paths and in their folders or,
+/// if there are none, what `input` gives or the files of the current folder, writes to `output` what
+/// is found, and says on `errors` what goes wrong.
 ///
 /// The result is the status that the program exits with: 0 if a line matches, or help or the
 /// version is written; 1 if none does; and 2 if something can't be read or written, or the
@@ -79,18 +82,18 @@ fn parse<'w>(alloc: Global, words: &'w [String]) -> Result<ArgMatches<'w>, clap:
 
 // Writes help or the version, if that is what was asked for. Otherwise the failure is what is wrong
 // with the arguments.
-fn answer<W: Output + Drop>(
-    alloc: Global,
-    error: &clap::Error,
-    mut output: W,
-) -> Result<u8, Failure> {
+fn answer<W: Output + Drop>(alloc: Global, error: &clap::Error, output: W) -> Result<u8, Failure> {
     let Ok(text) = usage_text(alloc, error) else {
         return Err(Failure::out_of_memory());
     };
     if error.use_stderr() {
         return Err(Failure::of_text(Ok(text)));
     }
-    match write_whole(&mut output, text.as_str()) {
+    write_answer(alloc, text.as_str(), output)
+}
+
+fn write_answer<W: Output + Drop>(alloc: Global, text: &str, mut output: W) -> Result<u8, Failure> {
+    match write_whole(&mut output, text) {
         Err(error) if error.kind() != io::ErrorKind::BrokenPipe => {
             Err(Failure::of_output(alloc, &error))
         }
@@ -114,8 +117,8 @@ fn search_parsed<R: Source, W: Output + Drop, E: Output>(
     errors: &mut E,
 ) -> Result<u8, Failure> {
     let options = Options::read(matches, streams);
-    if options.has_conflict() {
-        return Err(Failure::of_arguments(rt.alloc(), CONFLICT));
+    if options.has(OptionId::Help) {
+        return write_answer(rt.alloc(), HELP, output);
     }
     if let Some(word) = misplaced(words, options.paths()) {
         return Err(Failure::of_cause(rt.alloc(), word, &"the argument isn't UTF-8"));

@@ -22,10 +22,11 @@ pub fn build_searcher(alloc: Global, options: &Options<'_, '_>) -> Result<Search
 }
 
 fn try_searcher(alloc: Global, options: &Options<'_, '_>) -> Result<Searcher, ConfigError> {
-    let encoding = encoding(alloc, options.encoding)?;
+    let encoding = encoding(alloc, options.encoding())?;
     let mut builder = SearcherBuilder::new();
     builder
         .encoding(encoding)
+        .bom_sniffing(options.encoding() != Some("none"))
         .line_number(options.shows_numbers());
     select(&mut builder, options);
     surround(&mut builder, options);
@@ -38,6 +39,7 @@ fn select(builder: &mut SearcherBuilder, options: &Options<'_, '_>) {
         .line_terminator(options.line_terminator())
         .invert_match(options.has(OptionId::InvertMatch))
         .multi_line(options.has(OptionId::Multiline))
+        .stop_on_nonmatch(options.has(OptionId::StopOnNonmatch))
         .max_matches(options.max_count)
         .binary_detection(options.binary_detection());
 }
@@ -52,7 +54,7 @@ fn surround(builder: &mut SearcherBuilder, options: &Options<'_, '_>) {
 
 fn encoding(alloc: Global, label: Option<&str>) -> Result<Option<Encoding>, ConfigError> {
     match label {
-        None | Some("auto") => Ok(None),
+        None | Some("auto" | "none") => Ok(None),
         Some(label) => match Encoding::new(alloc, label) {
             Ok(encoding) => Ok(Some(encoding)),
             Err(error) => Err(error),
@@ -60,33 +62,34 @@ fn encoding(alloc: Global, label: Option<&str>) -> Result<Option<Encoding>, Conf
     }
 }
 
-/// The printer that the options ask for, which writes to `writer`. A terminal gets headings, and
-/// colors.
+/// The printer that the options ask for, which writes to `writer` what searches find, by line or
+/// across lines. A terminal gets headings, and colors.
 pub fn build_printer<W: Output>(
     rt: &HostRuntime,
     options: &Options<'_, '_>,
+    is_across: bool,
     writer: W,
 ) -> Printer<W> {
-    let is_terminal = options.streams.is_terminal;
-    let colors = color_specs(rt, options.color, is_terminal);
-    if let Some(kind) = options.summary_kind() {
+    let is_line_buffered = options.is_line_buffered();
+    let colors = color_specs(rt, options.color(), options.streams.is_terminal);
+    if let Some(kind) = options.summary_kind(is_across) {
         let printer = summary(options, kind, colors).build(rt.alloc(), writer);
-        Printer::Summary(shown_on(is_terminal, printer))
+        Printer::Summary(buffered(is_line_buffered, printer))
     } else if options.has(OptionId::Json) {
         let printer = JsonBuilder::new().build(rt.alloc(), writer);
-        Printer::Json(JsonRun::new(rt, shown_on(is_terminal, printer)))
+        Printer::Json(JsonRun::new(rt, buffered(is_line_buffered, printer)))
     } else {
         let printer = lines(options, colors).build(rt.alloc(), writer);
-        Printer::Lines(shown_on(is_terminal, printer))
+        Printer::Lines(buffered(is_line_buffered, printer))
     }
 }
 
-// A printer that writes each text at once on a terminal.
-fn shown_on<F, W>(
-    is_terminal: bool,
+// A printer that may have to write each text at once.
+fn buffered<F, W>(
+    is_line_buffered: bool,
     mut printer: grep_printer::Printer<F, W>,
 ) -> grep_printer::Printer<F, W> {
-    if is_terminal {
+    if is_line_buffered {
         printer.set_buffer_size(0);
     }
     printer

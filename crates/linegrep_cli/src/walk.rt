@@ -1,13 +1,17 @@
 //! The files of a folder and of the folders in it.
+use crate::file_id::FileId;
 use crate::globs::{Choice, Globs};
 use crate::words::{NOT_UTF8, escape};
 use std::alloc::AllocError;
+use std::fs::Metadata;
 use std::io::Read;
 use std::rt::Files;
 use std::{fs, io, str};
 
 // For how many bytes of names there is room when a folder is read.
 const ROOM: usize = 8192;
+
+const IS_LOOP: &str = "it is a link to a folder that it is in";
 
 /// What is found in folders.
 #[derive(Drop)]
@@ -21,11 +25,14 @@ pub enum Entry {
 }
 
 /// A walk through a folder and the folders in it, in the order of their names, which finds the
-/// regular files that are chosen. Links aren't followed. It ends early if it is out of memory.
+/// regular files that are chosen. It ends early if it is out of memory.
 #[derive(Drop)]
 pub struct Walk<'r> {
     rt: &'r HostRuntime,
     shows_hidden: bool,
+    follows_links: bool,
+    // How many bytes the path of its folder has, without a slash at the end.
+    root: usize,
     // What is still to be visited, the next last.
     pending: Vec<Entry>,
     is_out_of_memory: bool,
@@ -34,11 +41,18 @@ pub struct Walk<'r> {
 impl<'r> Walk<'r> {
     /// A walk through the folder at a path, or through the current one if the path is empty. Hidden
     /// files and folders, whose names begin with a dot, are found only if `shows_hidden` is set or
-    /// a glob asks for them.
-    pub fn new(rt: &'r HostRuntime, shows_hidden: bool, folder: &str) -> Walk<'r> {
+    /// a glob asks for them. Links are left out, or if `follows_links` is set followed.
+    pub fn new(
+        rt: &'r HostRuntime,
+        shows_hidden: bool,
+        follows_links: bool,
+        folder: &str,
+    ) -> Walk<'r> {
         let mut walk = Walk {
             rt,
             shows_hidden,
+            follows_links,
+            root: folder.trim_end_matches('/').len(),
             pending: Vec::new(rt.alloc()),
             is_out_of_memory: false,
         };
@@ -154,11 +168,61 @@ impl<'r> Walk<'r> {
 
     // What is at a path, unless it is neither a file nor a folder.
     fn entry(&self, path: String) -> Option<Entry> {
-        match fs::symlink_metadata(self.rt, path.as_str()) {
-            Ok(metadata) if metadata.is_dir() => Some(Entry::Folder(path)),
+        match self.metadata(path.as_str()) {
+            Ok(metadata) if metadata.is_dir() => Some(self.folder(path, &metadata)),
             Ok(metadata) if metadata.is_file() => Some(Entry::File(path)),
             Ok(_) => None,
             Err(error) => Some(Entry::Unread(path, error)),
+        }
+    }
+
+    fn metadata(&self, path: &str) -> io::Result<Metadata> {
+        if self.follows_links {
+            fs::metadata(self.rt, path)
+        } else {
+            fs::symlink_metadata(self.rt, path)
+        }
+    }
+
+    // The folder at a path, which can't be read if it is a link to a folder that it is in.
+    fn folder(&self, path: String, metadata: &Metadata) -> Entry {
+        if self.is_link(path.as_str()) && self.is_loop(path.as_str(), FileId::of_any(metadata)) {
+            let error = io::Error::new(io::ErrorKind::FilesystemLoop, IS_LOOP);
+            Entry::Unread(path, error)
+        } else {
+            Entry::Folder(path)
+        }
+    }
+
+    // Whether there is a link at a path that was followed.
+    fn is_link(&self, path: &str) -> bool {
+        if !self.follows_links {
+            return false;
+        }
+        match fs::symlink_metadata(self.rt, path) {
+            Ok(metadata) => metadata.is_symlink(),
+            Err(_) => false,
+        }
+    }
+
+    // Whether one of the folders that a path goes through is that of an id, from the walk's own on.
+    fn is_loop(&self, path: &str, id: FileId) -> bool {
+        if self.root == 0 && self.is_at(".", id) {
+            return true;
+        }
+        for (at, letter) in path.char_indices() {
+            if letter == '/' && at >= self.root && self.is_at(path.get(..at).unwrap_or(""), id) {
+                return true;
+            }
+        }
+        false
+    }
+
+    // Whether the folder at a path is that of an id.
+    fn is_at(&self, path: &str, id: FileId) -> bool {
+        match fs::metadata(self.rt, path) {
+            Ok(metadata) => FileId::of_any(&metadata).is(id),
+            Err(_) => false,
         }
     }
 

@@ -26,6 +26,7 @@ impl Row {
             arguments: Vec::new(rt.alloc()),
             streams: Streams {
                 is_terminal: false,
+                has_input: false,
                 input: None,
                 output: None,
             },
@@ -44,6 +45,7 @@ impl Row {
         if let Some(path) = word.strip_prefix("<=") {
             self.streams.input = FileId::at(rt, path);
         } else if let Some(text) = word.strip_prefix('<') {
+            self.streams.has_input = true;
             self.input.set(text)?;
         } else if let Some(kind) = word.strip_prefix('>') {
             self.set_output(rt, kind);
