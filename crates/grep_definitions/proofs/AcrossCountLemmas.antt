@@ -114,9 +114,7 @@ module _ (k : Settings) (meaning : Meaning) (bytes : List ℕ) where
   -- i
   module _ {v i left : ℕ} (near : Near k meaning bytes v i left) where
     from-here : (j : ℕ) → v ≤ j → SelectsFrom i j
-    from-here j low q less inside hit = ⊎_elim
-        (λ early. absurd (clash hit (near.passed q (omega arith) early).0)) (λ over. over)
-        (cases_lt q i)
+    from-here j low q less inside hit = grind arith
 
     ends-late : (j : ℕ) → v ≤ j → j < count → All (λ call. at (i + 1) ≤ call.if_false.count)
         (T k meaning bytes j)

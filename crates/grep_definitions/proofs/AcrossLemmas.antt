@@ -9,7 +9,7 @@ use Rattle.grep_definitions.specs.Plans.{follows_selected, precedes_selected, re
 use Rattle.grep_definitions.specs.Plans.{report_lines}
 use Rattle.grep_definitions.specs.Plans
 use Rattle.std.proofs.Common.{◌≡◌, ℕ, ◌+◌, ◌-◌, ◌<◌, ◌≤◌, Bool, true, false, not, ◌&&◌, List, []}
-use Rattle.std.proofs.Common.{◌∷◌, length, refl, sym, ap, ◌∙◌, arith, ◌⊎◌, ⊎_elim, inl, inr, Option}
+use Rattle.std.proofs.Common.{◌∷◌, length, refl, sym, ◌∙◌, arith, ◌⊎◌, ⊎_elim, inl, inr, Option}
 use Rattle.std.proofs.Common.{Some, None, if◌then◌else◌, ltb-false}
 use Rattle.std.proofs.Math.Bool.{and-false}
 use Rattle.std.proofs.lemmas.Bool.{cases_Bool, le-leb, and_parts, and_from, or_cases, or_left}

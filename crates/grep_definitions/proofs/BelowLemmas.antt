@@ -2,13 +2,13 @@
 -- numbers.
 use Rattle.std.proofs.Common.{min, ◌≡◌, ◌⊎◌, ℕ, zero, suc, ◌+◌, ◌-◌, ◌<◌, ◌≤◌, Bool, true, false}
 use Rattle.std.proofs.Common.{Option, Some, None, if◌then◌else◌, refl, sym, ◌∙◌, ap, arith, ⊎_elim}
-use Rattle.std.proofs.Common.{append_assoc, ltb-false}
+use Rattle.std.proofs.Common.{append_assoc}
 use Rattle.std.proofs.lemmas.Bool.{le-ltb, cases_lt, cases_Bool}
 use Rattle.std.proofs.Math.Bool.{or-false, or-true}
 use Rattle.std.specs.Prelude.{IfSome, List, [], ◌∷◌, ◌++◌}
 use Rattle.std.proofs.lemmas.List.{append-nil}
 use Rattle.grep_definitions.specs.Plans.{some_below, count_below, first_below, Settings, has_room}
-use Rattle.grep_definitions.specs.Plans.{is_below, at_most, joined_from}
+use Rattle.grep_definitions.specs.Plans.{at_most, joined_from}
 use Rattle.grep_definitions.proofs.BoolLemmas.{clash}
 
 pub some_below-none : (p : ℕ → Bool) (n : ℕ) → ((j : ℕ) → j < n → p j ≡ false) → some_below p n

@@ -3,7 +3,7 @@ use Rattle.std.proofs.Common.{◌≡◌, ℕ, ◌+◌, ◌-◌, ◌<◌, ◌≤�
 use Rattle.std.proofs.Common.{length, take, drop, Option, None, Some, refl, sym, ap, subst, ◌∙◌}
 use Rattle.std.proofs.Common.{arith, if◌then◌else◌, ◌==◌, ⊎_elim}
 use Rattle.std.proofs.lemmas.List.{drop-take, take_all, take_at, take-take}
-use Rattle.std.proofs.lemmas.List.Elements.{All-nil, All-cons, All-take, All-drop}
+use Rattle.std.proofs.lemmas.List.Elements.{All-cons, All-take, All-drop}
 use Rattle.std.proofs.lemmas.Option.{none-some}
 use Rattle.std.specs.Prelude.{All, is_some, slice_range}
 use Rattle.std.specs.List.{position}
@@ -56,9 +56,7 @@ module _ (b : ℕ) where
     before_of (Some point) = take point.position calls
 
     begun-clear : AreClear (take 1 calls)
-    begun-clear =
-        All-cons (λ call. holds_byte b call ≡ false) (planned begins 0) (take 0 later) refl
-        (All-nil (λ call. holds_byte b call ≡ false))
+    begun-clear = grind arith
 
     pub clear-point : (point : BinaryPoint) → contents_point b bytes calls ≡ Some point
         → AreClear (take point.position calls)
@@ -87,10 +85,7 @@ module _ (b : ℕ) where
         by (Some offset) is = absurd (none-some _ (sym is))
 
 pub quit_reports-clear : QuitReportsAreClear
-quit_reports-clear b settings meaning bytes =
-    let lines = selection_in settings meaning bytes (is_across settings meaning) in
-    let later = joined_from (calls_at settings bytes lines) 0 lines.end in
-    (clear-point b later bytes, clear-all b later bytes)
+quit_reports-clear b settings meaning bytes = search (arith, clear-point, clear-all)
 
 -- a slice_range of bytes that end before a test passes
 slice-clear : (p : ℕ → Bool) (bytes : List ℕ) (s e count : ℕ) → s ≤ e → e ≤ count

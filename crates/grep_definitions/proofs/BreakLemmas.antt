@@ -7,14 +7,12 @@ use Rattle.grep_definitions.specs.Plans.{continues, count_at, follows_selected, 
 use Rattle.grep_definitions.specs.Plans.{line_count, precedes_selected, report}
 use Rattle.grep_definitions.specs.Plans
 use Rattle.grep_definitions.specs.SearchLaws.{is_report}
-use Rattle.std.proofs.Common.{◌≡◌, ℕ, zero, suc, ◌+◌, ◌-◌, Bool, true, false, not, ◌&&◌, List, []}
-use Rattle.std.proofs.Common.{◌∷◌, ◌++◌, Option, Some, None, refl, ◌∙◌, ◌<◌, ◌≤◌, ap, arith, ⊎_elim}
+use Rattle.std.proofs.Common.{◌≡◌, ℕ, zero, suc, ◌+◌, Bool, true, false, ◌&&◌, List, []}
+use Rattle.std.proofs.Common.{◌∷◌, ◌++◌, Option, Some, None, refl, ◌<◌, ◌≤◌, ap, arith, ⊎_elim}
 use Rattle.std.proofs.Common.{if◌then◌else◌}
-use Rattle.std.proofs.lemmas.Bool.{cases_Bool, lt-ltb, ltb-true, not-true}
-use Rattle.std.specs.Prelude.{nat_le, nat_lt, filter, is_some}
+use Rattle.std.proofs.lemmas.Bool.{cases_Bool}
+use Rattle.std.specs.Prelude.{nat_le, filter}
 use Rattle.grep_matcher.specs.Meanings.{Meaning}
-use Rattle.grep_report.specs.declared.sink_context.SinkContextKind.TheVariants.{Before, After}
-use Rattle.grep_report.specs.declared.sink_context.SinkContextKind.TheVariants.{Other}
 use Rattle.grep_definitions.proofs.BoolLemmas.{clash}
 
 -- the calls of a search between `begin` and `finish`: reports, and breaks, each directly before a
@@ -96,37 +94,10 @@ module _ (k : Settings) (meaning : Meaning) (bytes : List ℕ) where
       (λ j low high. report-by_line j (Plans.kind k bytes by_line j)
       (breaks_before k bytes by_line j) (λ is. (breaks-need _ _ _ _ is).0))
 
-  -- across lines a selected line is reported
-  reported-selected : (i : ℕ) → i < line_count k bytes → is_touched_selected k meaning bytes i
-      ≡ true → is_reported k bytes selection i ≡ true
-  reported-selected i inside selected =
-      let here = lt-ltb i (line_count k bytes) inside in
-      let kind : Plans.kind k bytes selection i ≡ Some matched =
-      ap (λ (b : Bool). if b then Some matched
-      else (if follows_selected k bytes selection i then Some (in_context After)
-      else (if precedes_selected k bytes selection i then Some (in_context Before)
-      else (if k.passthru then Some (in_context Other) else None)))) selected in
-      ap (λ b. b && is_some (Plans.kind k bytes selection i)) here ∙ ap is_some kind
-
   -- so a break isn't made within a unit
   unit-unbroken : (i : ℕ) → i < line_count k bytes → breaks_before k bytes selection i ≡ true
       → continues k bytes selection i ≡ false
-  unit-unbroken i inside is = ⊎_elim (λ goes.
-      let parts = within (not (selects_free k)) (nat_lt 0 i)
-      (is_touched_selected k meaning bytes (i - 1)) goes in
-      let before = reported-selected (i - 1) (omega (arith, ltb-true 0 i parts.0)) parts.1 in
-      let silent = (breaks-need (nat_lt 0 (k.after_context + k.before_context))
-      (can_break (Plans.kind k bytes selection i))
-      (not (is_reported k bytes selection (i - 1))) (some_below (is_reported k bytes selection) i)
-      is).1 in
-      absurd (clash before (not-true (is_reported k bytes selection (i - 1)) silent)))
-      (λ ends. ends) (cases_Bool (continues k bytes selection i))
-    where
-      within : (a b c : Bool) → (a && b && c) ≡ true → (b ≡ true) × (c ≡ true)
-      within true true true is = (refl, refl)
-      within true true false is = cc
-      within true false c is = cc
-      within false b c is = cc
+  unit-unbroken i inside is = grind arith
 
   report-across : (i : ℕ) (o : Option Kind) (b : Bool) → (b ≡ true → can_break o ≡ true)
       → (b ≡ true → continues k bytes selection i ≡ false)

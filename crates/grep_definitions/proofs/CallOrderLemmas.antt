@@ -1,9 +1,8 @@
 -- Calls in order, put together.
 use Rattle.std.proofs.Common.{◌≡◌, ℕ, inl, inr, List, [], ◌∷◌, ◌++◌, Bool, true, false, refl, sym}
 use Rattle.std.proofs.Common.{subst, ap, ◌∙◌, Option, None, map, arith, cond}
-use Rattle.std.specs.Prelude.{Result, Ok, Err, ◌+◌, ◌-◌, ◌≤◌, ◌&&◌, if◌then◌else◌, nat_le, nat_lt}
+use Rattle.std.specs.Prelude.{Result, Ok, Err, ◌+◌, ◌≤◌}
 use Rattle.std.proofs.lemmas.List.Sums.{sum_by-append, sum_by-cons}
-use Rattle.grep_report.specs.declared.sink_context.SinkContextKind.TheVariants.{Before}
 use Rattle.std.specs.declared.io.Error.{Error}
 use Rattle.std.proofs.lemmas.List.Elements.{All-nil, All-cons, All-append, All-head, All-tail}
 use Rattle.std.proofs.lemmas.List.Elements.{All-map}
@@ -16,13 +15,12 @@ use Rattle.grep_definitions.specs.CallOrder.{BeginsInOrder, EndsInOrder, GoesOnI
 use Rattle.grep_definitions.specs.CallOrder.{ReadsInOrder, binary_count}
 use Rattle.grep_report.specs.ErrorMakers.{ErrorMakers}
 use Rattle.grep_matcher.specs.Meanings.{MatcherFacts}
-use Rattle.grep_definitions.specs.Plans.{Settings, Call, Planned, begins, breaks, context, finishes}
-use Rattle.grep_definitions.specs.Plans.{matches, Steps, Outcome, all_true, stopped, failed}
-use Rattle.grep_definitions.specs.Plans.{finish_result, AreMade, IsFinished, Finish, binary_data}
+use Rattle.grep_definitions.specs.Plans.{Settings, Call, Planned, begins, finishes}
+use Rattle.grep_definitions.specs.Plans.{Steps, Outcome, all_true, stopped, failed}
+use Rattle.grep_definitions.specs.Plans.{finish_result, AreMade, IsFinished, binary_data}
 use Rattle.grep_definitions.specs.Plans.{counted, is_binary_data, planned}
-use Rattle.grep_definitions.specs.LineCalls.{before_calls, broken_calls, breaks_near, selected_calls}
+use Rattle.grep_definitions.specs.LineCalls.{before_calls, selected_calls}
 use Rattle.grep_definitions.specs.LineCalls.{one_call}
-use Rattle.grep_definitions.specs.SearchLaws.{number_of}
 use Rattle.grep_definitions.specs.SinkRuns.{outcome_of, with_binary}
 use Rattle.grep_definitions.proofs.SinkRunLemmas.{AreMade-append, AreMade-one, made-binary}
 use Rattle.grep_definitions.proofs.SinkRunLemmas.{outcome_with}
@@ -34,22 +32,6 @@ IsInner k call = comes_between (is_detecting k.binary_detection) call.call ≡ t
 pub inner-one : (k : Settings) (call : Call) (end : ℕ)
     → comes_between (is_detecting k.binary_detection) call ≡ true → AreInner k (one_call call end)
 inner-one k call end inner = All-cons (IsInner k) (planned call end) [] inner (All-nil (IsInner k))
-
-pub inner-broken : (k : Settings) (gap : Bool) (call : Call) (end : ℕ)
-    → comes_between (is_detecting k.binary_detection) call ≡ true
-    → AreInner k (broken_calls gap call end)
-inner-broken k true call end inner = grind (arith, All-cons, inner-one)
-inner-broken k false call end inner = inner-one k call end inner
-
--- the calls of a line before a match
-pub inner-before : (k : Settings) (v j i : ℕ) (number : Option ℕ) (offset end : ℕ) (line : List ℕ)
-    → AreInner k (before_calls k v j i number offset end line)
-inner-before k v j i number offset end line = grind arith
-
--- and of a match
-pub inner-match : (k : Settings) (v i offset end : ℕ) (line : List ℕ)
-    → AreInner k (selected_calls k v i offset end line)
-inner-match k v i offset end line = grind arith
 
 -- how many calls are `binary_data`
 binary-append : (front back : List Planned) → binary_count (front ++ back) ≡ binary_count front
@@ -72,15 +54,6 @@ binary-with binary (call ∷ later) =
 binary-one : (call : Call) (end : ℕ) → is_binary_data call ≡ false
     → binary_count (one_call call end) ≡ 0
 binary-one call end plain = binary-cons (planned call end) [] ∙ ap (λ b. cond b 1 0 + 0) plain
-
-binary-broken : (gap : Bool) (call : Call) (end : ℕ) → is_binary_data call ≡ false
-    → binary_count (broken_calls gap call end) ≡ 0
-binary-broken true call end plain = grind (arith, binary-cons, binary-one)
-binary-broken false call end plain = binary-one call end plain
-
-binary-before : (k : Settings) (v j i : ℕ) (number : Option ℕ) (offset end : ℕ) (line : List ℕ)
-    → binary_count (before_calls k v j i number offset end line) ≡ 0
-binary-before k v j i number offset end line = grind arith
 
 -- none of the calls is if at most none is
 none-binary : (call : Planned) (later : List Planned) → binary_count (call ∷ later) ≤ 0

@@ -47,9 +47,6 @@ module _ (k : Settings) (meaning : Meaning) (bytes : List ℕ) where
   abbrev is_reported : ℕ → Bool
   is_reported = Plans.is_reported k bytes selection
 
-  pub IsNear-none : IsNear k bytes selection 0 0 0
-  IsNear-none = SelectionLemmas.IsNear-none k bytes selection
-
   -- if no line from the i-th on is selected, the lines that were passed have no calls
   pub calls_at-done : {v i left : ℕ} → IsNear k bytes selection v i left
       → ((q : ℕ) → i ≤ q → q < n → is_selected q ≡ false)

@@ -6,14 +6,14 @@ use Rattle.grep_definitions.specs.Plans.{count_at, follows_selected, is_selected
 use Rattle.grep_definitions.specs.Plans.{next_report_end, number, precedes_selected}
 use Rattle.grep_definitions.specs.Plans
 use Rattle.std.proofs.Common.{◌≡◌, ℕ, ◌+◌, ◌-◌, ◌<◌, ◌≤◌, Bool, true, false, ◌&&◌, List, [], ◌∷◌}
-use Rattle.std.proofs.Common.{◌++◌, refl, sym, ap, append-nil, ◌∙◌, arith, ⊎_elim, Option, Some}
+use Rattle.std.proofs.Common.{◌++◌, refl, sym, append-nil, ◌∙◌, arith, ⊎_elim, Option, Some}
 use Rattle.std.proofs.Common.{None, if◌then◌else◌}
 use Rattle.std.proofs.Math.Bool.{and-false}
 use Rattle.std.proofs.lemmas.Bool.{ltb-true, le-ltb, le-leb, lt-leb, cases_lt, cases_Bool}
 use Rattle.std.proofs.lemmas.Bool.{and_parts}
 use Rattle.std.proofs.lemmas.List.Elements.{All-nil, All-cons, All-weaker, filter-append}
-use Rattle.std.specs.Prelude.{filter, nat_le, nat_lt, All, slice_index_or}
-use Rattle.grep_matcher.specs.Lines.{byte_of, lines, line_start}
+use Rattle.std.specs.Prelude.{nat_le, nat_lt, All}
+use Rattle.grep_matcher.specs.Lines.{byte_of}
 use Rattle.grep_matcher.specs.Meanings.{Meaning}
 use Rattle.grep_report.specs.declared.sink_context.SinkContextKind.TheVariants.{Before, After}
 use Rattle.grep_report.specs.declared.sink_context.SinkContextKind.TheVariants.{Other}

@@ -10,7 +10,7 @@ use Rattle.grep_definitions.specs.Plans.{kind, line_count, next_report_end, prec
 use Rattle.grep_definitions.specs.Plans
 use Rattle.std.proofs.Common.{◌≡◌, ℕ, zero, suc, ◌+◌, ◌-◌, ◌<◌, ◌≤◌, min, Bool, true, false, ◌&&◌}
 use Rattle.std.proofs.Common.{not, List, [], ◌∷◌, ◌++◌, length, refl, sym, ap, subst, ◌∙◌, arith}
-use Rattle.std.proofs.Common.{inl, inr, ◌⊎◌, ⊎_elim, Option, Some, None, is_some, length-append}
+use Rattle.std.proofs.Common.{inl, inr, ◌⊎◌, ⊎_elim, Option, Some, None, length-append}
 use Rattle.std.proofs.Common.{append-nil, if◌then◌else◌}
 use Rattle.std.proofs.Math.Bool.{and-false}
 use Rattle.std.proofs.lemmas.Bool.{lt-ltb, ltb-true, leb-true, le-leb, cases_lt, cases_Bool}

@@ -12,15 +12,14 @@ use Rattle.std.proofs.lemmas.List.{nil_from_length}
 use Rattle.std.proofs.lemmas.List.Elements.{All-get_or, All-weaker}
 use Rattle.std.proofs.lemmas.List.Folds.{concat-append}
 use Rattle.std.specs.List.{concat}
-use Rattle.std.specs.Prelude.{◌&&◌, All, Bool, false, is_some, nat_lt, nat_le, None, slice_index}
+use Rattle.std.specs.Prelude.{All, false, slice_index}
 use Rattle.std.specs.Prelude.{slice_index_or}
 use Rattle.grep_matcher.specs.Lines.{byte_of, lines, line_start}
 use Rattle.grep_matcher.specs.Meanings.{Meaning}
 use Rattle.grep_matcher.proofs.LineLemmas.{AreLines-lines, lines-append}
 use Rattle.grep_lines.specs.Positions.{IsLineStart}
-use Rattle.grep_definitions.specs.Plans.{line_plan, is_reported, is_selected, line_count}
-use Rattle.grep_definitions.specs.Plans.{reports_end, selected_lines, Settings, kind}
-use Rattle.grep_definitions.specs.Plans.{precedes_selected}
+use Rattle.grep_definitions.specs.Plans.{line_plan, is_reported, line_count}
+use Rattle.grep_definitions.specs.Plans.{reports_end, selected_lines, Settings}
 use Rattle.grep_definitions.specs.Searches.{IsBelowLimit, IsClosed, IsCrowded, IsFront, IsTooLong}
 use Rattle.grep_definitions.specs.LineWalks.{IsNear}
 use Rattle.grep_definitions.proofs.BelowLemmas.{some_below-find}

@@ -1,7 +1,6 @@
 -- Limits and stops along a walk, against the last line that may be reported.
 use Rattle.std.proofs.Common.{◌≡◌, ℕ, suc, ◌+◌, ◌-◌, ◌<◌, ◌≤◌, Bool, true, false, not, ◌&&◌, length}
-use Rattle.std.proofs.Common.{List, refl, sym, ◌∙◌, ap, arith, ⊎_elim, Option, Some, None}
-use Rattle.std.proofs.Common.{if◌then◌else◌}
+use Rattle.std.proofs.Common.{List, refl, sym, ◌∙◌, ap, arith, Option, Some, None}
 use Rattle.std.proofs.Math.Bool.{or-true, or-false, and-false, and-true}
 use Rattle.std.proofs.lemmas.Bool.{lt-ltb, cases_Bool, and_parts}
 use Rattle.std.specs.Prelude.{nat_lt, IfSome}
@@ -69,9 +68,6 @@ module _ (k : Settings) (meaning : Meaning) (bytes : List ℕ) where
   pub by_limit-none : ((count : ℕ) → has_room k count ≡ true) → by_limit ≡ None
   by_limit-none room = grind (arith, first_below-nowhere, some_below-none, and-false)
 
-  pub IsOpen-none : (k.passthru ≡ false → has_room k 0 ≡ false → ⊥) → IsOpen k meaning bytes 0 0 0
-  IsOpen-none starts = grind arith
-
   -- the limit of a search in which a line fills it isn't 0
   filled-room : (m : ℕ) → fills m ≡ true → has_room k 0 ≡ true
   filled-room m full = room-first k (count_below hits m)
@@ -114,10 +110,6 @@ module _ (k : Settings) (meaning : Meaning) (bytes : List ℕ) where
   pub selected-is : {i left c : ℕ} → IsOpen k meaning bytes i left c → is_selected k meaning bytes i
       ≡ is_chosen i
   selected-is opened = rw opened.unended (and-true _)
-
-  pub chosen-is : {i left c : ℕ} → IsOpen k meaning bytes i left c → is_chosen i
-      ≡ (hits i && has_room k c)
-  chosen-is {i} {left} {c} opened = ap (λ b. hits i && b) opened.below
 
   module _ {i left c : ℕ} (opened : IsOpen k meaning bytes i left c) (inside : i < n) where
     module _ (yes : is_chosen i ≡ true) where
@@ -223,10 +215,3 @@ module _ (k : Settings) (meaning : Meaning) (bytes : List ℕ) where
             silent = λ q low below. let over = some_below-some ends q i (omega arith) ended in rw
                 over (and-false _);
           }
-
-  -- limit 0 without passthru
-  pub reportable-none : k.passthru ≡ false → has_room k 0 ≡ false → reportable ≡ 0
-  reportable-none plain full = let x : ℕ = at_most by_stop n in rw (plain, full) (omega arith)
-
-  pub IsDone-none : k.passthru ≡ false → has_room k 0 ≡ false → IsDone 0
-  IsDone-none plain full = grind arith

@@ -10,14 +10,14 @@ use Rattle.grep_definitions.specs.Plans.{is_trailing, kind, line, line_count, ma
 use Rattle.grep_definitions.specs.Plans.{precedes_selected, start}
 use Rattle.grep_definitions.specs.Plans
 use Rattle.std.proofs.Math.Bool.{and-false}
-use Rattle.std.proofs.Common.{◌≡◌, ℕ, zero, suc, ◌+◌, ◌-◌, ◌<◌, ◌≤◌, Bool, true, false, ◌&&◌, ◌||◌}
+use Rattle.std.proofs.Common.{◌≡◌, ℕ, zero, suc, ◌+◌, ◌<◌, ◌≤◌, Bool, true, false, ◌&&◌, ◌||◌}
 use Rattle.std.proofs.Common.{List, [], ◌∷◌, ◌++◌, length, refl, sym, ◌∙◌, ap, arith, ⊎_elim}
 use Rattle.std.proofs.Common.{Option, Some, None, if◌then◌else◌}
-use Rattle.std.proofs.lemmas.Bool.{ltb-true, cases_lt, and_parts, not-true}
+use Rattle.std.proofs.lemmas.Bool.{cases_lt, and_parts, not-true}
 use Rattle.std.proofs.lemmas.List.{map-append, length-append, length-map}
 use Rattle.std.proofs.lemmas.List.Elements.{filter-append}
 use Rattle.std.proofs.lemmas.Option.{slice_get-map}
-use Rattle.std.specs.Prelude.{IfSome, map, nat_lt, nat_le, slice_get}
+use Rattle.std.specs.Prelude.{IfSome, map, slice_get}
 use Rattle.std.specs.Option.{option_map}
 use Rattle.grep_matcher.specs.Lines.{byte_of}
 use Rattle.grep_matcher.specs.Meanings.{Meaning}
@@ -25,7 +25,7 @@ use Rattle.grep_lines.proofs.LineStepLemmas.{lines-numbered}
 use Rattle.grep_report.specs.declared.sink_context.SinkContextKind.TheVariants.{Before, After}
 use Rattle.grep_report.specs.declared.sink_context.SinkContextKind.TheVariants.{Other}
 use Rattle.grep_definitions.proofs.LineSliceLemmas.{line-report}
-use Rattle.grep_definitions.specs.SearchLaws.{is_match, is_matched, match_calls, match_of}
+use Rattle.grep_definitions.specs.SearchLaws.{is_matched, match_calls, match_of}
 use Rattle.grep_definitions.specs.SearchLaws.{matched_lines, FirstMatchIsFirst, MatchesAreCounted}
 use Rattle.grep_definitions.specs.SearchLaws.{MatchesAreMatchedLines}
 use Rattle.grep_definitions.proofs.BoolLemmas.{clash}
@@ -120,9 +120,6 @@ module _ (k : Settings) (meaning : Meaning) (bytes : List ℕ) where
   abbrev fills : ℕ → Bool
   fills = fills_limit k meaning bytes
 
-  abbrev ends : ℕ → Bool
-  ends = ends_search k meaning bytes
-
   -- a selected line comes before each bound of the reports
   stop-bound : (i : ℕ) → selected i ≡ true → IfSome (end_by_stop k meaning bytes) (λ b. i < b)
   stop-bound i taken = grind (arith, not-true, and_parts, first_below-late)
@@ -186,9 +183,6 @@ module _ (k : Settings) (meaning : Meaning) (bytes : List ℕ) where
           else (if d then Some (in_context Other) else None)))))
           ≡ (if a || (b && t) then match_of k bytes i ∷ [] else [])
       go x0 x1 x2 x3 x4 = grind (arith, one)
-
-  abbrev report : ℕ → List Planned
-  report i = Plans.report k bytes selection i (kind k bytes selection i)
 
   match_calls-line : (i : ℕ) → i < n → match_calls (calls_at k bytes selection i) ≡ match_at i
   match_calls-line i inside = grind (arith, match_calls-kind)

@@ -1,8 +1,8 @@
 -- Where a binary byte of a stream is reported, in the plan of a search by line, and a stream in
 -- which none is looked for.
 use Rattle.std.proofs.Common.{◌≡◌, ℕ, Bool, true, false, List, [], ◌∷◌, ◌++◌, Some, refl, ap, ◌∙◌}
-use Rattle.std.proofs.Common.{arith, length, map, take, drop, length-append, Option, None, Result}
-use Rattle.std.proofs.Common.{Ok, Err, inl, inr, sym, subst, ◌≤◌}
+use Rattle.std.proofs.Common.{arith, length, take, length-append, Option, None, Result}
+use Rattle.std.proofs.Common.{Ok, Err, inl, inr, subst, ◌≤◌}
 use Rattle.std.proofs.lemmas.Option.{none-some}
 use Rattle.std.proofs.Math.Seq.{take-append_seam}
 use Rattle.grep_decode.specs.Source.{ReadResult}
@@ -15,10 +15,9 @@ use Rattle.grep_definitions.specs.Plans.{search_plan, Steps, Planned, Plan, Outc
 use Rattle.grep_definitions.specs.Plans.{is_across, line_count, selection_in, AreMade}
 use Rattle.grep_definitions.specs.Plans.{SearcherState, Settings, IsAskedWith}
 use Rattle.grep_definitions.specs.Searches.{BinaryPoint, quits, plan_with, planned_binary}
-use Rattle.grep_definitions.specs.Searches.{binary_position, nowhere, on_stream, stream_view}
+use Rattle.grep_definitions.specs.Searches.{nowhere, on_stream, stream_view}
 use Rattle.grep_definitions.specs.Searches.{view_of, IsCutAt, IsCutSearch, IsFront, IsPoint, IsRead}
 use Rattle.grep_definitions.specs.Searches.{IsReaderSearch, IsStreamPoint}
-use Rattle.grep_definitions.specs.SinkRuns.{after_binary}
 use Rattle.grep_definitions.proofs.BoolLemmas.{clash}
 use Rattle.grep_definitions.proofs.SeenSearchLemmas.{search-map}
 use Rattle.grep_definitions.proofs.SinkRunLemmas.{AreMade-append, AreMade-ended}
@@ -32,14 +31,9 @@ module _ {S E : Type 0} (step : Steps S E) (k : Settings) where
       outcome last → (outcome ≡ all_true → q ≡ true)
       → AreMade step k old (plan_with d (Some point) plan).calls outcome last
   binary-made d true is point plan front same old mid outcome last made called ends =
-      rw (is, same) (AreMade-append step k front (planned_binary point ∷ []) old mid outcome last
-      made called)
+      grind (arith, AreMade-append)
   binary-made d false is point plan front same old mid outcome last made called ends =
-      rw (is, same) (AreMade-append step k front (planned_binary point
-      ∷ map (after_binary point) (drop point.position plan.calls)) old mid outcome last made
-      (AreMade-ended step k (planned_binary point ∷ [])
-      (map (after_binary point) (drop point.position plan.calls)) mid outcome last
-      (λ all. absurd (clash (ends all) refl)) called))
+      grind (arith, AreMade-append, AreMade-ended, clash)
 
 -- where `binary_data` comes, if these calls come first
 abbrev pub stream-point : (k : Settings) (meaning : Meaning) (bytes seen : List ℕ) (offset : ℕ)
@@ -76,9 +70,7 @@ module _ {R : Type 0} (remaining : R → Option (List ℕ)) (read_step : R → R
   no-point : (bytes : List ℕ) (n : ℕ) (calls : List Planned) (point : Option BinaryPoint)
       → IsPoint k matcher.meaning bytes on_stream n calls point → point ≡ None
   no-point bytes n calls None at = refl
-  no-point bytes n calls (Some point) at =
-      absurd (none-some point.offset
-      (sym (ap (λ d. binary_position d (byte_of k.line_terminator) bytes) none) ∙ at.cut.first))
+  no-point bytes n calls (Some point) at = grind (arith, none-some)
 
   search-undetected : (reader : R) (old : S) (result : Result (Unit {0}) E) (reader' : R) (new : S)
       → IsReaderSearch remaining read_step step errors matcher state on_stream reader old result

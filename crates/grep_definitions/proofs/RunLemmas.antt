@@ -1,7 +1,7 @@
 -- Longest runs of numbers that pass a test, and lists joined over them.
 use Rattle.std.proofs.Common.{◌≡◌, ℕ, zero, suc, ◌+◌, ◌-◌, ◌<◌, ◌≤◌, Bool, true, false, not, ◌&&◌}
 use Rattle.std.proofs.Common.{List, [], ◌∷◌, ◌++◌, if◌then◌else◌, refl, sym, ap, ◌∙◌, arith, ◌⊎◌}
-use Rattle.std.proofs.Common.{⊎_elim, inl, inr, Option, Some, None}
+use Rattle.std.proofs.Common.{⊎_elim, Option, Some, None}
 use Rattle.std.proofs.lemmas.Bool.{lt-ltb, ltb-true, le-leb, leb-true, cases_Bool, cases_lt}
 use Rattle.std.proofs.lemmas.Bool.{and_parts, and_from, not-true}
 use Rattle.std.specs.Prelude.{nat_lt, nat_le}

@@ -15,7 +15,7 @@ use Rattle.std.proofs.Math.Bool.{and-false}
 use Rattle.std.proofs.lemmas.Bool.{le-leb, leb-true, lt-ltb, cases_Bool, cases_lt, and_parts}
 use Rattle.std.proofs.lemmas.Bool.{not-true, or_cases}
 use Rattle.std.proofs.lemmas.List.Sums.{sum_by-append}
-use Rattle.std.specs.Prelude.{nat_lt, nat_le, ◌&&◌, ◌||◌, not, is_some, count_by, cond}
+use Rattle.std.specs.Prelude.{nat_lt, ◌&&◌, ◌||◌, not, is_some, count_by, cond}
 use Rattle.std.specs.List.Sorted.{IsStrictlyIncreasing}
 use Rattle.grep_matcher.specs.Lines.{byte_of}
 use Rattle.grep_matcher.specs.Meanings.{Meaning}
@@ -31,11 +31,6 @@ use Rattle.grep_definitions.proofs.BelowLemmas.{joined_from-more}
 use Rattle.grep_matcher.proofs.LineStartLemmas.{line_start-ascends, line_start-more}
 use Rattle.grep_definitions.proofs.BoolLemmas.{clash}
 use Rattle.grep_definitions.proofs.ReportOrderLemmas.{IsReported, in_order-joined, report_calls-broken}
-
--- a bound never gives more
-pub at_most-le : (o : Option ℕ) (n : ℕ) → at_most o n ≤ n
-at_most-le None n = omega arith
-at_most-le (Some m) n = omega arith
 
 -- as many numbers pass as pass the weaker test, or fewer
 pub count_below-weaker : (p q : ℕ → Bool) (n : ℕ) → ((j : ℕ) → p j ≡ true → q j ≡ true)

@@ -7,10 +7,10 @@ use Rattle.std.proofs.lemmas.Bool.{lt-leb}
 use Rattle.std.proofs.lemmas.Option.{same_Some}
 use Rattle.std.proofs.lemmas.List.{drop-append-le, length-drop, take-append-le}
 use Rattle.std.proofs.lemmas.List.Elements.{All-nil, All-weaker, filter-append}
-use Rattle.std.specs.Prelude.{All, drop, nat_le, nat_lt, slice_range, take, ◌||◌}
+use Rattle.std.specs.Prelude.{All, nat_le, nat_lt, slice_range, ◌||◌}
 use Rattle.grep_matcher.proofs.LineStartLemmas.{line_start-ascends, line_start-le}
 use Rattle.grep_matcher.proofs.LineStartLemmas.{line_start-within}
-use Rattle.grep_matcher.specs.Lines.{byte_of, lines, strip}
+use Rattle.grep_matcher.specs.Lines.{byte_of, strip}
 use Rattle.grep_matcher.specs.Meanings.{Meaning}
 use Rattle.grep_report.specs.declared.sink_context.SinkContextKind.TheVariants.{Before}
 use Rattle.grep_definitions.proofs.BelowLemmas.{headed, headed-through, joined_from-none}

@@ -1,7 +1,7 @@
 -- The search of the lines that were seen is one of each input that begins with what was taken.
 use Rattle.std.proofs.Common.{◌≡◌, ◌∙◌, ◌≤◌, ℕ, Bool, true, false, List, ◌∷◌, ◌++◌, Option, Some}
 use Rattle.std.proofs.Common.{None, Result, Ok, Err, length, map, take, drop, refl, sym, ap, subst}
-use Rattle.std.proofs.Common.{arith, append_assoc, inl, inr, ⊎_elim, ◌⊎◌, length-append}
+use Rattle.std.proofs.Common.{arith, append_assoc, inl, ⊎_elim, ◌⊎◌, length-append}
 use Rattle.std.proofs.lemmas.List.{drop-append-le, map-append, take-append-le}
 use Rattle.std.specs.Prelude.{IfSome, OnOk}
 use Rattle.grep_decode.specs.Source.{ReadResult}
@@ -10,8 +10,8 @@ use Rattle.grep_report.specs.ErrorMakers.{ErrorMakers}
 use Rattle.grep_report.specs.declared.binary_detection.BinaryDetection.{BinaryDetection}
 use Rattle.grep_definitions.proofs.BoolLemmas.{clash}
 use Rattle.grep_definitions.proofs.SinkRunLemmas.{AreMade-ended}
-use Rattle.grep_definitions.specs.Plans.{all_true, failed, search_plan, stopped, AreMade}
-use Rattle.grep_definitions.specs.Plans.{IsAskedWith, IsFinished, IsRun, Outcome, Plan, Planned}
+use Rattle.grep_definitions.specs.Plans.{all_true, search_plan}
+use Rattle.grep_definitions.specs.Plans.{IsAskedWith, IsRun, Outcome, Plan, Planned}
 use Rattle.grep_definitions.specs.Plans.{SearcherState, Settings, Steps}
 use Rattle.grep_definitions.specs.Searches.{asked, calls_with, in_contents, nowhere, on_stream}
 use Rattle.grep_definitions.specs.Searches.{plan_with, planned_binary, quits, ran, view_in}

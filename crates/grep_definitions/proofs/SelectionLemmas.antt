@@ -1,12 +1,12 @@
 -- How lines near selected lines are reported, by line and across lines alike.
 use Rattle.std.proofs.Common.{◌≡◌, ℕ, zero, suc, ◌+◌, ◌-◌, ◌<◌, ◌≤◌, Bool, true, false, not, ◌&&◌}
 use Rattle.std.proofs.Common.{◌||◌, List, [], ◌++◌, refl, sym, ◌∙◌, ap, subst, arith, ⊎_elim, Some}
-use Rattle.std.proofs.Common.{None, is_some, if◌then◌else◌}
-use Rattle.std.proofs.Math.Bool.{or-false, and-false, and-true}
+use Rattle.std.proofs.Common.{None, if◌then◌else◌}
+use Rattle.std.proofs.Math.Bool.{and-false, and-true}
 use Rattle.std.proofs.lemmas.Bool.{lt-ltb, lt-leb, le-leb, le-ltb, eq-eqb, cases_lt, cases_Bool}
 use Rattle.std.proofs.lemmas.Bool.{ne_eqb, ltb-true, ltb-false}
 use Rattle.std.proofs.lemmas.List.{append-nil}
-use Rattle.std.specs.Prelude.{nat_eq, nat_lt, nat_le}
+use Rattle.std.specs.Prelude.{nat_lt, nat_le}
 use Rattle.grep_report.specs.declared.sink_context.SinkContextKind.TheVariants.{Before, After}
 use Rattle.grep_report.specs.declared.sink_context.SinkContextKind.TheVariants.{Other}
 use Rattle.grep_definitions.specs.Plans.{Settings, some_below, first_below, matched, in_context}
@@ -17,7 +17,6 @@ use Rattle.grep_definitions.specs.LineWalks.{IsNear}
 use Rattle.grep_definitions.specs.Plans
 use Rattle.grep_definitions.proofs.BelowLemmas.{some_below-none, some_below-some, first_below-here}
 use Rattle.grep_definitions.proofs.BelowLemmas.{headed, headed-one}
-use Rattle.grep_definitions.proofs.BoolLemmas.{clash}
 
 module _ (k : Settings) (bytes : List ℕ) (selection : Selection) where
   -- before the first line
@@ -77,14 +76,6 @@ module _ {k : Settings} {bytes : List ℕ} {selection : Selection} {v i left : �
   follows-here = let zero_off : i - i ≡ 0 = omega arith in near.window i (omega arith)
       ∙ ap (λ d. nat_lt d left) zero_off
 
-  -- the next line's window
-  window-more : (next : ℕ)
-      → ((x : ℕ) → i + 1 ≤ x → (nat_lt (x - i) left || (nat_le (x - i) A && selected i))
-      ≡ nat_lt (x - (i + 1)) next) → (x : ℕ)
-      → i + 1 ≤ x → some_below (λ j. nat_le (x - j) A && selected j) (i + 1)
-      ≡ nat_lt (x - (i + 1)) next
-  window-more next goes x low = grind arith
-
   -- a line that is not selected and follows none stays unreported so far
   pub IsNear-pass : selected i ≡ false → left ≡ 0 → k.passthru ≡ false → Near v (i + 1) 0
   IsNear-pass misses empty shut = grind arith
@@ -101,10 +92,6 @@ module _ {k : Settings} {bytes : List ℕ} {selection : Selection} {v i left : �
       ≡ (nat_lt 0 A && breaks_near k v i i)
   gap-after some = grind arith
 
-  pub IsNear-after : i < reportable → (rest : ℕ) → selected i ≡ false → left ≡ rest + 1
-      → Near (i + 1) (i + 1) rest
-  IsNear-after has rest misses is = grind arith
-
   precedes-bare : k.before_context ≡ 0 → precedes i ≡ false
   precedes-bare none = grind (arith, some_below-none, ltb-true, lt-leb)
 
@@ -112,10 +99,6 @@ module _ {k : Settings} {bytes : List ℕ} {selection : Selection} {v i left : �
   pub kind-other : selected i ≡ false → left ≡ 0 → k.passthru ≡ true → k.before_context ≡ 0
       → kind k bytes selection i ≡ Some (in_context Other)
   kind-other misses empty bare none = grind (arith, follows-here, le-ltb, precedes-bare)
-
-  pub IsNear-other : i < reportable → selected i ≡ false → left ≡ 0 → k.passthru ≡ true
-      → k.before_context ≡ 0 → Near (i + 1) (i + 1) 0
-  IsNear-other has misses empty bare none = grind arith
 
   -- after any line that isn't selected
   pub IsNear-missed : (k.passthru ≡ true → k.before_context ≡ 0) → i < reportable → selected i

@@ -1,13 +1,13 @@
 -- The successive matches: how many there are, in which order, and which are left after some of
 -- them.
-use Rattle.std.proofs.Common.{◌≡◌, ℕ, zero, suc, ◌+◌, ◌-◌, ◌<◌, ◌≤◌, Bool, true, false, List, []}
-use Rattle.std.proofs.Common.{◌∷◌, ◌++◌, length, take, drop, refl, ap, sym, ◌∙◌, arith, ⊎_elim}
-use Rattle.std.proofs.Common.{Option, Some, None, if◌then◌else◌, length-drop}
+use Rattle.std.proofs.Common.{◌≡◌, ℕ, zero, suc, ◌+◌, ◌-◌, ◌<◌, ◌≤◌, true, false, List, []}
+use Rattle.std.proofs.Common.{◌∷◌, ◌++◌, length, take, drop, refl, ap, ◌∙◌, arith}
+use Rattle.std.proofs.Common.{Option, Some, None, length-drop}
 use Rattle.std.proofs.Math.Seq.{take-nil}
 use Rattle.std.proofs.lemmas.List.Elements.{All-nil, All-cons, All-take}
-use Rattle.std.proofs.lemmas.Bool.{lt-ltb, le-ltb, le-leb, leb-true, ltb-true, cases_lt, and_from}
+use Rattle.std.proofs.lemmas.Bool.{lt-ltb, le-ltb, leb-true, ltb-true, cases_lt}
 use Rattle.std.proofs.lemmas.Bool.{and_parts}
-use Rattle.std.specs.Prelude.{nat_lt, nat_le, ◌&&◌, IfSome, All}
+use Rattle.std.specs.Prelude.{IfSome, All}
 use Rattle.std.specs.Option.{option_map}
 use Rattle.grep_matcher.specs.Meanings.{Meaning}
 use Rattle.grep_matcher.specs.FindResults.{IsWithin}
@@ -32,11 +32,6 @@ position_past-last p [] m = refl
 position_past-last p (x ∷ found) m = position_past-last (position_after x) found m
 
 -- a match that is within its haystack is kept, and no other is
-pub if_within-same : (haystack : List ℕ) (found : Option (ℕ × ℕ)) → IsWithin haystack found
-    → if_within haystack found ≡ found
-if_within-same haystack None inside = refl
-if_within-same haystack (Some m) inside = grind (arith, and_from, le-leb)
-
 if_within-is : (haystack : List ℕ) (found : Option (ℕ × ℕ))
     → IsWithin haystack (if_within haystack found)
 if_within-is haystack None = tt

@@ -1,6 +1,6 @@
 -- What reading a reader's contents has come to.
 use Rattle.std.proofs.Common.{◌≡◌, ◌≢◌, ℕ, ◌+◌, ◌*◌, ◌<◌, ◌≤◌, List, [], ◌++◌, length, take, drop}
-use Rattle.std.proofs.Common.{max, Option, None, Some, sym, ap, subst, ◌∙◌, arith, ⊎_elim}
+use Rattle.std.proofs.Common.{max, Option, None, Some, sym, ap, subst, ◌∙◌, arith}
 use Rattle.std.proofs.Common.{append-nil}
 use Rattle.std.proofs.lemmas.Bool.{cases_lt}
 use Rattle.std.proofs.Math.Seq.{take-add}
@@ -13,7 +13,7 @@ use Rattle.grep_line_buffer.specs.Appends.{Reads}
 use Rattle.grep_line_buffer.specs.BufferStates.{IsWithin}
 use Rattle.grep_line_buffer.specs.Contents.{first_size, IsBelow, ContentsFail}
 use Rattle.grep_line_buffer.specs.Room.{IsFullFault, IsLarge, next_size}
-use Rattle.grep_line_buffer.proofs.ReadLemmas.{HasRead, HasRead-none, HasRead-more}
+use Rattle.grep_line_buffer.proofs.ReadLemmas.{HasRead, HasRead-more}
 
 -- a number that is less than one within the limit is below it
 pub below-within : (limit : Option ℕ) (n size : ℕ) → n < size → IsWithin limit size
@@ -25,14 +25,7 @@ below-within (Some most) n size less within = omega (arith, less, within)
 below-other : (limit : Option ℕ) (size : ℕ) → IsWithin limit size → limit ≢ Some size
     → IsBelow limit size
 below-other None size within other = tt
-below-other (Some most) size within other = ⊎_elim (λ less. less)
-    (λ low. let same : most ≡ size = omega (arith, low, within) in absurd (other (ap Some same)))
-    (cases_lt size most)
-
--- nothing is within every limit
-pub within-none : (limit : Option ℕ) → IsWithin limit 0
-within-none None = tt
-within-none (Some most) = omega arith
+below-other (Some most) size within other = grind (arith, cases_lt)
 
 -- what is below the next size is below the limit
 below-next : (limit : Option ℕ) (least size n : ℕ) → n < next_size least limit size
@@ -46,19 +39,12 @@ pub contents-full : (limit : Option ℕ) (size was now : ℕ) (bytes : List ℕ)
     → IsLarge limit size → was ≤ now → IsFullFault limit size e
     → (limit ≢ Some size → now < next_size first_size limit size) → ContentsFail limit was bytes e
 contents-full limit size was now bytes (Read e) len within large kept fault memory = absurd fault
-contents-full limit size was now bytes HeapLimit len within large kept fault memory = fault
+contents-full limit size was now bytes HeapLimit len within large kept fault memory =
+    fault
     ∙ ap Some (sym len)
 contents-full limit size was now bytes Offset len within large kept fault memory = absurd fault
 contents-full limit size was now bytes Memory len within large kept fault memory =
-    let short : was < next_size first_size limit size = omega (arith, kept, memory fault) in
-    let next = below-next limit first_size size was short in
-    record {
-      below = subst (IsBelow limit) (sym len) (below-other limit size within fault);
-      above = next.0;
-      more = subst (λ n. was < max first_size (2 * n)) (sym len) next.1;
-      some = λ some. subst (λ n. first_size ≤ n) (sym len)
-          (⊎_elim (λ large. large) (λ at. absurd (fault at)) (large (omega (arith, len, some))));
-    }
+    grind (arith, below-next, below-other, max)
 
 module _ {R : Type 0} (remaining : R → Option (List ℕ)) (step : R → ReadResult → R → Type 0) where
   -- So many first bytes of a vector are what reads of the decoder gave.
@@ -75,14 +61,7 @@ module _ {R : Type 0} (remaining : R → Option (List ℕ)) (step : R → ReadRe
   pub IsReading-first : (limit : Option ℕ) (capacity capacity' : ℕ) (d : DecoderState) (r : R)
       (items : List ℕ) → Decodes remaining step d r [] d r → items ≡ [] → capacity ≤ capacity'
       → IsReading limit capacity d r 0 items capacity' d r
-  IsReading-first limit capacity capacity' d r items none empty kept =
-      subst (λ l. IsReading limit capacity d r 0 l capacity' d r) (sym empty) (record {
-        read = HasRead-none remaining step d r none;
-        fits = omega arith;
-        within = within-none limit;
-        large = λ some. absurd (omega (arith, some));
-        kept = kept;
-      })
+  IsReading-first limit capacity capacity' d r items none empty kept = grind arith
 
   -- there is more room, or as much
   pub IsReading-room : (limit : Option ℕ) (capacity now now' len : ℕ) (d d1 : DecoderState)
@@ -90,14 +69,7 @@ module _ {R : Type 0} (remaining : R → Option (List ℕ)) (step : R → ReadRe
       → IsReading limit capacity d r len items now d1 r1 → take len made ≡ take len items → len
       < length made → IsWithin limit (length made) → IsLarge limit (length made) → now ≤ now'
       → IsReading limit capacity d r len made now' d1 r1
-  IsReading-room limit capacity now now' len d d1 r r1 items made before front room within large
-      kept = record {
-        read = subst (λ l. HasRead remaining step d r l d1 r1) (sym front) before.read;
-        fits = omega (arith, room);
-        within = within;
-        large = large;
-        kept = omega (arith, kept, before.kept);
-      }
+  IsReading-room limit capacity now now' len d d1 r r1 items made before front room within large kept = grind arith
 
   -- one read
   pub IsReading-more : (limit : Option ℕ) (capacity now len count : ℕ) (d d1 d2 : DecoderState)

@@ -1,8 +1,8 @@
 -- Detection in the bytes that were read last.
 use borrow.Rule.Slice.PartMut.{put_mid}
-use Rattle.std.proofs.Common.{◌≡◌, ℕ, ◌+◌, ◌-◌, ◌<◌, ◌≤◌, ◌⊎◌, inl, inr, ◌==◌, true, false, ◌&&◌}
+use Rattle.std.proofs.Common.{◌≡◌, ℕ, ◌+◌, ◌-◌, ◌≤◌, ◌==◌, true, false, ◌&&◌}
 use Rattle.std.proofs.Common.{List, ◌++◌, length, take, drop, Option, None, Some, refl, sym, ap}
-use Rattle.std.proofs.Common.{◌∙◌, subst, arith, length-append, length-drop, length-take-le}
+use Rattle.std.proofs.Common.{◌∙◌, arith, length-append, length-drop, length-take-le}
 use Rattle.std.specs.List.{position, position_or_len}
 use Rattle.std.specs.Option.{option_map, is_some}
 use Rattle.std.proofs.lemmas.Bool.{false≢true}
@@ -14,9 +14,7 @@ use Rattle.grep_line_buffer.specs.Appends.{Detects}
 use Rattle.grep_line_buffer.specs.BufferStates.{BufferState, held_bytes}
 use Rattle.grep_line_buffer.specs.Detections.{detected_bytes, found_in, first_of}
 use Rattle.grep_line_buffer.specs.declared.detection.Detection.TheVariants.{Quit}
-use Rattle.grep_line_buffer.proofs.DetectionLemmas.{all-before, first_of-none, passes-or-not}
-use Rattle.grep_line_buffer.proofs.DetectionLemmas.{position-at, position-missing}
-use Rattle.std.proofs.lemmas.Option.{none-some, same_Some}
+use Rattle.grep_line_buffer.proofs.DetectionLemmas.{all-before, first_of-none}
 use Rattle.grep_line_buffer.proofs.SliceLemmas.{length-slice, slice-join, slice-kept}
 
 -- the bytes before the last ones stay, and detection makes these of the last ones

@@ -1,7 +1,7 @@
 -- What detection makes of bytes and of those that come after them.
 use Rattle.std.proofs.Common.{◌≡◌, ◌⊎◌, inl, inr, ℕ, ◌+◌, ◌<◌, ◌≤◌, Bool, true, false, List, []}
-use Rattle.std.proofs.Common.{◌++◌, length, take, Option, None, Some, refl, sym, ap, ◌∙◌, arith}
-use Rattle.std.proofs.Common.{if◌then◌else◌, ◌==◌, nat_lt, length-append, not, eqb, ltb-true, drop}
+use Rattle.std.proofs.Common.{◌++◌, length, take, Option, None, Some, refl, sym, ◌∙◌, arith}
+use Rattle.std.proofs.Common.{if◌then◌else◌, ◌==◌, nat_lt, length-append, not, eqb, ltb-true}
 use Rattle.std.proofs.Common.{◌&&◌}
 use Rattle.std.specs.List.{position, position_or_len}
 use Rattle.std.specs.Option.{option_map, is_some}

@@ -1,34 +1,31 @@
 -- What a fill of a line buffer has come to.
 use Rattle.std.proofs.Common.{◌≡◌, ◌⊎◌, inl, inr, ℕ, ◌+◌, ◌*◌, ◌-◌, ◌^◌, ◌<◌, ◌≤◌, List, [], ◌++◌}
-use Rattle.std.proofs.Common.{length, drop, true, false, ◌&&◌, if◌then◌else◌, take, Option, None}
+use Rattle.std.proofs.Common.{length, drop, true, false, Option, None}
 use Rattle.std.proofs.Common.{Some, refl, sym, ap, subst, ◌∙◌, arith, append-nil, length-append}
 use Rattle.std.proofs.lemmas.Bool.{false≢true}
 use Rattle.std.proofs.lemmas.List.{drop_at, nil_from_length}
 use Rattle.std.proofs.KnownBytes.{Consumes-nil}
-use Rattle.std.specs.Io.KnownBytes.{Consumes, Keeps, prepend_known}
+use Rattle.std.specs.Io.KnownBytes.{Consumes}
 use Rattle.std.specs.declared.io.Error.{Error}
 use Rattle.grep_decode.specs.declared.mode.Mode.TheVariants.{Passing}
 use Rattle.grep_decode.specs.DecoderStates.{DecoderState, Decodes, HasReadNothing, HasWaited}
-use Rattle.grep_decode.specs.DecoderStates.{IsSettled, TakesAtMost, runs_ahead, yet}
+use Rattle.grep_decode.specs.DecoderStates.{TakesAtMost, runs_ahead, yet}
 use Rattle.grep_decode.specs.Source.{ReadResult}
-use Rattle.grep_line_buffer.specs.declared.detection.Detection.{Detection}
 use Rattle.grep_line_buffer.specs.declared.fill_error.FillError.{FillError}
 use Rattle.grep_line_buffer.specs.declared.fill_error.FillError.TheVariants.{Read, HeapLimit}
 use Rattle.grep_line_buffer.specs.declared.fill_error.FillError.TheVariants.{Offset, Memory}
-use Rattle.std.specs.Option.{option_map, is_some}
+use Rattle.std.specs.Option.{option_map}
 use Rattle.std.proofs.Math.Seq.{take-append_seam}
-use Rattle.grep_line_buffer.specs.declared.detection.Detection.TheVariants.{None as no_detection}
-use Rattle.grep_line_buffer.specs.declared.detection.Detection.TheVariants.{Quit, Convert}
 use Rattle.grep_line_buffer.specs.Detections.{detected_bytes, found_in, first_of, is_quit}
 use Rattle.grep_line_buffer.proofs.DetectionLemmas.{detected_bytes-append, detected_bytes-nil}
 use Rattle.grep_line_buffer.proofs.DetectionLemmas.{found-next, found-nil, first_of-none}
 use Rattle.grep_line_buffer.proofs.DetectionLemmas.{length-detected_bytes, length-uncut, uncut-none}
-use Rattle.grep_line_buffer.specs.BufferStates.{BufferState, coming_to, held_bytes, has_quit}
+use Rattle.grep_line_buffer.specs.BufferStates.{BufferState, held_bytes, has_quit}
 use Rattle.grep_line_buffer.specs.BufferStates.{stream, Lacks, IsWithin, IsSameBuffer, GrowsIfFull}
 use Rattle.grep_line_buffer.specs.BufferStates.{KeepsStream, EndsWith, ShowsLine, IsFilled}
 use Rattle.grep_line_buffer.specs.BufferStates.{HasNoLine}
-use Rattle.grep_line_buffer.specs.Fills.{Fills, FailsToFill, FillFails, PassesOffsets, IsAtLimit}
-use Rattle.grep_line_buffer.specs.Fills.{HasShown, HasWaitedForLine, KeepsInput, MayGrow}
+use Rattle.grep_line_buffer.specs.Fills.{Fills, FillFails, PassesOffsets}
+use Rattle.grep_line_buffer.specs.Fills.{HasShown, HasWaitedForLine, KeepsInput}
 use Rattle.grep_line_buffer.specs.Fills.{ReadFails}
 use Rattle.grep_line_buffer.specs.Appends.{Appends, Detects, FailsToRead, Reads}
 use Rattle.grep_decode.proofs.DecoderLemmas.{reads-fail}
@@ -36,7 +33,7 @@ use Rattle.grep_line_buffer.specs.Room.{IsFullFault}
 use Rattle.grep_line_buffer.proofs.ReadLemmas.{HasRead, HasRead-none, HasRead-more, HasRead-failed}
 use Rattle.grep_line_buffer.proofs.FillPartLemmas.{Keeps-same, Lacks-more, binary_of, detection_of}
 use Rattle.grep_line_buffer.proofs.FillPartLemmas.{ended_of, first-missing, found_after, free_of}
-use Rattle.grep_line_buffer.proofs.FillPartLemmas.{grows-held, grows-more, limit_of, offset_of}
+use Rattle.grep_line_buffer.proofs.FillPartLemmas.{grows-held, limit_of, offset_of}
 use Rattle.grep_line_buffer.proofs.FillPartLemmas.{rest_of, shown_of, size_of, stream-moved}
 use Rattle.grep_line_buffer.proofs.FillPartLemmas.{terminator_of}
 

@@ -1,5 +1,5 @@
 -- The parts of a line buffer that a fill keeps, moves and lets grow.
-use Rattle.std.proofs.Common.{◌≡◌, ◌≢◌, ◌⊎◌, inl, inr, ℕ, ◌+◌, ◌*◌, ◌-◌, ◌^◌, ◌<◌, ◌≤◌, List, []}
+use Rattle.std.proofs.Common.{◌≡◌, ◌≢◌, inl, inr, ℕ, ◌+◌, ◌-◌, ◌^◌, ◌<◌, ◌≤◌, List, []}
 use Rattle.std.proofs.Common.{◌++◌, length, drop, Bool, true, false, if◌then◌else◌, Option, None}
 use Rattle.std.proofs.Common.{Some, Result, Ok, Err, IfErr, OnOk, refl, sym, ap, subst, ◌∙◌, arith}
 use Rattle.std.proofs.Common.{append_assoc, append-nil, length-append, length-drop}
@@ -122,16 +122,6 @@ Lacks-more t count before given now is len none more =
     ∙ ap (drop (length before)) is ∙ drop_at before given _ refl in
     let P : List ℕ → Type 0 = Lacks t in
     subst P (sym is) (All-append (λ b. b ≢ t) before given none (subst P last more))
-
--- a buffer that grew, and one that grew again
-pub grows-more : (old now made : BufferState) → GrowsIfFull old now → length (held_bytes made)
-    ≡ length (held_bytes now)
-    → (made.size ≡ now.size) ⊎ (now.size < made.size) × (now.size ≤ length (held_bytes now))
-    × (made.size ≤ 2 * length (held_bytes now) + 1) → GrowsIfFull old made
-grows-more old now made (inl same) len (inl kept) = inl (kept ∙ same)
-grows-more old now made (inl same) len (inr grew) = grind arith
-grows-more old now made (inr more) len (inl kept) = grind arith
-grows-more old now made (inr more) len (inr grew) = grind arith
 
 -- bytes that are held now don't leave
 pub grows-held : (old now new : BufferState) → GrowsIfFull old now → new.size ≡ now.size

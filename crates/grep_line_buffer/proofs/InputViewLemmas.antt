@@ -1,6 +1,6 @@
 -- What detection makes of a whole input, against what a buffer holds of its parts.
-use Rattle.std.proofs.Common.{◌≡◌, ℕ, ◌+◌, ◌<◌, ◌≤◌, ◌==◌, Bool, true, false, List, [], ◌++◌}
-use Rattle.std.proofs.Common.{length, take, drop, map, Some, None, ◌⊎◌, inl, inr, refl, sym, ◌∙◌}
+use Rattle.std.proofs.Common.{◌≡◌, ℕ, ◌+◌, ◌<◌, ◌≤◌, ◌==◌, Bool, true, List, [], ◌++◌}
+use Rattle.std.proofs.Common.{length, take, drop, map, Some, None, ◌⊎◌, refl, sym, ◌∙◌}
 use Rattle.std.proofs.Common.{ap, arith, append-nil, append_assoc, length-append, ⊎_elim}
 use Rattle.std.proofs.lemmas.List.{take_all, length-map, length-take-le, map-append, take-append-le}
 use Rattle.std.proofs.lemmas.List.{take-append-drop}
@@ -47,8 +47,7 @@ view-none (Convert b) t = refl
 pub view-held : (d : Detection) (t : ℕ) (xs : List ℕ)
     → (is_quit d ≡ true → found_in d t xs ≡ None) → detected_bytes d t xs ≡ viewed d t xs
 view-held no_detection t xs none = refl
-view-held (Quit b) t xs none = take_all (position_or_len (λ x. x == b) xs) xs
-    (omega (arith, all-before (λ x. x == b) xs (none refl)))
+view-held (Quit b) t xs none = grind (arith, take_all, all-before)
 view-held (Convert b) t xs none = refl
 
 -- it is the front of the view in any case
@@ -117,15 +116,8 @@ pub before-kept : (d : Detection) (xs ys : List ℕ) → unquit d (xs ++ ys) ≡
     ≡ xs
 before-kept no_detection xs ys same = refl
 before-kept (Convert b) xs ys same = refl
-before-kept (Quit b) xs ys same = ⊎_elim (λ some.
-    let at = first-same p xs ys some in
-    let count = length-take-le (position_or_len p (xs ++ ys)) (xs ++ ys)
-    (omega (arith, at, some, length-append xs ys)) in
-    absurd (omega (arith, some, at, count, ap length same, length-append xs ys)))
-    (λ all. take_all (position_or_len p xs) xs (omega (arith, all))) (passes-or-not p xs)
-  where
-    p : ℕ → Bool
-    p = λ x. x == b
+before-kept (Quit b) xs ys same =
+    grind (arith, first-same, length-take-le, length-append, take_all, passes-or-not)
 
 -- the first binary byte of a front is that of all
 pub first-kept : (d : Detection) (t : ℕ) (xs ys : List ℕ) (offset : ℕ) → found_in d t xs
@@ -146,52 +138,17 @@ clear-front d t xs ys count within none =
 -- what wasn't among the first bytes is after them
 pub found-after : (d : Detection) (t : ℕ) (xs ys : List ℕ) (offset : ℕ) → found_in d t xs ≡ None
     → found_in d t (xs ++ ys) ≡ Some offset → length xs ≤ offset
-found-after d t xs ys offset none is =
-    some-below _ _ _
-    (ap (λ o. first_of o (option_map (λ i. length xs + i) (found_in d t ys))) (sym none)
-    ∙ (sym (found-append _ t xs ys) ∙ is))
+found-after d t xs ys offset none is = grind (arith, some-below, found-append)
 
 -- a position is the number of bytes before the first one
 position-is : (p : ℕ → Bool) (xs : List ℕ) (offset : ℕ) → position p xs ≡ Some offset
     → (position_or_len p xs ≡ offset) × (offset < length xs)
-position-is p xs offset is = ⊎_elim
-    (λ some. let same : position_or_len p xs ≡ offset = some-same (sym (position-at p xs some)
-    ∙ is) in
-    (same, omega (arith, same, some)))
-    (λ none. absurd (none-some (sym (position-missing p xs none) ∙ is))) (passes-or-not p xs)
-  where
-    some-same : {m n : ℕ} → Some m ≡ Some n → m ≡ n
-    some-same same = cc
-
-    none-some : {n : ℕ} → None ≡ Some n → ⊥
-    none-some same = absurd (cc)
+position-is p xs offset is = grind arith
 
 -- the first binary byte is among what a buffer holds, or right after it if the byte ends the input
 pub found-below : (d : Detection) (t : ℕ) (xs : List ℕ) (offset : ℕ) → found_in d t xs ≡ Some offset
     → (offset < length (detected_bytes d t xs))
     ⊎ ((offset ≤ length (detected_bytes d t xs)) × (is_quit d ≡ true))
 found-below no_detection t xs offset is = absurd (cc)
-found-below (Quit b) t xs offset is =
-    let at = position-is (λ x. x == b) xs _ is in
-    inr (
-      omega (
-        arith,
-        at.0,
-        at.1,
-        length-take-le (position_or_len (λ x. x == b) xs) xs (omega (arith, at.0, at.1)),
-      ),
-      refl,
-    )
-found-below (Convert b) t xs offset is = go (b == t) is
-  where
-    go : (same : Bool) → (if same then None else position (λ x. x == b) xs) ≡ Some offset
-        → (offset < length (map (λ x. if x == b then t else x) xs))
-        ⊎ ((offset ≤ length (map (λ x. if x == b then t else x) xs)) × (false ≡ true))
-    go true is = absurd (cc)
-    go false is =
-        inl (omega (
-          arith,
-          (position-is (λ x. x == b) xs _ is).1,
-          length-map xs (λ x. if x == b
-              then t else x),
-        ))
+found-below (Quit b) t xs offset is = grind (arith, position-is, length-take-le)
+found-below (Convert b) t xs offset is = grind (arith, position-is, length-map)

@@ -1,7 +1,7 @@
 -- What some reads of a decoder gave, and what a read that failed left.
-use Rattle.std.proofs.Common.{◌≡◌, ◌⊎◌, inl, inr, ℕ, ◌+◌, ◌≤◌, List, [], ◌++◌, length, Option, refl}
+use Rattle.std.proofs.Common.{◌≡◌, ◌⊎◌, inl, inr, ℕ, ◌+◌, ◌≤◌, List, [], ◌++◌, length, Option}
 use Rattle.std.proofs.Common.{sym, ap, subst, ◌∙◌, arith, append-nil, length-append}
-use Rattle.std.proofs.KnownBytes.{Consumes-nil, Consumes-trans, Consumes-kept}
+use Rattle.std.proofs.KnownBytes.{Consumes-trans, Consumes-kept}
 use Rattle.std.specs.Io.KnownBytes.{Consumes}
 use Rattle.std.specs.declared.io.Error.{Error}
 use Rattle.grep_decode.proofs.DecoderLemmas.{Decodes-append}
@@ -15,8 +15,7 @@ use Rattle.grep_line_buffer.specs.Contents.{FailsAfter}
 -- what was taken by some reads and by some more
 TakesAtMost-append : (a b c : Option (List ℕ)) (first second most : ℕ) → TakesAtMost a b first
     → TakesAtMost b c second → first + second ≤ most → TakesAtMost a c most
-TakesAtMost-append a b c first second most p q within =
-    (p.0 ++ q.0, rw length-append (omega (arith, p.1, q.1)), Consumes-trans a b c p.0 q.0 p.2 q.2)
+TakesAtMost-append a b c first second most p q within = grind (arith, length-append, Consumes-trans)
 
 module _ {R : Type 0} (remaining : R → Option (List ℕ)) (step : R → ReadResult → R → Type 0) where
   -- Reads of a decoder, none or some, gave these bytes.
@@ -32,14 +31,7 @@ module _ {R : Type 0} (remaining : R → Option (List ℕ)) (step : R → ReadRe
 
   pub HasRead-none : (d : DecoderState) (r : R) → Decodes remaining step d r [] d r
       → HasRead d r [] d r
-  HasRead-none d r none = record {
-    decodes = none;
-    gives = Consumes-nil (yet d (remaining r));
-    begins = inr (refl, refl, refl);
-    stays = λ settled. refl;
-    ahead = λ passing. ([], omega arith, Consumes-nil (remaining r));
-    capacity = refl;
-  }
+  HasRead-none d r none = grind arith
 
   ahead-more : (d d1 d2 : DecoderState) (r r1 r2 : R) (given came : List ℕ)
       → HasRead d r given d1 r1 → Reads remaining step d1 r1 came d2 r2

@@ -11,9 +11,7 @@ use lib.Seq.{paste}
 -- the length of a slice_range
 pub length-slice : (bytes : List ℕ) (start end : ℕ) → end ≤ length bytes
     → length (slice_range bytes start end) ≡ end - start
-length-slice bytes start end within =
-    let room : end - start ≤ length (drop start bytes) =
-    rw length-drop (omega arith) in length-take-le _ _ room
+length-slice bytes start end within = grind (arith, length-drop, length-take-le)
 
 -- a slice_range from a position to itself
 pub slice-none : (bytes : List ℕ) (start : ℕ) → slice_range bytes start start ≡ []
@@ -41,15 +39,7 @@ slice-join bytes a b c first second =
 pub slice-moved : (bytes : List ℕ) (start end : ℕ) → start ≤ end → end ≤ length bytes
     → slice_range (paste bytes 0 (drop start bytes) (end - start)) 0 (end - start)
     ≡ slice_range bytes start end
-slice-moved bytes start end order within =
-    let moved = take (end - start) (drop start bytes) in
-    let len : length moved ≡ end - start = length-slice bytes start end within in
-    let none : (end - start) - 0 ≡ end - start = omega arith in
-    let all : end - start ≤ length moved = omega arith in
-    let same : end - start ≤ end - start = omega arith in
-    ap (λ k. take k (paste bytes 0 (drop start bytes) (end - start))) none
-    ∙ take-append-le (end - start) moved (drop (0 + (end - start)) bytes) all
-    ∙ take-take (end - start) (end - start) (drop start bytes) same
+slice-moved bytes start end order within = grind (arith, length-slice, take-append-le, take-take)
 
 -- a slice_range of a front that stayed
 pub slice-kept : (old new : List ℕ) (a b e : ℕ) → take e new ≡ take e old → b ≤ e

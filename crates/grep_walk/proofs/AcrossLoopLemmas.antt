@@ -37,18 +37,7 @@ module _ (k : Settings) (meaning : Meaning) (bytes : List ℕ) where
 
   pub in-window : (w : Walk) (start : ℕ) → w.offset ≡ start → IsAcross k meaning bytes w
       → IsInWindow k [] bytes bytes start w
-  in-window w start same across = record {
-    shown = own-window t bytes;
-    at = omega arith;
-    line = record {
-      low = omega arith;
-      begins =
-          let all : w.line ≡ w.line - 0 = omega arith in
-          subst (IsLineStart t bytes start) all
-          (subst (λ o. IsLineStart t bytes o w.line) same across.placed.at);
-    };
-    kept = omega (arith, across.placed.low);
-  }
+  in-window w start same across = grind (arith, own-window)
 
   -- the walk after it, its calls, and the unit that is next
   pub record IsMoved (start end : ℕ) (w : Walk) (unit : ℕ × ℕ) (blocks : Blocks) (chosen : Bool) :

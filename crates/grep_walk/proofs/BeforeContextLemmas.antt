@@ -3,14 +3,13 @@ use Rattle.std.proofs.Common.{length, ◌≡◌, ℕ, ◌+◌, ◌-◌, ◌<◌,
 use Rattle.std.proofs.Common.{◌∙◌, ap, subst, arith}
 use Rattle.std.proofs.lemmas.Bool.{lt-leb}
 use Rattle.std.specs.Prelude.{slice_range}
-use Rattle.grep_matcher.specs.Lines.{byte_of, lines, line_start}
+use Rattle.grep_matcher.specs.Lines.{byte_of, lines}
 use Rattle.grep_lines.specs.Positions.{IsLine, IsLineStart}
 use Rattle.grep_definitions.specs.Plans.{Settings, Planned, Steps, Outcome, all_true, AreMade}
-use Rattle.grep_definitions.specs.Plans.{joined_from, number}
+use Rattle.grep_definitions.specs.Plans.{joined_from}
 use Rattle.grep_definitions.specs.LineCalls.{before_calls, listed_calls, pending_calls}
 use Rattle.grep_definitions.specs.SearchLaws.{number_of}
 use Rattle.grep_definitions.proofs.BelowLemmas.{joined_from-add, joined_from-more, joined_from-none}
-use Rattle.grep_definitions.proofs.LineSliceLemmas.{number-line}
 use Rattle.grep_definitions.proofs.SinkRunLemmas.{AreMade-append, AreMade-ended}
 use Rattle.grep_walk.specs.declared.walk.Walk.{Walk}
 use Rattle.grep_walk.specs.Windows.{IsInWindow, IsLineIn}

@@ -1,9 +1,8 @@
 -- What a matcher's result for the lines from a position on says of a window's lines.
-use Rattle.std.proofs.Common.{◌≡◌, inl, inr, ℕ, ◌+◌, ◌-◌, ◌<◌, ◌≤◌, ◌==◌, true, false, cond, List}
-use Rattle.std.proofs.Common.{[], ◌++◌, length, take, drop, slice_index, get_or, is_some, Some}
+use Rattle.std.proofs.Common.{◌≡◌, inl, inr, ℕ, ◌+◌, ◌-◌, ◌<◌, ◌≤◌, true, false, List}
+use Rattle.std.proofs.Common.{[], length, take, drop, get_or, is_some, Some}
 use Rattle.std.proofs.Common.{None, sym, subst, ◌∙◌, ap, arith, ⊎_elim, length-append, length-drop}
 use Rattle.std.proofs.Common.{take_all}
-use Rattle.std.proofs.lemmas.Bool.Decides.{nat_tests}
 use Rattle.std.proofs.lemmas.Bool.{cases_lt, cases_eq}
 use Rattle.std.proofs.lemmas.List.{get_or-drop}
 use Rattle.std.proofs.lemmas.List.Folds.{concat-append}

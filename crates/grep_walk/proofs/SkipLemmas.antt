@@ -1,9 +1,8 @@
 -- A walk that skips lines which don't match.
-use Rattle.std.proofs.Common.{◌≡◌, ℕ, zero, suc, ◌+◌, ◌-◌, ◌<◌, ◌≤◌, Bool, true, false, ◌||◌}
-use Rattle.std.proofs.Common.{if◌then◌else◌, List, length, drop, Some, None, refl, sym, ◌∙◌, ap}
+use Rattle.std.proofs.Common.{◌≡◌, ℕ, zero, suc, ◌+◌, ◌-◌, ◌<◌, ◌≤◌, true, false, ◌||◌}
+use Rattle.std.proofs.Common.{List, length, drop, refl, sym, ◌∙◌, ap}
 use Rattle.std.proofs.Common.{subst, arith, length-take, length-drop}
 use Rattle.std.proofs.lemmas.Bool.Decides.{nat_tests}
-use Rattle.std.proofs.lemmas.Bool.{ltb-true, ltb-false}
 use Rattle.std.specs.Prelude.{nat_lt, IfSome, slice_range}
 use Rattle.grep_lines.specs.Positions.{IsLine, IsLineStart}
 use Rattle.grep_matcher.specs.Lines.{lines, line_start, byte_of}
@@ -32,48 +31,23 @@ record IsSkipping (k : Settings) (w : Walk) : Type 0 where
   unstopped : stops_next k (nat_lt 0 w.match_count) ≡ false
 
 is_skipping : (k : Settings) (w : Walk) → can_skip k w ≡ true → IsSkipping k w
-is_skipping k w can = record {
-  plain = grind (arith, nat_tests);
-  selects = grind (arith, nat_tests);
-  none_left = grind (arith, nat_tests);
-  unstopped = grind (arith, nat_tests);
-}
+is_skipping k w can = grind arith
 
 module _ (k : Settings) (meaning : Meaning) (window : List ℕ) where
   -- at first nothing is known
   pub known-nothing : (p : ℕ) → IsKnown k meaning window p (record { candidate = 0; match_end = 0 })
-  known-nothing p = record {
-    index = 0;
-    at = record { listed = omega arith; begins = refl };
-    exact = λ some. absurd (omega arith);
-    miss = λ i a b line low high. absurd (omega arith);
-    hit = λ i a b line low high. absurd (omega arith);
-  }
+  known-nothing p = grind arith
 
   -- what is known from a position on is known from a later one on
   pub known-later : (p r : ℕ) (a : Ahead) → p ≤ r → IsKnown k meaning window p a
       → IsKnown k meaning window r a
-  known-later p r a low known = record {
-    index = known.index;
-    at = known.at;
-    exact = known.exact;
-    miss = λ i x y line above below. known.miss i x y line (omega arith) below;
-    hit = known.hit;
-  }
+  known-later p r a low known = grind arith
 
   -- and is so of the line there
   pub known-line : (a : Ahead) (i p q : ℕ) → IsKnown k meaning window p a
       → IsLine (byte_of k.line_terminator) window i p q
       → IfSome (known_at a p) (λ matches. matches ≡ matches_line k meaning (slice_range window p q))
-  known-line a i p q known line = go (nat_lt p a.candidate) (nat_lt p a.match_end) refl refl
-    where
-      go : (b c : Bool) → nat_lt p a.candidate ≡ b → nat_lt p a.match_end ≡ c
-          → IfSome (if b then Some false else (if c then Some true else None))
-          (λ m. m ≡ matches_line k meaning (slice_range window p q))
-      go true c is_b is_c = sym (known.miss i p q line (omega arith) (ltb-true p a.candidate is_b))
-      go false true is_b is_c =
-          sym (known.hit i p q line (ltb-false p a.candidate is_b) (ltb-true p a.match_end is_c))
-      go false false is_b is_c = tt
+  known-line a i p q known line = grind arith
 
 module _ {S E : Type 0} (step : Steps S E) (k : Settings) (meaning : Meaning)
     (gone window input : List ℕ) (first : Origin S) (now : S) (bare : Bare k meaning input) where

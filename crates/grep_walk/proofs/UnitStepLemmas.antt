@@ -18,7 +18,7 @@ use Rattle.grep_walk.specs.TouchedUnits.{AreLeft, IsReached}
 use Rattle.grep_walk.proofs.FoundMatchLemmas.{found-start}
 use Rattle.grep_walk.proofs.TouchedLemmas.{touched-none, touched-passed, touched-first}
 use Rattle.grep_walk.proofs.TouchedLemmas.{touched-inside, touched-part, touched-end, unit-of}
-use Rattle.grep_walk.proofs.TouchedLemmas.{unit-none, starts-there, part-apart}
+use Rattle.grep_walk.proofs.TouchedLemmas.{unit-none, part-apart}
 use Rattle.grep_lines.proofs.LineRangeLemmas.{end-start}
 
 -- before the first match

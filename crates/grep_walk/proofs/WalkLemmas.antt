@@ -27,12 +27,12 @@ use Rattle.grep_definitions.proofs.ContentsSearchLemmas.{plain-asked, plain-ran}
 use Rattle.grep_definitions.specs.LineWalks.{IsNear, IsOpen}
 use Rattle.grep_definitions.proofs.BelowLemmas.{joined_from-equal, joined_from-none, headed-through}
 use Rattle.grep_definitions.proofs.BelowLemmas.{headed-many}
-use Rattle.grep_definitions.proofs.LimitLemmas.{IsOpen-none, IsOpen-chosen, IsOpen-missed}
+use Rattle.grep_definitions.proofs.LimitLemmas.{IsOpen-chosen, IsOpen-missed}
 use Rattle.grep_definitions.proofs.LimitLemmas.{reportable-above, reportable-all, IsDone}
 use Rattle.grep_definitions.proofs.LimitLemmas.{IsDone-chosen, IsDone-limit, IsDone-stop}
-use Rattle.grep_definitions.proofs.LimitLemmas.{IsDone-none, selected-is, chosen-is}
+use Rattle.grep_definitions.proofs.LimitLemmas.{selected-is}
 use Rattle.grep_definitions.proofs.SelectionLemmas.{headed-missed}
-use Rattle.grep_definitions.proofs.ContextLemmas.{IsNear-none, IsNear-hit, IsNear-missed}
+use Rattle.grep_definitions.proofs.ContextLemmas.{IsNear-hit, IsNear-missed}
 use Rattle.grep_definitions.proofs.ContextLemmas.{follows-selected, calls_at-done, calls_at-passed}
 use Rattle.grep_definitions.proofs.ContextLemmas.{calls_at-hit, calls_at-after, calls_at-other}
 use Rattle.grep_definitions.proofs.LineSliceLemmas.{number-line}
@@ -126,9 +126,6 @@ module _ (k : Settings) (meaning : Meaning) (bytes : List ℕ) where
   pub ended-start : All (λ call. call.if_false.count ≤ 0) (front 0)
   ended-start = All-cons (λ call. call.if_false.count ≤ 0) (planned begins 0) [] (omega arith)
       (All-nil (λ call. call.if_false.count ≤ 0))
-
-  walk-start : (k.passthru ≡ false → has_room k 0 ≡ false → ⊥) → IsWalk k meaning bytes start_walk
-  walk-start busy = grind arith
 
   front-through : (v i : ℕ) → v ≤ i → front i ≡ front v ++ joined_from T v (i - v)
   front-through = headed-through (planned begins 0) T

@@ -8,8 +8,7 @@ use Rattle.std.proofs.lemmas.Bool.{cases_lt}
 use Rattle.std.proofs.lemmas.List.{take-append-drop, take-append-le, drop-append-le, length-take-le}
 use Rattle.std.proofs.lemmas.List.{drop_all}
 use Rattle.std.specs.Prelude.{slice_range}
-use Rattle.std.specs.List.{concat}
-use Rattle.grep_matcher.specs.Lines.{byte_of, lines, line_start}
+use Rattle.grep_matcher.specs.Lines.{byte_of, lines}
 use Rattle.grep_lines.specs.Positions.{IsLine, IsLineStart}
 use Rattle.grep_matcher.proofs.LineLemmas.{lines-append}
 use Rattle.grep_definitions.specs.Plans.{Settings}
