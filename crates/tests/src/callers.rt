@@ -1,5 +1,6 @@
 //! Tests of what is built on the search: the program `lgrep` as a library, and the small callers of
 //! `uses`.
+mod filtered;
 mod large;
 mod lent;
 mod opening;

@@ -6,4 +6,5 @@ pub mod JsonLines
 pub mod MarkedCalls
 pub mod NonAsciiLines
 pub mod NumberedTexts
+pub mod PlainSettings
 pub mod Prefixes

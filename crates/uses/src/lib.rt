@@ -8,7 +8,7 @@
 //! `json_lines` and `in_context` write by closures, and `reporter` builds a searcher.
 //! `count_with_prefix` and `count_non_ascii_lines` have a matcher of their own, which a search asks
 //! about one line, or about many, and `count_pattern_lines` compiles a regular expression.
-//! `CALLING.md` says which laws they use.
+//! `lines_that_match` keeps the lines of a slice that match. `CALLING.md` says which laws they use.
 #![tactic(auto)]
 
 mod around;
@@ -16,6 +16,7 @@ mod blocks;
 mod collect;
 mod count;
 mod expression;
+mod filter;
 mod first;
 mod json;
 mod non_ascii;
@@ -29,6 +30,7 @@ pub use blocks::count_blocks;
 pub use collect::matching_lines;
 pub use count::{count_in_reader, count_matching_lines};
 pub use expression::count_pattern_lines;
+pub use filter::lines_that_match;
 pub use first::first_matches;
 pub use json::json_lines;
 pub use non_ascii::{NonAscii, count_non_ascii_lines};

@@ -1,0 +1,12 @@
+-- The settings of a search of an input as it is.
+use Rattle.std.specs.Prelude.{ℕ, false, Some}
+use Rattle.grep_searcher.specs.BuiltSettings.{default_settings}
+use Rattle.grep_searcher.specs.Plans.{Settings}
+
+-- no mark is looked for
+abbrev pub as_it_is : Settings
+as_it_is = record default_settings { bom_sniffing = false }
+
+-- and at most this many bytes are held, lines and all
+abbrev pub held_to : ℕ → Settings
+held_to limit = record as_it_is { heap_limit = Some limit }

@@ -1,0 +1,44 @@
+//! The lines of a slice that match, in a vector.
+ghost use Rattle.std.specs.Prelude.{◌≡◌, true, filter, is_some, IfOk};
+ghost use Rattle.grep_searcher.specs.Lines.{lines, strip};
+ghost use Rattle.grep_searcher.specs.MatchHandlers.{bytes_of_each};
+ghost use Rattle.grep_searcher.specs.Plans.{IsLawful};
+ghost use Rattle.uses.specs.PlainSettings.{as_it_is};
+
+use grep_searcher::laws::{
+    lines_are_filtered, runs_keep_bytes, searches_run, unchanged_is_searched,
+};
+use grep_searcher::sinks::{EachLine, OnMatch};
+use grep_searcher::{ConfigError, LineTerminator, Matcher, SearchError, Searcher, SearcherBuilder};
+use std::alloc::Global;
+
+/// Returns the lines of `bytes` in which a matcher has a match, each with its terminator, in order.
+///
+/// That is promised for a matcher that is lawful for a line feed. An error is made of the matcher's,
+/// or of its line terminator, if it declares another one, or of being out of memory.
+pub fn lines_that_match<M: Matcher + Drop>(
+    alloc: Global,
+    matcher: M,
+    bytes: &[u8],
+) -> Result<Vec<Vec<u8>>, SearchError>
+    ensures lines { IsLawful (M.facts matcher) as_it_is → IfOk result (λ found.
+        bytes_of_each found.items ≡ filter (λ line. is_some ((M.facts matcher).meaning.first
+        (strip (LineTerminator.Byte 10) line))) (lines 10 bytes.now)) }
+{
+    let mut searcher = searcher_as_it_is(alloc)?;
+    let mut sink = OnMatch::new(EachLine::new(alloc));
+    searcher.search_slice(matcher, bytes, &mut sink)?;
+    searches_run::<Global, M, _>(&sink);
+    runs_keep_bytes::<Global>();
+    lines_are_filtered();
+    unchanged_is_searched();
+    Ok(sink.into_handler().into_lines())
+}
+
+// A searcher that searches its input as it is.
+fn searcher_as_it_is(alloc: Global) -> Result<Searcher, ConfigError>
+    ensures { IfOk result (λ searcher.
+        searcher ≡ record { settings = as_it_is; has_buffers = true }) }
+{
+    SearcherBuilder::new().bom_sniffing(false).build(alloc)
+}
