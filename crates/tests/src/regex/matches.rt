@@ -101,7 +101,12 @@ const ROWS: &[Row] = &[
     ("", r"\d{3}\.\d+", b"12.3 456.78", Some((5, 11))),
     ("", r"(ab){2}c?", b"abaabab", Some((3, 7))),
     ("", r"a[0-9]", b"ab a", None),
-    ("", r"[ab]{3}c", b"ababababababababababababababababababac", Some((34, 38))),
+    (
+        "",
+        r"[ab]{3}c",
+        b"ababababababababababababababababababac",
+        Some((34, 38)),
+    ),
     ("i", r"k[0-9]", b"k\xe2\x84\xaa5", Some((1, 5))),
     ("", r"x{0}[ab]{2}", b"xab", Some((1, 3))),
     ("n", r"[\na]b", b"\nb ab", Some((3, 5))),
