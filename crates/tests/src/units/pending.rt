@@ -84,7 +84,8 @@ fn come_back(alloc: Global) -> bool {
     let is_pushed = pushes(&mut pending, b"ab", b"c", b"");
     let bytes = pending.take_out();
     let has_none = pending.len() == 0;
-    pending.put_back(bytes, 1, false);
+    let start = bytes.len().min(1);
+    pending.put_back(bytes, start, false);
     is_pushed && has_none && pending.text_len() == 2 && pending.len() == 3
 }
 
