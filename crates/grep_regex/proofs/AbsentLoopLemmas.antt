@@ -1,6 +1,7 @@
 -- How the bytes that no literal has are found, step by step.
 use Rattle.std.proofs.Common.{◌≡◌, ℕ, ◌+◌, ◌<◌, ◌||◌, ◌&&◌, ◌==◌, Bool, true, false, not, List, [], ◌∷◌, ◌++◌}
-use Rattle.std.proofs.Common.{length, map, take, get_or, nat_lt, refl, sym, ap, ◌∙◌, subst, ⊎_elim, arith, Bor, ne_eqb, eq-eqb}
+use Rattle.std.proofs.Common.{length, map, take, get_or, nat_lt, refl, sym, ap, ◌∙◌, subst, ⊎_elim, arith, Bor, ne_eqb}
+use Rattle.std.proofs.Common.{eq-eqb}
 use Rattle.std.proofs.lemmas.Bool.{and_right, cases_eq}
 use Rattle.std.proofs.lemmas.Bool.Decides.{nat_tests}
 use Rattle.std.proofs.lemmas.List.{map-append, take_more}

@@ -51,7 +51,7 @@ first-low : (terminator : LineTerminator) → IsSeparated terminator → first_b
 first-low (Byte b) sep = sep.low
 first-low Crlf sep = lit< tt
 
--- ---- two sides that no local assertion tells apart
+-- ---- two sides that no local assertion distinguishes
 
 record IsAlike (a b : Side) : Type 0 where
   word : is_word a ≡ is_word b

@@ -20,5 +20,5 @@ pub mod MatchedLineLemmas
 pub mod TrustLemmas
 pub mod TextsLemmas
 pub mod RunLemmas
-pub mod TellLemmas
-pub mod ToldLemmas
+pub mod DecisionLemmas
+pub mod StartLemmas

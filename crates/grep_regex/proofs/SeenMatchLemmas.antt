@@ -167,7 +167,8 @@ module _ (hay : List ℕ) where
             other.0,
             other.1,
             ⊎_elim
-                (λ (sooner : other.0.start < m.start). absurd (sound.2 _ _ (omega arith) sooner (inside other.0 other.1).1))
+                (λ (sooner : other.0.start < m.start).
+                absurd (sound.2 _ _ (omega arith) sooner (inside other.0 other.1).1))
                 (λ (later : m.start ≤ other.0.start). ⊎_elim
                 (λ (past : m.start < other.0.start). absurd (first.2 _ _ (omega arith) (omega (arith, past)) there))
                 (λ (near : other.0.start ≤ m.start). omega arith)

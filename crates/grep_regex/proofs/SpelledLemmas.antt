@@ -77,13 +77,15 @@ module _ (bytes hay : List ℕ) (start : ℕ) (fits : start ≤ length hay) wher
       → leftmost_match_at (literal bytes) hay start ≡ match_from start (literal_match bytes rest)
   spelled-at filled are-bytes = ⊎_elim
       (λ none.
-      let missing = choice_missing (literal bytes) hay (needles bytes) are-bytes (is-choice bytes filled) start
+      let missing = choice_missing (literal bytes) hay (needles bytes) are-bytes
+      (is-choice bytes filled) start
       (λ j low high. nowhere (length rest + 1) (λ i below. none i (omega arith) below) j low
       (omega (arith, high, length-drop start hay))) in
       ap (option_map span) missing ∙ ap (match_from start) (match-none rest bytes none))
       (λ some.
       let k : ℕ = some.0 in
-      let located = choice_found (literal bytes) hay (needles bytes) are-bytes (is-choice bytes filled) start (start + k) 0
+      let located = choice_found (literal bytes) hay (needles bytes) are-bytes
+      (is-choice bytes filled) start (start + k) 0
       false (omega arith) (nowhere k (λ j below. some.1.0.before j (omega arith) below)) (is-first k some.1.1) in
       let sum : start + k + length bytes ≡ start + (k + length bytes) = omega arith in
       located.1 refl

@@ -253,7 +253,8 @@ module _ (r : Regex) (is_lawful : LineTerminator → Type 0) (bytes : List ℕ)
         → IsConfirmed terminator (program_re r) → IsLawfulResult terminator (regex_meaning r) bytes found)
         → IsTrusted (regex_meaning r) is_lawful bytes found
     trusted found each other lawful (inl named) =
-        let both = by-declared other (named-is (regex_options r).line_terminator other named) in each other both.0 both.1
+        let both = by-declared other (named-is (regex_options r).line_terminator other named) in
+        each other both.0 both.1
     trusted found each other lawful (inr has) =
         let both = by-absent other has in each other both.0 both.1
 

@@ -1,21 +1,22 @@
--- Patterns whose matches the first bytes tell: a byte of each of some sets, one after another.
-use Rattle.std.specs.Prelude.{◌≡◌, ℕ, ◌+◌, ◌<◌, Bool, true, false, if◌then◌else◌, nat_lt, List, [], ◌∷◌}
+-- Patterns whose matches the first bytes decide: a byte of each of some sets, one after another.
+use Rattle.std.specs.Prelude.{◌≡◌, ℕ, ◌+◌, ◌<◌, Bool, true, false, if◌then◌else◌, nat_lt, List}
+use Rattle.std.specs.Prelude.{[], ◌∷◌}
 use Rattle.std.specs.Prelude.{length, Option, None, Some, slice_get, zero, suc, ◌++◌}
 use Rattle.regex_class.specs.Ranges.{in_ranges}
 use Rattle.regex_hir.specs.Matches.{Matches}
 use Rattle.regex_hir.specs.Re.{Re}
 use Rattle.grep_matcher.specs.ByteSets.{holds}
 
--- what a set tells of a byte, where one is told of the bytes after it: nothing if it isn't ASCII
-abbrev pub told_by : List Bool → Option Bool → Option ℕ → Option Bool
-told_by set after None = Some false
-told_by set after (Some byte) =
+-- what a set decides of a byte, by what is decided of the bytes after it: nothing if it isn't ASCII
+abbrev pub decision_by : List Bool → Option Bool → Option ℕ → Option Bool
+decision_by set after None = Some false
+decision_by set after (Some byte) =
     if nat_lt byte 128 then (if holds set byte then after else Some false) else None
 
--- whether a byte of each set follows from a position on; nothing is told where a byte that isn't ASCII comes first
-abbrev pub tells : List (List Bool) → List ℕ → ℕ → Option Bool
-tells [] hay i = Some true
-tells (set ∷ sets) hay i = told_by set (tells sets hay (i + 1)) (slice_get hay i)
+-- whether a byte of each set follows from a position on; undecided where a byte that isn't ASCII comes first
+abbrev pub decision : List (List Bool) → List ℕ → ℕ → Option Bool
+decision [] hay i = Some true
+decision (set ∷ sets) hay i = decision_by set (decision sets hay (i + 1)) (slice_get hay i)
 
 -- the ASCII members of the class are those of the set
 abbrev pub IsAsciiOf : List (ℕ × ℕ) → List Bool → Type 0
@@ -28,16 +29,17 @@ AreBytes [] (set ∷ sets) = ⊥
 AreBytes (b ∷ bytes) [] = ⊥
 AreBytes (b ∷ bytes) (set ∷ sets) = IsAsciiOf ((b, b) ∷ []) set × AreBytes bytes sets
 
--- where it is told, the pattern matches a byte of each set, and nothing else
+-- where that is decided, the pattern matches a byte of each set, and nothing else
 pub record IsRun (re : Re) (sets : List (List Bool)) : Type 0 where
-  pub yes : (hay : List ℕ) (i : ℕ) → tells sets hay i ≡ Some true → Matches hay re i (i + length sets)
-  pub only : (hay : List ℕ) (i j : ℕ) → tells sets hay i ≡ Some true → Matches hay re i j → j ≡ i + length sets
-  pub no : (hay : List ℕ) (i j : ℕ) → tells sets hay i ≡ Some false → Matches hay re i j → ⊥
+  pub yes : (hay : List ℕ) (i : ℕ) → decision sets hay i ≡ Some true → Matches hay re i (i + length sets)
+  pub only : (hay : List ℕ) (i j : ℕ) → decision sets hay i ≡ Some true → Matches hay re i j
+      → j ≡ i + length sets
+  pub no : (hay : List ℕ) (i j : ℕ) → decision sets hay i ≡ Some false → Matches hay re i j → ⊥
 
--- where it is told, the pattern matches or it doesn't
-pub record IsTold (re : Re) (sets : List (List Bool)) : Type 0 where
-  pub yes : (hay : List ℕ) (i : ℕ) → tells sets hay i ≡ Some true → (j : ℕ) × Matches hay re i j
-  pub no : (hay : List ℕ) (i j : ℕ) → tells sets hay i ≡ Some false → Matches hay re i j → ⊥
+-- where that is decided, the pattern matches or it doesn't
+pub record Decides (re : Re) (sets : List (List Bool)) : Type 0 where
+  pub yes : (hay : List ℕ) (i : ℕ) → decision sets hay i ≡ Some true → (j : ℕ) × Matches hay re i j
+  pub no : (hay : List ℕ) (i j : ℕ) → decision sets hay i ≡ Some false → Matches hay re i j → ⊥
 
 -- the sets, as often as a number says
 abbrev pub repeated : ℕ → List (List Bool) → List (List Bool)

@@ -1,7 +1,9 @@
 -- What patterns match from positions on are first matches. This is the proof of a law of `FindAt`,
 -- which may cite `specs` alone.
-use Rattle.std.proofs.Common.{◌≡◌, ℕ, ◌≤◌, List, length, Option, Some, refl, option_map, sym, ap, ◌∙◌, subst}
-use Rattle.std.proofs.Common.{⊎_elim, arith, Bool, true, false, cond, None, take, ◌-◌, ◌+◌, ◌<◌, length-take}
+use Rattle.std.proofs.Common.{◌≡◌, ℕ, ◌≤◌, List, length, Option, Some, refl, option_map, sym, ap}
+use Rattle.std.proofs.Common.{◌∙◌, subst}
+use Rattle.std.proofs.Common.{⊎_elim, arith, Bool, true, false, cond, None, take, ◌-◌, ◌+◌, ◌<◌}
+use Rattle.std.proofs.Common.{length-take}
 use Rattle.std.proofs.lemmas.Option.{same_Some}
 use Rattle.std.specs.Prelude.{IfSome}
 use Rattle.regex_hir.specs.Find.{Match, first_from}
@@ -29,7 +31,8 @@ module _ (bytes : List ℕ) (re : Re) (hay : List ℕ) where
   abbrev tried : Rest
   tried i = attempt hay re (if_clear bytes hay i accept) i
 
-  found-first : (start : ℕ) (m : Match) → find_clear bytes re hay start ≡ Some m → IsFirst tried start (length hay) m
+  found-first : (start : ℕ) (m : Match) → find_clear bytes re hay start ≡ Some m
+      → IsFirst tried start (length hay) m
   unfolding find_clear
   found-first start m found = IsFirst-of_first_between tried start (length hay) m found
 
@@ -73,7 +76,8 @@ cut-fits hay true is_feed = omega (arith, length-take (length hay - 2) hay)
 cut-fits hay false true = omega (arith, length-take (length hay - 1) hay)
 cut-fits hay false false = omega arith
 
-pub seen-fits : (terminator : Option LineTerminator) (hay : List ℕ) → length (seen_bytes terminator hay) ≤ length hay
+pub seen-fits : (terminator : Option LineTerminator) (hay : List ℕ)
+    → length (seen_bytes terminator hay) ≤ length hay
 seen-fits None hay = omega arith
 seen-fits (Some (Byte b)) hay = omega arith
 seen-fits (Some Crlf) hay = cut-fits hay _ _

@@ -1,5 +1,6 @@
 -- What patterns mean under their options.
-use Rattle.std.specs.Prelude.{◌≡◌, ◌<◌, ◌≤◌, ℕ, max, true, false, if◌then◌else◌, List, [], ◌∷◌, map}
+use Rattle.std.specs.Prelude.{◌≡◌, ◌<◌, ◌≤◌, ℕ, max, true, false, if◌then◌else◌, List, []}
+use Rattle.std.specs.Prelude.{◌∷◌, map}
 use Rattle.std.specs.Prelude.{length, Option, None, Some, IsSomeAnd, All, option_map, chars}
 use Rattle.std.specs.Prelude.{encode_utf8_all}
 use Rattle.regex_hir.specs.Find.{find}

@@ -2,7 +2,7 @@
 ghost use Rattle.std.specs.Prelude.{◌≡◌, ◌++◌, map, IfOk, IfSome, OnOk, IsTrue, Some};
 ghost use Rattle.regex_hir.specs.Meaning.{meaning, cat_all};
 ghost use Rattle.grep_regex.specs.Classes.{AreBytes, IsAsciiOf, IsClassSet, IsRepeated};
-ghost use Rattle.grep_regex.specs.Classes.{IsRun, IsTold};
+ghost use Rattle.grep_regex.specs.Classes.{IsRun, Decides};
 
 use grep_matcher::ByteSet;
 use regex_class::Class;
@@ -12,10 +12,10 @@ use std::alloc::{AllocError, Global};
 // How many sets there are at most. A longer run is left to the engines.
 const LONGEST: usize = 64;
 
-// The sets that tell where a pattern matches, if there are such.
-#[cycle(told)]
-pub(crate) fn told_sets(alloc: Global, hir: &Hir) -> Result<Option<Vec<ByteSet>>, AllocError>
-    ensures { IfOk result (λ found. IfSome found (λ sets. IsTold (meaning hir.now) sets.items)) }
+// The sets that decide where a pattern matches, if there are such.
+#[cycle(decisive)]
+pub(crate) fn decisive_sets(alloc: Global, hir: &Hir) -> Result<Option<Vec<ByteSet>>, AllocError>
+    ensures { IfOk result (λ found. IfSome found (λ sets. Decides (meaning hir.now) sets.items)) }
 {
     match hir {
         Hir::Repetition { min, sub, .. } => {
@@ -24,17 +24,17 @@ pub(crate) fn told_sets(alloc: Global, hir: &Hir) -> Result<Option<Vec<ByteSet>>
             }
             repeated_sets(alloc, sub, *min)
         }
-        Hir::Capture { sub, .. } => told_sets(alloc, sub),
-        Hir::Concat(subs) => told_all(alloc, subs),
+        Hir::Capture { sub, .. } => decisive_sets(alloc, sub),
+        Hir::Concat(subs) => decisive_all(alloc, subs),
         _ => run_sets(alloc, hir),
     }
 }
 
-// The sets of parts, one after another, of which the last may match more than it is told.
-#[cycle(told)]
-fn told_all(alloc: Global, subs: &[Hir]) -> Result<Option<Vec<ByteSet>>, AllocError>
+// The sets of parts, one after another, of which the last may match more than its sets.
+#[cycle(decisive)]
+fn decisive_all(alloc: Global, subs: &[Hir]) -> Result<Option<Vec<ByteSet>>, AllocError>
     ensures { IfOk result (λ found. IfSome found
-        (λ sets. IsTold (cat_all (map meaning subs.now)) sets.items)) }
+        (λ sets. Decides (cat_all (map meaning subs.now)) sets.items)) }
 {
     if subs.is_empty() {
         return Ok(Some(Vec::new(alloc)));
@@ -43,7 +43,7 @@ fn told_all(alloc: Global, subs: &[Hir]) -> Result<Option<Vec<ByteSet>>, AllocEr
     let Some(mut sets) = run_all(alloc, &subs[..last])? else {
         return Ok(None);
     };
-    let Some(more) = told_sets(alloc, &subs[last])? else {
+    let Some(more) = decisive_sets(alloc, &subs[last])? else {
         return Ok(None);
     };
     add_all(&mut sets, &more)?;

@@ -1,7 +1,7 @@
 //! A search for bytes of some sets, one after another.
 ghost use Rattle.std.specs.Prelude.{◌≡◌, ◌≤◌, length, All, false};
 ghost use Rattle.grep_matcher.specs.ByteSets.{holds};
-ghost use Rattle.grep_regex.specs.Told.{IsPlace, IsVerdict};
+ghost use Rattle.grep_regex.specs.Decisions.{IsStart, IsVerdict};
 
 use grep_matcher::ByteSet;
 
@@ -11,9 +11,9 @@ const TRIED: usize = 8;
 // How many bytes a search then has to pass for each time that it fails.
 const SAVED: usize = 8;
 
-// Where the first match starts, as far as it is told.
+// Where the first match starts, as far as it is decided.
 #[derive(Clone, Copy)]
-pub(crate) enum Place {
+pub(crate) enum Start {
     // Here.
     Match(usize),
     // Not before this position.
@@ -22,7 +22,7 @@ pub(crate) enum Place {
     Nowhere,
 }
 
-// What is told of a position.
+// What is decided of a position.
 #[derive(Clone, Copy)]
 pub(crate) enum Verdict {
     // A match starts here.
@@ -32,31 +32,31 @@ pub(crate) enum Verdict {
     Unknown,
 }
 
-// Where the first match from a position on starts of a pattern that these sets tell.
+// Where the first match from a position on starts of a pattern that these sets decide.
 #[inline]
-pub(crate) fn find_start(sets: &[ByteSet], haystack: &[u8], start: usize) -> Place
+pub(crate) fn find_start(sets: &[ByteSet], haystack: &[u8], start: usize) -> Start
     requires { start ≤ length haystack.now }
-    ensures { IsPlace sets.now haystack.now start result }
+    ensures { IsStart sets.now haystack.now start result }
 {
     let mut from = start;
     let mut tried = 0;
     'positions: loop {
-        match tell(sets, haystack, from) {
-            Verdict::Matches => return Place::Match(from),
-            Verdict::Unknown => return Place::From(from),
-            Verdict::Passes(next) if next > haystack.len() => return Place::Nowhere,
+        match decide(sets, haystack, from) {
+            Verdict::Matches => return Start::Match(from),
+            Verdict::Unknown => return Start::From(from),
+            Verdict::Passes(next) if next > haystack.len() => return Start::Nowhere,
             Verdict::Passes(next) => from = next,
         }
         tried += 1;
         if tried > TRIED && (from - start) / SAVED < tried {
-            return Place::From(from);
+            return Start::From(from);
         }
     }
 }
 
-// What the sets tell of a position.
+// What the sets decide of a position.
 #[inline]
-fn tell(sets: &[ByteSet], haystack: &[u8], at: usize) -> Verdict
+fn decide(sets: &[ByteSet], haystack: &[u8], at: usize) -> Verdict
     requires { at ≤ length haystack.now }
     ensures { IsVerdict sets.now haystack.now at result }
 {

@@ -22,7 +22,8 @@ pub(crate) trait Finder {
     ghost is_known: { Regex → Type 0 };
 
     // The first match from a position on in a haystack of which all is seen; for `AnyMatch` some
-    // pair exactly if there is a match, and for `Start` one that starts there. It is `None` if this is for another expression.
+    // pair exactly if there is a match, and for `Start` one that starts there. It is `None` if this
+    // is for another expression.
     fn find_for(
         &mut self,
         regex: &Regex,

@@ -1,11 +1,11 @@
 //! What is known of matches by the bytes with which they begin.
 ghost use Rattle.std.specs.Prelude.{◌≤◌, length};
-ghost use Rattle.grep_regex.specs.Classes.{IsTold};
+ghost use Rattle.grep_regex.specs.Classes.{Decides};
 ghost use Rattle.grep_regex.specs.Known.{IsKnown};
 ghost use Rattle.grep_regex.specs.Views.{program_re};
 
 use crate::asked::Asked;
-use crate::classes::{Place, find_start};
+use crate::classes::{Start, find_start};
 use crate::regex::Regex;
 use grep_matcher::ByteSet;
 
@@ -18,7 +18,7 @@ pub(crate) enum Known {
     From(usize),
 }
 
-// What the sets tell of the first match from a position on.
+// What the sets decide of the first match from a position on.
 #[inline]
 pub(crate) fn known_by(
     regex: &Regex,
@@ -28,16 +28,16 @@ pub(crate) fn known_by(
     asked: Asked,
 ) -> Known
     requires start { start ≤ length haystack.now }
-    requires told { ∥ IsTold (program_re regex.now) sets.now ∥₁ }
+    requires decides { ∥ Decides (program_re regex.now) sets.now ∥₁ }
     ensures { IsKnown regex.now asked haystack.now start result }
 {
     match find_start(sets, haystack, start) {
-        Place::Match(at) => match asked {
+        Start::Match(at) => match asked {
             Asked::FirstMatch => Known::From(at),
             Asked::AnyMatch => Known::Answer(Some((at, at))),
             Asked::Start => Known::Answer(Some((at, at))),
         },
-        Place::From(at) => Known::From(at),
-        Place::Nowhere => Known::Answer(None),
+        Start::From(at) => Known::From(at),
+        Start::Nowhere => Known::Answer(None),
     }
 }

@@ -4,7 +4,7 @@ ghost use Rattle.std.specs.Option.{option_copied};
 ghost use Rattle.regex_hir.specs.Meaning.{meaning};
 ghost use Rattle.grep_matcher.specs.FindResults.{holds_if_some};
 ghost use Rattle.grep_regex.specs.AbsentBytes.{is_absent};
-ghost use Rattle.grep_regex.specs.Classes.{IsTold};
+ghost use Rattle.grep_regex.specs.Classes.{Decides};
 ghost use Rattle.grep_regex.specs.Locality.{is_by_line};
 ghost use Rattle.grep_regex.specs.Patterns.{excluded_bytes, named_terminator, AvoidsAbsent};
 ghost use Rattle.grep_regex.specs.Patterns.{FindsAs};
@@ -15,7 +15,7 @@ ghost use Rattle.grep_regex.specs.Spelled.{IsSpelled};
 ghost use Rattle.grep_regex.specs.Stripped.{AreAscii};
 
 use crate::absent::{absent_bytes, is_nul};
-use crate::class_tree::told_sets;
+use crate::class_tree::decisive_sets;
 use crate::error::Error;
 use crate::frame::frame;
 use crate::literal::literal_of;
@@ -201,12 +201,12 @@ impl Regex {
         literal_of(&self.shared.program.hir)
     }
 
-    // The sets of bytes that tell where it matches, if there are such.
+    // The sets of bytes that decide where it matches, if there are such.
     pub(crate) fn sets(&self, alloc: Global) -> Result<Option<Vec<ByteSet>>, AllocError>
         ensures { IfOk result (λ found. IfSome found
-            (λ sets. IsTold (program_re self.now) sets.items)) }
+            (λ sets. Decides (program_re self.now) sets.items)) }
     {
-        told_sets(alloc, &self.shared.program.hir)
+        decisive_sets(alloc, &self.shared.program.hir)
     }
 
     // What searches for the expression.

@@ -2,7 +2,7 @@
 ghost use Rattle.std.specs.Prelude.{◌≡◌, ◌≤◌, length, IfOk, IfSome};
 ghost use Rattle.std.specs.Arc.{arc_value};
 ghost use Rattle.regex_hir.specs.Meaning.{meaning};
-ghost use Rattle.grep_regex.specs.Classes.{IsTold};
+ghost use Rattle.grep_regex.specs.Classes.{Decides};
 ghost use Rattle.grep_regex.specs.Spelled.{IsSpelled};
 
 use crate::asked::Asked;
@@ -18,12 +18,12 @@ pub(crate) struct Shortcut<'r> {
     pub(crate) regex: &'r Regex,
     // For an expression that is a literal.
     literal: Option<LiteralMatcher<'r>>,
-    // For an expression whose matches their first bytes tell: the sets of these, one after another.
+    // For an expression whose matches their first bytes decide: the sets of these, one after another.
     sets: Option<Vec<ByteSet>>,
     ghost spelled: { ∥ IfSome literal
         (IsSpelled (meaning (arc_value regex.now.shared).program.hir)) ∥₁ },
-    ghost told: { ∥ IfSome sets
-        (λ s. IsTold (meaning (arc_value regex.now.shared).program.hir) s.items) ∥₁ },
+    ghost decides: { ∥ IfSome sets
+        (λ s. Decides (meaning (arc_value regex.now.shared).program.hir) s.items) ∥₁ },
 }
 
 // Written out, so that a caller's proof sees one call.

@@ -15,7 +15,7 @@ run_sets-returns-in-Empty t c = rw (c.in-Empty.is, meaning-Empty, c.new.ensures.
 
 pub run_sets-returns-in-Literal : goal.run_sets-returns-in-Literal
 run_sets-returns-in-Literal t c = rw (c.in-Literal.is, meaning-Literal) (IfOk-weaker c.literal_sets.result _ _
-    (λ found told. IfSome_then found told (λ sets all. literal-run _ _ (rw c.deref.ensures.value at all)))
+    (λ found some. IfSome_then found some (λ sets all. literal-run _ _ (rw c.deref.ensures.value at all)))
     c.literal_sets.ensures)
 
 pub run_sets-returns-in_ok-class_sets-in-Bytes : goal.run_sets-returns-in_ok-class_sets-in-Bytes
@@ -29,12 +29,12 @@ run_sets-returns-in_ok-class_sets-in-Chars t c = rw (c.in-Chars.is, meaning-Char
 pub run_sets-returns-in-Repetition : goal.run_sets-returns-in-Repetition
 run_sets-returns-in-Repetition t c =
     rw (c.in-Repetition.is, c.is_exact.ensures c.if-is_exact.true, meaning-Repetition)
-    (IfOk-weaker c.repeated_sets.result _ _ (λ found told. IfSome_then found told
+    (IfOk-weaker c.repeated_sets.result _ _ (λ found some. IfSome_then found some
     (λ sets all. repeated-run _ _ _ _ _ refl (rw c.deref-in-Repetition.ensures at all))) c.repeated_sets.ensures)
 
 pub run_sets-returns-in-Capture : goal.run_sets-returns-in-Capture
 run_sets-returns-in-Capture t c = rw (c.in-Capture.is, meaning-Capture) (IfOk-weaker c.run_sets.result _ _
-    (λ found told. IfSome_then found told (λ sets run. group-run _ _ _ (rw c.deref-in-Capture.ensures at run)))
+    (λ found some. IfSome_then found some (λ sets run. group-run _ _ _ (rw c.deref-in-Capture.ensures at run)))
     c.run_sets.ensures)
 
 pub run_sets-returns-in-Concat : goal.run_sets-returns-in-Concat
@@ -52,17 +52,20 @@ run_all-loop-i-preserved t c =
     )
     (all-run front (meaning c.index-subs-i.result) c.loop-i.sets.items _ c.loop-i.invariant
     (rw c.deref.ensures.value
-    (subst (λ o. IfSome o (λ sets. IsRun (meaning c.index-subs-i.result) sets.items)) c.in-Some.is c.in_ok-more.ensures)))
+    (subst (λ o. IfSome o (λ sets. IsRun (meaning c.index-subs-i.result) sets.items)) c.in-Some.is
+    c.in_ok-more.ensures)))
 
 pub run_all-returns : goal.run_all-returns
 run_all-returns t c =
-    let all : take c.loop-i.i c.args.subs.now ≡ c.args.subs.now = take_all c.loop-i.i c.args.subs.now c.loop-i-test.false in
+    let all : take c.loop-i.i c.args.subs.now ≡ c.args.subs.now =
+    take_all c.loop-i.i c.args.subs.now c.loop-i-test.false in
     subst (λ subs. IsRun (cat_all (map meaning subs)) c.loop-i.sets.items) all c.loop-i.invariant
 
 pub repeated_sets-loop-preserved : goal.repeated_sets-loop-preserved
 repeated_sets-loop-preserved t c =
     c.in_ok-add_all.ensures ∙ (ap₂ ◌++◌ c.loop.invariant c.deref.ensures.value
-    ∙ (repeated-more c.loop.counter c.in-Some.one.items ∙ ap (λ n. repeated n c.in-Some.one.items) (sym (add-one c.loop.counter))))
+    ∙ (repeated-more c.loop.counter c.in-Some.one.items
+    ∙ ap (λ n. repeated n c.in-Some.one.items) (sym (add-one c.loop.counter))))
 
 pub repeated_sets-returns : goal.repeated_sets-returns
 repeated_sets-returns t c =

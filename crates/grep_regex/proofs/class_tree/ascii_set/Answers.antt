@@ -12,10 +12,14 @@ loop-byte-preserved c =
     elim c.if-contains.branch [
       | then-contains w ↦ λ other. ap (λ set. holds set other) w.set-is ∙ (w.add.ensures other
           ∙ (ap (λ t. other == c.loop-byte.byte || t) (c.loop-byte.invariant other)
-          ∙ bound-added members c.loop-byte.byte other (ap members (sym c.from.ensures) ∙ (sym c.contains.ensures ∙ w.if-contains.true))))
+          ∙ bound-added members c.loop-byte.byte other
+          (ap members (sym c.from.ensures) ∙ (sym c.contains.ensures ∙ w.if-contains.true))))
       | else-contains w ↦ λ other. ap (λ set. holds set other) w.set-is ∙ (c.loop-byte.invariant other
-          ∙ bound-passed members c.loop-byte.byte other (ap members (sym c.from.ensures) ∙ (sym c.contains.ensures ∙ w.if-contains.false)))
+          ∙ bound-passed members c.loop-byte.byte other
+          (ap members (sym c.from.ensures) ∙ (sym c.contains.ensures ∙ w.if-contains.false)))
     ]
 
 pub returns : goal.returns
-returns c = λ other low. c.loop-byte.invariant other ∙ below-bound (in_ranges c.args.class.now.ranges.items other) other c.loop-byte.byte (omega (arith, low, c.loop-byte-test.false))
+returns c = λ other low. c.loop-byte.invariant other
+    ∙ below-bound (in_ranges c.args.class.now.ranges.items other) other c.loop-byte.byte
+    (omega (arith, low, c.loop-byte-test.false))

@@ -1,5 +1,5 @@
 use Rattle.std.proofs.Common.{◌+◌, ◌-◌, ◌≤◌, length}
-use Rattle.grep_regex.specs.Told.{IsPassed}
+use Rattle.grep_regex.specs.Decisions.{IsPassed}
 use Rattle.grep_regex.proofs.classes.find_start.Given as goal
 
 abbrev pub invariant-positions : goal.invariant-positions

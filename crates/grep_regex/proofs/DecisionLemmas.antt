@@ -1,58 +1,59 @@
--- What sets tell of positions.
-use Rattle.std.proofs.Common.{◌≡◌, ℕ, suc, ◌+◌, ◌-◌, ◌<◌, ◌≤◌, Bool, true, false, List, [], ◌∷◌, length, get_or, drop, take, All}
+-- What sets decide of positions.
+use Rattle.std.proofs.Common.{◌≡◌, ℕ, suc, ◌+◌, ◌-◌, ◌<◌, ◌≤◌, Bool, true, false, List, [], ◌∷◌, length, get_or, drop}
+use Rattle.std.proofs.Common.{take, All}
 use Rattle.std.proofs.Common.{Option, Some, sym, ap, ◌∙◌, subst, ⊎_elim, arith, drop-cons}
 use Rattle.std.proofs.lemmas.Bool.{cases_Bool, cases_lt}
 use Rattle.std.proofs.lemmas.List.{get_or_default, get_or-take, length-take-le}
 use Rattle.std.proofs.lemmas.Option.{slice_get-get_or, slice_get_past}
 use Rattle.grep_matcher.specs.ByteSets.{holds}
-use Rattle.grep_regex.specs.Classes.{told_by, tells}
-use Rattle.grep_regex.specs.Told.{IsPassed}
+use Rattle.grep_regex.specs.Classes.{decision_by, decision}
+use Rattle.grep_regex.specs.Decisions.{IsPassed}
 
 -- a byte that is in the set, and one that isn't
-told-member : (set : List Bool) (after : Option Bool) (b : ℕ) → b < 128 → holds set b ≡ true
-    → told_by set after (Some b) ≡ after
-told-member set after b low has = grind (arith, low, has)
+decision-member : (set : List Bool) (after : Option Bool) (b : ℕ) → b < 128 → holds set b ≡ true
+    → decision_by set after (Some b) ≡ after
+decision-member set after b low has = grind (arith, low, has)
 
-told-other : (set : List Bool) (after : Option Bool) (b : ℕ) → b < 128 → holds set b ≡ false
-    → told_by set after (Some b) ≡ Some false
-told-other set after b low has = grind (arith, low, has)
+decision-other : (set : List Bool) (after : Option Bool) (b : ℕ) → b < 128 → holds set b ≡ false
+    → decision_by set after (Some b) ≡ Some false
+decision-other set after b low has = grind (arith, low, has)
 
 -- the bytes from a position up to another are ASCII
 abbrev pub AreLow : List ℕ → ℕ → ℕ → Type 0
 AreLow hay from to = (q : ℕ) → from ≤ q → q < to → get_or hay q 0 < 128
 
 -- what follows the first set
-tells-cons : (set : List Bool) (sets : List (List Bool)) (hay : List ℕ) (i : ℕ) → i < length hay
-    → tells (set ∷ sets) hay i ≡ told_by set (tells sets hay (i + 1)) (Some (get_or hay i 0))
-tells-cons set sets hay i inside = ap (told_by set (tells sets hay (i + 1))) (slice_get-get_or hay i 0 inside)
+decision-cons : (set : List Bool) (sets : List (List Bool)) (hay : List ℕ) (i : ℕ) → i < length hay
+    → decision (set ∷ sets) hay i ≡ decision_by set (decision sets hay (i + 1)) (Some (get_or hay i 0))
+decision-cons set sets hay i inside = ap (decision_by set (decision sets hay (i + 1))) (slice_get-get_or hay i 0 inside)
 
-tells-past : (set : List Bool) (sets : List (List Bool)) (hay : List ℕ) (i : ℕ) → length hay ≤ i
-    → tells (set ∷ sets) hay i ≡ Some false
-tells-past set sets hay i past = ap (told_by set (tells sets hay (i + 1))) (slice_get_past hay i past)
+decision-past : (set : List Bool) (sets : List (List Bool)) (hay : List ℕ) (i : ℕ) → length hay ≤ i
+    → decision (set ∷ sets) hay i ≡ Some false
+decision-past set sets hay i past = ap (decision_by set (decision sets hay (i + 1))) (slice_get_past hay i past)
 
 -- a first byte that is ASCII, by whether it is in the first set
 by-first : (set : List Bool) (sets : List (List Bool)) (hay : List ℕ) (i : ℕ) → i < length hay
-    → get_or hay i 0 < 128 → (holds set (get_or hay i 0) ≡ true → tells sets hay (i + 1) ≡ Some false)
-    → tells (set ∷ sets) hay i ≡ Some false
-by-first set sets hay i inside low later = tells-cons set sets hay i inside ∙ ⊎_elim
-    (λ has. told-member set _ (get_or hay i 0) low has ∙ later has)
-    (λ has. told-other set _ (get_or hay i 0) low has)
+    → get_or hay i 0 < 128 → (holds set (get_or hay i 0) ≡ true → decision sets hay (i + 1) ≡ Some false)
+    → decision (set ∷ sets) hay i ≡ Some false
+by-first set sets hay i inside low later = decision-cons set sets hay i inside ∙ ⊎_elim
+    (λ has. decision-member set _ (get_or hay i 0) low has ∙ later has)
+    (λ has. decision-other set _ (get_or hay i 0) low has)
     (cases_Bool (holds set (get_or hay i 0)))
 
 -- too few bytes follow
 pub too-short : (sets : List (List Bool)) (hay : List ℕ) (i : ℕ) → i ≤ length hay → length hay < i + length sets
-    → AreLow hay i (length hay) → tells sets hay i ≡ Some false
+    → AreLow hay i (length hay) → decision sets hay i ≡ Some false
 too-short [] hay i fits short low = absurd (omega (arith, fits, short))
 too-short (set ∷ sets) hay i fits short low = ⊎_elim
     (λ (inside : i < length hay). by-first set sets hay i inside (low i (omega arith) inside)
     (λ has. too-short sets hay (i + 1) (omega arith) (omega (arith, short)) (λ q from to. low q (omega arith) to)))
-    (λ (past : length hay ≤ i). tells-past set sets hay i past)
+    (λ (past : length hay ≤ i). decision-past set sets hay i past)
     (cases_lt i (length hay))
 
 -- the byte at a position is in none of the sets that could have it
 pub barred : (sets : List (List Bool)) (hay : List ℕ) (i q : ℕ) → i ≤ q → q < i + length sets → q < length hay
     → AreLow hay i (q + 1)
-    → ((m : ℕ) → m ≤ q - i → holds (get_or sets m []) (get_or hay q 0) ≡ false) → tells sets hay i ≡ Some false
+    → ((m : ℕ) → m ≤ q - i → holds (get_or sets m []) (get_or hay q 0) ≡ false) → decision sets hay i ≡ Some false
 barred [] hay i q ordered near inside low lacks = absurd (omega (arith, near, ordered))
 barred (set ∷ sets) hay i q ordered near inside low lacks = ⊎_elim
     (λ (before : i < q). by-first set sets hay i (omega arith) (low i (omega arith) (omega arith))
@@ -60,22 +61,22 @@ barred (set ∷ sets) hay i q ordered near inside low lacks = ⊎_elim
     (λ m below. lacks (suc m) (omega arith))))
     (λ (at : q ≤ i).
     let same : q ≡ i = omega arith in
-    tells-cons set sets hay i (omega arith)
-    ∙ told-other set _ (get_or hay i 0) (low i (omega arith) (omega arith))
+    decision-cons set sets hay i (omega arith)
+    ∙ decision-other set _ (get_or hay i 0) (low i (omega arith) (omega arith))
     (subst (λ x. holds set (get_or hay x 0) ≡ false) same (lacks 0 (omega arith))))
     (cases_lt i q)
 
 -- one more byte that is in its set
-pub told-more : (sets : List (List Bool)) (hay : List ℕ) (at k : ℕ) → k < length sets → at + k < length hay
+pub decision-more : (sets : List (List Bool)) (hay : List ℕ) (at k : ℕ) → k < length sets → at + k < length hay
     → get_or hay (at + k) 0 < 128 → holds (get_or sets k []) (get_or hay (at + k) 0) ≡ true
-    → tells (drop k sets) hay (at + k) ≡ tells (drop (k + 1) sets) hay (at + (k + 1))
-told-more sets hay at k within inside low has =
+    → decision (drop k sets) hay (at + k) ≡ decision (drop (k + 1) sets) hay (at + (k + 1))
+decision-more sets hay at k within inside low has =
     let one : k + 1 ≡ suc k = omega arith in
     let next : at + k + 1 ≡ at + (k + 1) = omega arith in
-    ap (λ xs. tells xs hay (at + k)) (drop-cons sets k [] within)
-    ∙ (tells-cons (get_or sets k []) (drop (suc k) sets) hay (at + k) inside
-    ∙ (told-member (get_or sets k []) _ (get_or hay (at + k) 0) low has
-    ∙ (ap (λ n. tells (drop n sets) hay (at + k + 1)) (sym one) ∙ ap (tells (drop (k + 1) sets) hay) next)))
+    ap (λ xs. decision xs hay (at + k)) (drop-cons sets k [] within)
+    ∙ (decision-cons (get_or sets k []) (drop (suc k) sets) hay (at + k) inside
+    ∙ (decision-member (get_or sets k []) _ (get_or hay (at + k) 0) low has
+    ∙ (ap (λ n. decision (drop n sets) hay (at + k + 1)) (sym one) ∙ ap (decision (drop (k + 1) sets) hay) next)))
 
 module _ (sets : List (List Bool)) (hay : List ℕ) (at k : ℕ) (set : List Bool) (within : k < length sets)
     (is : set ≡ get_or sets k set) (inside : at + k < length hay) (ascii : get_or hay (at + k) 0 < 128) where
@@ -83,10 +84,10 @@ module _ (sets : List (List Bool)) (hay : List ℕ) (at k : ℕ) (set : List Boo
   is-kth = is ∙ get_or_default sets k set [] within
 
   -- a byte that is in its set
-  pub told-next : holds set (get_or hay (at + k) 0) ≡ true
-      → tells sets hay at ≡ tells (drop k sets) hay (at + k)
-      → tells sets hay at ≡ tells (drop (k + 1) sets) hay (at + (k + 1))
-  told-next has same = same ∙ told-more sets hay at k within inside ascii
+  pub decision-next : holds set (get_or hay (at + k) 0) ≡ true
+      → decision sets hay at ≡ decision (drop k sets) hay (at + k)
+      → decision sets hay at ≡ decision (drop (k + 1) sets) hay (at + (k + 1))
+  decision-next has same = same ∙ decision-more sets hay at k within inside ascii
       (subst (λ s. holds s (get_or hay (at + k) 0) ≡ true) is-kth has)
 
   module _ (low : AreLow hay at (at + k)) where
@@ -101,13 +102,13 @@ module _ (sets : List (List Bool)) (hay : List ℕ) (at k : ℕ) (set : List Boo
       kth-lacks = subst (λ s. holds s (get_or hay (at + k) 0) ≡ false) is-kth lacks
 
       -- a byte that isn't in its set: the position is passed
-      pub passes-one : tells sets hay at ≡ tells (drop k sets) hay (at + k) → IsPassed sets hay at (at + 1)
+      pub passes-one : decision sets hay at ≡ decision (drop k sets) hay (at + k) → IsPassed sets hay at (at + 1)
       passes-one same i from to =
           let here : at ≡ i = omega arith in
-          subst (λ x. tells sets hay x ≡ Some false) here
-          (same ∙ (ap (λ xs. tells xs hay (at + k)) (drop-cons sets k [] within)
-          ∙ (tells-cons (get_or sets k []) (drop (suc k) sets) hay (at + k) inside
-          ∙ told-other (get_or sets k []) _ (get_or hay (at + k) 0) ascii kth-lacks)))
+          subst (λ x. decision sets hay x ≡ Some false) here
+          (same ∙ (ap (λ xs. decision xs hay (at + k)) (drop-cons sets k [] within)
+          ∙ (decision-cons (get_or sets k []) (drop (suc k) sets) hay (at + k) inside
+          ∙ decision-other (get_or sets k []) _ (get_or hay (at + k) 0) ascii kth-lacks)))
 
       -- nor in one of those before: so are all up to the byte
       pub passes-all : All (λ s. holds s (get_or hay (at + k) 0) ≡ false) (take k sets)

@@ -1,5 +1,6 @@
--- Where the first match starts, by what sets of bytes tell.
-use Rattle.std.proofs.Common.{◌≡◌, ℕ, ◌+◌, ◌<◌, ◌≤◌, Bool, true, false, List, length, get_or, Option, Some, None, refl, sym, ap}
+-- Where the first match starts, by what sets of bytes decide.
+use Rattle.std.proofs.Common.{◌≡◌, ℕ, ◌+◌, ◌<◌, ◌≤◌, Bool, true, false, List, length, get_or, Option, Some, None, refl}
+use Rattle.std.proofs.Common.{sym, ap}
 use Rattle.std.proofs.Common.{◌∙◌, option_map, arith}
 use Rattle.std.proofs.Math.Logic.{∥∥₁_elim}
 use Rattle.std.specs.Coded.{coded_ℕ, coded_option, coded×}
@@ -10,19 +11,20 @@ use Rattle.regex_hir.proofs.AttemptLemmas.{attempt_sound, attempt_complete}
 use Rattle.regex_hir.proofs.FindLemmas.{first_between_here, first_between_none, first_between_skip}
 use Rattle.regex_hir.proofs.OptionLemmas.{none_of_no_value, value_of_IsSome}
 use Rattle.regex_vm.specs.Found.{span}
-use Rattle.grep_regex.specs.Classes.{tells, IsTold}
+use Rattle.grep_regex.specs.Classes.{decision, Decides}
 use Rattle.grep_regex.specs.Patterns.{leftmost_match_at}
-use Rattle.grep_regex.specs.Told.{IsPassed}
+use Rattle.grep_regex.specs.Decisions.{IsPassed}
 use Rattle.grep_regex.specs.Views.{program_re, regex_text_at}
 use Rattle.grep_regex.specs.declared.regex.Regex.{Regex}
 use Rattle.grep_regex.proofs.EngineLemmas.{finds-at}
 
-module _ (re : Re) (sets : List (List Bool)) (told : IsTold re sets) (hay : List ℕ) where
-  no-attempt : (i : ℕ) → tells sets hay i ≡ Some false → attempt hay re accept i ≡ None
+module _ (re : Re) (sets : List (List Bool)) (decides : Decides re sets) (hay : List ℕ) where
+  no-attempt : (i : ℕ) → decision sets hay i ≡ Some false → attempt hay re accept i ≡ None
   no-attempt i lacks = none_of_no_value _ (λ t e.
-      let c = attempt_sound hay re accept i t e in told.no hay i c.at lacks c.leads)
+      let c = attempt_sound hay re accept i t e in decides.no hay i c.at lacks c.leads)
 
-  skipped : (start at : ℕ) → start ≤ at → IsPassed sets hay start at → leftmost_match_at re hay at ≡ leftmost_match_at re hay start
+  skipped : (start at : ℕ) → start ≤ at → IsPassed sets hay start at
+      → leftmost_match_at re hay at ≡ leftmost_match_at re hay start
   unfolding find
   skipped start at ordered passed = sym (ap (option_map span)
       (first_between_skip (attempt hay re accept) start at (length hay) ordered
@@ -34,33 +36,35 @@ module _ (re : Re) (sets : List (List Bool)) (told : IsTold re sets) (hay : List
       (first_between_none (attempt hay re accept) start (length hay)
       (λ i from to. no-attempt i (passed i from (omega arith))))
 
-  here : (at : ℕ) → at ≤ length hay → tells sets hay at ≡ Some true
+  here : (at : ℕ) → at ≤ length hay → decision sets hay at ≡ Some true
       → option_map (λ m. m.0) (leftmost_match_at re hay at) ≡ Some at
   unfolding find
   here at fits has =
-      let matches = told.yes hay at has in
-      let found = value_of_IsSome (attempt hay re accept at) (attempt_complete hay re accept at matches.0 matches.1 refl) in
+      let matches = decides.yes hay at has in
+      let found = value_of_IsSome (attempt hay re accept at)
+      (attempt_complete hay re accept at matches.0 matches.1 refl) in
       ap (λ (o : Option Match). option_map (λ (m : ℕ × ℕ). m.0) (option_map span o))
       (first_between_here (attempt hay re accept) at (length hay) found.0 fits found.1)
 
-module _ (r : Regex) (sets : List (List Bool)) (told : ∥ IsTold (program_re r) sets ∥₁) (hay : List ℕ)
+module _ (r : Regex) (sets : List (List Bool)) (decides : ∥ Decides (program_re r) sets ∥₁) (hay : List ℕ)
     (bytes : (k : ℕ) → get_or hay k 0 < 256) where
   pub skipped-same : (start at : ℕ) → start ≤ at → at ≤ length hay → IsPassed sets hay start at
       → regex_text_at r hay at ≡ regex_text_at r hay start
   skipped-same start at ordered fits passed =
-      ∥∥₁_elim told (Coded-set (coded_option (coded× coded_ℕ coded_ℕ)) _ _) (λ t.
+      ∥∥₁_elim decides (Coded-set (coded_option (coded× coded_ℕ coded_ℕ)) _ _) (λ t.
       sym (finds-at r hay at bytes fits) ∙ (skipped (program_re r) sets t hay start at ordered passed
       ∙ finds-at r hay start bytes (omega (arith, ordered, fits))))
 
-  pub told-nowhere : (start : ℕ) → start ≤ length hay → IsPassed sets hay start (length hay + 1)
+  pub nowhere-decided : (start : ℕ) → start ≤ length hay → IsPassed sets hay start (length hay + 1)
       → regex_text_at r hay start ≡ None
-  told-nowhere start fits passed =
-      ∥∥₁_elim told (Coded-set (coded_option (coded× coded_ℕ coded_ℕ)) _ _) (λ t.
+  nowhere-decided start fits passed =
+      ∥∥₁_elim decides (Coded-set (coded_option (coded× coded_ℕ coded_ℕ)) _ _) (λ t.
       sym (finds-at r hay start bytes fits) ∙ nowhere (program_re r) sets t hay start passed)
 
-  pub told-start : (start at : ℕ) → start ≤ at → at ≤ length hay → IsPassed sets hay start at
-      → tells sets hay at ≡ Some true → option_map (λ m. m.0) (regex_text_at r hay start) ≡ Some at
-  told-start start at ordered fits passed has =
-      ∥∥₁_elim told (Coded-set (coded_option coded_ℕ) _ _) (λ t.
-      ap (option_map (λ (m : ℕ × ℕ). m.0)) (sym (skipped-same start at ordered fits passed) ∙ sym (finds-at r hay at bytes fits))
+  pub start-decided : (start at : ℕ) → start ≤ at → at ≤ length hay → IsPassed sets hay start at
+      → decision sets hay at ≡ Some true → option_map (λ m. m.0) (regex_text_at r hay start) ≡ Some at
+  start-decided start at ordered fits passed has =
+      ∥∥₁_elim decides (Coded-set (coded_option coded_ℕ) _ _) (λ t.
+      ap (option_map (λ (m : ℕ × ℕ). m.0)) (sym (skipped-same start at ordered fits passed)
+      ∙ sym (finds-at r hay at bytes fits))
       ∙ here (program_re r) sets t hay at fits has)

@@ -1,6 +1,6 @@
 use Rattle.std.proofs.Common.{◌∙◌, arith, sym}
-use Rattle.grep_regex.proofs.TellLemmas.{low-next, passes-all, passes-one, passes-rest, told-next}
-use Rattle.grep_regex.proofs.classes.tell.Goals as goal
+use Rattle.grep_regex.proofs.DecisionLemmas.{low-next, passes-all, passes-one, passes-rest, decision-next}
+use Rattle.grep_regex.proofs.classes.decide.Goals as goal
 
 pub returns-then-at-k : goal.returns-then-at-k
 returns-then-at-k c = (
@@ -27,7 +27,7 @@ returns-then-not-contains c = (
 
 pub loop-k-preserved : goal.loop-k-preserved
 loop-k-preserved c = record {
-  same = told-next c.args.sets.now c.args.haystack.now c.args.at c.loop-k.k c.index-sets-k.result c.loop-k-test.true
+  same = decision-next c.args.sets.now c.args.haystack.now c.args.at c.loop-k.k c.index-sets-k.result c.loop-k-test.true
       c.index-sets-k.is c.if-at-k.false c.if-byte-ge128.false (sym c.contains.ensures ∙ c.if-not-contains.false)
       c.loop-k.invariant.same;
   low = low-next c.args.sets.now c.args.haystack.now c.args.at c.loop-k.k c.index-sets-k.result c.loop-k-test.true
