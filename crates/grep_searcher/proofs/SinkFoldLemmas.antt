@@ -6,6 +6,8 @@ use Rattle.grep_definitions.specs.Plans.{Outcome, AreMade, IsFinished, IsRun, se
 use Rattle.grep_definitions.specs.Plans.{refusal_of, Settings, SearcherState}
 use Rattle.std.proofs.Common.{◌≡◌, ℕ, Bool, true, false, List, [], ◌∷◌, Option, Some, None, refl}
 use Rattle.std.proofs.Common.{sym, ◌∙◌, ap, subst, inl, inr, length, Result, Ok, Err}
+use Rattle.std.proofs.Common.{◌++◌, append_assoc}
+use Rattle.std.proofs.lemmas.List.{append-nil}
 use Rattle.std.specs.Prelude.{◌⊎◌}
 use Rattle.std.specs.List.{fold}
 use Rattle.grep_decode.specs.Source.{ReadResult}
@@ -21,6 +23,7 @@ use Rattle.grep_definitions.specs.SliceSearches.{is_searched_unchanged}
 use Rattle.grep_definitions.specs.SearchLaws.{calls_of, is_match, match_calls}
 use Rattle.grep_definitions.proofs.DecodedLemmas.{unchanged-input}
 use Rattle.grep_searcher.specs.SinkFolds.{fold_while, run_fold, AreTaken, IsTakenOk, IsTakenBy}
+use Rattle.grep_searcher.specs.SinkFolds.{CallsReach}
 use Rattle.grep_searcher.specs.SinkFolds.{StepsBy, RunsFold, RunsFoldAll, RunsFoldMatches}
 use Rattle.grep_searcher.specs.SinkFolds.{FailsAtStep, SearchesRun, ReaderSearchesRun}
 use Rattle.grep_searcher.specs.SinkFolds.{SearchesFail, ReaderSearchesFail, KnownReadersRun}
@@ -160,6 +163,24 @@ run_fold-all : {S : Type 0} (next : S → Call → S) (old : S) (calls : List Pl
 run_fold-all next old [] finish = refl
 run_fold-all next old (planned ∷ later) finish = run_fold-all next (next old planned.call) later
     finish
+
+module _ {S : Type 0} (goes : S → Call → Bool) (next : S → Call → S) where
+  -- from the state after some calls, later ones lead to the state after all
+  calls-go_on : (state_after : List Call → S)
+      → ((before : List Call) (call : Call) → (goes (state_after before) call ≡ true)
+      × (next (state_after before) call ≡ state_after (before ++ call ∷ [])))
+      → (before later : List Call)
+      → fold_while goes next (state_after before) later ≡ state_after (before ++ later)
+  calls-go_on state_after by before [] = ap state_after (sym (append-nil before))
+  calls-go_on state_after by before (call ∷ later) =
+      let here = by before call in
+      rw here.0 (ap (λ state. fold_while goes next state later) here.1
+      ∙ calls-go_on state_after by (before ++ call ∷ []) later
+      ∙ ap state_after (append_assoc before (call ∷ []) later))
+
+  pub calls-reach : CallsReach goes next
+  calls-reach state_after by old calls new =
+      ap (λ state. fold_while goes next state calls) new ∙ calls-go_on state_after by [] calls
 
 module _ {S E : Type 0} (step : Steps S E) where
   pub runs-fold : RunsFold step

@@ -1,6 +1,6 @@
 -- What a sink whose steps are functions makes of a run, and what a search without binary detection
 -- comes to.
-use Rattle.std.specs.Prelude.{◌≡◌, ◌⊎◌, ℕ, Bool, true, false, if◌then◌else◌, List, [], ◌∷◌, length}
+use Rattle.std.specs.Prelude.{◌≡◌, ◌⊎◌, ℕ, Bool, true, false, if◌then◌else◌, List, [], ◌∷◌, ◌++◌, length}
 use Rattle.std.specs.Prelude.{Option, Result, Some, None, Ok, Err}
 use Rattle.std.specs.List.{fold}
 use Rattle.grep_decode.specs.Source.{ReadResult}
@@ -36,6 +36,16 @@ module _ {S : Type 0} (goes : S → Call → Bool) (next : S → Call → S) whe
   fold_while old [] = old
   fold_while old (call ∷ later) =
       if goes old call then fold_while (next old call) later else next old call
+
+  -- if the state is a function of the calls so far, of none and after each call, and the sink
+  -- always goes on, it is that function of all of them
+  abbrev pub CallsReach : Type 0
+  CallsReach =
+      (state_after : List Call → S)
+      → ((before : List Call) (call : Call) → (goes (state_after before) call ≡ true)
+      × (next (state_after before) call ≡ state_after (before ++ call ∷ [])))
+      → (old : S) (calls : List Call) → old ≡ state_after []
+      → fold_while old calls ≡ state_after calls
 
   -- the state after a run along a plan: `finish` has what the plan has, or what it has after the
   -- call after which the sink doesn't go on

@@ -39,7 +39,8 @@ ghost use Rattle.grep_searcher.specs.SearchFailures.{ReadersFail, SlicesFail};
 ghost use Rattle.grep_searcher.specs.Units.{FirstMatchIsFirstUnit, MatchesAreUnits};
 ghost use Rattle.grep_searcher.specs.Units.{MatchesAreWithinCount, UnitsAreCounted};
 ghost use Rattle.grep_searcher.specs.FileSearches.{IsFileRead};
-ghost use Rattle.grep_searcher.specs.SinkFolds.{RunsFold, RunsFoldAll, RunsFoldMatches};
+ghost use Rattle.grep_searcher.specs.SinkFolds.{CallsReach, RunsFold, RunsFoldAll};
+ghost use Rattle.grep_searcher.specs.SinkFolds.{RunsFoldMatches};
 ghost use Rattle.grep_searcher.specs.SinkFolds.{SearchesRun, InputsAreSearched};
 ghost use Rattle.grep_searcher.specs.SinkFolds.{ReaderSearchesRun, SearchesFail};
 ghost use Rattle.grep_searcher.specs.SinkFolds.{ReaderSearchesFail, KnownReadersRun};
@@ -154,11 +155,13 @@ pub fn runs_count_lines<E>()
 /// order, up to the first after which the search doesn't go on. One that ended in an error made it
 /// handle the matches before one, and that one failed. If the handler always goes on, the byte
 /// count of a run that ended in `Ok` is below 2^64, and by `matches_are_within_count` so are the
-/// matches.
+/// matches; and if its state is a function of the matches so far, of none and after each match, it
+/// is that function of all that are handled.
 pub fn runs_handle_matches<H: MatchHandler>()
     ensures handled { RunsHandle H.goes H.next H.fails }
     ensures failed { RunsFailAt H.goes H.next H.fails }
     ensures fits { RunsFit H.goes H.next H.fails }
+    ensures reached { CallsReach H.goes H.next }
 {}
 
 /// If a handler always goes on and appends a part for each match to what it keeps, a run that ended

@@ -1,6 +1,7 @@
 //! Tests of what is built on the search: the program `lgrep` as a library, and the small callers of
 //! `uses`.
 mod filtered;
+mod kept;
 mod large;
 mod lent;
 mod opening;

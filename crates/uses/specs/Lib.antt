@@ -1,10 +1,11 @@
 pub mod MatchedLines
 pub mod AcrossSettings
-pub mod Expressions
 pub mod FirstAround
 pub mod JsonLines
+pub mod MarkedBlocks
 pub mod MarkedCalls
 pub mod NonAsciiLines
 pub mod NumberedTexts
+pub mod PathCounts
 pub mod PlainSettings
 pub mod Prefixes

@@ -1,21 +1,20 @@
 //! How many lines match a regular expression.
 ghost use Rattle.std.specs.Prelude.{◌≡◌, false, true, IfOk};
+ghost use Rattle.grep_regex.specs.LinePatterns.{line_meaning};
+ghost use Rattle.grep_searcher.specs.LineCounts.{matched_count};
 ghost use Rattle.grep_searcher.specs.Plans.{is_across};
 ghost use Rattle.grep_searcher.specs.Searches.{searched_bytes};
-ghost use Rattle.grep_searcher.specs.LineCounts.{matched_count};
-ghost use Rattle.uses.specs.Expressions.{line_meaning};
 
 use crate::count::count_matching_lines;
-use grep_regex::RegexMatcherBuilder;
-use grep_searcher::{BinaryDetection, SearchError, Searcher, SinkError};
+use grep_regex::Regex;
+use grep_searcher::{BinaryDetection, SearchError, Searcher};
 use std::alloc::Global;
-use std::io;
 
 /// Returns how many lines of `bytes` a pattern matches, as `count_matching_lines` counts them. `^`
 /// and `$` match at the ends of a line, and the matcher declares a line feed as its terminator.
 ///
-/// An error is that of a pattern that can't be compiled, as a message, or of being out of memory,
-/// or one of `count_matching_lines`: that of a searcher with another terminator, for one.
+/// An error is that of a pattern that can't be compiled, or of being out of memory, or one of
+/// `count_matching_lines`: that of a searcher with another terminator, for one.
 ///
 /// The count is promised of a search by line without binary detection. Nothing is asked of the
 /// matcher: what it finds among many lines can always be trusted.
@@ -32,15 +31,7 @@ pub fn count_pattern_lines(
     ensures settings { searcher.new.settings ≡ searcher.old.settings }
     ensures buffers { searcher.old.has_buffers ≡ true → searcher.new.has_buffers ≡ true }
 {
-    let mut builder = RegexMatcherBuilder::new();
-    builder.multi_line(true).line_terminator(Some(b'\n'));
-    let regex = match builder.build(alloc, pattern) {
-        Ok(regex) => regex,
-        Err(error) => return Err(SearchError::error_message(alloc, error)),
-    };
-    let matcher = match regex.matcher(alloc) {
-        Ok(matcher) => matcher,
-        Err(error) => return Err(SearchError::Io(io::Error::from(error))),
-    };
+    let regex = Regex::for_lines(alloc, pattern)?;
+    let matcher = regex.matcher(alloc)?;
     count_matching_lines(searcher, matcher, bytes)
 }

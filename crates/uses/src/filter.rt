@@ -1,15 +1,16 @@
 //! The lines of a slice that match, in a vector.
-ghost use Rattle.std.specs.Prelude.{◌≡◌, true, filter, is_some, IfOk};
+ghost use Rattle.std.specs.Prelude.{◌≡◌, filter, is_some, IfOk};
 ghost use Rattle.grep_searcher.specs.Lines.{lines, strip};
 ghost use Rattle.grep_searcher.specs.MatchHandlers.{bytes_of_each};
 ghost use Rattle.grep_searcher.specs.Plans.{IsLawful};
 ghost use Rattle.uses.specs.PlainSettings.{as_it_is};
 
+use crate::plain::searcher_as_it_is;
 use grep_searcher::laws::{
     lines_are_filtered, runs_keep_bytes, searches_run, unchanged_is_searched,
 };
 use grep_searcher::sinks::{EachLine, OnMatch};
-use grep_searcher::{ConfigError, LineTerminator, Matcher, SearchError, Searcher, SearcherBuilder};
+use grep_searcher::{LineTerminator, Matcher, SearchError};
 use std::alloc::Global;
 
 /// Returns the lines of `bytes` in which a matcher has a match, each with its terminator, in order.
@@ -33,12 +34,4 @@ pub fn lines_that_match<M: Matcher + Drop>(
     lines_are_filtered();
     unchanged_is_searched();
     Ok(sink.into_handler().into_lines())
-}
-
-// A searcher that searches its input as it is.
-fn searcher_as_it_is(alloc: Global) -> Result<Searcher, ConfigError>
-    ensures { IfOk result (λ searcher.
-        searcher ≡ record { settings = as_it_is; has_buffers = true }) }
-{
-    SearcherBuilder::new().bom_sniffing(false).build(alloc)
 }

@@ -8,10 +8,12 @@
 //! `json_lines` and `in_context` write by closures, and `reporter` builds a searcher.
 //! `count_with_prefix` and `count_non_ascii_lines` have a matcher of their own, which a search asks
 //! about one line, or about many, and `count_pattern_lines` compiles a regular expression.
-//! `lines_that_match` keeps the lines of a slice that match. `CALLING.md` says which laws they use.
+//! `lines_that_match` keeps the lines of a slice that match, `last_matches` the last ones of a reader,
+//! and `lines_between` those between two marks. `CALLING.md` says which laws they use.
 #![tactic(auto)]
 
 mod around;
+mod between;
 mod blocks;
 mod collect;
 mod count;
@@ -19,13 +21,16 @@ mod expression;
 mod filter;
 mod first;
 mod json;
+mod last;
 mod non_ascii;
 mod numbered;
 mod path;
+mod plain;
 mod prefix;
 mod report;
 
 pub use around::first_with_context;
+pub use between::lines_between;
 pub use blocks::count_blocks;
 pub use collect::matching_lines;
 pub use count::{count_in_reader, count_matching_lines};
@@ -33,6 +38,7 @@ pub use expression::count_pattern_lines;
 pub use filter::lines_that_match;
 pub use first::first_matches;
 pub use json::json_lines;
+pub use last::last_matches;
 pub use non_ascii::{NonAscii, count_non_ascii_lines};
 pub use numbered::numbered_lines;
 pub use path::{count_in_path, has_match};

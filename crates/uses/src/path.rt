@@ -4,9 +4,10 @@ ghost use Rattle.grep_searcher.specs.FileSearches.{OpensAt};
 ghost use Rattle.std.specs.declared.io.Error.{Error};
 ghost use Rattle.grep_searcher.specs.BoundedReads.{IsReadToMatch};
 ghost use Rattle.grep_searcher.specs.Searches.{searched_bytes};
-ghost use Rattle.grep_searcher.specs.LineCounts.{IsLineCount, IsLineSearch};
+ghost use Rattle.grep_searcher.specs.LineCounts.{IsLineSearch};
 ghost use Rattle.grep_searcher.specs.MatchHandlers.{has_selected};
 ghost use Rattle.grep_searcher.specs.SearchFailures.{IsFaultless};
+ghost use Rattle.uses.specs.PathCounts.{IsCountAt};
 
 use grep_searcher::laws::{files_count_lines, files_find_lines};
 use grep_searcher::sinks::{Count, Found, OnMatch};
@@ -30,10 +31,8 @@ pub fn count_in_path<R: Open, M: Matcher + Drop, P: AsPath>(
     path: P,
 ) -> Result<u64, SearchError>
     ensures count { IsLineSearch (M.facts matcher) searcher.old.settings
-        → IfOk result (λ count. (file : R.File)
-        × OpensAt (R.opens rt.now) (P.path_text path) (Ok file)
-        × ((input : List ℕ) → R.File.remaining file ≡ Some input
-        → IsLineCount (M.facts matcher) searcher.old.settings input count)) }
+        → IfOk result (IsCountAt (R.opens rt.now) R.File.remaining (M.facts matcher)
+        searcher.old.settings (P.path_text path)) }
     ensures settings { searcher.new.settings ≡ searcher.old.settings }
     ensures buffers { searcher.old.has_buffers ≡ true → searcher.new.has_buffers ≡ true }
     ensures error { IsFaultless (M.facts matcher) searcher.old.settings

@@ -1,4 +1,5 @@
 use Rattle.grep_searcher.proofs.MatchHandlerLemmas.{runs-fail_at, runs-fit, runs-handle}
+use Rattle.grep_searcher.proofs.SinkFoldLemmas.{calls-reach}
 use Rattle.grep_searcher.proofs.laws.runs_handle_matches.Goals as goal
 
 pub returns-clause-handled : goal.returns-clause-handled
@@ -12,3 +13,6 @@ returns-clause-failed g c = runs-fail_at g.H.MatchHandler.goes g.H.MatchHandler.
 pub returns-clause-fits : goal.returns-clause-fits
 returns-clause-fits g c = runs-fit g.H.MatchHandler.goes g.H.MatchHandler.next
     g.H.MatchHandler.fails
+
+pub returns-clause-reached : goal.returns-clause-reached
+returns-clause-reached g c = calls-reach g.H.MatchHandler.goes g.H.MatchHandler.next

@@ -1,4 +1,4 @@
-use Rattle.std.proofs.Common.{rules, arith, refl}
+use Rattle.std.proofs.Common.{rules, arith}
 use Rattle.uses.specs.MarkedCalls.{marked_text}
 use Rattle.uses.proofs.report.in_context.Goals as goal
 

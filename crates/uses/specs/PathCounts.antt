@@ -1,0 +1,15 @@
+-- The counts of files at paths.
+use Rattle.std.specs.Prelude.{◌≡◌, ℕ, List, Option, Some, Result, Ok}
+use Rattle.std.specs.declared.io.Error.{Error}
+use Rattle.grep_searcher.specs.FileSearches.{OpensAt}
+use Rattle.grep_searcher.specs.LineCounts.{IsLineCount}
+use Rattle.grep_searcher.specs.Meanings.{MatcherFacts}
+use Rattle.grep_searcher.specs.Plans.{Settings}
+
+-- how many decoded lines are matched of the file that opening a path returned, if it says which
+-- bytes remain
+abbrev pub IsCountAt : {F G : Type 0} → (List ℕ → Result F Error → Type 0)
+    → (F → Option (List ℕ)) → MatcherFacts G → Settings → Option (List ℕ) → ℕ → Type 0
+IsCountAt {F} opens remaining matcher settings path count =
+    (file : F) × OpensAt opens path (Ok file)
+    × ((input : List ℕ) → remaining file ≡ Some input → IsLineCount matcher settings input count)
