@@ -1,2 +1,6 @@
+pub mod ClassLemmas
+pub mod GlobLemmas
+pub mod LineLemmas
+pub mod LinesLemmas
 pub mod MatchLemmas
 pub mod RowLemmas

@@ -1,3 +1,6 @@
+pub mod Classes
 pub mod Decisions
+pub mod Globs
+pub mod Lines
 pub mod Matches
 pub mod Rows

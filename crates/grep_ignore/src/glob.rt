@@ -1,7 +1,15 @@
 //! The pieces of a glob, by its text.
+ghost use Rattle.std.specs.Prelude.{◌≡◌, ◌≢◌, ◌++◌, ◌∷◌, [], ◌&&◌, ◌||◌, ◌==◌, nat_lt, ℕ, List};
+ghost use Rattle.std.specs.Prelude.{Bool, true, false, IfErr, IfOk, MatchResult, suc, ◌<◌, replicate};
+ghost use Rattle.grep_matcher.specs.ByteSets.{holds};
+ghost use Rattle.grep_ignore.specs.Classes.{IsSet, begins_with, is_either, is_empty, is_name_byte};
+ghost use Rattle.grep_ignore.specs.Globs.{HasStars, IsFault, IsGlob, IsMalformed};
+ghost use Rattle.grep_ignore.specs.Globs.{IsPieceText, OnMalformed, is_name, is_special};
+ghost use Rattle.grep_ignore.specs.declared.wildcards.Piece.{Piece};
+
+use crate::class::{add_range, begins_with, read_class, tail};
 use crate::wildcards::Piece;
 use grep_matcher::ByteSet;
-use std::alloc::{AllocError, AllocFailed};
 
 /// Why a glob isn't read.
 #[derive(Clone, Copy, Debug, Drop)]
@@ -12,197 +20,160 @@ pub enum GlobError {
     OutOfMemory,
 }
 
-impl From<AllocError> for GlobError {
-    fn from(_: AllocError) -> GlobError {
-        GlobError::OutOfMemory
-    }
-}
-
-impl<T: Drop> From<AllocFailed<T>> for GlobError {
-    fn from(_: AllocFailed<T>) -> GlobError {
-        GlobError::OutOfMemory
-    }
-}
-
-// What is left of a glob after a piece or a member of a class.
-#[derive(Clone, Copy)]
-struct Rest<'g> {
-    glob: &'g [u8],
-    // Whether a name begins here.
+// A piece of a glob, what follows it, and whether a name begins there.
+#[derive(Drop)]
+struct Step<'g> {
+    piece: Piece,
+    rest: &'g [u8],
     begins_name: bool,
 }
 
 /// Adds the pieces of a glob.
-pub fn add_pieces(
-    pieces: &mut Vec<Piece>,
-    glob: &[u8],
-    ignores_case: bool,
-) -> Result<(), GlobError> {
-    let mut rest = Rest {
-        glob,
-        begins_name: true,
-    };
-    for _ in glob {
-        if rest.glob.is_empty() {
-            break;
+pub fn add_pieces(pieces: &mut Vec<Piece>, glob: &[u8], ignores_case: bool) -> Result<(), GlobError>
+    ensures ok { IfOk result (λ _. (spelled : List Piece)
+        × (pieces.new.items ≡ pieces.old.items ++ spelled) × IsGlob ignores_case glob.now spelled) }
+    ensures err { IfErr result (λ e. OnMalformed e (IsMalformed ignores_case glob.now)) }
+{
+    let mut rest = glob;
+    let mut begins_name = true;
+    while !rest.is_empty() {
+        match read_piece(rest, begins_name, ignores_case) {
+            Ok(step) => {
+                rest = step.rest;
+                begins_name = step.begins_name;
+                match pieces.push(step.piece) {
+                    Ok(()) => {}
+                    Err(_) => return Err(GlobError::OutOfMemory),
+                }
+            }
+            Err(cause) => return Err(GlobError::Malformed(cause)),
         }
-        let (piece, after) = read_piece(rest)?;
-        pieces.push(folded(piece, ignores_case))?;
-        rest = after;
     }
     Ok(())
 }
 
-// The piece that a glob begins with, and what follows it.
-fn read_piece(rest: Rest<'_>) -> Result<(Piece, Rest<'_>), GlobError> {
-    match rest.glob {
-        [b'*', b'*', ..] if rest.begins_name => Ok(read_stars(rest.glob)),
-        [b'*', ..] => Ok(within_name(Piece::Many(name_bytes()), without_stars(rest.glob))),
-        [b'?', after @ ..] => Ok(within_name(Piece::One(name_bytes()), after)),
-        [b'[', after @ ..] => read_class(after),
-        [b'\\', byte, after @ ..] => Ok(read_byte(*byte, after)),
-        [b'\\'] => Err(GlobError::Malformed("it ends in a backslash")),
-        [byte, after @ ..] => Ok(read_byte(*byte, after)),
-        [] => Err(GlobError::Malformed("it is empty")),
+// The piece that a glob begins with, or why there is none.
+fn read_piece(glob: &[u8], begins_name: bool, ignores_case: bool) -> Result<Step<'_>, &'static str>
+    requires { glob.now ≢ [] }
+    ensures { MatchResult result
+        (λ s. IsPieceText ignores_case begins_name glob.now s.piece s.begins_name s.rest.now)
+        (λ _. IsFault glob.now) }
+{
+    match glob {
+        [] => unreachable!(),
+        [byte, after @ ..] => {
+            if *byte == b'*' {
+                Ok(stars_step(after, begins_name))
+            } else if *byte == b'?' {
+                Ok(within_name(Piece::One(name_bytes()), after))
+            } else if *byte == b'[' {
+                class_step(after, ignores_case)
+            } else if *byte == b'\\' {
+                escaped_step(after, ignores_case)
+            } else {
+                Ok(byte_step(*byte, after, ignores_case))
+            }
+        }
     }
 }
 
-// Stars that begin a name: if they are all of it they match folders, and at the end everything.
-fn read_stars(glob: &[u8]) -> (Piece, Rest<'_>) {
-    match without_stars(glob) {
-        [] => within_name(Piece::Many(ByteSet::full()), &[]),
-        [b'/', after @ ..] => (
-            Piece::Folders,
-            Rest {
-                glob: after,
-                begins_name: true,
-            },
-        ),
-        after => within_name(Piece::Many(name_bytes()), after),
+// What comes after the first of some stars: where they are a whole name, any folders, or everything.
+fn stars_step(after: &[u8], begins_name: bool) -> Step<'_>
+    ensures { (ignores_case : Bool) → IsPieceText ignores_case begins_name (42 ∷ after.now)
+        result.piece result.begins_name result.rest.now }
+{
+    let rest = without_stars(after);
+    let is_whole = begins_name && rest.len() < after.len();
+    match rest {
+        [] => {
+            if is_whole {
+                within_name(Piece::Many(ByteSet::full()), rest)
+            } else {
+                within_name(Piece::Many(name_bytes()), rest)
+            }
+        }
+        [byte, later @ ..] => {
+            if is_whole && *byte == b'/' {
+                Step {
+                    piece: Piece::Folders,
+                    rest: later,
+                    begins_name: true,
+                }
+            } else {
+                within_name(Piece::Many(name_bytes()), rest)
+            }
+        }
     }
 }
 
-fn without_stars(glob: &[u8]) -> &[u8] {
+fn without_stars(glob: &[u8]) -> &[u8]
+    ensures { (more : ℕ) × (glob.now ≡ replicate more 42 ++ result.now)
+        × (begins_with 42 result.now ≡ false) }
+{
     let mut rest = glob;
-    while let [b'*', after @ ..] = rest {
-        rest = after;
+    while begins_with(rest, b'*') {
+        rest = tail(rest);
     }
     rest
 }
 
-fn read_byte(byte: u8, glob: &[u8]) -> (Piece, Rest<'_>) {
-    let mut set = ByteSet::empty();
-    set.add(byte);
-    let rest = Rest {
-        glob,
-        begins_name: byte == b'/',
-    };
-    (Piece::One(set), rest)
+// A step after a class, of which the opening bracket is left out.
+fn class_step(text: &[u8], ignores_case: bool) -> Result<Step<'_>, &'static str>
+    ensures { (begins : Bool) → MatchResult result
+        (λ s. IsPieceText ignores_case begins (91 ∷ text.now) s.piece s.begins_name s.rest.now)
+        (λ _. IsFault (91 ∷ text.now)) }
+{
+    match read_class(text, ignores_case) {
+        Some((set, after)) => Ok(within_name(Piece::One(set), after)),
+        None => Err("a bracket isn't closed"),
+    }
 }
 
-fn within_name(piece: Piece, glob: &[u8]) -> (Piece, Rest<'_>) {
-    let rest = Rest {
-        glob,
+// A step after a backslash.
+fn escaped_step(text: &[u8], ignores_case: bool) -> Result<Step<'_>, &'static str>
+    ensures { (begins : Bool) → MatchResult result
+        (λ s. IsPieceText ignores_case begins (92 ∷ text.now) s.piece s.begins_name s.rest.now)
+        (λ _. IsFault (92 ∷ text.now)) }
+{
+    match text {
+        [] => Err("it ends in a backslash"),
+        [byte, after @ ..] => Ok(byte_step(*byte, after, ignores_case)),
+    }
+}
+
+// A step after a byte that is meant as such.
+fn byte_step(byte: u8, after: &[u8], ignores_case: bool) -> Step<'_>
+    ensures rest { result.rest.now ≡ after.now }
+    ensures next { result.begins_name ≡ (byte == 47) }
+    ensures piece { (set : List Bool) × (result.piece ≡ Piece.One set)
+        × IsSet set (is_either ignores_case (λ b. b == byte)) }
+{
+    let mut set = ByteSet::empty();
+    add_range(&mut set, byte, byte, ignores_case);
+    Step {
+        piece: Piece::One(set),
+        rest: after,
+        begins_name: byte == b'/',
+    }
+}
+
+fn within_name(piece: Piece, rest: &[u8]) -> Step<'_>
+    ensures piece { result.piece ≡ piece }
+    ensures rest { result.rest.now ≡ rest.now }
+    ensures next { result.begins_name ≡ false }
+{
+    Step {
+        piece,
+        rest,
         begins_name: false,
-    };
-    (piece, rest)
+    }
 }
 
 // The bytes that a name may have.
-fn name_bytes() -> ByteSet {
+fn name_bytes() -> ByteSet
+    ensures { IsSet result is_name_byte }
+{
     let mut set = ByteSet::full();
     set.remove(b'/');
-    set
-}
-
-// A class, of which the opening bracket is left out, and what follows it. No slash is in it.
-fn read_class(glob: &[u8]) -> Result<(Piece, Rest<'_>), GlobError> {
-    let (is_negated, members) = match glob {
-        [b'!' | b'^', members @ ..] => (true, members),
-        _ => (false, glob),
-    };
-    let mut set = ByteSet::empty();
-    let after = read_members(&mut set, members)?;
-    let mut set = if is_negated { complement(&set) } else { set };
-    set.remove(b'/');
-    Ok(within_name(Piece::One(set), after))
-}
-
-// Adds the members of a class, and gives what follows it. A bracket that comes first is a member.
-fn read_members<'g>(set: &mut ByteSet, class: &'g [u8]) -> Result<&'g [u8], GlobError> {
-    let mut left = read_member(set, class)?;
-    for _ in class {
-        left = match left {
-            [b']', after @ ..] => return Ok(after),
-            _ => read_member(set, left)?,
-        };
-    }
-    Err(UNCLOSED)
-}
-
-const UNCLOSED: GlobError = GlobError::Malformed("a bracket isn't closed");
-
-// Adds what the members of a class begin with: a byte, or two with a dash between them and all
-// between these. It gives what follows.
-fn read_member<'g>(set: &mut ByteSet, class: &'g [u8]) -> Result<&'g [u8], GlobError> {
-    let (first, after) = read_class_byte(class)?;
-    match after {
-        [b'-', last @ ..] if !matches!(last, [] | [b']', ..]) => {
-            let (last, after) = read_class_byte(last)?;
-            if first > last {
-                return Err(GlobError::Malformed("a range ends before it begins"));
-            }
-            add_range(set, first, last);
-            Ok(after)
-        }
-        _ => {
-            set.add(first);
-            Ok(after)
-        }
-    }
-}
-
-// The byte that a class begins with, which a backslash may be before, and what follows it.
-fn read_class_byte(class: &[u8]) -> Result<(u8, &[u8]), GlobError> {
-    match class {
-        [b'\\', byte, after @ ..] => Ok((*byte, after)),
-        [byte, after @ ..] => Ok((*byte, after)),
-        [] => Err(UNCLOSED),
-    }
-}
-
-fn add_range(set: &mut ByteSet, first: u8, last: u8) {
-    for byte in first..=last {
-        set.add(byte);
-    }
-}
-
-fn complement(set: &ByteSet) -> ByteSet {
-    let mut others = ByteSet::full();
-    for byte in 0..=255u8 {
-        if set.contains(byte) {
-            others.remove(byte);
-        }
-    }
-    others
-}
-
-// A piece that doesn't tell letters by their case, if it isn't to.
-fn folded(piece: Piece, ignores_case: bool) -> Piece {
-    match piece {
-        Piece::One(set) if ignores_case => Piece::One(with_cases(set)),
-        piece => piece,
-    }
-}
-
-// A set with each of its ASCII letters in both cases.
-fn with_cases(mut set: ByteSet) -> ByteSet {
-    for letter in b'a'..=b'z' {
-        let capital = letter.to_ascii_uppercase();
-        if set.contains(letter) || set.contains(capital) {
-            set.add(letter);
-            set.add(capital);
-        }
-    }
     set
 }

@@ -2,14 +2,15 @@
 //! glob, a rule, which is a line, and the rules of a file, of which the last that matches decides.
 #![tactic(auto)]
 
+mod class;
 mod glob;
+mod line;
 mod rows;
 mod rules;
 #[cfg(test)]
 mod tests;
-mod trim;
 mod wildcards;
 
 pub use glob::GlobError;
-pub use rules::{Decision, Rules};
+pub use rules::{Decision, Misread, Rules};
 pub use wildcards::{Piece, Wildcards};

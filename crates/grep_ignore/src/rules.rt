@@ -1,10 +1,14 @@
 //! The rules of an ignore file.
-ghost use Rattle.std.specs.Prelude.{◌≡◌, ◌↔◌, IfOk, IsTrue};
+ghost use Rattle.std.specs.Prelude.{◌≡◌, ◌↔◌, ◌++◌, [], List, IfErr, IfOk, IsTrue, OnOk};
 ghost use Rattle.grep_ignore.specs.Decisions.{IsAbout, IsDecided, decision_of};
+ghost use Rattle.grep_ignore.specs.Globs.{OnMalformed};
+ghost use Rattle.grep_ignore.specs.Lines.{AreOfLine, AreOfLines, IsMisread, IsRead, lines_of};
+ghost use Rattle.grep_ignore.specs.declared.rules.Misread.{Misread};
+ghost use Rattle.grep_ignore.specs.declared.rules.Rule.{Rule};
 
-use crate::glob::{GlobError, add_pieces};
-use crate::trim::trimmed;
-use crate::wildcards::{Piece, Wildcards};
+use crate::glob::GlobError;
+use crate::line::{has_no_rule, read_rule, said, split_line, without_mark};
+use crate::wildcards::Wildcards;
 use std::alloc::{AllocError, Global};
 use std::marker::Model;
 
@@ -37,75 +41,99 @@ impl Model for Rules {
 /// A rule: the paths that it matches, whether it keeps them, and whether it matches folders alone.
 #[derive(Drop)]
 pub struct Rule {
-    wildcards: Wildcards,
-    keeps: bool,
-    names_folders: bool,
+    pub(crate) wildcards: Wildcards,
+    pub(crate) keeps: bool,
+    pub(crate) names_folders: bool,
+}
+
+/// A line that isn't well formed.
+#[derive(Clone, Copy, Drop)]
+pub struct Misread {
+    /// Its number in the file, from 1.
+    pub number: usize,
+    /// What is wrong with it.
+    pub cause: &'static str,
 }
 
 impl Rules {
     /// No rules.
-    pub fn new(alloc: Global) -> Rules {
+    pub fn new(alloc: Global) -> Rules
+        ensures { result ≡ [] }
+    {
         Rules {
             rules: Vec::new(alloc),
         }
     }
 
-    /// Adds the rules of the lines of a file. A line that isn't well formed matches nothing, and is
-    /// left out. An error is one of being out of memory.
+    /// Adds the rules of the lines of a file, and to `misread` the lines that aren't well formed, which
+    /// match nothing. An error is one of being out of memory.
     pub fn add_lines(
         &mut self,
         alloc: Global,
         contents: &[u8],
         ignores_case: bool,
-    ) -> Result<(), AllocError> {
-        let contents = contents.strip_prefix(b"\xef\xbb\xbf").unwrap_or(contents);
-        for line in contents.split(|byte| *byte == b'\n') {
-            match self.add(alloc, line, ignores_case) {
-                Err(GlobError::OutOfMemory) => return Err(AllocError),
-                _ => {}
+        misread: &mut Vec<Misread>,
+    ) -> Result<(), AllocError>
+        ensures { OnOk result ((rules : List Rule) × (faults : List Misread)
+            × (self.new ≡ self.old ++ rules) × (misread.new.items ≡ misread.old.items ++ faults)
+            × AreOfLines ignores_case 1 (lines_of contents.now) rules faults) }
+    {
+        let _most = contents.len();
+        let mut text = without_mark(contents);
+        let mut number = 1;
+        loop {
+            let (line, after) = split_line(text);
+            self.add_line(alloc, line, ignores_case, number, misread)?;
+            match after {
+                Some(rest) => text = rest,
+                None => return Ok(()),
             }
+            number += 1;
         }
-        Ok(())
+    }
+
+    // Adds the rule of the line with a number, or that it isn't well formed.
+    fn add_line(
+        &mut self,
+        alloc: Global,
+        line: &[u8],
+        ignores_case: bool,
+        number: usize,
+        misread: &mut Vec<Misread>,
+    ) -> Result<(), AllocError>
+        ensures { OnOk result ((rules : List Rule) × (faults : List Misread)
+            × (self.new ≡ self.old ++ rules) × (misread.new.items ≡ misread.old.items ++ faults)
+            × AreOfLine ignores_case number line.now rules faults) }
+    {
+        match self.add(alloc, line, ignores_case) {
+            Ok(()) => Ok(()),
+            Err(GlobError::OutOfMemory) => Err(AllocError),
+            Err(GlobError::Malformed(cause)) => match misread.push(Misread { number, cause }) {
+                Ok(()) => Ok(()),
+                Err(_) => Err(AllocError),
+            },
+        }
     }
 
     /// Adds the rule of a line. A line that is blank or begins with `#` has none. `ignores_case` says
-    /// whether letters of ASCII match in either case.
-    pub fn add(&mut self, alloc: Global, line: &[u8], ignores_case: bool) -> Result<(), GlobError> {
-        match trimmed(line) {
-            [] | [b'#', ..] => Ok(()),
-            [b'!', glob @ ..] => self.add_glob(alloc, glob, true, ignores_case),
-            glob => self.add_glob(alloc, glob, false, ignores_case),
+    /// whether letters of ASCII match in either case. After an error nothing is added.
+    pub fn add(&mut self, alloc: Global, line: &[u8], ignores_case: bool) -> Result<(), GlobError>
+        ensures ok { OnOk result ((rules : List Rule) × (self.new ≡ self.old ++ rules)
+            × IsRead ignores_case line.now rules) }
+        ensures err { IfErr result (λ e. (self.new ≡ self.old)
+            × OnMalformed e (IsMisread ignores_case line.now)) }
+    {
+        let text = said(line);
+        if has_no_rule(text) {
+            return Ok(());
         }
-    }
-
-    // Adds the rule of a glob: a slash at its end means folders alone, and without another one it is
-    // about names in any folder.
-    fn add_glob(
-        &mut self,
-        alloc: Global,
-        glob: &[u8],
-        keeps: bool,
-        ignores_case: bool,
-    ) -> Result<(), GlobError> {
-        let (names_folders, glob) = match glob {
-            [glob @ .., b'/'] => (true, glob),
-            _ => (false, glob),
-        };
-        let mut pieces = Vec::new(alloc);
-        if !glob.contains(&b'/') {
-            pieces.push(Piece::Folders)?;
+        match read_rule(alloc, text, ignores_case) {
+            Ok(rule) => match self.rules.push(rule) {
+                Ok(()) => Ok(()),
+                Err(_) => Err(GlobError::OutOfMemory),
+            },
+            Err(error) => Err(error),
         }
-        add_pieces(
-            &mut pieces,
-            glob.strip_prefix(b"/").unwrap_or(glob),
-            ignores_case,
-        )?;
-        self.rules.push(Rule {
-            wildcards: Wildcards::new(pieces),
-            keeps,
-            names_folders,
-        })?;
-        Ok(())
     }
 
     /// What the rules say of the file or the folder at a path, which begins in the folder that they
@@ -130,13 +158,10 @@ impl Rules {
     }
 
     /// Whether there is no rule.
-    pub fn is_empty(&self) -> bool {
+    pub fn is_empty(&self) -> bool
+        ensures { IsTrue result ↔ (self.now ≡ []) }
+    {
         self.rules.is_empty()
-    }
-
-    /// Whether a rule leaves something out.
-    pub fn has_ignoring(&self) -> bool {
-        self.rules.iter().any(|rule| !rule.keeps)
     }
 }
 

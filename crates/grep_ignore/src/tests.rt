@@ -18,6 +18,9 @@ const WILDCARDS: &[Row] = &[
     (b"\\*", b"*", true),
     (b"\\*", b"a", false),
     (b"a\\ ", b"a ", true),
+    (b"[b-a]", b"b", true),
+    (b"[b-a]", b"a", false),
+    (b"[a\\]]", b"]", true),
     (b"a ", b"a", true),
 ];
 
@@ -74,7 +77,8 @@ fn first_wrong(alloc: Global, rows: &[Row]) -> Result<(), usize> {
 // Whether a path is ignored.
 fn ignores(alloc: Global, contents: &[u8], path: &[u8]) -> Result<bool, AllocError> {
     let mut rules = Rules::new(alloc);
-    rules.add_lines(alloc, contents, false)?;
+    let mut misread = Vec::new(alloc);
+    rules.add_lines(alloc, contents, false, &mut misread)?;
     let mut row = Vec::new(alloc);
     let decision = match path {
         [path @ .., b'/'] => rules.decision(&mut row, path, true)?,

@@ -1,0 +1,14 @@
+use Rattle.std.proofs.Common.{◌∷◌, ◌++◌, [], ◌∙◌, ap, append_assoc}
+use Rattle.grep_ignore.proofs.GlobLemmas.{piece-shorter, texts-more}
+use Rattle.grep_ignore.proofs.glob.add_pieces.Goals as goal
+
+pub loop-rest-smaller : goal.loop-rest-smaller
+loop-rest-smaller c = piece-shorter _ _ _ _ _ _ c.in-Ok.ensures
+
+pub loop-rest-preserved : goal.loop-rest-preserved
+loop-rest-preserved c = (
+  c.loop-rest.invariant.0 ++ c.in-Ok.step.piece ∷ [],
+  c.in-Ok-push.ensures.items ∙ ap (λ l. l ++ c.in-Ok.step.piece ∷ []) c.loop-rest.invariant.1
+      ∙ append_assoc c.args.pieces.now.items c.loop-rest.invariant.0 (c.in-Ok.step.piece ∷ []),
+  texts-more _ _ _ _ _ _ _ _ _ c.loop-rest.invariant.2 c.in-Ok.ensures,
+)
