@@ -1,7 +1,7 @@
 -- What sets decide of positions.
 use Rattle.std.proofs.Common.{◌≡◌, ℕ, suc, ◌+◌, ◌-◌, ◌<◌, ◌≤◌, Bool, true, false, List, [], ◌∷◌, length, get_or, drop}
 use Rattle.std.proofs.Common.{take, All}
-use Rattle.std.proofs.Common.{Option, Some, sym, ap, ◌∙◌, subst, ⊎_elim, arith, drop-cons}
+use Rattle.std.proofs.Common.{Option, Some, None, sym, ap, ◌∙◌, subst, ⊎_elim, arith, drop-cons}
 use Rattle.std.proofs.lemmas.Bool.{cases_Bool, cases_lt}
 use Rattle.std.proofs.lemmas.List.{get_or_default, get_or-take, length-take-le}
 use Rattle.std.proofs.lemmas.Option.{slice_get-get_or, slice_get_past}
@@ -10,20 +10,23 @@ use Rattle.grep_regex.specs.Classes.{decision_by, decision}
 use Rattle.grep_regex.specs.Decisions.{IsPassed}
 
 -- a byte that is in the set, and one that isn't
-decision-member : (set : List Bool) (after : Option Bool) (b : ℕ) → b < 128 → holds set b ≡ true
+pub decision-member : (set : List Bool) (after : Option Bool) (b : ℕ) → b < 128 → holds set b ≡ true
     → decision_by set after (Some b) ≡ after
 decision-member set after b low has = grind (arith, low, has)
 
-decision-other : (set : List Bool) (after : Option Bool) (b : ℕ) → b < 128 → holds set b ≡ false
+pub decision-other : (set : List Bool) (after : Option Bool) (b : ℕ) → b < 128 → holds set b ≡ false
     → decision_by set after (Some b) ≡ Some false
 decision-other set after b low has = grind (arith, low, has)
+
+pub decision-high : (set : List Bool) (after : Option Bool) (b : ℕ) → 128 ≤ b → decision_by set after (Some b) ≡ None
+decision-high set after b high = grind (arith, high)
 
 -- the bytes from a position up to another are ASCII
 abbrev pub AreLow : List ℕ → ℕ → ℕ → Type 0
 AreLow hay from to = (q : ℕ) → from ≤ q → q < to → get_or hay q 0 < 128
 
 -- what follows the first set
-decision-cons : (set : List Bool) (sets : List (List Bool)) (hay : List ℕ) (i : ℕ) → i < length hay
+pub decision-cons : (set : List Bool) (sets : List (List Bool)) (hay : List ℕ) (i : ℕ) → i < length hay
     → decision (set ∷ sets) hay i ≡ decision_by set (decision sets hay (i + 1)) (Some (get_or hay i 0))
 decision-cons set sets hay i inside = ap (decision_by set (decision sets hay (i + 1))) (slice_get-get_or hay i 0 inside)
 

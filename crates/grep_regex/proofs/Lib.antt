@@ -22,3 +22,5 @@ pub mod TextsLemmas
 pub mod RunLemmas
 pub mod DecisionLemmas
 pub mod StartLemmas
+pub mod PrefixLemmas
+pub mod UnionLemmas

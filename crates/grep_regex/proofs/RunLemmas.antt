@@ -279,7 +279,8 @@ module _ (ranges : List (ℕ × ℕ)) (set : List Bool) (ascii : IsAsciiOf range
   }
 
 -- patterns that match the same are runs of the same sets
-alike-run : (a b : Re) (sets : List (List Bool)) → ((hay : List ℕ) (i j : ℕ) → Matches hay a i j → Matches hay b i j)
+pub alike-run : (a b : Re) (sets : List (List Bool))
+    → ((hay : List ℕ) (i j : ℕ) → Matches hay a i j → Matches hay b i j)
     → ((hay : List ℕ) (i j : ℕ) → Matches hay b i j → Matches hay a i j) → IsRun a sets → IsRun b sets
 alike-run a b sets there back p = record {
   yes = λ hay i decided. there hay i (i + length sets) (p.yes hay i decided);

@@ -3,15 +3,16 @@ use Rattle.std.proofs.Common.{◌≡◌, ℕ, ◌+◌, ◌<◌, ◌≤◌, Bool,
 use Rattle.std.proofs.Common.{sym, ap}
 use Rattle.std.proofs.Common.{◌∙◌, option_map, arith}
 use Rattle.std.proofs.Math.Logic.{∥∥₁_elim}
+use Rattle.std.proofs.lemmas.Option.{same_Some}
 use Rattle.std.specs.Coded.{coded_ℕ, coded_option, coded×}
 use base.Stored.{Coded-set}
 use Rattle.regex_hir.specs.Find.{Match, find}
-use Rattle.regex_hir.specs.Re.{Re, accept, attempt}
+use Rattle.regex_hir.specs.Re.{Re, Trace, accept, attempt}
 use Rattle.regex_hir.proofs.AttemptLemmas.{attempt_sound, attempt_complete}
 use Rattle.regex_hir.proofs.FindLemmas.{first_between_here, first_between_none, first_between_skip}
 use Rattle.regex_hir.proofs.OptionLemmas.{none_of_no_value, value_of_IsSome}
 use Rattle.regex_vm.specs.Found.{span}
-use Rattle.grep_regex.specs.Classes.{decision, Decides}
+use Rattle.grep_regex.specs.Classes.{decision, Decides, IsPrefix, IsRun}
 use Rattle.grep_regex.specs.Patterns.{leftmost_match_at}
 use Rattle.grep_regex.specs.Decisions.{IsPassed}
 use Rattle.grep_regex.specs.Views.{program_re, regex_text_at}
@@ -46,25 +47,45 @@ module _ (re : Re) (sets : List (List Bool)) (decides : Decides re sets) (hay : 
       ap (λ (o : Option Match). option_map (λ (m : ℕ × ℕ). m.0) (option_map span o))
       (first_between_here (attempt hay re accept) at (length hay) found.0 fits found.1)
 
-module _ (r : Regex) (sets : List (List Bool)) (decides : ∥ Decides (program_re r) sets ∥₁) (hay : List ℕ)
-    (bytes : (k : ℕ) → get_or hay k 0 < 256) where
+  -- a run matches a byte of each set
+  whole : IsRun re sets → (at : ℕ) → at ≤ length hay → decision sets hay at ≡ Some true
+      → leftmost_match_at re hay at ≡ Some (at, at + length sets)
+  unfolding find
+  whole run at fits has =
+      let found = value_of_IsSome (attempt hay re accept at)
+      (attempt_complete hay re accept at (at + length sets) (run.yes hay at has) refl) in
+      let goes = attempt_sound hay re accept at found.0 found.1 in
+      let last : goes.at ≡ goes.rest.end = ap (λ (t : Trace). t.end) (same_Some _ _ goes.gave) in
+      let end : found.0.end ≡ at + length sets = goes.same_end ∙ (sym last ∙ run.only hay at goes.at has goes.leads) in
+      ap (option_map span) (first_between_here (attempt hay re accept) at (length hay) found.0 fits found.1)
+      ∙ ap (λ e. Some (at, e)) end
+
+module _ (r : Regex) (sets : List (List Bool)) (is_run : Bool) (prefix : ∥ IsPrefix (program_re r) sets is_run ∥₁)
+    (hay : List ℕ) (bytes : (k : ℕ) → get_or hay k 0 < 256) where
   pub skipped-same : (start at : ℕ) → start ≤ at → at ≤ length hay → IsPassed sets hay start at
       → regex_text_at r hay at ≡ regex_text_at r hay start
   skipped-same start at ordered fits passed =
-      ∥∥₁_elim decides (Coded-set (coded_option (coded× coded_ℕ coded_ℕ)) _ _) (λ t.
-      sym (finds-at r hay at bytes fits) ∙ (skipped (program_re r) sets t hay start at ordered passed
+      ∥∥₁_elim prefix (Coded-set (coded_option (coded× coded_ℕ coded_ℕ)) _ _) (λ p.
+      sym (finds-at r hay at bytes fits) ∙ (skipped (program_re r) sets p.decides hay start at ordered passed
       ∙ finds-at r hay start bytes (omega (arith, ordered, fits))))
 
   pub nowhere-decided : (start : ℕ) → start ≤ length hay → IsPassed sets hay start (length hay + 1)
       → regex_text_at r hay start ≡ None
   nowhere-decided start fits passed =
-      ∥∥₁_elim decides (Coded-set (coded_option (coded× coded_ℕ coded_ℕ)) _ _) (λ t.
-      sym (finds-at r hay start bytes fits) ∙ nowhere (program_re r) sets t hay start passed)
+      ∥∥₁_elim prefix (Coded-set (coded_option (coded× coded_ℕ coded_ℕ)) _ _) (λ p.
+      sym (finds-at r hay start bytes fits) ∙ nowhere (program_re r) sets p.decides hay start passed)
 
   pub start-decided : (start at : ℕ) → start ≤ at → at ≤ length hay → IsPassed sets hay start at
       → decision sets hay at ≡ Some true → option_map (λ m. m.0) (regex_text_at r hay start) ≡ Some at
   start-decided start at ordered fits passed has =
-      ∥∥₁_elim decides (Coded-set (coded_option coded_ℕ) _ _) (λ t.
+      ∥∥₁_elim prefix (Coded-set (coded_option coded_ℕ) _ _) (λ p.
       ap (option_map (λ (m : ℕ × ℕ). m.0)) (sym (skipped-same start at ordered fits passed)
       ∙ sym (finds-at r hay at bytes fits))
-      ∙ here (program_re r) sets t hay at fits has)
+      ∙ here (program_re r) sets p.decides hay at fits has)
+
+  pub run-decided : is_run ≡ true → (start at : ℕ) → start ≤ at → at ≤ length hay → IsPassed sets hay start at
+      → decision sets hay at ≡ Some true → regex_text_at r hay start ≡ Some (at, at + length sets)
+  run-decided is start at ordered fits passed has =
+      ∥∥₁_elim prefix (Coded-set (coded_option (coded× coded_ℕ coded_ℕ)) _ _) (λ p.
+      sym (skipped-same start at ordered fits passed) ∙ (sym (finds-at r hay at bytes fits)
+      ∙ whole (program_re r) sets p.decides hay (p.run is) at fits has))

@@ -41,6 +41,11 @@ pub record Decides (re : Re) (sets : List (List Bool)) : Type 0 where
   pub yes : (hay : List ℕ) (i : ℕ) → decision sets hay i ≡ Some true → (j : ℕ) × Matches hay re i j
   pub no : (hay : List ℕ) (i j : ℕ) → decision sets hay i ≡ Some false → Matches hay re i j → ⊥
 
+-- the sets decide, and if the flag says so the pattern is a run of them
+pub record IsPrefix (re : Re) (sets : List (List Bool)) (is_run : Bool) : Type 0 where
+  pub decides : Decides re sets
+  pub run : is_run ≡ true → IsRun re sets
+
 -- the sets, as often as a number says
 abbrev pub repeated : ℕ → List (List Bool) → List (List Bool)
 repeated zero sets = []

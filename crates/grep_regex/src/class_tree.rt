@@ -1,9 +1,11 @@
 //! Which patterns are runs of classes, by their trees.
 ghost use Rattle.std.specs.Prelude.{◌≡◌, ◌++◌, map, IfOk, IfSome, OnOk, IsTrue, Some};
-ghost use Rattle.regex_hir.specs.Meaning.{meaning, cat_all};
+ghost use Rattle.regex_hir.specs.Meaning.{meaning, alt_all, cat_all};
 ghost use Rattle.grep_regex.specs.Classes.{AreBytes, IsAsciiOf, IsClassSet, IsRepeated};
-ghost use Rattle.grep_regex.specs.Classes.{IsRun, Decides};
+ghost use Rattle.grep_regex.specs.Classes.{Decides, IsPrefix, IsRun};
 
+use crate::prefix::Prefix;
+use crate::unions::unite;
 use grep_matcher::ByteSet;
 use regex_class::Class;
 use regex_hir::Hir;
@@ -12,9 +14,23 @@ use std::alloc::{AllocError, Global};
 // How many sets there are at most. A longer run is left to the engines.
 const LONGEST: usize = 64;
 
+// The sets that decide where a pattern matches, if there are such, and whether it is a run of them.
+pub(crate) fn prefix_of(alloc: Global, hir: &Hir) -> Result<Option<Prefix>, AllocError>
+    ensures { IfOk result (λ found. IfSome found
+        (λ p. IsPrefix (meaning hir.now) p.sets.items p.is_run)) }
+{
+    if let Some(sets) = run_sets(alloc, hir)? {
+        return Ok(Some(Prefix::new(sets, true)));
+    }
+    match decisive_sets(alloc, hir)? {
+        Some(sets) => Ok(Some(Prefix::new(sets, false))),
+        None => Ok(None),
+    }
+}
+
 // The sets that decide where a pattern matches, if there are such.
 #[cycle(decisive)]
-pub(crate) fn decisive_sets(alloc: Global, hir: &Hir) -> Result<Option<Vec<ByteSet>>, AllocError>
+fn decisive_sets(alloc: Global, hir: &Hir) -> Result<Option<Vec<ByteSet>>, AllocError>
     ensures { IfOk result (λ found. IfSome found (λ sets. Decides (meaning hir.now) sets.items)) }
 {
     match hir {
@@ -65,6 +81,7 @@ fn run_sets(alloc: Global, hir: &Hir) -> Result<Option<Vec<ByteSet>>, AllocError
         }
         Hir::Capture { sub, .. } => run_sets(alloc, sub),
         Hir::Concat(subs) => run_all(alloc, subs),
+        Hir::Alternation(subs) => choice_sets(alloc, subs),
         _ => Ok(None),
     }
 }
@@ -82,6 +99,30 @@ fn run_all(alloc: Global, subs: &[Hir]) -> Result<Option<Vec<ByteSet>>, AllocErr
         };
         add_all(&mut sets, &more)?;
         if sets.len() > LONGEST {
+            return Ok(None);
+        }
+    }
+    Ok(Some(sets))
+}
+
+// The sets that alternatives are a run of, if each differs from those before it at one position at
+// most.
+#[cycle(run)]
+fn choice_sets(alloc: Global, subs: &[Hir]) -> Result<Option<Vec<ByteSet>>, AllocError>
+    ensures { IfOk result (λ found. IfSome found
+        (λ sets. IsRun (alt_all (map meaning subs.now)) sets.items)) }
+{
+    if subs.is_empty() {
+        return Ok(None);
+    }
+    let Some(mut sets) = run_sets(alloc, &subs[0])? else {
+        return Ok(None);
+    };
+    for i in 1..subs.len() {
+        let Some(more) = run_sets(alloc, &subs[i])? else {
+            return Ok(None);
+        };
+        if !unite(&mut sets, &more) {
             return Ok(None);
         }
     }

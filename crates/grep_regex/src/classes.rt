@@ -3,6 +3,7 @@ ghost use Rattle.std.specs.Prelude.{◌≡◌, ◌≤◌, length, All, false};
 ghost use Rattle.grep_matcher.specs.ByteSets.{holds};
 ghost use Rattle.grep_regex.specs.Decisions.{IsStart, IsVerdict};
 
+use crate::prefix::Prefix;
 use grep_matcher::ByteSet;
 
 // How often a search may fail before that has to pay, since an engine reads each byte once.
@@ -34,18 +35,18 @@ pub(crate) enum Verdict {
 
 // Where the first match from a position on starts of a pattern that these sets decide.
 #[inline]
-pub(crate) fn find_start(sets: &[ByteSet], haystack: &[u8], start: usize) -> Start
+pub(crate) fn find_start(prefix: &Prefix, haystack: &[u8], start: usize) -> Start
     requires { start ≤ length haystack.now }
-    ensures { IsStart sets.now haystack.now start result }
+    ensures { IsStart prefix.now.sets.items haystack.now start result }
 {
     let mut from = start;
     let mut tried = 0;
     'positions: loop {
-        match decide(sets, haystack, from) {
+        match decide(&prefix.sets, haystack, from) {
             Verdict::Matches => return Start::Match(from),
             Verdict::Unknown => return Start::From(from),
             Verdict::Passes(next) if next > haystack.len() => return Start::Nowhere,
-            Verdict::Passes(next) => from = next,
+            Verdict::Passes(next) => from = prefix.skip(haystack, next),
         }
         tried += 1;
         if tried > TRIED && (from - start) / SAVED < tried {

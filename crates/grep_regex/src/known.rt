@@ -1,13 +1,13 @@
 //! What is known of matches by the bytes with which they begin.
 ghost use Rattle.std.specs.Prelude.{◌≤◌, length};
-ghost use Rattle.grep_regex.specs.Classes.{Decides};
+ghost use Rattle.grep_regex.specs.Classes.{IsPrefix};
 ghost use Rattle.grep_regex.specs.Known.{IsKnown};
 ghost use Rattle.grep_regex.specs.Views.{program_re};
 
 use crate::asked::Asked;
 use crate::classes::{Start, find_start};
+use crate::prefix::Prefix;
 use crate::regex::Regex;
-use grep_matcher::ByteSet;
 
 // What is known of the first match from a position on.
 #[derive(Clone, Copy)]
@@ -22,17 +22,21 @@ pub(crate) enum Known {
 #[inline]
 pub(crate) fn known_by(
     regex: &Regex,
-    sets: &[ByteSet],
+    prefix: &Prefix,
     haystack: &[u8],
     start: usize,
     asked: Asked,
 ) -> Known
     requires start { start ≤ length haystack.now }
-    requires decides { ∥ Decides (program_re regex.now) sets.now ∥₁ }
+    requires is_prefix { ∥ IsPrefix (program_re regex.now) prefix.now.sets.items
+        prefix.now.is_run ∥₁ }
     ensures { IsKnown regex.now asked haystack.now start result }
 {
-    match find_start(sets, haystack, start) {
+    match find_start(prefix, haystack, start) {
         Start::Match(at) => match asked {
+            Asked::FirstMatch if prefix.is_run => {
+                Known::Answer(Some((at, at + prefix.sets.len())))
+            }
             Asked::FirstMatch => Known::From(at),
             Asked::AnyMatch => Known::Answer(Some((at, at))),
             Asked::Start => Known::Answer(Some((at, at))),

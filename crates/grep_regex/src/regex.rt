@@ -4,7 +4,7 @@ ghost use Rattle.std.specs.Option.{option_copied};
 ghost use Rattle.regex_hir.specs.Meaning.{meaning};
 ghost use Rattle.grep_matcher.specs.FindResults.{holds_if_some};
 ghost use Rattle.grep_regex.specs.AbsentBytes.{is_absent};
-ghost use Rattle.grep_regex.specs.Classes.{Decides};
+ghost use Rattle.grep_regex.specs.Classes.{IsPrefix};
 ghost use Rattle.grep_regex.specs.Locality.{is_by_line};
 ghost use Rattle.grep_regex.specs.Patterns.{excluded_bytes, named_terminator, AvoidsAbsent};
 ghost use Rattle.grep_regex.specs.Patterns.{FindsAs};
@@ -15,13 +15,14 @@ ghost use Rattle.grep_regex.specs.Spelled.{IsSpelled};
 ghost use Rattle.grep_regex.specs.Stripped.{AreAscii};
 
 use crate::absent::{absent_bytes, is_nul};
-use crate::class_tree::decisive_sets;
+use crate::class_tree::prefix_of;
 use crate::error::Error;
 use crate::frame::frame;
 use crate::literal::literal_of;
 use crate::locality::is_by_line;
 use crate::options::Options;
 use crate::parse::{Choice, read_choice};
+use crate::prefix::Prefix;
 use crate::seen::seen_bytes;
 use crate::strip::without_terminator;
 use crate::texts::Texts;
@@ -202,11 +203,11 @@ impl Regex {
     }
 
     // The sets of bytes that decide where it matches, if there are such.
-    pub(crate) fn sets(&self, alloc: Global) -> Result<Option<Vec<ByteSet>>, AllocError>
+    pub(crate) fn prefix(&self, alloc: Global) -> Result<Option<Prefix>, AllocError>
         ensures { IfOk result (λ found. IfSome found
-            (λ sets. Decides (program_re self.now) sets.items)) }
+            (λ p. IsPrefix (program_re self.now) p.sets.items p.is_run)) }
     {
-        decisive_sets(alloc, &self.shared.program.hir)
+        prefix_of(alloc, &self.shared.program.hir)
     }
 
     // What searches for the expression.

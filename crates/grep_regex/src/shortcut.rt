@@ -2,14 +2,15 @@
 ghost use Rattle.std.specs.Prelude.{◌≡◌, ◌≤◌, length, IfOk, IfSome};
 ghost use Rattle.std.specs.Arc.{arc_value};
 ghost use Rattle.regex_hir.specs.Meaning.{meaning};
-ghost use Rattle.grep_regex.specs.Classes.{Decides};
+ghost use Rattle.grep_regex.specs.Classes.{IsPrefix};
 ghost use Rattle.grep_regex.specs.Spelled.{IsSpelled};
 
 use crate::asked::Asked;
 use crate::known::{Known, known_by};
 use crate::literal::{matcher_of, occurrence};
+use crate::prefix::Prefix;
 use crate::regex::Regex;
-use grep_matcher::{ByteSet, LiteralMatcher};
+use grep_matcher::LiteralMatcher;
 use std::alloc::{AllocError, Global};
 
 // An expression, with what finds its matches sooner than an engine does. It isn't written to, so it
@@ -18,12 +19,12 @@ pub(crate) struct Shortcut<'r> {
     pub(crate) regex: &'r Regex,
     // For an expression that is a literal.
     literal: Option<LiteralMatcher<'r>>,
-    // For an expression whose matches their first bytes decide: the sets of these, one after another.
-    sets: Option<Vec<ByteSet>>,
+    // For an expression whose matches their first bytes decide: the sets of these.
+    prefix: Option<Prefix>,
     ghost spelled: { ∥ IfSome literal
         (IsSpelled (meaning (arc_value regex.now.shared).program.hir)) ∥₁ },
-    ghost decides: { ∥ IfSome sets
-        (λ s. Decides (meaning (arc_value regex.now.shared).program.hir) s.items) ∥₁ },
+    ghost is_prefix: { ∥ IfSome prefix
+        (λ p. IsPrefix (meaning (arc_value regex.now.shared).program.hir) p.sets.items p.is_run) ∥₁ },
 }
 
 // Written out, so that a caller's proof sees one call.
@@ -32,7 +33,7 @@ impl<'r> Drop for Shortcut<'r> {
         let Shortcut {
             regex: _regex,
             literal: _literal,
-            sets: _sets,
+            prefix: _prefix,
         } = self;
     }
 }
@@ -43,11 +44,11 @@ impl<'r> Shortcut<'r> {
     pub(crate) fn new(alloc: Global, regex: &'r Regex) -> Result<Shortcut<'r>, AllocError>
         ensures { IfOk result (λ s. s.regex.now ≡ regex.now) }
     {
-        match regex.sets(alloc) {
-            Ok(sets) => Ok(Shortcut {
+        match regex.prefix(alloc) {
+            Ok(prefix) => Ok(Shortcut {
                 regex,
                 literal: matcher_of(regex),
-                sets,
+                prefix,
             }),
             Err(error) => Err(error),
         }
@@ -71,8 +72,8 @@ impl<'r> Shortcut<'r> {
         requires { start ≤ length haystack.now }
         ensures { IsKnown self.now.regex.now asked haystack.now start result }
     {
-        match &self.sets {
-            Some(sets) => known_by(self.regex, sets, haystack, start, asked),
+        match &self.prefix {
+            Some(prefix) => known_by(self.regex, prefix, haystack, start, asked),
             None => Known::From(start),
         }
     }

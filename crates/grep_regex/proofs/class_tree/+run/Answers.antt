@@ -1,12 +1,16 @@
-use Rattle.std.proofs.Common.{◌≡◌, ◌∙◌, ◌++◌, map, take, IfOk, IfSome, add-one, ap, ap₂, arith, refl, subst, sym}
+use Rattle.std.proofs.Common.{◌≡◌, ◌∙◌, [], ◌∷◌, ◌++◌, map, take, IfOk, IfSome, add-one, ap, ap₂, arith, refl}
+use Rattle.std.proofs.Common.{subst, sym}
+use Rattle.std.proofs.lemmas.Bool.{eqb-false}
 use Rattle.std.proofs.lemmas.List.{take_all}
 use Rattle.std.proofs.lemmas.Option.{IfSome_then}
 use Rattle.std.proofs.lemmas.Result.{IfOk-weaker}
-use Rattle.regex_hir.specs.Meaning.{meaning, cat_all}
+use Rattle.regex_hir.specs.Meaning.{meaning, alt_all, cat_all}
 use Rattle.regex_hir.proofs.MeaningLemmas.{meaning-Empty, meaning-Literal, meaning-Bytes, meaning-Chars}
 use Rattle.regex_hir.proofs.MeaningLemmas.{meaning-Repetition, meaning-Capture, meaning-Concat}
+use Rattle.regex_hir.proofs.MeaningLemmas.{meaning-Alternation}
 use Rattle.grep_regex.proofs.RunLemmas.{empty-run, literal-run, group-run, byte-set-run, char-set-run, all-run}
 use Rattle.grep_regex.proofs.RunLemmas.{next-part, repeated-more, repeated-run}
+use Rattle.grep_regex.proofs.UnionLemmas.{more-run, one-run}
 use Rattle.grep_regex.specs.Classes.{repeated, IsRun}
 use Rattle.grep_regex.proofs.class_tree.+run.Goals as goal
 
@@ -75,3 +79,35 @@ repeated_sets-returns t c =
       run = subst (λ o. IfSome o (λ sets. IsRun (meaning c.args.hir.now) sets.items)) c.in-Some.is c.in_ok-one.ensures;
       is = c.loop.invariant ∙ ap (λ n. repeated n c.in-Some.one.items) all;
     }
+
+pub run_sets-returns-in-Alternation : goal.run_sets-returns-in-Alternation
+run_sets-returns-in-Alternation t c = rw (c.in-Alternation.is, meaning-Alternation) (subst
+    (λ subs. IfOk c.choice_sets.result (λ found. IfSome found (λ sets. IsRun (alt_all (map meaning subs)) sets.items)))
+    c.deref-in-Alternation.ensures.value c.choice_sets.ensures)
+
+pub choice_sets-loop-i-init : goal.choice_sets-loop-i-init
+choice_sets-loop-i-init t c =
+    let subs = c.args.subs.now in
+    let first = c.index-subs-0.result in
+    let filled = eqb-false _ 0 (sym c.is_empty.ensures ∙ c.if-is_empty.false) in
+    let one : map meaning (take 1 subs) ≡ meaning first ∷ [] =
+    next-part subs 0 first first (omega (arith, filled)) (sym c.index-subs-0.is) in
+    rw one (one-run (meaning first) c.in-Some.sets.items
+    (subst (λ o. IfSome o (λ sets. IsRun (meaning first) sets.items)) c.in-Some.is c.in_ok-sets.ensures))
+
+pub choice_sets-loop-i-preserved : goal.choice_sets-loop-i-preserved
+choice_sets-loop-i-preserved t c =
+    let subs = c.args.subs.now in
+    let front = map meaning (take c.loop-i.i subs) in
+    let next = c.index-subs-i.result in
+    rw (next-part subs c.loop-i.i next next c.loop-i-test.true (sym c.index-subs-i.is))
+    (more-run front (meaning next) c.loop-i.sets.items c.in-Some-2.more.items _ c.loop-i.invariant
+    (subst (λ o. IfSome o (λ sets. IsRun (meaning next) sets.items)) c.in-Some-2.is c.in_ok-more.ensures)
+    (rw c.deref.ensures.value at (c.unite.ensures c.if-not-unite.false)))
+
+pub choice_sets-returns : goal.choice_sets-returns
+choice_sets-returns t c =
+    let filled = eqb-false _ 0 (sym c.is_empty.ensures ∙ c.if-is_empty.false) in
+    let all : take c.loop-i.i c.args.subs.now ≡ c.args.subs.now =
+    take_all c.loop-i.i c.args.subs.now c.loop-i-test.false in
+    subst (λ subs. IsRun (alt_all (map meaning subs)) c.loop-i.sets.items) all c.loop-i.invariant

@@ -7,7 +7,7 @@ invariant-positions l = record {
   low : l.start ≤ l.from;
   within : l.from ≤ length l.haystack;
   moved : l.tried + l.start ≤ l.from;
-  passed : IsPassed l.sets l.haystack l.start l.from;
+  passed : IsPassed l.prefix.sets.items l.haystack l.start l.from;
 }
 
 abbrev pub decreases-positions : goal.decreases-positions

@@ -1,9 +1,9 @@
 use Rattle.std.proofs.Common.{IfSome, subst}
-use Rattle.grep_regex.specs.Classes.{Decides}
+use Rattle.grep_regex.specs.Classes.{IsPrefix}
 use Rattle.grep_regex.specs.Views.{program_re}
 use Rattle.grep_regex.proofs.shortcut.Shortcut.look_by_sets.Goals as goal
 
-pub known_by-requires-clause-decides : goal.known_by-requires-clause-decides
-known_by-requires-clause-decides c = rw c.deref.ensures.value
-    (subst (λ o. ∥ IfSome o (λ s. Decides (program_re c.args.self.now.regex.now) s.items) ∥₁) c.in-Some.is
-    c.args.self.now.decides)
+pub known_by-requires-clause-is_prefix : goal.known_by-requires-clause-is_prefix
+known_by-requires-clause-is_prefix c =
+    subst (λ o. ∥ IfSome o (λ p. IsPrefix (program_re c.args.self.now.regex.now) p.sets.items p.is_run) ∥₁)
+    c.in-Some.is c.args.self.now.is_prefix

@@ -1,0 +1,8 @@
+use Rattle.std.proofs.Common.{◌≡◌, ◌<◌, ℕ, true}
+use Rattle.regex_literal.specs.Nibbles.{buckets_of}
+use Rattle.grep_matcher.specs.ByteSets.{holds}
+use Rattle.grep_regex.proofs.tables.Table.has_all.Given as goal
+
+abbrev pub invariant-loop-byte : goal.invariant-loop-byte
+invariant-loop-byte l = (other : ℕ) → other < l.byte → holds l.set other ≡ true
+    → 0 < buckets_of l.self.low l.self.high other

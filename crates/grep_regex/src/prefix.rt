@@ -1,0 +1,176 @@
+//! A search for the positions at which sets of bytes may decide that a pattern matches.
+ghost use Rattle.std.specs.Prelude.{◌≡◌, ◌≤◌, ◌<◌, ◌+◌, ◌-◌, ℕ, false, Some, length, slice_index};
+ghost use Rattle.std.specs.Int.{bit_at};
+ghost use Rattle.regex_literal.specs.Lanes.{Covers};
+ghost use Rattle.regex_literal.specs.Nibbles.{buckets_of};
+ghost use Rattle.grep_regex.specs.Decisions.{IsPassed, MayMatch};
+ghost use Rattle.grep_regex.specs.Tables.{HasMembers};
+
+use crate::lanes::{
+    WIDTH, all_set, by_high_half, by_low_half, either_or_both, highest_bits, in_common, load,
+};
+use crate::tables::Table;
+use grep_matcher::ByteSet;
+use std::simd::prelude::*;
+
+// Sets of bytes, one after another, with which a match begins, and the first three as tables.
+#[derive(Drop)]
+pub(crate) struct Prefix {
+    pub(crate) sets: Vec<ByteSet>,
+    // Whether a match is a byte of each set, and nothing else.
+    pub(crate) is_run: bool,
+    first: Table,
+    second: Table,
+    third: Table,
+    ghost first_has: { HasMembers sets.items 0 first.low first.high },
+    ghost second_has: { HasMembers sets.items 1 second.low second.high },
+    ghost third_has: { HasMembers sets.items 2 third.low third.high },
+}
+
+impl Prefix {
+    pub(crate) fn new(sets: Vec<ByteSet>, is_run: bool) -> Prefix
+        ensures sets { result.sets ≡ sets }
+        ensures is_run { result.is_run ≡ is_run }
+    {
+        let first = Table::new(&sets, 0);
+        let second = Table::new(&sets, 1);
+        let third = Table::new(&sets, 2);
+        Prefix {
+            sets,
+            is_run,
+            first,
+            second,
+            third,
+        }
+    }
+
+    // A position up to which the sets decide that there is no match.
+    #[inline]
+    pub(crate) fn skip(&self, haystack: &[u8], start: usize) -> usize
+        requires { start ≤ length haystack.now }
+        ensures low { start ≤ result }
+        ensures within { result ≤ length haystack.now }
+        ensures passed { IsPassed self.now.sets.items haystack.now start result }
+    {
+        match self.sets.len() {
+            0 => start,
+            1 => self.skip_by::<1>(haystack, start),
+            2 => self.skip_by::<2>(haystack, start),
+            _ => self.skip_by::<3>(haystack, start),
+        }
+    }
+
+    // The same by the first sets, in windows of a vector's width. The last one ends with the
+    // haystack, and may begin before the position that it is looked at from.
+    #[inline(always)]
+    fn skip_by<const SETS: usize>(&self, haystack: &[u8], start: usize) -> usize
+        requires start { start ≤ length haystack.now }
+        requires sets { SETS ≤ length self.now.sets.items }
+        requires few { (1 ≤ SETS) × (SETS ≤ 3) }
+        ensures low { start ≤ result }
+        ensures within { result ≤ length haystack.now }
+        ensures passed { IsPassed self.now.sets.items haystack.now start result }
+    {
+        if haystack.len() - start < SETS || haystack.len() < WIDTH + SETS {
+            return start;
+        }
+        let last = haystack.len() - SETS - (WIDTH - 1);
+        let mut from = start;
+        'windows: loop {
+            let position = from.min(last);
+            let marks = self.marks_from::<SETS>(haystack, position, from);
+            if marks != 0 {
+                let at = from + marks.trailing_zeros() as usize;
+                return at.min(position + WIDTH);
+            }
+            if from >= last {
+                return last + WIDTH;
+            }
+            from += WIDTH;
+        }
+    }
+
+    // Bit k is set if a match may begin at `from + k`: of the positions from `position` on that a
+    // vector has.
+    #[inline(always)]
+    fn marks_from<const SETS: usize>(&self, haystack: &[u8], position: usize, from: usize) -> u64
+        requires room { position + SETS + WIDTH ≤ length haystack.now + 1 }
+        requires sets { SETS ≤ length self.now.sets.items }
+        requires few { (1 ≤ SETS) × (SETS ≤ 3) }
+        requires low { position ≤ from }
+        requires high { from < position + 64 }
+        ensures { (k : ℕ) → from ≤ k → k < position + WIDTH
+            → MayMatch self.now.sets.items 0 haystack.now k → bit_at result (k - from) ≡ 1 }
+    {
+        highest_bits(self.first_lanes::<SETS>(haystack, position)) >> (from - position)
+    }
+
+    // For each position of a vector, whether the sets decide that there is no match.
+    #[inline(always)]
+    fn first_lanes<const SETS: usize>(&self, haystack: &[u8], at: usize) -> u8x32
+        requires room { at + SETS + WIDTH ≤ length haystack.now + 1 }
+        requires sets { SETS ≤ length self.now.sets.items }
+        requires few { (1 ≤ SETS) × (SETS ≤ 3) }
+        ensures { Covers (MayMatch self.now.sets.items 0 haystack.now) at result }
+    {
+        lanes_of(
+            &self.first,
+            haystack,
+            at,
+            self.second_lanes::<SETS>(haystack, at + 1),
+        )
+    }
+
+    // The same of the sets after the first.
+    #[inline(always)]
+    fn second_lanes<const SETS: usize>(&self, haystack: &[u8], at: usize) -> u8x32
+        requires room { at + SETS + WIDTH ≤ length haystack.now + 2 }
+        requires sets { SETS ≤ length self.now.sets.items }
+        requires few { SETS ≤ 3 }
+        ensures { Covers (MayMatch self.now.sets.items 1 haystack.now) at result }
+    {
+        if SETS < 2 {
+            return all_set();
+        }
+        lanes_of(
+            &self.second,
+            haystack,
+            at,
+            self.third_lanes::<SETS>(haystack, at + 1),
+        )
+    }
+
+    // The same of the sets after the second.
+    #[inline(always)]
+    fn third_lanes<const SETS: usize>(&self, haystack: &[u8], at: usize) -> u8x32
+        requires room { at + SETS + WIDTH ≤ length haystack.now + 3 }
+        requires sets { SETS ≤ length self.now.sets.items }
+        requires few { SETS ≤ 3 }
+        ensures { Covers (MayMatch self.now.sets.items 2 haystack.now) at result }
+    {
+        if SETS < 3 {
+            return all_set();
+        }
+        lanes_of(&self.third, haystack, at, all_set())
+    }
+}
+
+// For each position from one on, whether its byte isn't ASCII, or is in a table and a vector has a
+// set lane for the bytes after it.
+#[inline(always)]
+fn lanes_of(table: &Table, haystack: &[u8], at: usize, later: u8x32) -> u8x32
+    requires { at + WIDTH ≤ length haystack.now }
+    ensures long { length result ≡ WIDTH }
+    ensures high { (k : ℕ) → k < WIDTH → 128 ≤ slice_index haystack.now (at + k)
+        → 128 ≤ slice_index result k }
+    ensures member { (k : ℕ) → k < WIDTH
+        → 0 < buckets_of table.now.low table.now.high (slice_index haystack.now (at + k))
+        → 128 ≤ slice_index later k → 128 ≤ slice_index result k }
+{
+    let bytes = load(haystack, at);
+    let members = in_common(
+        by_low_half(&table.low, bytes),
+        by_high_half(&table.high, bytes),
+    );
+    either_or_both(bytes, later, members)
+}
