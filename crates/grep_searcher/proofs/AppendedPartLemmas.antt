@@ -10,7 +10,6 @@ use Rattle.grep_definitions.specs.Plans.{AreMade, Call, Finish, finishes, IsFini
 use Rattle.grep_definitions.specs.Plans.{Planned, Steps, Settings}
 use Rattle.grep_definitions.specs.SearchLaws.{calls_of, match_calls, match_of, matched_lines}
 use Rattle.grep_definitions.proofs.MatchCallLemmas.{matches-are_matched_lines}
-use Rattle.grep_searcher.specs.SinkFolds.{fold_while}
 use Rattle.grep_searcher.specs.AppendedParts.{AppendsParts, CallsAppend, RunsAppend}
 use Rattle.grep_searcher.specs.AppendedParts.{RunsAppendByState, RunsAppendLines}
 use Rattle.grep_searcher.specs.AppendedParts.{RunsAppendMatches}

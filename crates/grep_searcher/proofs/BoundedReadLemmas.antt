@@ -1,5 +1,5 @@
 -- How far a search has read that its handler ended.
-use Rattle.std.proofs.Common.{◌≡◌, ◌⊎◌, ℕ, zero, suc, ◌+◌, ◌-◌, ◌<◌, ◌≤◌, Bool, true, false, not, ◌&&◌, List, []}
+use Rattle.std.proofs.Common.{◌≡◌, ◌⊎◌, ℕ, zero, suc, ◌+◌, ◌-◌, ◌<◌, Bool, true, false, not, ◌&&◌, List, []}
 use Rattle.std.proofs.Common.{◌∷◌, ◌++◌, length, Result, Option, Some, None, Ok, refl, sym, ap}
 use Rattle.std.proofs.Common.{subst, ◌∙◌, inl, inr, arith, if◌then◌else◌, ⊎_elim}
 use Rattle.std.proofs.lemmas.Bool.{false≢true, le-ltb, lt-ltb}
@@ -22,7 +22,7 @@ use Rattle.grep_definitions.specs.Plans.{binary_data, breaks, Call, context, Fin
 use Rattle.grep_definitions.specs.Plans.{finishes, IsFinished, IsRun, matches, Outcome, Plan}
 use Rattle.grep_definitions.specs.Plans.{Planned, planned, breaks_before, calls_at, count_at}
 use Rattle.grep_definitions.specs.Plans.{in_context, Kind, kind, line_count, matched, report}
-use Rattle.grep_definitions.specs.Plans.{reports_plan, Selection, start, is_selected, reports_end}
+use Rattle.grep_definitions.specs.Plans.{reports_plan, Selection, is_selected, reports_end}
 use Rattle.grep_definitions.specs.Plans.{selected_lines, Settings, Steps}
 use Rattle.grep_definitions.specs.Searches.{BinaryPoint, plan_with, encoding_after, Points}
 use Rattle.grep_definitions.specs.Searches.{encoding_of, IsInput, IsSearchOf, ran, searched_bytes}

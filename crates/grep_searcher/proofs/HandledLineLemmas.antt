@@ -1,21 +1,32 @@
 -- What a handler of matches makes of a search by line.
-use Rattle.std.proofs.Common.{Bool, List, ℕ, Option, Ok, ap, ◌∙◌}
+use Rattle.std.proofs.Common.{Bool, List, [], ◌∷◌, map, ℕ, Option, Ok, ap, sym, ◌∙◌}
+use Rattle.std.proofs.lemmas.List.{map-append}
 use Rattle.grep_decode.specs.Source.{ReadResult}
 use Rattle.grep_matcher.specs.Meanings.{MatcherFacts}
 use Rattle.grep_report.specs.ErrorMakers.{ErrorMakers}
-use Rattle.grep_definitions.specs.Plans.{Call, IsRun, search_plan, Settings}
+use Rattle.grep_definitions.specs.Plans.{Call, IsRun, reported_bytes, search_plan, Settings}
 use Rattle.grep_definitions.specs.Searches.{searched_bytes}
 use Rattle.grep_searcher.specs.SinkFolds.{fold_while}
 use Rattle.grep_searcher.proofs.SinkFoldLemmas.{known_readers-run, reader_searches-run}
-use Rattle.grep_searcher.proofs.SinkFoldLemmas.{searches-run}
+use Rattle.grep_searcher.proofs.SinkFoldLemmas.{calls-reach, searches-run}
 use Rattle.grep_searcher.specs.HandledLines.{after_hits, KnownReadersHandleLines}
-use Rattle.grep_searcher.specs.HandledLines.{ReadersHandleLines, SlicesHandleLines}
-use Rattle.grep_searcher.specs.HitLines.{IsFilter}
+use Rattle.grep_searcher.specs.HandledLines.{LinesReach, ReadersHandleLines, SlicesHandleLines}
+use Rattle.grep_searcher.specs.HitLines.{hit_matches, IsFilter}
 use Rattle.grep_searcher.specs.LineCounts.{IsLineSearch}
 use Rattle.grep_searcher.specs.MatchHandlers.{IsHandlerStep}
-use Rattle.grep_searcher.proofs.LineFilterLemmas.{lines-are_filtered}
+use Rattle.grep_searcher.proofs.LineFilterLemmas.{hits-are_lines, lines-are_filtered}
 use Rattle.grep_searcher.proofs.MatchHandlerLemmas.{runs-handle}
 use Rattle.std.proofs.Common.{◌≡◌}
+
+pub lines-reach : {H : Type 0} (goes : H → Call → Bool) (next : H → Call → H)
+    → LinesReach goes next
+lines-reach goes next state_after by settings meaning bytes old new =
+    calls-reach goes next (λ calls. state_after (map reported_bytes calls))
+    (λ before call. let one = by (map reported_bytes before) call in (
+      one.0,
+      one.1 ∙ ap state_after (sym (map-append reported_bytes before (call ∷ []))),
+    )) old (hit_matches settings meaning bytes) new
+    ∙ ap state_after (hits-are_lines settings meaning bytes)
 
 module _ {H E F : Type 0} (goes : H → Call → Bool) (next : H → Call → H)
     (fails : H → Call → E → H → Type 0) (errors : ErrorMakers F E) (matcher : MatcherFacts F) where

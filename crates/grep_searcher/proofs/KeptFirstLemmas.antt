@@ -1,5 +1,5 @@
 -- What `First` keeps of a search of a reader by line, and how far that reads.
-use Rattle.std.proofs.Common.{◌≡◌, ℕ, ◌+◌, ◌-◌, List, [], ◌∷◌, length, map, take, Option, Some, None}
+use Rattle.std.proofs.Common.{◌≡◌, ℕ, ◌+◌, ◌-◌, List, length, map, take, Option, Some, None}
 use Rattle.std.proofs.Common.{refl, sym, ap, subst, ◌∙◌}
 use Rattle.std.proofs.lemmas.List.{take-map}
 use Rattle.std.proofs.lemmas.Option.{slice_get-map}
@@ -14,7 +14,7 @@ use Rattle.grep_definitions.specs.Searches.{searched_bytes}
 use Rattle.grep_definitions.specs.SearchLaws.{match_calls}
 use Rattle.grep_searcher.proofs.SinkFoldLemmas.{known_readers-run}
 use Rattle.grep_searcher.specs.BoundedReads.{ending_call, IsReadUpTo}
-use Rattle.grep_searcher.specs.HitLines.{hit_matches, kept_hits}
+use Rattle.grep_searcher.specs.HitLines.{hit_matches}
 use Rattle.grep_searcher.specs.KeptFirst.{ReadersKeepFirst}
 use Rattle.grep_searcher.specs.MatchHandlers.{FirstReports, has_room, IsFirstStep, kept_of}
 use Rattle.grep_searcher.specs.MatchHandlers.{KeptReport, LacksMemory, with_first}

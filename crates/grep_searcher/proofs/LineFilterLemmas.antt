@@ -1,7 +1,7 @@
 -- The matches that a search by line reports are the lines that hit.
 use Rattle.std.proofs.Common.{◌≡◌, ◌⊎◌, ℕ, zero, suc, ◌+◌, ◌-◌, ◌<◌, ◌≤◌, Bool, true, false, List}
 use Rattle.std.proofs.Common.{[], ◌∷◌, ◌++◌, length, map, take, Option, Some, None, refl, sym, ap}
-use Rattle.std.proofs.Common.{◌∙◌, subst, inl, inr, arith, get_or, if◌then◌else◌}
+use Rattle.std.proofs.Common.{◌∙◌, subst, inl, inr, arith, if◌then◌else◌}
 use Rattle.std.proofs.Math.Bool.{and-false, and-true, or-false}
 use Rattle.std.proofs.Math.Seq.{take-nil}
 use Rattle.std.proofs.lemmas.Bool.{and_parts, false≢true, lt-leb, lt-ltb, ltb-false}
@@ -15,8 +15,8 @@ use Rattle.std.specs.Prelude.{slice_index_or}
 use Rattle.std.specs.List.{range_with_len}
 use Rattle.grep_matcher.specs.Lines.{byte_of, lines, strip}
 use Rattle.grep_matcher.specs.Meanings.{Meaning}
-use Rattle.grep_definitions.specs.Plans.{count_below, joined_from, follows_selected, hits, hits_if}
-use Rattle.grep_definitions.specs.Plans.{has_room, is_below, is_selected, is_trailing, line}
+use Rattle.grep_definitions.specs.Plans.{count_below, joined_from, follows_selected, hits}
+use Rattle.grep_definitions.specs.Plans.{is_below, is_selected, is_trailing, line}
 use Rattle.grep_definitions.specs.Plans.{line_count, reported_bytes, reports_end, selected_lines}
 use Rattle.grep_definitions.specs.Plans.{Settings, stops_next, Call, is_open_at, ends_search}
 use Rattle.grep_definitions.specs.Plans.{some_below, search_plan}
@@ -28,8 +28,8 @@ use Rattle.grep_definitions.proofs.ListLemmas.{All-joined_from}
 use Rattle.grep_definitions.proofs.MatchCallLemmas.{length-passing, matches-are_matched_lines}
 use Rattle.grep_definitions.proofs.MatchCallLemmas.{passing, selected-reportable}
 use Rattle.grep_definitions.proofs.SearchLawLemmas.{reports_end-le}
-use Rattle.grep_searcher.specs.EveryLines.{every_line_facts, EveryLineHits}
-use Rattle.grep_searcher.specs.HitLines.{hit_matches, HitsAreLines, IsFilter, is_hit, items_up_to}
+use Rattle.grep_searcher.specs.EveryLines.{AllLinesHit, every_line_facts, EveryLineHits}
+use Rattle.grep_searcher.specs.HitLines.{HitsAreLines, IsFilter, is_hit, items_up_to}
 use Rattle.grep_searcher.specs.HitLines.{lines_as_matches, LinesAreFiltered, LinesAreListed}
 use Rattle.grep_searcher.specs.HitLines.{MatchedLinesHit}
 use Rattle.grep_searcher.specs.HitLines.{MatchedLinesMatch, PredicatesAreFiltered}
@@ -314,3 +314,9 @@ pub every_line-hits : EveryLineHits
 every_line-hits k bytes plain =
     predicates-are_filtered k every_line_facts.meaning bytes (λ line. true) plain (λ line. refl)
     ∙ ap (items_up_to k.max_matches) (filter-true (lines_as_matches k bytes))
+
+pub all_lines-hit : AllLinesHit
+all_lines-hit k bytes plain =
+    sym (hits-are_lines k every_line_facts.meaning bytes)
+    ∙ predicates-are_lines k every_line_facts.meaning bytes (λ line. true) plain (λ line. refl)
+    ∙ ap (items_up_to k.max_matches) (filter-true (lines (byte_of k.line_terminator) bytes))

@@ -1,15 +1,26 @@
 -- What a handler of matches makes of a search by line: it handles the lines that hit.
-use Rattle.std.specs.Prelude.{◌≡◌, ℕ, Bool, List, Option, Some, Ok}
+use Rattle.std.specs.Prelude.{◌≡◌, ℕ, Bool, true, List, [], ◌∷◌, ◌++◌, Option, Some, Ok}
 use Rattle.grep_decode.specs.Source.{ReadResult}
-use Rattle.grep_matcher.specs.Meanings.{MatcherFacts}
+use Rattle.grep_matcher.specs.Meanings.{MatcherFacts, Meaning}
 use Rattle.grep_report.specs.ErrorMakers.{ErrorMakers}
-use Rattle.grep_definitions.specs.Plans.{Call, SearcherState, Settings}
+use Rattle.grep_definitions.specs.Plans.{Call, reported_bytes, SearcherState, Settings}
 use Rattle.grep_definitions.specs.Searches.{IsInput, IsReaderSearched, searched_bytes, Taken}
 use Rattle.grep_searcher.specs.SinkFolds.{fold_while}
 use Rattle.grep_definitions.specs.SliceSearches.{IsSliceSearched}
-use Rattle.grep_searcher.specs.HitLines.{hit_matches, IsFilter}
+use Rattle.grep_searcher.specs.HitLines.{hit_lines, hit_matches, IsFilter}
 use Rattle.grep_searcher.specs.LineCounts.{IsLineSearch}
 use Rattle.grep_searcher.specs.MatchHandlers.{IsHandlerStep}
+
+-- if the state is a function of the lines so far, of none and after each line, and the search always
+-- goes on, it is after the lines that hit that function of them
+abbrev pub LinesReach : {H : Type 0} → (H → Call → Bool) → (H → Call → H) → Type 0
+LinesReach {H} goes next =
+    (state_after : List (List ℕ) → H)
+    → ((before : List (List ℕ)) (call : Call) → (goes (state_after before) call ≡ true)
+    × (next (state_after before) call ≡ state_after (before ++ reported_bytes call ∷ [])))
+    → (settings : Settings) (meaning : Meaning) (bytes : List ℕ) (old : H) → old ≡ state_after []
+    → fold_while goes next old (hit_matches settings meaning bytes)
+    ≡ state_after (hit_lines settings meaning bytes)
 
 module _ {H E F : Type 0} (goes : H → Call → Bool) (next : H → Call → H)
     (fails : H → Call → E → H → Type 0) (errors : ErrorMakers F E) (matcher : MatcherFacts F) where

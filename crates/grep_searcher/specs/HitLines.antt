@@ -94,12 +94,15 @@ LinesAreFiltered =
     → match_calls (search_plan settings meaning bytes).calls ≡ hit_matches settings meaning bytes
 
 -- the bytes of all lines are the lines, so these are the lines that hit
+abbrev pub hit_lines : Settings → Meaning → List ℕ → List (List ℕ)
+hit_lines settings meaning bytes =
+    items_up_to settings.max_matches
+    (filter (is_hit settings meaning) (lines (byte_of settings.line_terminator) bytes))
+
 abbrev pub HitsAreLines : Type 0
 HitsAreLines =
     (settings : Settings) (meaning : Meaning) (bytes : List ℕ)
-    → map reported_bytes (hit_matches settings meaning bytes)
-    ≡ items_up_to settings.max_matches
-    (filter (is_hit settings meaning) (lines (byte_of settings.line_terminator) bytes))
+    → map reported_bytes (hit_matches settings meaning bytes) ≡ hit_lines settings meaning bytes
 
 -- without inversion, of a matcher that has a match exactly where a predicate holds, they are the
 -- lines of which it holds without their terminators

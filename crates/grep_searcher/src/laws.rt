@@ -13,9 +13,9 @@ ghost use Rattle.grep_searcher.specs.DetectedRuns.{DecodedSlicesFailWith, Decode
 ghost use Rattle.grep_searcher.specs.DetectedRuns.{KnownReadersFailWith, KnownReadersRunWith};
 ghost use Rattle.grep_searcher.specs.DetectedRuns.{ReadersFailWith, ReadersRunWith};
 ghost use Rattle.grep_searcher.specs.DetectedRuns.{SlicesFailWith, SlicesRunWith};
-ghost use Rattle.grep_searcher.specs.EveryLines.{EveryLineHits};
+ghost use Rattle.grep_searcher.specs.EveryLines.{AllLinesHit, EveryLineHits};
 ghost use Rattle.grep_searcher.specs.HandledLines.{KnownReadersHandleLines, ReadersHandleLines};
-ghost use Rattle.grep_searcher.specs.HandledLines.{SlicesHandleLines};
+ghost use Rattle.grep_searcher.specs.HandledLines.{LinesReach, SlicesHandleLines};
 ghost use Rattle.grep_searcher.specs.HitLines.{HitsAreSelected, HitsAreMatched, HitsAreCounted};
 ghost use Rattle.grep_searcher.specs.HitLines.{HitsAreLines, LinesAreFiltered, LinesAreListed};
 ghost use Rattle.grep_searcher.specs.HitLines.{MatchedLinesHit, MatchedLinesMatch};
@@ -89,6 +89,7 @@ pub fn lines_are_filtered()
     ensures predicate_lines { PredicatesAreLines }
     ensures every_line { EveryLineHits }
     ensures all_lines { LinesAreListed }
+    ensures all_hit { AllLinesHit }
 {}
 
 /// In a search by line each line that is reported as a match hits, whatever is set. So without
@@ -156,12 +157,13 @@ pub fn runs_count_lines<E>()
 /// handle the matches before one, and that one failed. If the handler always goes on, the byte
 /// count of a run that ended in `Ok` is below 2^64, and by `matches_are_within_count` so are the
 /// matches; and if its state is a function of the matches so far, of none and after each match, it
-/// is that function of all that are handled.
+/// is that function of all that are handled, or of the bytes of the lines that hit.
 pub fn runs_handle_matches<H: MatchHandler>()
     ensures handled { RunsHandle H.goes H.next H.fails }
     ensures failed { RunsFailAt H.goes H.next H.fails }
     ensures fits { RunsFit H.goes H.next H.fails }
     ensures reached { CallsReach H.goes H.next }
+    ensures lines { LinesReach H.goes H.next }
 {}
 
 /// If a handler always goes on and appends a part for each match to what it keeps, a run that ended

@@ -1,5 +1,6 @@
 -- The counts of files at paths.
-use Rattle.std.specs.Prelude.{◌≡◌, ℕ, List, Option, Some, Result, Ok}
+use Rattle.std.specs.List.{AllZip, sum}
+use Rattle.std.specs.Prelude.{◌≡◌, ℕ, ◌-◌, ◌^◌, List, min, Option, Some, Result, Ok}
 use Rattle.std.specs.declared.io.Error.{Error}
 use Rattle.grep_searcher.specs.FileSearches.{OpensAt}
 use Rattle.grep_searcher.specs.LineCounts.{IsLineCount}
@@ -13,3 +14,11 @@ abbrev pub IsCountAt : {F G : Type 0} → (List ℕ → Result F Error → Type 
 IsCountAt {F} opens remaining matcher settings path count =
     (file : F) × OpensAt opens path (Ok file)
     × ((input : List ℕ) → remaining file ≡ Some input → IsLineCount matcher settings input count)
+
+-- the counts of several, together, or the largest `u64` if that is less
+abbrev pub IsTotal : {F G P : Type 0} → (List ℕ → Result F Error → Type 0)
+    → (F → Option (List ℕ)) → MatcherFacts G → Settings → (P → Option (List ℕ)) → List P → ℕ
+    → Type 0
+IsTotal opens remaining matcher settings text paths total = (counts : List ℕ)
+    × AllZip (λ path count. IsCountAt opens remaining matcher settings (text path) count)
+    paths counts × (total ≡ min (sum counts) (2 ^ 64 - 1))

@@ -3,10 +3,8 @@ ghost use Rattle.std.specs.Prelude.{◌≡◌, reverse, IfOk};
 ghost use Rattle.grep_searcher.specs.Lines.{lines};
 ghost use Rattle.uses.specs.MarkedBlocks.{text_between};
 
-use crate::plain::searcher_as_it_is;
-use grep_searcher::laws::{
-    lines_are_filtered, runs_handle_matches, slices_handle_lines, unchanged_is_searched,
-};
+use crate::plain::{input_is_searched, searcher_as_it_is};
+use grep_searcher::laws::{lines_are_filtered, runs_handle_matches, slices_handle_lines};
 use grep_searcher::sinks::{MatchHandler, OnMatch};
 use grep_searcher::{EveryLine, LineTerminator, SearchError, SinkMatch, without_terminator};
 use std::alloc::Global;
@@ -37,7 +35,7 @@ pub fn lines_between(
     slices_handle_lines::<Global, EveryLine, Blocks<'_>>();
     runs_handle_matches::<Blocks<'_>>();
     lines_are_filtered();
-    unchanged_is_searched();
+    input_is_searched();
     Ok(sink.into_handler().into_text())
 }
 

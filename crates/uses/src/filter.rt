@@ -5,10 +5,8 @@ ghost use Rattle.grep_searcher.specs.MatchHandlers.{bytes_of_each};
 ghost use Rattle.grep_searcher.specs.Plans.{IsLawful};
 ghost use Rattle.uses.specs.PlainSettings.{as_it_is};
 
-use crate::plain::searcher_as_it_is;
-use grep_searcher::laws::{
-    lines_are_filtered, runs_keep_bytes, searches_run, unchanged_is_searched,
-};
+use crate::plain::{input_is_searched, searcher_as_it_is};
+use grep_searcher::laws::{lines_are_filtered, runs_keep_bytes, searches_run};
 use grep_searcher::sinks::{EachLine, OnMatch};
 use grep_searcher::{LineTerminator, Matcher, SearchError};
 use std::alloc::Global;
@@ -32,6 +30,6 @@ pub fn lines_that_match<M: Matcher + Drop>(
     searches_run::<Global, M, _>(&sink);
     runs_keep_bytes::<Global>();
     lines_are_filtered();
-    unchanged_is_searched();
+    input_is_searched();
     Ok(sink.into_handler().into_lines())
 }

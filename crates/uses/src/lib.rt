@@ -7,9 +7,10 @@
 //! `matching_lines` joins the lines of all matches by a handler of its own. `numbered_lines`,
 //! `json_lines` and `in_context` write by closures, and `reporter` builds a searcher.
 //! `count_with_prefix` and `count_non_ascii_lines` have a matcher of their own, which a search asks
-//! about one line, or about many, and `count_pattern_lines` compiles a regular expression.
-//! `lines_that_match` keeps the lines of a slice that match, `last_matches` the last ones of a reader,
-//! and `lines_between` those between two marks. `CALLING.md` says which laws they use.
+//! about one line, or about many; `count_pattern_lines` and `first_pattern_line` compile a regular
+//! expression. `lines_that_match` keeps the lines of a slice that match, `last_matches` the last
+//! ones of a reader, and `lines_between` those between two marks; `count_in_paths` adds up the
+//! counts of files. `CALLING.md` says which laws they use.
 #![tactic(auto)]
 
 mod around;
@@ -28,13 +29,14 @@ mod path;
 mod plain;
 mod prefix;
 mod report;
+mod totals;
 
 pub use around::first_with_context;
 pub use between::lines_between;
 pub use blocks::count_blocks;
 pub use collect::matching_lines;
 pub use count::{count_in_reader, count_matching_lines};
-pub use expression::count_pattern_lines;
+pub use expression::{count_pattern_lines, first_pattern_line};
 pub use filter::lines_that_match;
 pub use first::first_matches;
 pub use json::json_lines;
@@ -44,3 +46,4 @@ pub use numbered::numbered_lines;
 pub use path::{count_in_path, has_match};
 pub use prefix::count_with_prefix;
 pub use report::{in_context, reporter};
+pub use totals::count_in_paths;

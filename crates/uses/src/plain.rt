@@ -1,9 +1,25 @@
 //! Searchers of input as it is.
-ghost use Rattle.std.specs.Prelude.{◌≡◌, true, IfOk};
+ghost use Rattle.std.specs.Prelude.{◌≡◌, ℕ, List, false, true, None, IfOk};
+ghost use Rattle.grep_searcher.specs.Plans.{Settings};
+ghost use Rattle.grep_searcher.specs.Searches.{searched_bytes};
+ghost use Rattle.grep_searcher.specs.SliceSearches.{is_searched_unchanged};
 ghost use Rattle.uses.specs.PlainSettings.{as_it_is, held_to};
 
+use grep_searcher::laws::unchanged_is_searched;
 use grep_searcher::{ConfigError, Searcher, SearcherBuilder};
 use std::alloc::Global;
+
+// What such a searcher searches: a law that follows from one of grep_searcher.
+pub(crate) fn input_is_searched()
+    ensures unchanged { (settings : Settings) (input : List ℕ)
+        → settings.encoding ≡ None → settings.bom_sniffing ≡ false
+        → is_searched_unchanged settings input ≡ true }
+    ensures input { (settings : Settings) (input : List ℕ)
+        → settings.encoding ≡ None → settings.bom_sniffing ≡ false
+        → searched_bytes settings input ≡ input }
+{
+    unchanged_is_searched();
+}
 
 // A searcher that searches its input as it is.
 pub(crate) fn searcher_as_it_is(alloc: Global) -> Result<Searcher, ConfigError>

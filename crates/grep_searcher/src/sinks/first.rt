@@ -1,5 +1,5 @@
 //! A handler that keeps the first matches.
-ghost use Rattle.std.specs.Prelude.{◌≡◌, []};
+ghost use Rattle.std.specs.Prelude.{◌≡◌, [], slice_get};
 
 use crate::sinks::collect::Collect;
 use crate::sinks::kept_match::KeptMatch;
@@ -42,6 +42,18 @@ impl<A: Allocator + Copy> First<A> {
         ensures { result.now ≡ self.now.kept }
     {
         self.kept.matches()
+    }
+
+    /// Gives the first match that was kept, if there is one.
+    pub fn into_first(self) -> Option<KeptMatch<A>>
+        ensures { result ≡ slice_get self.kept 0 }
+    {
+        let mut kept = self.into_matches();
+        if kept.is_empty() {
+            None
+        } else {
+            Some(kept.swap_remove(0))
+        }
     }
 
     /// Gives what was kept.

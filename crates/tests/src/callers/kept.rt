@@ -1,8 +1,9 @@
-//! The callers of `uses` that keep the last matches, and the lines between two marks.
+//! The callers of `uses` that keep the last matches, the first line of a pattern, and the lines
+//! between two marks.
 use grep_searcher::sinks::KeptMatch;
 use grep_searcher::{LiteralMatcher, SearchError, Searcher};
 use std::alloc::Global;
-use uses::{last_matches, lines_between};
+use uses::{first_pattern_line, last_matches, lines_between};
 
 // Line 2, line 4 and line 5 have an `a`.
 const INPUT: &[u8] = b"x\nab\ny\nba\nca";
@@ -26,6 +27,28 @@ fn keeps_the_last(alloc: Global) -> Result<bool, SearchError> {
 #[test]
 fn last_matches_are_kept(rt: HostRuntime) {
     assert!(rt; matches!(keeps_the_last(rt.alloc()), Ok(true)));
+}
+
+// Line 3 is the first that begins with a `b`.
+const LONG: &[u8] = b"x\nab\nba\ny\ny\ny\ny\ny\ny\ny\n";
+
+// Whether it is found, and not all of what comes after it is read.
+fn finds_the_first(alloc: Global) -> Result<bool, SearchError> {
+    let mut reader: &[u8] = LONG;
+    let found = first_pattern_line(alloc, "^b", 4, &mut reader)?;
+    Ok(is_line_3(&found) && !reader.is_empty())
+}
+
+fn is_line_3(found: &Option<KeptMatch>) -> bool {
+    match found {
+        Some(line) => line.line_number() == Some(3) && line.bytes() == b"ba\n".as_slice(),
+        None => false,
+    }
+}
+
+#[test]
+fn first_lines_are_found(rt: HostRuntime) {
+    assert!(rt; matches!(finds_the_first(rt.alloc()), Ok(true)));
 }
 
 // Two whole blocks, between which a line and a mark are left out, and one without an end.

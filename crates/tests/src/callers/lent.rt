@@ -7,7 +7,7 @@ use std::alloc::Global;
 use std::fs;
 use std::path::Path;
 use uses::{
-    NonAscii, count_blocks, count_in_path, count_in_reader, count_matching_lines,
+    NonAscii, count_blocks, count_in_path, count_in_paths, count_in_reader, count_matching_lines,
     count_non_ascii_lines, count_pattern_lines, count_with_prefix, first_matches,
     first_with_context, has_match, in_context, json_lines, matching_lines, numbered_lines,
     reporter,
@@ -215,6 +215,12 @@ fn count_names(rt: &HostRuntime, path: Path<'_>) -> Result<u64, SearchError> {
     count_in_path(rt, &mut searcher, name(), path)
 }
 
+// How many lines of the file at a path have `Doctor Watson`, if it is searched twice.
+fn count_names_twice(rt: &HostRuntime, path: Path<'_>) -> Result<u64, SearchError> {
+    let mut searcher = Searcher::new(rt.alloc())?;
+    count_in_paths(rt, &mut searcher, name(), &[path, path])
+}
+
 // Whether a line of the file at a path has `Doctor Watson`.
 fn has_name(rt: &HostRuntime, path: Path<'_>) -> Result<bool, SearchError> {
     let mut searcher = Searcher::new(rt.alloc())?;
@@ -225,6 +231,7 @@ fn has_name(rt: &HostRuntime, path: Path<'_>) -> Result<bool, SearchError> {
 fn has_names(rt: &HostRuntime, path: Path<'_>) -> bool {
     let agrees = fs::write(rt, path, SHERLOCK).is_ok()
         && matches!(count_names(rt, path), Ok(2))
+        && matches!(count_names_twice(rt, path), Ok(4))
         && matches!(has_name(rt, path), Ok(true));
     fs::remove_file(rt, path).is_ok() && agrees && is_unopened(rt, path)
 }

@@ -1,4 +1,4 @@
-use Rattle.grep_searcher.proofs.LineFilterLemmas.{every_line-hits, hits-are_lines}
+use Rattle.grep_searcher.proofs.LineFilterLemmas.{all_lines-hit, every_line-hits, hits-are_lines}
 use Rattle.grep_searcher.proofs.LineFilterLemmas.{lines-are_filtered, lines-are_listed}
 use Rattle.grep_searcher.proofs.LineFilterLemmas.{predicates-are_filtered, predicates-are_lines}
 use Rattle.grep_searcher.proofs.laws.lines_are_filtered.Goals as goal
@@ -20,3 +20,6 @@ returns-clause-every_line c = every_line-hits
 
 pub returns-clause-all_lines : goal.returns-clause-all_lines
 returns-clause-all_lines c = lines-are_listed
+
+pub returns-clause-all_hit : goal.returns-clause-all_hit
+returns-clause-all_hit c = all_lines-hit
