@@ -1,11 +1,16 @@
 -- A search for a literal from a position of a haystack on.
 use Rattle.std.proofs.Common.{◌≡◌, ℕ, ◌+◌, ◌-◌, ◌<◌, ◌≤◌, List, length, drop, Option, Some, None, sym, arith}
-use Rattle.std.proofs.Common.{ap, ap₂, length-drop, take, ◌∙◌, ◌^◌, ⊎_elim}
+use Rattle.std.proofs.Common.{ap, ap₂, length-drop, take, ◌∙◌, ◌^◌, ⊎_elim, ◌++◌, true, refl, subst, get_or}
+use Rattle.std.proofs.Common.{length-append}
 use Rattle.std.proofs.Math.Seq.{take-length}
 use Rattle.std.proofs.lemmas.Nat.Bits.{bit_at-trailing_zeros, bit_at-zero}
 use Rattle.std.proofs.lemmas.Bool.{cases_lt}
+use Rattle.std.proofs.lemmas.Bool.Decides.{Decides-eqb}
+use Rattle.std.proofs.lemmas.Slice.Eq.{starts_is}
+use Rattle.std.specs.List.{starts_with}
+use Rattle.std.specs.Prelude.{nat_eq}
 use Rattle.std.specs.Int.{bit_at, trailing_zeros, w64}
-use Rattle.std.proofs.lemmas.List.{get_or-drop}
+use Rattle.std.proofs.lemmas.List.{get_or-drop, get_or_append_left}
 use Rattle.memchr.specs.Find.{FindsNeedle, IsFirst, Nowhere, OccursAt}
 use Rattle.grep_matcher.specs.FindResults.{match_from}
 use Rattle.grep_matcher.specs.LiteralFirstMatches.{OccursAt-inner, OccursAt-outer, match-found, match-none}
@@ -57,6 +62,19 @@ module _ (hay literal : List ℕ) (start : ℕ) (within : start ≤ length hay) 
   inner : (k : ℕ) → start ≤ k → OccursAt hay literal k → OccursAt (drop start hay) literal (k - start)
   inner k low occurs = OccursAt-inner hay (drop start hay) literal start k rest-here occurs low
       (omega (arith, occurs.fits, length-drop start hay))
+
+  -- the bytes there begin with the literal
+  pub begins-here : starts_with nat_eq (drop start hay) literal ≡ true → OccursAt hay literal start
+  begins-here begins =
+      let rest = drop start hay in
+      let joined : rest ≡ literal ++ drop (length literal) rest = (starts_is Decides-eqb rest literal _ refl).0 begins in
+      let none : start + 0 ≡ start = omega arith in
+      subst (OccursAt hay literal) none (outer 0 (record {
+        fits = omega (arith, ap length joined, length-append literal (drop (length literal) rest));
+        reads = λ j below.
+            let first : 0 + j ≡ j = omega arith in
+            ap₂ (λ xs k. get_or xs k 0) joined first ∙ get_or_append_left literal (drop (length literal) rest) 0 j below;
+      }))
 
   -- what is found in the bytes from there on
   pub found-from : (at : ℕ) → FindsNeedle (drop start hay) literal 0 (Some at)

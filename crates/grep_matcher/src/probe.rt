@@ -9,6 +9,7 @@ ghost use Rattle.memchr.specs.Lanes.{Covers};
 ghost use Rattle.grep_matcher.specs.Probes.{IsProbeOf};
 
 use crate::lanes::{WIDTH, both, either, equal_from, highest_bits};
+use crate::short::find_from;
 use memchr::arch::all::packedpair::{DefaultFrequencyRank, HeuristicFrequencyRank, Pair};
 use memchr::memmem::Finder;
 use std::simd::prelude::*;
@@ -70,7 +71,7 @@ impl Probe {
         ensures { FindsNeedle haystack.now finder.now 0 result }
     {
         let end = part_end(haystack, finder.needle(), 0, 0);
-        match finder.find(&haystack[0..end]) {
+        match find_from(finder, &haystack[0..end], 0) {
             Some(position) => Some(position),
             None if end == haystack.len() => None,
             None => self.find_after(finder, haystack),

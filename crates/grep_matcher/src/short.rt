@@ -29,8 +29,11 @@ pub(crate) fn find_from(finder: &Finder<'_>, haystack: &[u8], start: usize) -> O
         let position = from.min(last);
         let marks = marks_from(&bytes, position, from);
         if marks != 0 {
-            let at = from + marks.trailing_zeros() as usize;
-            return find_rest(finder, haystack, at.min(position + WIDTH));
+            let at = (from + marks.trailing_zeros() as usize).min(position + WIDTH);
+            if haystack[at..].starts_with(literal) {
+                return Some(at);
+            }
+            return find_rest(finder, haystack, at);
         }
         if from >= last {
             return None;
