@@ -88,7 +88,7 @@ const ROWS: &[Row] = &[
     ("vF", r"a b", b"aba b", Some((2, 5))),
     ("o", r"\141", b"xa", Some((1, 2))),
     ("d", r"((a))", b"xa", Some((1, 2))),
-    // What the bytes tell with which a match begins, and where a byte isn't ASCII.
+    // What the bytes decide with which a match begins, and where a byte isn't ASCII.
     ("", r".", b"a", Some((0, 1))),
     ("", r".", b"\n\n", None),
     ("", r".", b"\xff\xce\xb2", Some((1, 3))),
@@ -106,6 +106,18 @@ const ROWS: &[Row] = &[
         r"[ab]{3}c",
         b"ababababababababababababababababababac",
         Some((34, 38)),
+    ),
+    (
+        "",
+        r"ba|be|bi",
+        b"bo ab bbbbbbbbbbbbbbbbbbbbbbbbbbbbbbbbbbi",
+        Some((39, 41)),
+    ),
+    (
+        "",
+        r"d.a",
+        b"--------------------------------------d\xc3\xa9a",
+        Some((38, 42)),
     ),
     ("i", r"k[0-9]", b"k\xe2\x84\xaa5", Some((1, 5))),
     ("", r"x{0}[ab]{2}", b"xab", Some((1, 3))),
