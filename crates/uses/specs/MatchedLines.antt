@@ -1,11 +1,16 @@
 -- What these callers return, said of the matched lines: those that are selected, or trailing after
 -- a selected one.
-use Rattle.std.specs.Prelude.{ℕ, ◌+◌, List, map, take}
+use Rattle.std.specs.Prelude.{◌≡◌, ℕ, ◌+◌, List, length, map, Option, slice_get, Some, take}
 use Rattle.std.specs.List.{flat_map}
+use Rattle.grep_matcher.specs.declared.line_terminator.LineTerminator.TheVariants.{Byte}
+use Rattle.grep_searcher.specs.BoundedReads.{IsReadUpTo}
+use Rattle.grep_searcher.specs.HitLines.{kept_hits}
+use Rattle.grep_searcher.specs.Lines.{strip}
 use Rattle.grep_searcher.specs.MatchHandlers.{KeptReport, kept_line}
 use Rattle.grep_searcher.specs.Meanings.{Meaning}
 use Rattle.grep_searcher.specs.Plans.{line, Settings}
 use Rattle.grep_searcher.specs.SearchLaws.{matched_lines}
+use Rattle.uses.specs.PlainSettings.{held_to}
 
 -- the first matched lines, at most n, with their numbers, their offsets and their bytes
 abbrev pub first_lines : ℕ → Settings → Meaning → List ℕ → List KeptReport
@@ -21,3 +26,15 @@ matched_bytes settings meaning bytes =
 abbrev pub numbered_lines_of : Settings → Meaning → List ℕ → List (ℕ × List ℕ)
 numbered_lines_of settings meaning bytes =
     map (λ i. (i + 1, line settings bytes i)) (matched_lines settings meaning bytes)
+
+-- the first match in a line, without its terminator
+abbrev pub first_in : Meaning → List ℕ → Option (ℕ × ℕ)
+first_in meaning line = meaning.first (strip (Byte 10) line)
+
+-- the first line that hits is found in an input that is searched as it is, if there is one; and of
+-- the input, of which this is left, at most so many bytes, and three, were read beyond that line
+abbrev pub IsFirstLine : ℕ → Meaning → List ℕ → Option (List ℕ) → Option KeptReport → Type 0
+IsFirstLine limit meaning input left found =
+    (found ≡ slice_get (kept_hits (held_to limit) meaning input) 0)
+    × ((line : KeptReport) → found ≡ Some line
+    → IsReadUpTo input left (line.offset + length line.bytes + limit + 3))

@@ -21,7 +21,7 @@ pub fn lines_between(
     begins: &[u8],
     ends: &[u8],
 ) -> Result<Vec<u8>, SearchError>
-    ensures lines { IfOk result (λ text. text.items
+    ensures { IfOk result (λ text. text.items
         ≡ text_between begins.now ends.now (reverse (lines 10 bytes.now))) }
 {
     let mut searcher = searcher_as_it_is(alloc)?;

@@ -1,20 +1,15 @@
 //! How many lines match a regular expression, and which one is the first.
-ghost use Rattle.std.specs.Prelude.{◌≡◌, ◌+◌, false, true, ℕ, List, Some, IfOk};
-ghost use Rattle.std.specs.Prelude.{length, slice_get};
+ghost use Rattle.std.specs.Prelude.{◌≡◌, false, true, ℕ, List, Some, IfOk};
 ghost use Rattle.grep_regex.specs.LinePatterns.{line_meaning};
-ghost use Rattle.grep_searcher.specs.BoundedReads.{IsReadUpTo};
-ghost use Rattle.grep_searcher.specs.HitLines.{kept_hits};
 ghost use Rattle.grep_searcher.specs.LineCounts.{matched_count};
-ghost use Rattle.grep_searcher.specs.MatchHandlers.{KeptReport};
 ghost use Rattle.grep_searcher.specs.Plans.{is_across};
 ghost use Rattle.grep_searcher.specs.Searches.{searched_bytes};
-ghost use Rattle.uses.specs.PlainSettings.{held_to};
+ghost use Rattle.uses.specs.MatchedLines.{IsFirstLine};
 
 use crate::count::count_matching_lines;
-use crate::plain::{input_is_searched, searcher_held_to};
-use grep_regex::{Regex, RegexMatcher};
-use grep_searcher::laws::readers_keep_first;
-use grep_searcher::sinks::{First, KeptMatch, OnMatch};
+use crate::first::first_line_that_matches;
+use grep_regex::Regex;
+use grep_searcher::sinks::KeptMatch;
 use grep_searcher::{BinaryDetection, SearchError, Searcher, Source};
 use std::alloc::Global;
 
@@ -44,32 +39,20 @@ pub fn count_pattern_lines(
     count_matching_lines(searcher, matcher, bytes)
 }
 
-/// Returns the first line of what a reader gives that a pattern matches, with its number, its
-/// offset and its bytes. The search stops there: no more bytes are read beyond that line than
-/// `limit`, and three. A line that is longer than `limit` is an error.
+/// Returns the first line of what a reader gives that a pattern matches, as
+/// `first_line_that_matches` does. `^` and `$` match at the ends of a line.
 ///
-/// That is promised of a reader that says which bytes it has. Another error is the reader's, that
-/// of a pattern that can't be compiled, of a limit of 0, or of being out of memory.
+/// An error is that of a pattern that can't be compiled, or one of `first_line_that_matches`.
 pub fn first_pattern_line<R: Source>(
     alloc: Global,
     pattern: &str,
-    limit: usize,
     reader: &mut R,
+    limit: usize,
 ) -> Result<Option<KeptMatch>, SearchError>
-    ensures first { (input : List ℕ) → R.remaining reader.old ≡ Some input → IfOk result (λ found.
-        found ≡ slice_get (kept_hits (held_to limit) (line_meaning pattern.now) input) 0) }
-    ensures stops { (input : List ℕ) → R.remaining reader.old ≡ Some input → IfOk result (λ _.
-        (line : KeptReport)
-        → slice_get (kept_hits (held_to limit) (line_meaning pattern.now) input) 0 ≡ Some line
-        → IsReadUpTo input (R.remaining reader.new)
-        (line.offset + length line.bytes + limit + 3)) }
+    ensures { (input : List ℕ) → R.remaining reader.old ≡ Some input → IfOk result
+        (IsFirstLine limit (line_meaning pattern.now) input (R.remaining reader.new)) }
 {
-    let mut searcher = searcher_held_to(alloc, limit)?;
     let regex = Regex::for_lines(alloc, pattern)?;
     let matcher = regex.matcher(alloc)?;
-    let mut sink = OnMatch::new(First::new(alloc, 1));
-    searcher.search_reader(matcher, reader, &mut sink)?;
-    readers_keep_first::<Global, RegexMatcher<'_>, R>();
-    input_is_searched();
-    Ok(sink.into_handler().into_first())
+    first_line_that_matches(alloc, matcher, reader, limit)
 }

@@ -20,7 +20,7 @@ pub fn lines_that_match<M: Matcher + Drop>(
     matcher: M,
     bytes: &[u8],
 ) -> Result<Vec<Vec<u8>>, SearchError>
-    ensures lines { IsLawful (M.facts matcher) as_it_is → IfOk result (λ found.
+    ensures { IsLawful (M.facts matcher) as_it_is → IfOk result (λ found.
         bytes_of_each found.items ≡ filter (λ line. is_some ((M.facts matcher).meaning.first
         (strip (LineTerminator.Byte 10) line))) (lines 10 bytes.now)) }
 {

@@ -1,10 +1,13 @@
-//! The first matches of a reader.
-ghost use Rattle.std.specs.Prelude.{◌≡◌, true, List, ℕ, IfOk};
+//! The first matches of a reader, and the first alone.
+ghost use Rattle.std.specs.Prelude.{◌≡◌, true, List, ℕ, Some, IfOk};
 ghost use Rattle.grep_searcher.specs.Searches.{IsInput, Taken};
 ghost use Rattle.grep_searcher.specs.LineCounts.{IsLineSearch};
-ghost use Rattle.uses.specs.MatchedLines.{first_lines};
+ghost use Rattle.grep_searcher.specs.Plans.{IsLawful};
+ghost use Rattle.uses.specs.MatchedLines.{first_lines, IsFirstLine};
+ghost use Rattle.uses.specs.PlainSettings.{held_to};
 
-use grep_searcher::laws::{reader_searches_run, runs_keep_first};
+use crate::plain::{input_is_searched, searcher_held_to};
+use grep_searcher::laws::{reader_searches_run, readers_keep_first, runs_keep_first};
 use grep_searcher::sinks::{First, KeptMatch, OnMatch};
 use grep_searcher::{Matcher, SearchError, Searcher, Source};
 use std::alloc::Global;
@@ -38,4 +41,29 @@ pub fn first_matches<M: Matcher + Drop, R: Source>(
     reader_searches_run::<Global, M, R, _>(&sink);
     runs_keep_first::<Global>();
     Ok(sink.into_handler().into_matches())
+}
+
+/// Returns the first line of what a reader gives in which a matcher has a match, with its number, its
+/// offset and its bytes. The search stops there: no more bytes are read beyond that line than `limit`,
+/// and three.
+///
+/// That is promised of a reader that says which bytes it has, with a matcher that is lawful for a line
+/// feed. An error is made of the reader's, of the matcher's, or of its line terminator, if it declares
+/// another one; of a line that is longer than `limit`, of a limit of 0, or of being out of memory.
+pub fn first_line_that_matches<M: Matcher + Drop, R: Source>(
+    alloc: Global,
+    matcher: M,
+    reader: &mut R,
+    limit: usize,
+) -> Result<Option<KeptMatch>, SearchError>
+    ensures { (input : List ℕ) → R.remaining reader.old ≡ Some input
+        → IsLawful (M.facts matcher) (held_to limit) → IfOk result
+        (IsFirstLine limit (M.facts matcher).meaning input (R.remaining reader.new)) }
+{
+    let mut searcher = searcher_held_to(alloc, limit)?;
+    let mut sink = OnMatch::new(First::new(alloc, 1));
+    searcher.search_reader(matcher, reader, &mut sink)?;
+    readers_keep_first::<Global, M, R>();
+    input_is_searched();
+    Ok(sink.into_handler().into_first())
 }

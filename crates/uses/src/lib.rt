@@ -8,9 +8,9 @@
 //! `json_lines` and `in_context` write by closures, and `reporter` builds a searcher.
 //! `count_with_prefix` and `count_non_ascii_lines` have a matcher of their own, which a search asks
 //! about one line, or about many; `count_pattern_lines` and `first_pattern_line` compile a regular
-//! expression. `lines_that_match` keeps the lines of a slice that match, `last_matches` the last
-//! ones of a reader, and `lines_between` those between two marks; `count_in_paths` adds up the
-//! counts of files. `CALLING.md` says which laws they use.
+//! expression. `lines_that_match` keeps the lines of a slice that match, `matches_in_lines` the first
+//! match in each of them, `last_matches` the last lines of a reader, and `lines_between` those between
+//! two marks; `count_in_paths` adds up the counts of files. `CALLING.md` says which laws they use.
 #![tactic(auto)]
 
 mod around;
@@ -23,6 +23,7 @@ mod filter;
 mod first;
 mod json;
 mod last;
+mod matched;
 mod non_ascii;
 mod numbered;
 mod path;
@@ -38,9 +39,10 @@ pub use collect::matching_lines;
 pub use count::{count_in_reader, count_matching_lines};
 pub use expression::{count_pattern_lines, first_pattern_line};
 pub use filter::lines_that_match;
-pub use first::first_matches;
+pub use first::{first_line_that_matches, first_matches};
 pub use json::json_lines;
 pub use last::last_matches;
+pub use matched::matches_in_lines;
 pub use non_ascii::{NonAscii, count_non_ascii_lines};
 pub use numbered::numbered_lines;
 pub use path::{count_in_path, has_match};

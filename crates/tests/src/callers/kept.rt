@@ -1,9 +1,9 @@
-//! The callers of `uses` that keep the last matches, the first line of a pattern, and the lines
-//! between two marks.
+//! The callers of `uses` that keep the last matches, the first line of a pattern, the lines between
+//! two marks, and the lines that match with their first matches.
 use grep_searcher::sinks::KeptMatch;
-use grep_searcher::{LiteralMatcher, SearchError, Searcher};
+use grep_searcher::{LiteralMatcher, Match, SearchError, Searcher};
 use std::alloc::Global;
-use uses::{first_pattern_line, last_matches, lines_between};
+use uses::{first_pattern_line, last_matches, lines_between, matches_in_lines};
 
 // Line 2, line 4 and line 5 have an `a`.
 const INPUT: &[u8] = b"x\nab\ny\nba\nca";
@@ -35,7 +35,7 @@ const LONG: &[u8] = b"x\nab\nba\ny\ny\ny\ny\ny\ny\ny\n";
 // Whether it is found, and not all of what comes after it is read.
 fn finds_the_first(alloc: Global) -> Result<bool, SearchError> {
     let mut reader: &[u8] = LONG;
-    let found = first_pattern_line(alloc, "^b", 4, &mut reader)?;
+    let found = first_pattern_line(alloc, "^b", &mut reader, 4)?;
     Ok(is_line_3(&found) && !reader.is_empty())
 }
 
@@ -58,4 +58,27 @@ const BLOCKS: &[u8] = b"a\n[\nb\n[\nc\n]\nd\n]\n[\ne\n]\n[\nf";
 fn blocks_are_kept(rt: HostRuntime) {
     let text = lines_between(rt.alloc(), BLOCKS, b"[", b"]");
     assert!(rt; matches!(text, Ok(text) if text.as_slice() == b"b\nc\ne\nf".as_slice()));
+}
+
+// Whether these are `ab`, with a match at its end, and `ba`, with one at its start.
+fn are_found(lines: &[Vec<u8>], firsts: &[Match]) -> bool {
+    match (lines, firsts) {
+        ([second, fourth], [at_end, at_start]) => {
+            second.as_slice() == b"ab\n".as_slice()
+                && at_end.start() == 1
+                && fourth.as_slice() == b"ba\n".as_slice()
+                && at_start.end() == 1
+        }
+        _ => false,
+    }
+}
+
+fn finds_in_lines(alloc: Global) -> Result<bool, SearchError> {
+    let (lines, firsts) = matches_in_lines(alloc, &LiteralMatcher::borrowed(b"b"), INPUT)?;
+    Ok(are_found(&lines, &firsts))
+}
+
+#[test]
+fn first_matches_are_found(rt: HostRuntime) {
+    assert!(rt; matches!(finds_in_lines(rt.alloc()), Ok(true)));
 }

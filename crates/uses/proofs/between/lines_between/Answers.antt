@@ -6,25 +6,18 @@ use Rattle.uses.specs.MarkedBlocks.{BlockState, is_open, text_between}
 use Rattle.uses.specs.PlainSettings.{as_it_is}
 use Rattle.uses.proofs.between.lines_between.Goals as goal
 
--- the state after some lines
 abbrev state_after : List ℕ → List ℕ → List (List ℕ) → BlockState
 state_after begins ends lines = let read = reverse lines in
     record { begins = begins; ends = ends; inside = is_open begins ends read; text = text_between begins ends read }
 
 pub returns : goal.returns
-returns c = record {
-  lines =
-      let bytes = c.args.bytes.now in
-      let handled = rw (c.input_is_searched.ensures.input as_it_is bytes refl refl) at (c.slices_handle_lines.ensures _
-      (record { settings = as_it_is; has_buffers = true }) bytes _ _ (record {
-        lawful = λ _. tt;
-        by_line = refl;
-        undetected = refl;
-      }) (record { unstopped = refl; untrailed = inl refl })
-      (rw c.in_ok-searcher.ensures at c.in_ok-search_slice.ensures.searched)) in
-      let state = state_after c.args.begins.now c.args.ends.now in
-      c.into_text.ensures ∙ ap (λ (blocks : BlockState). blocks.text) (c.into_handler.ensures ∙ handled
-      ∙ c.runs_handle_matches.ensures.lines state (λ before call. (refl, rw (reverse-append before (reported_bytes call ∷ [])) refl))
-      as_it_is every_line_facts.meaning bytes _ (rw c.new.ensures.items at c.new-sink.ensures)
-      ∙ ap state (c.lines_are_filtered.ensures.all_hit as_it_is bytes refl));
-}
+returns c =
+    let handled = rw (c.input_is_searched.ensures.input as_it_is c.args.bytes.now refl refl) at
+    (c.slices_handle_lines.ensures _ (record { settings = as_it_is; has_buffers = true }) c.args.bytes.now _ _
+    (record { lawful = λ _. tt; by_line = refl; undetected = refl }) (record { unstopped = refl; untrailed = inl refl })
+    (rw c.in_ok-searcher.ensures at c.in_ok-search_slice.ensures.searched)) in
+    c.into_text.ensures ∙ ap (λ (blocks : BlockState). blocks.text) (c.into_handler.ensures ∙ handled
+    ∙ c.runs_handle_matches.ensures.lines (state_after c.args.begins.now c.args.ends.now)
+    (λ before call. (refl, rw (reverse-append before (reported_bytes call ∷ [])) refl)) as_it_is
+    every_line_facts.meaning c.args.bytes.now _ (rw c.new.ensures.items at c.new-sink.ensures)
+    ∙ ap (state_after _ _) (c.lines_are_filtered.ensures.all_hit as_it_is c.args.bytes.now refl))
