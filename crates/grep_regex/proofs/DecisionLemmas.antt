@@ -105,7 +105,8 @@ module _ (sets : List (List Bool)) (hay : List ℕ) (at k : ℕ) (set : List Boo
       kth-lacks = subst (λ s. holds s (get_or hay (at + k) 0) ≡ false) is-kth lacks
 
       -- a byte that isn't in its set: the position is passed
-      pub passes-one : decision sets hay at ≡ decision (drop k sets) hay (at + k) → IsPassed sets hay at (at + 1)
+      pub passes-one : decision sets hay at ≡ decision (drop k sets) hay (at + k)
+          → IsPassed (decision sets hay) at (at + 1)
       passes-one same i from to =
           let here : at ≡ i = omega arith in
           subst (λ x. decision sets hay x ≡ Some false) here
@@ -115,7 +116,7 @@ module _ (sets : List (List Bool)) (hay : List ℕ) (at k : ℕ) (set : List Boo
 
       -- nor in one of those before: so are all up to the byte
       pub passes-all : All (λ s. holds s (get_or hay (at + k) 0) ≡ false) (take k sets)
-          → IsPassed sets hay at (at + k + 1)
+          → IsPassed (decision sets hay) at (at + k + 1)
       passes-all none i from to =
           barred sets hay i (at + k) (omega arith) (omega (arith, within)) inside
           (λ q f t. low-next q (omega arith) (omega arith))
@@ -131,6 +132,6 @@ module _ (sets : List (List Bool)) (hay : List ℕ) (at k : ℕ) (set : List Boo
 
 -- no byte of the rest is beyond ASCII, and there are too few
 pub passes-rest : (sets : List (List Bool)) (hay : List ℕ) (at k : ℕ) → k < length sets → at + k ≤ length hay
-    → length hay ≤ at + k → AreLow hay at (at + k) → IsPassed sets hay at (length hay + 1)
+    → length hay ≤ at + k → AreLow hay at (at + k) → IsPassed (decision sets hay) at (length hay + 1)
 passes-rest sets hay at k within fits past low i from to =
     too-short sets hay i (omega arith) (omega (arith, within)) (λ q f t. low q (omega arith) (omega (arith, past)))

@@ -24,3 +24,4 @@ pub mod DecisionLemmas
 pub mod StartLemmas
 pub mod PrefixLemmas
 pub mod UnionLemmas
+pub mod ChoiceLemmas

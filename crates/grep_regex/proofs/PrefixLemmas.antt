@@ -26,7 +26,7 @@ not-false (Some false) other = refl
 
 -- where nothing may match, all is passed
 pub nowhere-passed : (sets : List (List Bool)) (hay : List ℕ) (from to : ℕ)
-    → Nowhere (MayMatch sets 0 hay) from to → IsPassed sets hay from to
+    → Nowhere (MayMatch sets 0 hay) from to → IsPassed (decision sets hay) from to
 nowhere-passed sets hay from to none i low below = not-false (decision sets hay i) (none i low below)
 
 -- of a position at which there may be a match: its byte is no ASCII byte, or it is in the set and there may be more

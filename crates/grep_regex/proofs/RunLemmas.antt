@@ -45,7 +45,7 @@ decision-case set after (Some b) = ⊎_elim
     (cond-false (ltb b 128) (cond (holds set b) after (Some false)) None high))
     (cases_Bool (ltb b 128))
 
-some-apart : Some true ≡ Some false → ⊥
+pub some-apart : Some true ≡ Some false → ⊥
 some-apart e = grind (arith, e)
 
 none-apart : (b : Bool) → None ≡ Some b → ⊥

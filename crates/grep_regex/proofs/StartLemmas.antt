@@ -1,7 +1,6 @@
 -- Where the first match starts, by what sets of bytes decide.
 use Rattle.std.proofs.Common.{◌≡◌, ℕ, ◌+◌, ◌<◌, ◌≤◌, Bool, true, false, List, length, get_or, Option, Some, None, refl}
-use Rattle.std.proofs.Common.{sym, ap}
-use Rattle.std.proofs.Common.{◌∙◌, option_map, arith}
+use Rattle.std.proofs.Common.{sym, ap, ◌∙◌, option_map, arith, slice_get}
 use Rattle.std.proofs.Math.Logic.{∥∥₁_elim}
 use Rattle.std.proofs.lemmas.Option.{same_Some}
 use Rattle.std.specs.Coded.{coded_ℕ, coded_option, coded×}
@@ -12,32 +11,37 @@ use Rattle.regex_hir.proofs.AttemptLemmas.{attempt_sound, attempt_complete}
 use Rattle.regex_hir.proofs.FindLemmas.{first_between_here, first_between_none, first_between_skip}
 use Rattle.regex_hir.proofs.OptionLemmas.{none_of_no_value, value_of_IsSome}
 use Rattle.regex_vm.specs.Found.{span}
-use Rattle.grep_regex.specs.Classes.{decision, Decides, IsPrefix, IsRun}
+use Rattle.grep_regex.specs.Classes.{any_decision, decision, DecideAny, IsPrefix, IsRunOf}
 use Rattle.grep_regex.specs.Patterns.{leftmost_match_at}
 use Rattle.grep_regex.specs.Decisions.{IsPassed}
 use Rattle.grep_regex.specs.Views.{program_re, regex_text_at}
 use Rattle.grep_regex.specs.declared.regex.Regex.{Regex}
+use Rattle.grep_regex.proofs.ChoiceLemmas.{one-choice}
 use Rattle.grep_regex.proofs.EngineLemmas.{finds-at}
 
-module _ (re : Re) (sets : List (List Bool)) (decides : Decides re sets) (hay : List ℕ) where
-  no-attempt : (i : ℕ) → decision sets hay i ≡ Some false → attempt hay re accept i ≡ None
+module _ (re : Re) (choices : List (List (List Bool))) (decides : DecideAny re choices) (hay : List ℕ) where
+  abbrev decided : ℕ → Option Bool
+  decided = any_decision choices hay
+
+  no-attempt : (i : ℕ) → any_decision choices hay i ≡ Some false → attempt hay re accept i ≡ None
   no-attempt i lacks = none_of_no_value _ (λ t e.
       let c = attempt_sound hay re accept i t e in decides.no hay i c.at lacks c.leads)
 
-  skipped : (start at : ℕ) → start ≤ at → IsPassed sets hay start at
+  skipped : (start at : ℕ) → start ≤ at → IsPassed (any_decision choices hay) start at
       → leftmost_match_at re hay at ≡ leftmost_match_at re hay start
   unfolding find
   skipped start at ordered passed = sym (ap (option_map span)
       (first_between_skip (attempt hay re accept) start at (length hay) ordered
       (λ i from to. no-attempt i (passed i from to))))
 
-  nowhere : (start : ℕ) → IsPassed sets hay start (length hay + 1) → leftmost_match_at re hay start ≡ None
+  nowhere : (start : ℕ) → IsPassed (any_decision choices hay) start (length hay + 1)
+      → leftmost_match_at re hay start ≡ None
   unfolding find
   nowhere start passed = ap (option_map span)
       (first_between_none (attempt hay re accept) start (length hay)
       (λ i from to. no-attempt i (passed i from (omega arith))))
 
-  here : (at : ℕ) → at ≤ length hay → decision sets hay at ≡ Some true
+  here : (at : ℕ) → at ≤ length hay → any_decision choices hay at ≡ Some true
       → option_map (λ m. m.0) (leftmost_match_at re hay at) ≡ Some at
   unfolding find
   here at fits has =
@@ -48,44 +52,52 @@ module _ (re : Re) (sets : List (List Bool)) (decides : Decides re sets) (hay : 
       (first_between_here (attempt hay re accept) at (length hay) found.0 fits found.1)
 
   -- a run matches a byte of each set
-  whole : IsRun re sets → (at : ℕ) → at ≤ length hay → decision sets hay at ≡ Some true
-      → leftmost_match_at re hay at ≡ Some (at, at + length sets)
+  whole : (only : IsRunOf re choices) (at : ℕ) → at ≤ length hay → any_decision choices hay at ≡ Some true
+      → leftmost_match_at re hay at ≡ Some (at, at + length only.sets)
   unfolding find
-  whole run at fits has =
+  whole only at fits has =
+      let one : decision only.sets hay at ≡ Some true =
+      one-choice (decision only.sets hay at) ∙ (ap (λ c. any_decision c hay at) (sym only.is) ∙ has) in
       let found = value_of_IsSome (attempt hay re accept at)
-      (attempt_complete hay re accept at (at + length sets) (run.yes hay at has) refl) in
+      (attempt_complete hay re accept at (at + length only.sets) (only.run.yes hay at one) refl) in
       let goes = attempt_sound hay re accept at found.0 found.1 in
       let last : goes.at ≡ goes.rest.end = ap (λ (t : Trace). t.end) (same_Some _ _ goes.gave) in
-      let end : found.0.end ≡ at + length sets = goes.same_end ∙ (sym last ∙ run.only hay at goes.at has goes.leads) in
+      let end : found.0.end ≡ at + length only.sets =
+      goes.same_end ∙ (sym last ∙ only.run.only hay at goes.at one goes.leads) in
       ap (option_map span) (first_between_here (attempt hay re accept) at (length hay) found.0 fits found.1)
       ∙ ap (λ e. Some (at, e)) end
 
-module _ (r : Regex) (sets : List (List Bool)) (is_run : Bool) (prefix : ∥ IsPrefix (program_re r) sets is_run ∥₁)
+module _ (r : Regex) (choices : List (List (List Bool))) (is_run : Bool)
+    (prefix : ∥ IsPrefix (program_re r) choices is_run ∥₁)
     (hay : List ℕ) (bytes : (k : ℕ) → get_or hay k 0 < 256) where
-  pub skipped-same : (start at : ℕ) → start ≤ at → at ≤ length hay → IsPassed sets hay start at
+  pub skipped-same : (start at : ℕ) → start ≤ at → at ≤ length hay → IsPassed (any_decision choices hay) start at
       → regex_text_at r hay at ≡ regex_text_at r hay start
   skipped-same start at ordered fits passed =
       ∥∥₁_elim prefix (Coded-set (coded_option (coded× coded_ℕ coded_ℕ)) _ _) (λ p.
-      sym (finds-at r hay at bytes fits) ∙ (skipped (program_re r) sets p.decides hay start at ordered passed
+      sym (finds-at r hay at bytes fits) ∙ (skipped (program_re r) choices p.decides hay start at ordered passed
       ∙ finds-at r hay start bytes (omega (arith, ordered, fits))))
 
-  pub nowhere-decided : (start : ℕ) → start ≤ length hay → IsPassed sets hay start (length hay + 1)
+  pub nowhere-decided : (start : ℕ) → start ≤ length hay → IsPassed (any_decision choices hay) start (length hay + 1)
       → regex_text_at r hay start ≡ None
   nowhere-decided start fits passed =
       ∥∥₁_elim prefix (Coded-set (coded_option (coded× coded_ℕ coded_ℕ)) _ _) (λ p.
-      sym (finds-at r hay start bytes fits) ∙ nowhere (program_re r) sets p.decides hay start passed)
+      sym (finds-at r hay start bytes fits) ∙ nowhere (program_re r) choices p.decides hay start passed)
 
-  pub start-decided : (start at : ℕ) → start ≤ at → at ≤ length hay → IsPassed sets hay start at
-      → decision sets hay at ≡ Some true → option_map (λ m. m.0) (regex_text_at r hay start) ≡ Some at
+  pub start-decided : (start at : ℕ) → start ≤ at → at ≤ length hay → IsPassed (any_decision choices hay) start at
+      → any_decision choices hay at ≡ Some true → option_map (λ m. m.0) (regex_text_at r hay start) ≡ Some at
   start-decided start at ordered fits passed has =
       ∥∥₁_elim prefix (Coded-set (coded_option coded_ℕ) _ _) (λ p.
       ap (option_map (λ (m : ℕ × ℕ). m.0)) (sym (skipped-same start at ordered fits passed)
       ∙ sym (finds-at r hay at bytes fits))
-      ∙ here (program_re r) sets p.decides hay at fits has)
+      ∙ here (program_re r) choices p.decides hay at fits has)
 
-  pub run-decided : is_run ≡ true → (start at : ℕ) → start ≤ at → at ≤ length hay → IsPassed sets hay start at
-      → decision sets hay at ≡ Some true → regex_text_at r hay start ≡ Some (at, at + length sets)
-  run-decided is start at ordered fits passed has =
+  pub run-decided : is_run ≡ true → (sets : List (List Bool)) → slice_get choices 0 ≡ Some sets → (start at : ℕ)
+      → start ≤ at → at ≤ length hay → IsPassed (any_decision choices hay) start at
+      → any_decision choices hay at ≡ Some true → regex_text_at r hay start ≡ Some (at, at + length sets)
+  run-decided is sets one start at ordered fits passed has =
       ∥∥₁_elim prefix (Coded-set (coded_option (coded× coded_ℕ coded_ℕ)) _ _) (λ p.
+      let only = p.run is in
+      let same : only.sets ≡ sets = same_Some _ _ (ap (λ c. slice_get c 0) (sym only.is) ∙ one) in
       sym (skipped-same start at ordered fits passed) ∙ (sym (finds-at r hay at bytes fits)
-      ∙ whole (program_re r) sets p.decides hay (p.run is) at fits has))
+      ∙ (whole (program_re r) choices p.decides hay only at fits has
+      ∙ ap (λ (s : List (List Bool)). Some (at, at + length s)) same)))

@@ -172,14 +172,14 @@ unfolding in_ranges
 one-run a s p = alike-run a (alt a (byte_in [])) s (λ hay i j m. inl m)
     (λ hay i j m. ⊎_elim (λ ma. ma) (λ none. absurd (false≢true none.2)) m) p
 
-alt-last : (parts : List Re) (a : Re) (hay : List ℕ) (i j : ℕ) → Matches hay (alt (alt_all parts) a) i j
+pub alt-last : (parts : List Re) (a : Re) (hay : List ℕ) (i j : ℕ) → Matches hay (alt (alt_all parts) a) i j
     → Matches hay (alt_all (parts ++ a ∷ [])) i j
 alt-last [] a hay i j m = ⊎_elim (λ none. inr none) (λ ma. inl ma) m
 alt-last (first ∷ parts) a hay i j m = ⊎_elim
     (λ front. ⊎_elim (λ one. inl one) (λ more. inr (alt-last parts a hay i j (inl more))) front)
     (λ ma. inr (alt-last parts a hay i j (inr ma))) m
 
-last-alt : (parts : List Re) (a : Re) (hay : List ℕ) (i j : ℕ) → Matches hay (alt_all (parts ++ a ∷ [])) i j
+pub last-alt : (parts : List Re) (a : Re) (hay : List ℕ) (i j : ℕ) → Matches hay (alt_all (parts ++ a ∷ [])) i j
     → Matches hay (alt (alt_all parts) a) i j
 last-alt [] a hay i j m = ⊎_elim (λ ma. inr ma) (λ none. inl none) m
 last-alt (first ∷ parts) a hay i j m = ⊎_elim

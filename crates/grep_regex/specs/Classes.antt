@@ -41,10 +41,34 @@ pub record Decides (re : Re) (sets : List (List Bool)) : Type 0 where
   pub yes : (hay : List ℕ) (i : ℕ) → decision sets hay i ≡ Some true → (j : ℕ) × Matches hay re i j
   pub no : (hay : List ℕ) (i j : ℕ) → decision sets hay i ≡ Some false → Matches hay re i j → ⊥
 
--- the sets decide, and if the flag says so the pattern is a run of them
-pub record IsPrefix (re : Re) (sets : List (List Bool)) (is_run : Bool) : Type 0 where
-  pub decides : Decides re sets
-  pub run : is_run ≡ true → IsRun re sets
+-- what is decided where one of two has to follow
+abbrev pub either_decision : Option Bool → Option Bool → Option Bool
+either_decision (Some true) other = Some true
+either_decision (Some false) other = other
+either_decision None (Some true) = Some true
+either_decision None (Some false) = None
+either_decision None None = None
+
+-- whether one of several sequences of sets follows from a position on
+abbrev pub any_decision : List (List (List Bool)) → List ℕ → ℕ → Option Bool
+any_decision [] hay i = Some false
+any_decision (sets ∷ more) hay i = either_decision (decision sets hay i) (any_decision more hay i)
+
+-- where that is decided, the pattern matches or it doesn't
+pub record DecideAny (re : Re) (choices : List (List (List Bool))) : Type 0 where
+  pub yes : (hay : List ℕ) (i : ℕ) → any_decision choices hay i ≡ Some true → (j : ℕ) × Matches hay re i j
+  pub no : (hay : List ℕ) (i j : ℕ) → any_decision choices hay i ≡ Some false → Matches hay re i j → ⊥
+
+-- the pattern is a run of the only sequence
+pub record IsRunOf (re : Re) (choices : List (List (List Bool))) : Type 0 where
+  pub sets : List (List Bool)
+  pub is : choices ≡ sets ∷ []
+  pub run : IsRun re sets
+
+-- the sequences decide, and if the flag says so the pattern is a run of the only one
+pub record IsPrefix (re : Re) (choices : List (List (List Bool))) (is_run : Bool) : Type 0 where
+  pub decides : DecideAny re choices
+  pub run : is_run ≡ true → IsRunOf re choices
 
 -- the sets, as often as a number says
 abbrev pub repeated : ℕ → List (List Bool) → List (List Bool)

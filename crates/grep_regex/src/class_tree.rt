@@ -1,8 +1,9 @@
 //! Which patterns are runs of classes, by their trees.
-ghost use Rattle.std.specs.Prelude.{◌≡◌, ◌++◌, map, IfOk, IfSome, OnOk, IsTrue, Some};
+ghost use Rattle.std.specs.Prelude.{◌≡◌, [], ◌∷◌, ◌++◌, map, IfOk, IfSome, OnOk, IsTrue, Some};
 ghost use Rattle.regex_hir.specs.Meaning.{meaning, alt_all, cat_all};
+ghost use Rattle.grep_regex.specs.Choices.{items_of};
 ghost use Rattle.grep_regex.specs.Classes.{AreBytes, IsAsciiOf, IsClassSet, IsRepeated};
-ghost use Rattle.grep_regex.specs.Classes.{Decides, IsPrefix, IsRun};
+ghost use Rattle.grep_regex.specs.Classes.{Decides, DecideAny, IsPrefix, IsRun};
 
 use crate::prefix::Prefix;
 use crate::unions::unite;
@@ -14,18 +15,65 @@ use std::alloc::{AllocError, Global};
 // How many sets there are at most. A longer run is left to the engines.
 const LONGEST: usize = 64;
 
-// The sets that decide where a pattern matches, if there are such, and whether it is a run of them.
+// How many alternatives there are at most, each of which is looked at.
+const MOST_CHOICES: usize = 8;
+
+// The sequences of sets that decide where a pattern matches, if there are such, and whether it is a
+// run of the only one.
 pub(crate) fn prefix_of(alloc: Global, hir: &Hir) -> Result<Option<Prefix>, AllocError>
     ensures { IfOk result (λ found. IfSome found
-        (λ p. IsPrefix (meaning hir.now) p.sets.items p.is_run)) }
+        (λ p. IsPrefix (meaning hir.now) (items_of p.choices.items) p.is_run)) }
 {
     if let Some(sets) = run_sets(alloc, hir)? {
-        return Ok(Some(Prefix::new(sets, true)));
+        let choices = only(alloc, sets)?;
+        return Ok(Some(Prefix::new(alloc, choices, true)?));
     }
-    match decisive_sets(alloc, hir)? {
-        Some(sets) => Ok(Some(Prefix::new(sets, false))),
+    match choices_of(alloc, hir)? {
+        Some(choices) => Ok(Some(Prefix::new(alloc, choices, false)?)),
         None => Ok(None),
     }
+}
+
+// One sequence.
+fn only(alloc: Global, sets: Vec<ByteSet>) -> Result<Vec<Vec<ByteSet>>, AllocError>
+    ensures { IfOk result (λ choices. items_of choices.items ≡ sets.items ∷ []) }
+{
+    let mut choices = Vec::new(alloc);
+    choices.push(sets)?;
+    Ok(choices)
+}
+
+// The sequences of sets that decide where a pattern matches, if there are such.
+fn choices_of(alloc: Global, hir: &Hir) -> Result<Option<Vec<Vec<ByteSet>>>, AllocError>
+    ensures { IfOk result (λ found. IfSome found
+        (λ choices. DecideAny (meaning hir.now) (items_of choices.items))) }
+{
+    match hir {
+        Hir::Alternation(subs) => alternative_sets(alloc, subs),
+        Hir::Capture { sub, .. } => choices_of(alloc, sub),
+        _ => match decisive_sets(alloc, hir)? {
+            Some(sets) => Ok(Some(only(alloc, sets)?)),
+            None => Ok(None),
+        },
+    }
+}
+
+// For each alternative the sets that decide where it matches, if there are such.
+fn alternative_sets(alloc: Global, subs: &[Hir]) -> Result<Option<Vec<Vec<ByteSet>>>, AllocError>
+    ensures { IfOk result (λ found. IfSome found
+        (λ choices. DecideAny (alt_all (map meaning subs.now)) (items_of choices.items))) }
+{
+    if subs.len() > MOST_CHOICES {
+        return Ok(None);
+    }
+    let mut choices = Vec::new(alloc);
+    for i in 0..subs.len() {
+        let Some(sets) = decisive_sets(alloc, &subs[i])? else {
+            return Ok(None);
+        };
+        choices.push(sets)?;
+    }
+    Ok(Some(choices))
 }
 
 // The sets that decide where a pattern matches, if there are such.

@@ -1,7 +1,9 @@
 //! A search for bytes of some sets, one after another.
 ghost use Rattle.std.specs.Prelude.{◌≡◌, ◌≤◌, length, All, false};
 ghost use Rattle.grep_matcher.specs.ByteSets.{holds};
+ghost use Rattle.grep_regex.specs.Classes.{any_decision, decision};
 ghost use Rattle.grep_regex.specs.Decisions.{IsStart, IsVerdict};
+ghost use Rattle.grep_regex.specs.Choices.{items_of};
 
 use crate::prefix::Prefix;
 use grep_matcher::ByteSet;
@@ -37,12 +39,13 @@ pub(crate) enum Verdict {
 #[inline]
 pub(crate) fn find_start(prefix: &Prefix, haystack: &[u8], start: usize) -> Start
     requires { start ≤ length haystack.now }
-    ensures { IsStart prefix.now.sets.items haystack.now start result }
+    ensures { IsStart (any_decision (items_of prefix.now.choices.items) haystack.now)
+        (length haystack.now) start result }
 {
     let mut from = start;
     let mut tried = 0;
     'positions: loop {
-        match decide(&prefix.sets, haystack, from) {
+        match decide_any(&prefix.choices, haystack, from) {
             Verdict::Matches => return Start::Match(from),
             Verdict::Unknown => return Start::From(from),
             Verdict::Passes(next) if next > haystack.len() => return Start::Nowhere,
@@ -55,11 +58,33 @@ pub(crate) fn find_start(prefix: &Prefix, haystack: &[u8], start: usize) -> Star
     }
 }
 
+// What is decided of a position by sequences of sets, one of which has to follow.
+#[inline]
+fn decide_any(choices: &[Vec<ByteSet>], haystack: &[u8], at: usize) -> Verdict
+    requires { at ≤ length haystack.now }
+    ensures { IsVerdict (any_decision (items_of choices.now) haystack.now) at result }
+{
+    let mut next = haystack.len() + 1;
+    let mut is_known = true;
+    for i in 0..choices.len() {
+        match decide(&choices[i], haystack, at) {
+            Verdict::Matches => return Verdict::Matches,
+            Verdict::Passes(later) => next = next.min(later),
+            Verdict::Unknown => is_known = false,
+        }
+    }
+    if is_known {
+        Verdict::Passes(next)
+    } else {
+        Verdict::Unknown
+    }
+}
+
 // What the sets decide of a position.
 #[inline]
 fn decide(sets: &[ByteSet], haystack: &[u8], at: usize) -> Verdict
     requires { at ≤ length haystack.now }
-    ensures { IsVerdict sets.now haystack.now at result }
+    ensures { IsVerdict (decision sets.now haystack.now) at result }
 {
     for k in 0..sets.len() {
         if at + k >= haystack.len() {

@@ -1,5 +1,6 @@
 //! What is known of matches by the bytes with which they begin.
 ghost use Rattle.std.specs.Prelude.{◌≤◌, length};
+ghost use Rattle.grep_regex.specs.Choices.{items_of};
 ghost use Rattle.grep_regex.specs.Classes.{IsPrefix};
 ghost use Rattle.grep_regex.specs.Known.{IsKnown};
 ghost use Rattle.grep_regex.specs.Views.{program_re};
@@ -28,16 +29,16 @@ pub(crate) fn known_by(
     asked: Asked,
 ) -> Known
     requires start { start ≤ length haystack.now }
-    requires is_prefix { ∥ IsPrefix (program_re regex.now) prefix.now.sets.items
+    requires is_prefix { ∥ IsPrefix (program_re regex.now) (items_of prefix.now.choices.items)
         prefix.now.is_run ∥₁ }
     ensures { IsKnown regex.now asked haystack.now start result }
 {
     match find_start(prefix, haystack, start) {
         Start::Match(at) => match asked {
-            Asked::FirstMatch if prefix.is_run => {
-                Known::Answer(Some((at, at + prefix.sets.len())))
-            }
-            Asked::FirstMatch => Known::From(at),
+            Asked::FirstMatch => match prefix.choices.first() {
+                Some(sets) if prefix.is_run => Known::Answer(Some((at, at + sets.len()))),
+                _ => Known::From(at),
+            },
             Asked::AnyMatch => Known::Answer(Some((at, at))),
             Asked::Start => Known::Answer(Some((at, at))),
         },

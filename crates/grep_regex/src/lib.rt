@@ -6,6 +6,7 @@ mod asked;
 mod builder;
 mod class_tree;
 mod classes;
+mod covers;
 mod engine;
 mod error;
 mod finder;

@@ -1,58 +1,73 @@
 //! A search for the positions at which sets of bytes may decide that a pattern matches.
-ghost use Rattle.std.specs.Prelude.{◌≡◌, ◌≤◌, ◌<◌, ◌+◌, ◌-◌, ℕ, false, Some, length, slice_index};
+ghost use Rattle.std.specs.Prelude.{◌≡◌, ◌≤◌, ◌<◌, ◌+◌, ◌-◌, ℕ, length, slice_index, All, IfOk};
 ghost use Rattle.std.specs.Int.{bit_at};
 ghost use Rattle.regex_literal.specs.Lanes.{Covers};
 ghost use Rattle.regex_literal.specs.Nibbles.{buckets_of};
+ghost use Rattle.grep_regex.specs.Choices.{items_of};
+ghost use Rattle.grep_regex.specs.Classes.{any_decision, decision};
+ghost use Rattle.grep_regex.specs.Covers.{AreCovered};
 ghost use Rattle.grep_regex.specs.Decisions.{IsPassed, MayMatch};
 ghost use Rattle.grep_regex.specs.Tables.{HasMembers};
 
+use crate::covers::cover_of;
 use crate::lanes::{
     WIDTH, all_set, by_high_half, by_low_half, either_or_both, highest_bits, in_common, load,
 };
 use crate::tables::Table;
 use grep_matcher::ByteSet;
+use std::alloc::{AllocError, Global};
 use std::simd::prelude::*;
 
-// Sets of bytes, one after another, with which a match begins, and the first three as tables.
+// Sequences of sets of bytes with one of which a match begins, sets that have the members of the
+// first of each, and these as tables.
 #[derive(Drop)]
 pub(crate) struct Prefix {
-    pub(crate) sets: Vec<ByteSet>,
-    // Whether a match is a byte of each set, and nothing else.
+    pub(crate) choices: Vec<Vec<ByteSet>>,
+    // Whether there is one sequence, and a match is a byte of each of its sets and nothing else.
     pub(crate) is_run: bool,
+    cover: Vec<ByteSet>,
     first: Table,
     second: Table,
     third: Table,
-    ghost first_has: { HasMembers sets.items 0 first.low first.high },
-    ghost second_has: { HasMembers sets.items 1 second.low second.high },
-    ghost third_has: { HasMembers sets.items 2 third.low third.high },
+    ghost covered: { All (λ sets. AreCovered cover.items sets.items) choices.items },
+    ghost first_has: { HasMembers cover.items 0 first.low first.high },
+    ghost second_has: { HasMembers cover.items 1 second.low second.high },
+    ghost third_has: { HasMembers cover.items 2 third.low third.high },
 }
 
 impl Prefix {
-    pub(crate) fn new(sets: Vec<ByteSet>, is_run: bool) -> Prefix
-        ensures sets { result.sets ≡ sets }
-        ensures is_run { result.is_run ≡ is_run }
+    pub(crate) fn new(
+        alloc: Global,
+        choices: Vec<Vec<ByteSet>>,
+        is_run: bool,
+    ) -> Result<Prefix, AllocError>
+        ensures choices { IfOk result (λ p. p.choices ≡ choices) }
+        ensures is_run { IfOk result (λ p. p.is_run ≡ is_run) }
     {
-        let first = Table::new(&sets, 0);
-        let second = Table::new(&sets, 1);
-        let third = Table::new(&sets, 2);
-        Prefix {
-            sets,
+        let cover = cover_of(alloc, &choices)?;
+        let first = Table::new(&cover, 0);
+        let second = Table::new(&cover, 1);
+        let third = Table::new(&cover, 2);
+        Ok(Prefix {
+            choices,
             is_run,
+            cover,
             first,
             second,
             third,
-        }
+        })
     }
 
-    // A position up to which the sets decide that there is no match.
+    // A position up to which it is decided that there is no match.
     #[inline]
     pub(crate) fn skip(&self, haystack: &[u8], start: usize) -> usize
         requires { start ≤ length haystack.now }
         ensures low { start ≤ result }
         ensures within { result ≤ length haystack.now }
-        ensures passed { IsPassed self.now.sets.items haystack.now start result }
+        ensures passed { IsPassed (any_decision (items_of self.now.choices.items) haystack.now)
+            start result }
     {
-        match self.sets.len() {
+        match self.cover.len() {
             0 => start,
             1 => self.skip_by::<1>(haystack, start),
             2 => self.skip_by::<2>(haystack, start),
@@ -60,16 +75,16 @@ impl Prefix {
         }
     }
 
-    // The same by the first sets, in windows of a vector's width. The last one ends with the
+    // The same by the sets that cover the others, in windows of a vector's width. The last one ends with the
     // haystack, and may begin before the position that it is looked at from.
     #[inline(always)]
     fn skip_by<const SETS: usize>(&self, haystack: &[u8], start: usize) -> usize
         requires start { start ≤ length haystack.now }
-        requires sets { SETS ≤ length self.now.sets.items }
+        requires sets { SETS ≤ length self.now.cover.items }
         requires few { (1 ≤ SETS) × (SETS ≤ 3) }
         ensures low { start ≤ result }
         ensures within { result ≤ length haystack.now }
-        ensures passed { IsPassed self.now.sets.items haystack.now start result }
+        ensures passed { IsPassed (decision self.now.cover.items haystack.now) start result }
     {
         if haystack.len() - start < SETS || haystack.len() < WIDTH + SETS {
             return start;
@@ -95,12 +110,12 @@ impl Prefix {
     #[inline(always)]
     fn marks_from<const SETS: usize>(&self, haystack: &[u8], position: usize, from: usize) -> u64
         requires room { position + SETS + WIDTH ≤ length haystack.now + 1 }
-        requires sets { SETS ≤ length self.now.sets.items }
+        requires sets { SETS ≤ length self.now.cover.items }
         requires few { (1 ≤ SETS) × (SETS ≤ 3) }
         requires low { position ≤ from }
         requires high { from < position + 64 }
         ensures { (k : ℕ) → from ≤ k → k < position + WIDTH
-            → MayMatch self.now.sets.items 0 haystack.now k → bit_at result (k - from) ≡ 1 }
+            → MayMatch self.now.cover.items 0 haystack.now k → bit_at result (k - from) ≡ 1 }
     {
         highest_bits(self.first_lanes::<SETS>(haystack, position)) >> (from - position)
     }
@@ -109,9 +124,9 @@ impl Prefix {
     #[inline(always)]
     fn first_lanes<const SETS: usize>(&self, haystack: &[u8], at: usize) -> u8x32
         requires room { at + SETS + WIDTH ≤ length haystack.now + 1 }
-        requires sets { SETS ≤ length self.now.sets.items }
+        requires sets { SETS ≤ length self.now.cover.items }
         requires few { (1 ≤ SETS) × (SETS ≤ 3) }
-        ensures { Covers (MayMatch self.now.sets.items 0 haystack.now) at result }
+        ensures { Covers (MayMatch self.now.cover.items 0 haystack.now) at result }
     {
         lanes_of(
             &self.first,
@@ -125,9 +140,9 @@ impl Prefix {
     #[inline(always)]
     fn second_lanes<const SETS: usize>(&self, haystack: &[u8], at: usize) -> u8x32
         requires room { at + SETS + WIDTH ≤ length haystack.now + 2 }
-        requires sets { SETS ≤ length self.now.sets.items }
+        requires sets { SETS ≤ length self.now.cover.items }
         requires few { SETS ≤ 3 }
-        ensures { Covers (MayMatch self.now.sets.items 1 haystack.now) at result }
+        ensures { Covers (MayMatch self.now.cover.items 1 haystack.now) at result }
     {
         if SETS < 2 {
             return all_set();
@@ -144,9 +159,9 @@ impl Prefix {
     #[inline(always)]
     fn third_lanes<const SETS: usize>(&self, haystack: &[u8], at: usize) -> u8x32
         requires room { at + SETS + WIDTH ≤ length haystack.now + 3 }
-        requires sets { SETS ≤ length self.now.sets.items }
+        requires sets { SETS ≤ length self.now.cover.items }
         requires few { SETS ≤ 3 }
-        ensures { Covers (MayMatch self.now.sets.items 2 haystack.now) at result }
+        ensures { Covers (MayMatch self.now.cover.items 2 haystack.now) at result }
     {
         if SETS < 3 {
             return all_set();

@@ -4,6 +4,7 @@ ghost use Rattle.std.specs.Option.{option_copied};
 ghost use Rattle.regex_hir.specs.Meaning.{meaning};
 ghost use Rattle.grep_matcher.specs.FindResults.{holds_if_some};
 ghost use Rattle.grep_regex.specs.AbsentBytes.{is_absent};
+ghost use Rattle.grep_regex.specs.Choices.{items_of};
 ghost use Rattle.grep_regex.specs.Classes.{IsPrefix};
 ghost use Rattle.grep_regex.specs.Locality.{is_by_line};
 ghost use Rattle.grep_regex.specs.Patterns.{excluded_bytes, named_terminator, AvoidsAbsent};
@@ -205,7 +206,7 @@ impl Regex {
     // The sets of bytes that decide where it matches, if there are such.
     pub(crate) fn prefix(&self, alloc: Global) -> Result<Option<Prefix>, AllocError>
         ensures { IfOk result (λ found. IfSome found
-            (λ p. IsPrefix (program_re self.now) p.sets.items p.is_run)) }
+            (λ p. IsPrefix (program_re self.now) (items_of p.choices.items) p.is_run)) }
     {
         prefix_of(alloc, &self.shared.program.hir)
     }

@@ -2,6 +2,7 @@
 ghost use Rattle.std.specs.Prelude.{◌≡◌, ◌≤◌, length, IfOk, IfSome};
 ghost use Rattle.std.specs.Arc.{arc_value};
 ghost use Rattle.regex_hir.specs.Meaning.{meaning};
+ghost use Rattle.grep_regex.specs.Choices.{items_of};
 ghost use Rattle.grep_regex.specs.Classes.{IsPrefix};
 ghost use Rattle.grep_regex.specs.Spelled.{IsSpelled};
 
@@ -24,7 +25,8 @@ pub(crate) struct Shortcut<'r> {
     ghost spelled: { ∥ IfSome literal
         (IsSpelled (meaning (arc_value regex.now.shared).program.hir)) ∥₁ },
     ghost is_prefix: { ∥ IfSome prefix
-        (λ p. IsPrefix (meaning (arc_value regex.now.shared).program.hir) p.sets.items p.is_run) ∥₁ },
+        (λ p. IsPrefix (meaning (arc_value regex.now.shared).program.hir) (items_of p.choices.items)
+        p.is_run) ∥₁ },
 }
 
 // Written out, so that a caller's proof sees one call.

@@ -66,7 +66,7 @@ fn are_same(set: &ByteSet, other: &ByteSet) -> bool
 }
 
 // Adds the ASCII members of another set.
-fn add_members(set: &mut ByteSet, more: &ByteSet)
+pub(crate) fn add_members(set: &mut ByteSet, more: &ByteSet)
     ensures { (byte : ℕ) → byte < 128
         → holds set.new byte ≡ (holds set.old byte || holds more.now byte) }
 {

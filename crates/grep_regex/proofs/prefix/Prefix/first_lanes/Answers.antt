@@ -5,7 +5,7 @@ use Rattle.grep_regex.proofs.prefix.Prefix.first_lanes.Goals as goal
 pub returns : goal.returns
 returns g c =
     let s = c.args.self.now in
-    set-covers s.sets.items 0 1 c.args.haystack.now s.first.low s.first.high c.args.at c.second_lanes.result
+    set-covers s.cover.items 0 1 c.args.haystack.now s.first.low s.first.high c.args.at c.second_lanes.result
     c.lanes_of.result refl
     (omega (arith, c.requires.few, c.requires.sets))
     (omega (arith, c.requires.few, c.requires.room)) s.first_has

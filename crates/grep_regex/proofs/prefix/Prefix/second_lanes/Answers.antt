@@ -5,7 +5,7 @@ use Rattle.grep_regex.proofs.prefix.Prefix.second_lanes.Goals as goal
 pub returns : goal.returns
 returns g c =
     let s = c.args.self.now in
-    set-covers s.sets.items 1 2 c.args.haystack.now s.second.low s.second.high c.args.at c.third_lanes.result
+    set-covers s.cover.items 1 2 c.args.haystack.now s.second.low s.second.high c.args.at c.third_lanes.result
     c.lanes_of.result refl
     (omega (arith, c.if-this-lt2.false, c.requires.sets))
     (omega (arith, c.if-this-lt2.false, c.requires.room)) s.second_has

@@ -7,7 +7,7 @@ abbrev pub invariant-windows : goal.invariant-windows
 invariant-windows g l = record {
   low : l.fn.start ≤ l.from;
   near : l.from < l.last + 32;
-  passed : Nowhere (MayMatch l.self.sets.items 0 l.haystack) l.fn.start l.from;
+  passed : Nowhere (MayMatch l.self.cover.items 0 l.haystack) l.fn.start l.from;
 }
 
 abbrev pub decreases-windows : goal.decreases-windows

@@ -1,0 +1,25 @@
+use Rattle.std.proofs.Common.{◌∷◌, [], map, take, IfSome, subst, sym}
+use Rattle.std.proofs.lemmas.List.{map-append}
+use Rattle.std.specs.Global.{Global}
+use Rattle.std.specs.Prelude.{Vec}
+use Rattle.regex_hir.specs.Meaning.{meaning}
+use Rattle.grep_matcher.specs.declared.byte_set.ByteSet.{ByteSet}
+use Rattle.grep_regex.specs.Choices.{items_of}
+use Rattle.grep_regex.specs.Classes.{Decides}
+use Rattle.grep_regex.proofs.ChoiceLemmas.{more-decide, none-decide}
+use Rattle.grep_regex.proofs.RunLemmas.{next-part}
+use Rattle.grep_regex.proofs.class_tree.alternative_sets.Goals as goal
+
+pub loop-i-init : goal.loop-i-init
+loop-i-init c = rw c.new-choices.ensures.items none-decide
+
+pub loop-i-preserved : goal.loop-i-preserved
+loop-i-preserved c =
+    let subs = c.args.subs.now in
+    let sub = c.index-subs-i.result in
+    let front = map meaning (take c.loop-i.i subs) in
+    let choices = c.loop-i.choices.items in
+    rw (next-part subs c.loop-i.i sub sub c.loop-i-test.true (sym c.index-subs-i.is), c.in_ok-push.ensures.items)
+    (rw (map-append (λ (s : Vec ByteSet Global). s.items) choices (c.in-Some.sets ∷ []))
+    (more-decide front (meaning sub) (items_of choices) c.in-Some.sets.items c.loop-i.invariant
+    (subst (λ o. IfSome o (λ sets. Decides (meaning sub) sets.items)) c.in-Some.is c.in_ok-sets.ensures)))
