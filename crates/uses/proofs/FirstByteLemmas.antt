@@ -8,7 +8,7 @@ use Rattle.std.proofs.lemmas.List.Folds.{list_any-append}
 use Rattle.std.proofs.lemmas.List.Quantifiers.{position-Some}
 use Rattle.std.specs.List.{position, position_from, list_any}
 use Rattle.std.specs.Option.{option_map, option_or}
-use Rattle.grep_matcher.specs.declared.line_terminator.LineTerminator.TheVariants.{Byte}
+use Rattle.grep_searcher.specs.declared.LineTerminator.TheVariants.{Byte}
 use Rattle.grep_matcher.proofs.StrippedLineLemmas.{strip-joined}
 use Rattle.grep_searcher.specs.FindResults.{match_from}
 use Rattle.grep_searcher.specs.LineMatches.{IsEndedLine, MatchesByLine}

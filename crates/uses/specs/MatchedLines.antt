@@ -2,7 +2,7 @@
 -- a selected one.
 use Rattle.std.specs.Prelude.{◌≡◌, ℕ, ◌+◌, List, length, map, Option, slice_get, Some, take}
 use Rattle.std.specs.List.{flat_map}
-use Rattle.grep_matcher.specs.declared.line_terminator.LineTerminator.TheVariants.{Byte}
+use Rattle.grep_searcher.specs.declared.LineTerminator.TheVariants.{Byte}
 use Rattle.grep_searcher.specs.BoundedReads.{IsReadUpTo}
 use Rattle.grep_searcher.specs.HitLines.{kept_hits}
 use Rattle.grep_searcher.specs.Lines.{strip}

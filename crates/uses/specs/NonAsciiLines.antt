@@ -4,7 +4,7 @@ use Rattle.std.specs.Char.{is_ascii}
 use Rattle.std.specs.List.{list_any, position}
 use Rattle.std.specs.Option.{option_map}
 use Rattle.std.specs.declared.io.Error.{Error}
-use Rattle.grep_matcher.specs.declared.line_terminator.LineTerminator.TheVariants.{Byte}
+use Rattle.grep_searcher.specs.declared.LineTerminator.TheVariants.{Byte}
 use Rattle.grep_searcher.specs.LineMatches.{MatchesByLine}
 use Rattle.grep_searcher.specs.Lines.{byte_of, lines, strip}
 use Rattle.grep_searcher.specs.Meanings.{MatcherFacts, Meaning}

@@ -1,8 +1,8 @@
 use Rattle.std.proofs.Common.{◌≡◌, inl, inr, refl, subst}
 use Rattle.std.specs.List.{list_any}
 use Rattle.std.specs.Prelude.{IfOk}
-use Rattle.grep_matcher.specs.declared.line_terminator.LineTerminator.{LineTerminator}
-use Rattle.grep_matcher.specs.declared.line_terminator.LineTerminator.TheVariants.{Byte}
+use Rattle.grep_searcher.specs.declared.LineTerminator.{LineTerminator}
+use Rattle.grep_searcher.specs.declared.LineTerminator.TheVariants.{Byte}
 use Rattle.grep_searcher.specs.LineMatches.{MatchesByLine}
 use Rattle.grep_searcher.specs.Meanings.{ExcludesTerminator}
 use Rattle.uses.specs.NonAsciiLines.{is_high, non_ascii}
