@@ -24,8 +24,8 @@ search_error_makers = record {
 }
 
 -- a search of a reader that says which bytes remain, with a new `First`, that ended in `Ok`, kept
--- the first lines that hit; under a heap limit, of an input that is searched as it is, at most one
--- fill of the buffer was read beyond the last that it may keep
+-- the first lines that hit, and of these the first first; under a heap limit, of an input that is
+-- searched as it is, at most one fill of the buffer was read beyond the last that it may keep
 abbrev pub ReadersKeepFirst : {F A : Type 0} → ErrorMakers F (SearchError A) → MatcherFacts F
     → {R : Type 0} → (R → Option (List ℕ)) → (R → ReadResult → R → Type 0) → Type 0
 ReadersKeepFirst errors matcher {R} remaining read_step =
@@ -41,3 +41,5 @@ ReadersKeepFirst errors matcher {R} remaining read_step =
     → is_searched_unchanged state.settings input ≡ true
     → slice_get (kept_hits state.settings matcher.meaning input) (count - 1) ≡ Some last
     → IsReadUpTo input (remaining reader') (last.offset + length last.bytes + limit + 3))
+    × (0 < count → slice_get new.kept 0
+    ≡ slice_get (kept_hits state.settings matcher.meaning (searched_bytes state.settings input)) 0)

@@ -587,8 +587,9 @@ where
 
 /// A search of a reader that says which bytes remain, by line and without binary detection, with a
 /// lawful matcher and a new `First`, without a stop and without a limit or without a context after
-/// matches, if it ended in `Ok`, kept the first lines that hit. Under a heap limit it read at most
-/// that many bytes, and three, beyond the last that it may keep, if the input is searched as it is.
+/// matches, if it ended in `Ok`, kept the first lines that hit; at a limit of its own above 0 the
+/// first of these is the first line that hits. Under a heap limit it read at most that many bytes,
+/// and three, beyond the last that it may keep, if the input is searched as it is.
 pub fn readers_keep_first<A: Allocator + Copy, M: Matcher, R: Source>()
     ensures { (matcher : M) → ReadersKeepFirst {A = A}
         (makers_of M.Error.output search_error_makers) (M.facts matcher)

@@ -1,13 +1,9 @@
-use Rattle.std.proofs.Common.{◌≡◌, true, List, [], ◌∷◌, take, arith, refl, inl, ap, sym, ◌∙◌}
+use Rattle.std.proofs.Common.{true, arith, refl, inl, ap, sym, ◌∙◌}
 use Rattle.std.specs.List.{slice_get}
 use Rattle.grep_searcher.specs.HitLines.{kept_hits}
 use Rattle.grep_searcher.specs.MatchHandlers.{FirstReports}
 use Rattle.uses.specs.PlainSettings.{held_to}
 use Rattle.uses.proofs.first.first_line_that_matches.Goals as goal
-
-taken-first : {X : Type 0} (xs : List X) → slice_get (take 1 xs) 0 ≡ slice_get xs 0
-taken-first [] = refl
-taken-first (x ∷ xs) = refl
 
 pub returns : goal.returns
 returns g c = λ input all lawful.
@@ -17,7 +13,7 @@ returns g c = λ input all lawful.
     (record { unstopped = refl; untrailed = inl refl }) (c.new-sink.ensures ∙ c.new.ensures) all
     (rw c.in_ok-searcher.ensures at c.in_ok-search_reader.ensures.searched) in
     let is = c.into_first.ensures ∙ ap (λ (first : FirstReports). slice_get first.kept 0) (c.into_handler.ensures)
-    ∙ ap (λ lines. slice_get lines 0) kept.0 ∙ taken-first _
+    ∙ kept.2 (omega arith)
     ∙ ap (λ bytes. slice_get (kept_hits plain (g.M.Matcher.facts c.args.matcher).meaning bytes) 0)
     (c.input_is_searched.ensures.input plain input refl refl) in (
       is,
