@@ -15,7 +15,9 @@ use Rattle.grep_matcher.specs.declared.byte_set.ByteSet.{ByteSet}
 use Rattle.grep_regex.specs.Choices.{items_of}
 use Rattle.grep_regex.specs.Classes.{any_decision, decision, decision_by, either_decision, Decides, DecideAny}
 use Rattle.grep_regex.specs.Covers.{AreCovered, IsSubset}
-use Rattle.grep_regex.specs.Decisions.{IsPassed}
+use Rattle.grep_regex.specs.Decisions.{IsPassed, IsVerdict}
+use Rattle.grep_regex.specs.declared.classes.Verdict.{Verdict}
+use Rattle.grep_regex.specs.declared.classes.Verdict.TheVariants.{Matches as Matched, Passes, Unknown}
 use Rattle.grep_regex.proofs.DecisionLemmas.{decision-high, decision-member, decision-other}
 use Rattle.grep_regex.proofs.RunLemmas.{some-apart}
 use Rattle.grep_regex.proofs.UnionLemmas.{alt-last, last-alt}
@@ -47,6 +49,22 @@ any-last [] sets hay i = sym (one-choice (decision sets hay i))
 any-last (first ∷ choices) sets hay i =
     ap (either_decision (decision first hay i)) (any-last choices sets hay i)
     ∙ either-of-three (decision first hay i) (any_decision choices hay i) (decision sets hay i)
+
+-- what the only one decides
+pub one-verdict : (choices : List (Vec ByteSet Global)) (sets d : Vec ByteSet Global) (hay : List ℕ) (i : ℕ)
+    (v : Verdict) → length choices ≡ 1 → get_or choices 0 d ≡ sets → IsVerdict (decision sets.items hay) i v
+    → IsVerdict (any_decision (items_of choices) hay) i v
+one-verdict [] sets d hay i v one is decided = absurd (omega (arith, one))
+one-verdict (first ∷ (next ∷ choices)) sets d hay i v one is decided = absurd (omega (arith, one))
+one-verdict (first ∷ []) sets d hay i Matched one is decided =
+    sym (one-choice (decision first.items hay i))
+    ∙ (ap (λ (s : Vec ByteSet Global). decision s.items hay i) is ∙ decided)
+one-verdict (first ∷ []) sets d hay i (Passes later) one is decided = (
+  decided.0,
+  λ k low below. sym (one-choice (decision first.items hay k))
+      ∙ (ap (λ (s : Vec ByteSet Global). decision s.items hay k) is ∙ decided.1 k low below),
+)
+one-verdict (first ∷ []) sets d hay i Unknown one is decided = tt
 
 pub any-true : (choices : List (Vec ByteSet Global)) (k : ℕ) (d : Vec ByteSet Global) (hay : List ℕ) (i : ℕ)
     → k < length choices → decision (get_or choices k d).items hay i ≡ Some true

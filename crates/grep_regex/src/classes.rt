@@ -45,7 +45,7 @@ pub(crate) fn find_start(prefix: &Prefix, haystack: &[u8], start: usize) -> Star
     let mut from = start;
     let mut tried = 0;
     'positions: loop {
-        match decide_any(&prefix.choices, haystack, from) {
+        match decide_choices(&prefix.choices, haystack, from) {
             Verdict::Matches => return Start::Match(from),
             Verdict::Unknown => return Start::From(from),
             Verdict::Passes(next) if next > haystack.len() => return Start::Nowhere,
@@ -60,6 +60,17 @@ pub(crate) fn find_start(prefix: &Prefix, haystack: &[u8], start: usize) -> Star
 
 // What is decided of a position by sequences of sets, one of which has to follow.
 #[inline]
+fn decide_choices(choices: &[Vec<ByteSet>], haystack: &[u8], at: usize) -> Verdict
+    requires { at ≤ length haystack.now }
+    ensures { IsVerdict (any_decision (items_of choices.now) haystack.now) at result }
+{
+    if choices.len() == 1 {
+        return decide(&choices[0], haystack, at);
+    }
+    decide_any(choices, haystack, at)
+}
+
+// The same of as many as there are.
 fn decide_any(choices: &[Vec<ByteSet>], haystack: &[u8], at: usize) -> Verdict
     requires { at ≤ length haystack.now }
     ensures { IsVerdict (any_decision (items_of choices.now) haystack.now) at result }

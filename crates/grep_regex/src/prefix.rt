@@ -9,6 +9,7 @@ ghost use Rattle.grep_regex.specs.Covers.{AreCovered};
 ghost use Rattle.grep_regex.specs.Decisions.{IsPassed, MayMatch};
 ghost use Rattle.grep_regex.specs.Tables.{HasMembers};
 
+use crate::asked::Asked;
 use crate::covers::cover_of;
 use crate::lanes::{
     WIDTH, all_set, by_high_half, by_low_half, either_or_both, highest_bits, in_common, load,
@@ -56,6 +57,12 @@ impl Prefix {
             second,
             third,
         })
+    }
+
+    // Whether it is of use for what is asked. Where a match ends isn't known of several sequences.
+    #[inline]
+    pub(crate) fn answers(&self, asked: Asked) -> bool {
+        self.choices.len() == 1 || !matches!(asked, Asked::FirstMatch)
     }
 
     // A position up to which it is decided that there is no match.

@@ -75,8 +75,10 @@ impl<'r> Shortcut<'r> {
         ensures { IsKnown self.now.regex.now asked haystack.now start result }
     {
         match &self.prefix {
-            Some(prefix) => known_by(self.regex, prefix, haystack, start, asked),
-            None => Known::From(start),
+            Some(prefix) if prefix.answers(asked) => {
+                known_by(self.regex, prefix, haystack, start, asked)
+            }
+            _ => Known::From(start),
         }
     }
 }
