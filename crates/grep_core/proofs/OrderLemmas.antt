@@ -1,7 +1,7 @@
 -- ReadsSince in order of a sink that passes them on: one to which the first binary byte is noted, and
 -- one that looks for a byte in each report.
 use Rattle.std.proofs.Common.{◌≡◌, ℕ, Bool, true, false, Option, Some, None, length, List, [], refl}
-use Rattle.std.proofs.Common.{sym, ap, subst, ◌∙◌, inl, inr, ◌+◌, ◌∷◌, ◌≤◌, arith}
+use Rattle.std.proofs.Common.{sym, ap, subst, ◌∙◌, inl, inr, ◌+◌, ◌∷◌, ◌≤◌, arith, suc}
 use Rattle.std.specs.Prelude.{Result, Ok, Err, ◌&&◌}
 use Rattle.grep_core.proofs.StreamViewLemmas.{undetected}
 use Rattle.std.specs.Option.{option_map}
@@ -13,12 +13,14 @@ use Rattle.grep_decode.specs.DecoderStates.{ReadsSince, DecoderState, Decodes}
 use Rattle.grep_decode.specs.Source.{ReadResult}
 use Rattle.grep_definitions.specs.Searches.{is_detecting, planned_binary, IsReadingError, IsInOrder}
 use Rattle.grep_definitions.specs.Searches.{ran_in_order, comes_between, HasFailedRead}
-use Rattle.grep_definitions.specs.CallOrder.{HasCalled, HasCalledTo}
+use Rattle.grep_definitions.specs.CallOrder.{AreInner, HasCalled, HasCalledTo, binary_count}
+use Rattle.grep_definitions.specs.MatchedLines.{match_calls}
 use Rattle.grep_report.specs.ErrorMakers.{ErrorMakers}
 use Rattle.grep_matcher.specs.Meanings.{MatcherFacts}
 use Rattle.grep_definitions.specs.Plans.{Settings, Call, begins, matches, context, breaks}
 use Rattle.grep_definitions.specs.Plans.{binary_data, finishes, Steps, all_true, stopped, failed}
 use Rattle.grep_definitions.specs.Plans.{IsRun, Planned, counted, planned, is_binary_data}
+use Rattle.grep_definitions.specs.Plans.{AreMade, Outcome}
 use Rattle.grep_definitions.specs.SinkRuns.{outcome_of}
 use Rattle.grep_definitions.proofs.CallOrderLemmas as order
 use Rattle.grep_core.specs.declared.quitting.Quitting.{Quitting}
@@ -41,6 +43,36 @@ pub clear-filled : (d : BinaryDetection) (old new : BufferState) (given : List �
     ≡ false → new.binary ≡ None
 clear-filled d old new given found is clear none = found ∙ rw (clear none, is, undetected d none)
     refl
+
+-- calls of matches may come between `begin` and `finish`
+matches-inner : (k : Settings) (number : Option ℕ) (index offset : ℕ) (ls : List (List ℕ))
+    → AreInner k (match_calls number index offset ls)
+matches-inner k number index offset [] = All-nil (order.IsInner k)
+matches-inner k number index offset (line ∷ later) =
+    All-cons (order.IsInner k) (planned (matches (option_map (λ first. first + index) number) offset line)
+    (offset + length line)) _ refl
+    (matches-inner k number (suc index) (offset + length line) later)
+
+matches-few : (number : Option ℕ) (index offset : ℕ) (ls : List (List ℕ))
+    → binary_count (match_calls number index offset ls) ≡ 0
+matches-few number index offset [] = refl
+matches-few number index offset (line ∷ later) = omega (
+  arith,
+  order.binary-cons (planned (matches (option_map (λ first. first + index) number) offset line)
+      (offset + length line)) (match_calls number (suc index) (offset + length line) later),
+  matches-few number (suc index) (offset + length line) later,
+)
+
+pub called-matches : {S E : Type 0} (step : Steps S E) (k : Settings) (number : Option ℕ)
+    (index offset : ℕ) (ls : List (List ℕ)) (old : S) (outcome : Outcome E) (new : S)
+    → AreMade step k old (match_calls number index offset ls) outcome new
+    → HasCalled step k 0 old outcome new
+called-matches step k number index offset ls old outcome new made = record {
+  calls = match_calls number index offset ls;
+  inner = matches-inner k number index offset ls;
+  few = omega (arith, matches-few number index offset ls);
+  reported = made;
+}
 
 and-left : (a b : Bool) → (a && b) ≡ true → a ≡ true
 and-left true b is = refl

@@ -138,6 +138,11 @@ impl<'c, A: Allocator + Copy, T> Search<'c, A, T> {
                 Err(error) => return Err(C::Error::error_message(self.alloc, error)),
             };
             start = self.config.skip_unmatched(window, start, &ahead, walk);
+            if let Some(end) = self.sink_chosen_lines::<C>(window, start, &ahead, walk, sink)? {
+                *walk = self.config.after_chosen(walk, &window[start..end]);
+                start = end;
+                continue;
+            }
             let Some(end) = ahead.line_end(window, start, terminator) else {
                 return Ok(true);
             };

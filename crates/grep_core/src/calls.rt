@@ -1,9 +1,11 @@
 //! How a search calls a sink.
-ghost use Rattle.std.specs.Prelude.{◌≡◌, ◌+◌, ◌<◌, ◌^◌, Bool, Result, length, is_some};
+ghost use Rattle.std.specs.Prelude.{◌≡◌, ◌+◌, ◌<◌, ◌≤◌, ◌^◌, Bool, Result, length, is_some};
+ghost use Rattle.std.specs.Prelude.{IfSome, IsOk};
 ghost use Rattle.grep_matcher.specs.Lines.{byte_of};
 ghost use Rattle.grep_core.specs.Configured.{IsConfigured};
 ghost use Rattle.grep_definitions.specs.Plans.{Settings, Call, begins, breaks, binary_data};
-ghost use Rattle.grep_definitions.specs.Plans.{finish_result};
+ghost use Rattle.grep_definitions.specs.Plans.{finish_result, NeverFails};
+ghost use Rattle.grep_definitions.specs.MatchedLines.{AreTaken, line_match_calls};
 ghost use Rattle.grep_report.specs.SinkReports.{match_bytes};
 ghost use Rattle.grep_definitions.specs.SinkArguments.{match_call, context_call, finish_call};
 
@@ -53,6 +55,29 @@ pub trait Calls<T> {
         requires fits { found.now.offset + length (match_bytes found.now) < 2 ^ 64 }
         ensures step { step sink.old search.now.config (match_call found.now) result sink.new }
         ensures may_call { may_call sink.new };
+
+    /// Lines one after another, each of which is a match. Returns whether the sink takes them at
+    /// once: then it is as if each call of `matched` returned true, or as if one of them failed; if
+    /// it doesn't, nothing has changed, and `matched` is to be called for each line.
+    fn matched_lines<A>(
+        search: &Search<'_, A, T>,
+        sink: &mut Self::Sink,
+        lines: &SinkMatch<'_>,
+    ) -> Result<bool, Self::Error>
+        requires configured { IsConfigured (settings search.now.searcher.now) search.now.config }
+        requires may_call { may_call sink.old }
+        requires split { lines.now.terminator ≡ byte_of search.now.config.line_terminator }
+        requires numbered { is_some lines.now.line_number ≡ search.now.config.line_number }
+        requires numbers { IfSome lines.now.line_number
+            (λ number. number + length (match_bytes lines.now) ≤ 2 ^ 64) }
+        requires fits { lines.now.offset + length (match_bytes lines.now) < 2 ^ 64 }
+        ensures taken { AreTaken step search.now.config sink.old (line_match_calls lines.now) result
+            sink.new }
+        ensures succeeds { NeverFails step may_call → IsOk result }
+        ensures may_call { may_call sink.new }
+    {
+        Ok(false)
+    }
 
     /// A line that is reported, and not as a match, with a number exactly if the searcher numbers
     /// lines.

@@ -1,21 +1,24 @@
 //! What a walk reports of a line: the lines before a match, the match, a line after one, or any
 //! line under `passthru`.
 ghost use Rattle.std.specs.Prelude.{◌≡◌, ◌≤◌, ◌<◌, ◌+◌, ◌-◌, ◌^◌, ℕ, true, List, length, IsOk};
-ghost use Rattle.std.specs.Prelude.{slice_range};
+ghost use Rattle.std.specs.Prelude.{IfErr, IfNone, IfOk, IfSome, slice_range};
 ghost use Rattle.grep_definitions.specs.CallOrder.{HasCalled};
-ghost use Rattle.grep_definitions.specs.Plans.{context, AreMade, NeverFails};
+ghost use Rattle.grep_definitions.specs.Plans.{context, AreMade, NeverFails, all_true, failed};
 ghost use Rattle.grep_definitions.specs.LineCalls.{break_calls, after_calls};
 ghost use Rattle.grep_definitions.specs.SearchLaws.{number_of};
 ghost use Rattle.grep_definitions.specs.LineCalls.{before_calls, pending_calls, selected_calls};
 ghost use Rattle.grep_definitions.specs.SinkRuns.{outcome_of};
-ghost use Rattle.grep_walk.specs.Walks.{chooses, counts_lines, trails, line_calls, line_end};
+ghost use Rattle.grep_walk.specs.ChosenLines.{AreChosen, chosen_calls};
+ghost use Rattle.grep_walk.specs.LookAheads.{IsBounded};
+ghost use Rattle.grep_walk.specs.Walks.{IsOrdered, chooses, counts_lines, line_calls, line_end};
+ghost use Rattle.grep_walk.specs.Walks.{trails};
 ghost use Rattle.grep_walk.specs.Windows.{IsInWindow, IsLineIn};
 ghost use Rattle.grep_core.specs.Configured.{IsConfigured};
 
 use crate::calls::Calls;
 use crate::search::Search;
 use grep_report::{SinkContext, SinkContextKind, SinkMatch};
-use grep_walk::{Verdict, Walk};
+use grep_walk::{Ahead, Verdict, Walk};
 use std::alloc::Allocator;
 
 // What each line goes through is inlined into the loops: called, it made a search that reports
@@ -270,6 +273,47 @@ impl<'c, A: Allocator + Copy, T> Search<'c, A, T> {
         let found = SinkMatch::new(terminator, number, walk.offset, window, start..end);
         match C::matched(self, sink, &found) {
             Ok(goes_on) => Ok(goes_on),
+            Err(error) => Err(error),
+        }
+    }
+
+    // Reports lines from `start` on that are chosen one after another, if there are some and the
+    // sink takes them at once. Returns where they end; `None` if nothing was reported.
+    #[inline(always)]
+    pub(crate) fn sink_chosen_lines<C: Calls<T>>(
+        &self,
+        window: &[u8],
+        start: usize,
+        ahead: &Ahead,
+        walk: &Walk,
+        sink: &mut C::Sink,
+    ) -> Result<Option<usize>, C::Error>
+        requires bounded { IsBounded window.now ahead.now }
+        requires inside { start ≤ length window.now }
+        requires fits { walk.now.offset + (length window.now - start) < 2 ^ 64 }
+        requires ordered { IsOrdered walk.now }
+        requires configured { IsConfigured (C.settings self.now.searcher.now) self.now.config }
+        requires may_call { C.may_call sink.old }
+        ensures none { IfOk result (λ end. IfNone end (sink.new ≡ sink.old)) }
+        ensures some { IfOk result (λ end. IfSome end (λ end.
+            AreChosen self.now.config window.now start ahead.now walk.now end
+            × AreMade C.step self.now.config sink.old
+            (chosen_calls self.now.config window.now start end walk.now) all_true sink.new)) }
+        ensures error { IfErr result (λ e. (end : ℕ)
+            × AreChosen self.now.config window.now start ahead.now walk.now end
+            × AreMade C.step self.now.config sink.old
+            (chosen_calls self.now.config window.now start end walk.now) (failed e) sink.new) }
+        ensures succeeds { NeverFails C.step C.may_call → IsOk result }
+        ensures may_call { C.may_call sink.new }
+    {
+        let Some(end) = self.config.chosen_lines_end(window, start, ahead, walk) else {
+            return Ok(None);
+        };
+        let number = self.config.number(walk.line);
+        let lines = SinkMatch::new(self.terminator(), number, walk.offset, window, start..end);
+        match C::matched_lines(self, sink, &lines) {
+            Ok(true) => Ok(Some(end)),
+            Ok(false) => Ok(None),
             Err(error) => Err(error),
         }
     }

@@ -5,6 +5,7 @@ pub mod CallOrder
 pub mod CountLaws
 pub mod LineCalls
 pub mod LineWalks
+pub mod MatchedLines
 pub mod Plans
 pub mod SearchLaws
 pub mod Searches

@@ -1,11 +1,13 @@
 -- Lines by their indices: where a line is, and how many lines there are between two positions.
-use Rattle.std.proofs.Common.{◌≡◌, ℕ, ◌+◌, ◌-◌, ◌<◌, ◌≤◌, List, ◌++◌, length, drop, get_or, refl}
+use Rattle.std.proofs.Common.{◌≡◌, ℕ, ◌+◌, ◌-◌, ◌<◌, ◌≤◌, List, ◌∷◌, ◌++◌, length, drop, get_or}
+use Rattle.std.proofs.Common.{refl}
 use Rattle.std.proofs.Common.{sym, ◌∙◌, ap, arith, subst, ⊎_elim, length-take, length-drop}
 use Rattle.std.proofs.Common.{length-append}
 use Rattle.std.proofs.lemmas.Bool.{cases_lt}
 use Rattle.std.proofs.lemmas.List.{take-append-drop, get_or-drop, get_or-take, drop-drop, take_all}
 use Rattle.grep_matcher.proofs.LineLemmas.{lines-append, IsClosed}
-use Rattle.grep_lines.proofs.LineStepLemmas.{IsAt-start, IsStep-line, all_passed}
+use Rattle.grep_lines.proofs.LineStepLemmas.{IsAt-start, IsStep-line, all_passed, slice-first}
+use Rattle.grep_lines.specs.FirstLine.{IsFirstLine}
 use Rattle.std.specs.Prelude.{slice_range}
 use Rattle.grep_lines.specs.Positions.{IsLine, IsLineStart}
 use Rattle.grep_matcher.specs.Lines.{lines, line_start}
@@ -115,6 +117,28 @@ module _ {t : ℕ} {bytes : List ℕ} {p i : ℕ} (there : IsLineStart t bytes p
   pub comes-from : (j : ℕ) → p ≤ line_start t bytes j → i ≤ j
   comes-from j low = ⊎_elim (λ no. absurd (omega (arith, starts-before j no))) (λ yes. yes)
       (cases_lt j i)
+
+-- the lines from one position up to the start of another begin with the line that is there
+pub line-first : (t : ℕ) (bytes : List ℕ) (i p e q : ℕ) → IsLine t bytes i p e → e ≤ q
+    → q ≤ length bytes → lines t (slice_range bytes p q)
+    ≡ slice_range bytes p e ∷ lines t (slice_range bytes e q)
+line-first t bytes i p e q line low within =
+    let own = subst (λ a. IsFirstLine t (drop a bytes) (line_start t bytes (i + 1) - a)) line.begins
+    (IsStep-line t bytes i line.listed).is_first in
+    let there = subst (λ b. IsFirstLine t (drop p bytes) (b - p)) line.ends own in
+    let part : IsFirstLine t (slice_range bytes p q) (e - p) = record {
+      above = omega (arith, line.above);
+      within = omega (arith, length-take (q - p) (drop p bytes), length-drop p bytes, line.above);
+      inner = λ j less same. there.inner j less
+          (sym (get_or-take (q - p) (drop p bytes) j 0 (omega arith)) ∙ same);
+      closed = λ more. get_or-take (q - p) (drop p bytes) ((e - p) - 1) 0
+          (omega (arith, line.above))
+          ∙ there.closed (omega (arith, more, length-take (q - p) (drop p bytes)));
+    } in
+    let sum : p + (e - p) ≡ e = omega (arith, line.above) in
+    subst (λ a. lines t (slice_range bytes p q)
+    ≡ slice_range bytes p a ∷ lines t (slice_range bytes a q)) sum
+    (slice-first t bytes p q (e - p) part)
 
 -- two lines that start at one position are the same
 pub start-same : {t : ℕ} {bytes : List ℕ} {p i j : ℕ} → IsLineStart t bytes p i

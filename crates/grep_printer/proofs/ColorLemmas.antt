@@ -46,7 +46,7 @@ module _ (color : List ℕ) (f : ℕ → Bool) where
       (painted_from color f b (at + length (byte ∷ later)) rest))))
 
   -- bytes of which none is colored
-  painted-none : (before : Bool) (at : ℕ) (bytes : List ℕ) → ((k : ℕ) → at ≤ k → f k ≡ false)
+  pub painted-none : (before : Bool) (at : ℕ) (bytes : List ℕ) → ((k : ℕ) → at ≤ k → f k ≡ false)
       → painted_from color f before at bytes ≡ switch_text color before false ++ bytes
   painted-none before at [] none = sym (append-nil (switch_text color before false))
   painted-none before at (byte ∷ later) none =

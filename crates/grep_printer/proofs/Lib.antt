@@ -15,6 +15,8 @@ pub mod SearchMessageLemmas
 pub mod ShownLemmas
 pub mod SomeTextLemmas
 pub mod SuccessiveLemmas
+pub mod TakenCallLemmas
+pub mod TakenLineLemmas
 pub mod TextLemmas
 pub mod VimgrepLemmas
 pub mod WalkLemmas

@@ -52,6 +52,20 @@ module _ {F : Type 0} (rules : Rules F) (scene : Scene) where
   abbrev pub printed_by : F → List PrintedCall → Printed F
   printed_by format calls = fold printed_with (record { format = format; text = [] }) calls
 
+-- a call without parts
+abbrev pub without_parts : Planned → PrintedCall
+without_parts planned = record { call = planned.call; parts = [] }
+
+module _ {F : Type 0} (rules : Rules F) (scene : Scene) where
+  -- what is made of calls without parts, after each of which the search goes on: the text of all,
+  -- and the format after them
+  abbrev pub AreTexts : F → List Planned → List ℕ → F → Type 0
+  AreTexts format [] text new = (text ≡ []) × (new ≡ format)
+  AreTexts format (planned ∷ later) text new =
+      (rest : List ℕ) × (text ≡ rules.text format scene (without_parts planned) ++ rest)
+      × (rules.goes_on format scene (without_parts planned) ≡ true)
+      × AreTexts (rules.next format scene (without_parts planned)) later rest new
+
 -- Calls with their parts, by what these may be.
 module _ {F : Type 0} (rules : Rules F) (scene : Scene) (HasParts : F → PrintedCall → Type 0) where
   -- these calls are the planned ones, and the search goes on after each

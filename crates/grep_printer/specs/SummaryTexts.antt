@@ -31,11 +31,11 @@ default_summary_config = record { kind = Count; path_terminator = None; color_sp
 abbrev pub no_counts : Counts
 no_counts = record { match_count = 0; part_count = 0 }
 
--- what was reported, with a match that has so many parts, each count up to the greatest number of
--- 64 bits
-abbrev pub with_report : Counts → ℕ → Counts
-with_report counts parts = record {
-  match_count = capped_sum counts.match_count 1;
+-- what was reported, with some more matches that have so many parts, each count up to the greatest
+-- number of 64 bits
+abbrev pub with_matches : Counts → ℕ → ℕ → Counts
+with_matches counts count parts = record {
+  match_count = capped_sum counts.match_count count;
   part_count = capped_sum counts.part_count parts;
 }
 
@@ -123,7 +123,7 @@ asks_to_count kind call = counts_parts kind && is_match call
 -- what was reported, with a call of so many parts; nothing of it counts once the search is left out
 abbrev pub counts_after : Counts → BinaryDetection → Call → ℕ → Counts
 counts_after counts detection begins parts = counts
-counts_after counts detection (matches number offset bytes) parts = with_report counts parts
+counts_after counts detection (matches number offset bytes) parts = with_matches counts 1 parts
 counts_after counts detection (context which number offset line) parts = counts
 counts_after counts detection breaks parts = counts
 counts_after counts detection (binary_data offset) parts = counts

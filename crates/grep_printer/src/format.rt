@@ -1,14 +1,18 @@
 //! What a printer writes of the calls of a search.
-ghost use Rattle.std.specs.Prelude.{◌≡◌, [], ℕ, Option, true, false, length};
+ghost use Rattle.std.specs.Prelude.{◌≡◌, ◌+◌, ◌<◌, ◌≤◌, ◌^◌, [], ℕ, Option, true, false, length};
+ghost use Rattle.std.specs.Prelude.{IfSome};
 ghost use Rattle.grep_searcher.specs.Plans.{finishes, reported_bytes};
-ghost use Rattle.grep_printer.specs.Formats.{PrintedCall, Rules, Scene};
+ghost use Rattle.grep_report.specs.SinkReports.{match_bytes};
+ghost use Rattle.grep_searcher.specs.Lines.{byte_of};
+ghost use Rattle.grep_searcher.specs.MatchedLines.{line_match_calls};
+ghost use Rattle.grep_printer.specs.Formats.{AreTexts, PrintedCall, Rules, Scene};
 ghost use Rattle.grep_printer.specs.MatchedParts.{AreInOrder};
-ghost use Rattle.grep_output.specs.PendingTexts.{Adds};
+ghost use Rattle.grep_output.specs.PendingTexts.{Adds, pending_bytes};
 ghost use Rattle.grep_printer.specs.Reports.{FitsEvent, event_call, event_has_match};
 
 use crate::report::Report;
 use grep_output::Pending;
-use grep_searcher::{Match, Searcher};
+use grep_searcher::{Match, Searcher, SinkMatch};
 use std::alloc::Allocator;
 
 /// A call of a search.
@@ -78,6 +82,32 @@ pub trait Format: Copy {
         ensures goes_on { text.new.has_failed ≡ false → result ≡ rules.goes_on self.old
             (record { path = path.entry; settings = searcher.now.settings })
             (record { call = event_call event.now; parts = parts.now }) };
+
+    /// Pushes the texts of the lines of a match, each of which is a match that has no parts, as one
+    /// text after those that are kept, and returns whether it did: only if the search goes on after
+    /// each of them. If it didn't, nothing has changed. If memory is out, the text has failed.
+    ///
+    /// The default doesn't.
+    fn push_lines<A: Allocator + Copy>(
+        &mut self,
+        text: &mut Pending,
+        searcher: &Searcher<A>,
+        path: Option<&str>,
+        lines: &SinkMatch<'_>,
+    ) -> bool
+        requires some { 0 < length (match_bytes lines.now) }
+        requires split { lines.now.terminator ≡ byte_of searcher.now.settings.line_terminator }
+        requires numbers { IfSome lines.now.line_number
+            (λ number. number + length (match_bytes lines.now) ≤ 2 ^ 64) }
+        requires fits { lines.now.offset + length (match_bytes lines.now) < 2 ^ 64 }
+        ensures before { result ≡ true → text.new.before ≡ pending_bytes text.old }
+        ensures texts { result ≡ true → text.new.has_failed ≡ false → AreTexts rules
+            (record { path = path.entry; settings = searcher.now.settings }) self.old
+            (line_match_calls lines.now) text.new.text self.new }
+        ensures same { result ≡ false → (self.new ≡ self.old) × (text.new ≡ text.old) }
+    {
+        false
+    }
 
     /// After the end of a search it is as if the search went on.
     ghost ends: { (format : Self) (scene : Scene) (printed : PrintedCall) (count : ℕ)

@@ -163,6 +163,11 @@ impl<F, W: Output> Printer<F, W> {
         self.writer.flush()
     }
 
+    // Whether as much text is kept as is written at once.
+    fn is_full(&self) -> bool {
+        self.pending.len() >= self.room
+    }
+
     // Ends the text at hand, and returns whether it is kept: if there are more bytes than are kept,
     // they are to be written.
     #[inline(always)]
@@ -355,6 +360,31 @@ impl<'s, F: Format, M: FindAt, W: Output> Sink for PrinterSink<'s, F, M, W> {
         ensures may_call { Unit {0} }
     {
         self.print(searcher, &Event::Report(Report::of_match(found)))
+    }
+
+    /// Keeps the texts of lines, if the format pushes them at once: under inversion, where no parts
+    /// of them match, and where less text is kept than is written at once. It writes nothing.
+    fn matched_lines<A: Allocator + Copy>(
+        &mut self,
+        searcher: &Searcher<A>,
+        lines: &SinkMatch<'_>,
+    ) -> Result<bool, SearchError> {
+        if !searcher.invert_match() || lines.bytes().is_empty() || self.printer.is_full() {
+            return Ok(false);
+        }
+        let before = self.format;
+        let printer = &mut *self.printer;
+        let text = &mut printer.pending;
+        if !self.format.push_lines(text, searcher, self.path, lines) {
+            return Ok(false);
+        }
+        if printer.pending.has_failed() {
+            printer.pending.cancel();
+            self.format = before;
+            return Err(SearchError::from(AllocError));
+        }
+        printer.has_written = printer.has_written || printer.pending.text_len() > 0;
+        Ok(true)
     }
 
     fn context<A: Allocator + Copy>(

@@ -14,7 +14,7 @@ use crate::format::{Event, Format};
 use crate::printer::{Printer, PrinterSink};
 use crate::report::{Report, ReportKind};
 use grep_output::Pending;
-use grep_searcher::{BinaryDetection, Match, Searcher};
+use grep_searcher::{BinaryDetection, Match, Searcher, SinkMatch};
 use std::alloc::Allocator;
 
 /// A printer of lines: it writes each line that a search reports, after the fields that are asked
@@ -176,5 +176,19 @@ impl Format for StandardFormat {
             }
         }
         true
+    }
+
+    fn push_lines<A: Allocator + Copy>(
+        &mut self,
+        text: &mut Pending,
+        searcher: &Searcher<A>,
+        path: Option<&str>,
+        lines: &SinkMatch<'_>,
+    ) -> bool {
+        if self.progress.is_hidden(searcher.binary_detection()) {
+            return false;
+        }
+        text.begin();
+        self.push_report(text, searcher, path, &Report::of_match(lines), &[])
     }
 }

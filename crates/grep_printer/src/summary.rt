@@ -2,15 +2,16 @@
 ghost use Rattle.std.specs.Prelude.{◌≡◌};
 ghost use Rattle.grep_output.specs.PendingTexts.{Adds};
 ghost use Rattle.grep_printer.specs.SummaryTexts.{count_line, finish_text, found_line, is_left_out};
-ghost use Rattle.grep_printer.specs.SummaryTexts.{no_counts, path_line, with_report};
+ghost use Rattle.grep_printer.specs.SummaryTexts.{no_counts, path_line, with_matches};
 
 use crate::fields::push_path;
 use crate::format::{Event, Format};
 use crate::printer::{Printer, PrinterSink};
 use crate::report::ReportKind;
 use crate::summary_builder::{SummaryConfig, SummaryKind};
+use grep_lines::line_count;
 use grep_output::Pending;
-use grep_searcher::{BinaryDetection, Match, Searcher};
+use grep_searcher::{BinaryDetection, Match, Searcher, SinkMatch};
 use std::alloc::Allocator;
 
 /// A printer of summaries: it writes one line for a search, or none. `sink` gives the sink of one
@@ -48,12 +49,12 @@ impl Counts {
         }
     }
 
-    // With a match that has so many parts.
-    fn add_report(&mut self, parts: usize)
-        ensures { self.new ≡ with_report self.old parts }
+    // With some more matches, and parts of them.
+    fn add(&mut self, matches: u64, parts: u64)
+        ensures { self.new ≡ with_matches self.old matches parts }
     {
-        self.match_count = self.match_count.saturating_add(1);
-        self.part_count = self.part_count.saturating_add(parts as u64);
+        self.match_count = self.match_count.saturating_add(matches);
+        self.part_count = self.part_count.saturating_add(parts);
     }
 }
 
@@ -110,7 +111,7 @@ impl Format for SummaryFormat {
         match event {
             Event::Report(report) => match report.kind {
                 ReportKind::Match => {
-                    self.counts.add_report(parts.len());
+                    self.counts.add(1, parts.len() as u64);
                     return self.config.kind.counts_on();
                 }
                 ReportKind::Context(_) => {}
@@ -124,6 +125,22 @@ impl Format for SummaryFormat {
             }
             Event::Begin | Event::Break | Event::BinaryData(_) => {}
         }
+        true
+    }
+
+    fn push_lines<A: Allocator + Copy>(
+        &mut self,
+        text: &mut Pending,
+        searcher: &Searcher<A>,
+        _path: Option<&str>,
+        lines: &SinkMatch<'_>,
+    ) -> bool {
+        if !self.config.kind.counts_on() {
+            return false;
+        }
+        text.begin();
+        let count = line_count(lines.bytes(), searcher.line_terminator().as_byte());
+        self.counts.add(count, 0);
         true
     }
 }

@@ -19,3 +19,4 @@ pub mod SinkFoldLemmas
 pub mod SourceSearchLemmas
 pub mod UnitCallLemmas
 pub mod ViewLemmas
+pub mod WrappedSinkLemmas

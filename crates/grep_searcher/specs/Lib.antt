@@ -25,6 +25,7 @@ pub use Rattle.grep_definitions.specs.AcrossLaws
 pub use Rattle.grep_definitions.specs.BinaryLaws
 pub use Rattle.grep_definitions.specs.CountLaws
 pub use Rattle.grep_definitions.specs.SinkArguments
+pub use Rattle.grep_definitions.specs.MatchedLines
 pub use Rattle.grep_decode.specs.Labels
 pub use Rattle.grep_decode.specs.Source
 pub use Rattle.grep_matcher.specs.Lawful

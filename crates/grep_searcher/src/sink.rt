@@ -1,8 +1,10 @@
 //! What a search reports to.
-ghost use Rattle.std.specs.Prelude.{◌≡◌, ◌+◌, ◌<◌, ◌^◌, Bool, Result, length, is_some};
+ghost use Rattle.std.specs.Prelude.{◌≡◌, ◌+◌, ◌<◌, ◌≤◌, ◌^◌, Bool, Result, length, is_some};
+ghost use Rattle.std.specs.Prelude.{IfSome, IsOk};
 ghost use Rattle.grep_matcher.specs.Lines.{byte_of};
 ghost use Rattle.grep_definitions.specs.Plans.{Settings, Call, begins, breaks, binary_data};
-ghost use Rattle.grep_definitions.specs.Plans.{finish_result};
+ghost use Rattle.grep_definitions.specs.Plans.{finish_result, NeverFails};
+ghost use Rattle.grep_definitions.specs.MatchedLines.{AreTaken, line_match_calls};
 ghost use Rattle.grep_report.specs.SinkReports.{match_bytes};
 ghost use Rattle.grep_definitions.specs.SinkArguments.{match_call, context_call, finish_call};
 
@@ -52,6 +54,37 @@ pub trait Sink {
         requires fits { found.now.offset + length (match_bytes found.now) < 2 ^ 64 }
         ensures step { step self.old searcher.now.settings (match_call found.now) result self.new }
         ensures may_call { may_call self.new };
+
+    /// Lines one after another, each of which is a match. Returns whether the sink takes them at
+    /// once: then it is as if `matched` were called for each, and returned true, or as if one of
+    /// these calls failed, with an error that is the sink's own. If it doesn't take them, nothing
+    /// has changed, and the search calls `matched` for each line.
+    ///
+    /// The lines are those of `lines`, whose number and offset are the first line's; a search gives
+    /// 16 KiB of them at most. It does so where it knows of lines in a row that each is a match:
+    /// under inversion, of lines in which its matcher found nothing. The caller ensures what
+    /// `matched` asks of each line.
+    ///
+    /// The default doesn't take them. A sink that writes lines as one text, or counts them, is
+    /// faster if it does.
+    fn matched_lines<A: Allocator + Copy>(
+        &mut self,
+        searcher: &Searcher<A>,
+        lines: &SinkMatch<'_>,
+    ) -> Result<bool, Self::Error>
+        requires may_call { may_call self.old }
+        requires split { lines.now.terminator ≡ byte_of searcher.now.settings.line_terminator }
+        requires numbered { is_some lines.now.line_number ≡ searcher.now.settings.line_number }
+        requires numbers { IfSome lines.now.line_number
+            (λ number. number + length (match_bytes lines.now) ≤ 2 ^ 64) }
+        requires fits { lines.now.offset + length (match_bytes lines.now) < 2 ^ 64 }
+        ensures taken { AreTaken step searcher.now.settings self.old (line_match_calls lines.now)
+            result self.new }
+        ensures succeeds { NeverFails step may_call → IsOk result }
+        ensures may_call { may_call self.new }
+    {
+        Ok(false)
+    }
 
     /// A line that is reported, and not as a match. Returns whether the search goes on; an error is
     /// the sink's own.
@@ -129,6 +162,14 @@ impl<S: Sink> Sink for &mut S {
         found: &SinkMatch<'_>,
     ) -> Result<bool, S::Error> {
         (**self).matched(searcher, found)
+    }
+
+    fn matched_lines<A: Allocator + Copy>(
+        &mut self,
+        searcher: &Searcher<A>,
+        lines: &SinkMatch<'_>,
+    ) -> Result<bool, S::Error> {
+        (**self).matched_lines(searcher, lines)
     }
 
     fn context<A: Allocator + Copy>(

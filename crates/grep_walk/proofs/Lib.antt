@@ -3,6 +3,7 @@ pub mod AcrossStepLemmas
 pub mod AcrossLoopLemmas
 pub mod AcrossUnitLemmas
 pub mod BeforeContextLemmas
+pub mod ChosenLineLemmas
 pub mod FinishLemmas
 pub mod FoundMatchLemmas
 pub mod LookAheadLemmas

@@ -114,6 +114,11 @@ module _ (t : ℕ) (bytes : List ℕ) (start first : ℕ) (here : IsLineStart t 
   later-count : length (lines t bytes) ≡ first + length (lines t rest)
   later-count = omega (arith, length-drop first (lines t bytes), ap length later)
 
+  -- where the line of a position of theirs begins, a line of the bytes does
+  pub later-located : (position : ℕ) (line : ℕ × ℕ) → IsLocated t rest position line
+      → IsLineStart t bytes (start + line.0) (first + lines_before t rest position)
+  later-located position line at = grind (arith, later-count, before-few, later-start)
+
   -- line j of them extends from p up to q of the bytes
   record IsLater (p q j : ℕ) : Type 0 where
     pub listed : j < length (lines t rest)
@@ -179,7 +184,8 @@ module _ (k : Settings) (meaning : Meaning) (window : List ℕ) (start first : �
     located = lines_before t asked (position_of found)
 
     start-located : IsLineStart t window candidate (first + located)
-    start-located = grind (arith, later-count, before-few, later-start)
+    start-located = subst (λ p. IsLineStart t window p (first + located)) (sym begins)
+        (later-located t window start first here (position_of found) line at)
 
     -- no line before it matches
     miss-before : (i p q : ℕ) → IsLine t window i p q → start ≤ p → p < candidate

@@ -1,4 +1,5 @@
 pub mod AcrossWalks
+pub mod ChosenLines
 pub mod LookAheads
 pub mod Origins
 pub mod TouchedUnits

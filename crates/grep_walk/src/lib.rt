@@ -9,6 +9,7 @@
 
 mod before_context;
 mod blocks;
+mod chosen_lines;
 mod config;
 mod look_ahead;
 mod units;

@@ -53,6 +53,17 @@ impl<A: Allocator + Copy, S: Sink> Calls<Searcher<A>> for SearcherCalls<S> {
         }
     }
 
+    fn matched_lines<B>(
+        search: &Search<'_, B, Searcher<A>>,
+        sink: &mut S,
+        lines: &SinkMatch<'_>,
+    ) -> Result<bool, S::Error> {
+        match sink.matched_lines(search.searcher, lines) {
+            Ok(taken) => Ok(taken),
+            Err(error) => Err(error),
+        }
+    }
+
     fn context<B>(
         search: &Search<'_, B, Searcher<A>>,
         sink: &mut S,

@@ -24,6 +24,14 @@ impl<S: Sink> Sink for Box<S> {
         (**self).matched(searcher, found)
     }
 
+    fn matched_lines<A: Allocator + Copy>(
+        &mut self,
+        searcher: &Searcher<A>,
+        lines: &SinkMatch<'_>,
+    ) -> Result<bool, S::Error> {
+        (**self).matched_lines(searcher, lines)
+    }
+
     fn context<A: Allocator + Copy>(
         &mut self,
         searcher: &Searcher<A>,

@@ -14,11 +14,29 @@ use Rattle.grep_walk.proofs.WindowSearchLemmas as search
 use Rattle.grep_walk.proofs.WindowSearchLemmas.{ordered-next}
 use Rattle.grep_walk.proofs.UncountedLemmas as uncounted
 use Rattle.grep_walk.specs.WalkFaults.{at_call}
+use Rattle.grep_walk.specs.declared.walk.Walk.{Walk}
+use Rattle.grep_walk.specs.ChosenLines.{AreChosen, after_chosen, chosen_calls}
+use Rattle.grep_walk.proofs.ChosenLineLemmas.{LinesCome, chosen-come}
+use Rattle.grep_definitions.specs.CallOrder.{HasCalled}
+use Rattle.grep_definitions.specs.Plans.{AreMade, Outcome}
+use Rattle.grep_core.proofs.OrderLemmas.{called-matches}
 use Rattle.grep_core.proofs.search.Search.search_window.Given.{Over}
 use Rattle.grep_definitions.specs.CallOrder.{of_call, of_question}
 use Rattle.grep_definitions.proofs.CallOrderLemmas.{called-none, called-then}
 use Rattle.grep_core.proofs.search.Search.search_window.Goals as goal
 use Rattle.grep_core.proofs.search.Search.search_window.Goals.{After-known_at-known}
+use Rattle.grep_core.proofs.search.Search.search_window.Goals.{After-sink_chosen_lines}
+
+-- lines that weren't taken at once have had no call
+untaken : (g : Over) (c : goal.After-known_at-known g)
+    → c.sink_chosen_lines.new.sink ≡ c.lines.sink
+untaken g c = search rules
+
+called : (g : Over) (c : goal.After-known_at-known g)
+    → HasCalled g.C.Calls.step c.args.self.now.config 0 c.args.sink.now all_true
+    c.sink_chosen_lines.new.sink
+called g c = subst (HasCalled g.C.Calls.step c.args.self.now.config 0 c.args.sink.now all_true)
+    (sym (untaken g c)) c.lines.invariant.called
 
 -- the line that a walk decides, after those that it skipped
 reached : (g : Over) (c : goal.After-known_at-known g)
@@ -29,15 +47,51 @@ reached : (g : Over) (c : goal.After-known_at-known g)
     first c.args.start c.args.walk.now c.args.sink.now
     → uncounted.HasLine g.C.Calls.step c.args.self.now.config
     (g.M.Matcher.facts c.args.matcher.now).meaning gone
-    c.args.window.now input first c.skip_unmatched-start.result c.in-Some.end
-    c.skip_unmatched-start.new.walk c.lines.sink c.known_at-known.result
-reached g c lawful gone input first so_far =
+    c.args.window.now input first c.skip_unmatched-start.result c.in-Some-line_end.end
+    c.skip_unmatched-start.new.walk c.sink_chosen_lines.new.sink c.known_at-known.result
+reached g c lawful gone input first so_far = subst (λ sink. uncounted.HasLine g.C.Calls.step
+    c.args.self.now.config (g.M.Matcher.facts c.args.matcher.now).meaning gone c.args.window.now
+    input first c.skip_unmatched-start.result c.in-Some-line_end.end
+    c.skip_unmatched-start.new.walk sink c.known_at-known.result) (sym (untaken g c)) (
     let now = c.lines.invariant.searched lawful gone input first so_far in
     uncounted.line-reached c.requires.configured.bare now c.in-Ok.ensures.bounded
     (c.in-Ok.ensures.known lawful _ now.walked.inside.line.begins
     (c.lines.invariant.known lawful gone input first so_far)) c.skip_unmatched-start.ensures.low
     c.skip_unmatched-start.ensures.position c.skip_unmatched-start.ensures.walk
-    c.terminator-terminator.ensures c.in-Some.ensures.line c.known_at-known.ensures
+    c.terminator-terminator.ensures c.in-Some-line_end.ensures.line c.known_at-known.ensures)
+
+-- what comes of lines that are chosen one after another
+chosen : (g : Over) (c : After-sink_chosen_lines g)
+    → IsLawful (g.M.Matcher.facts c.args.matcher.now) c.args.self.now.config
+    → (gone input : List ℕ) (first : Origin g.row.C-Sink.Denot)
+    → HasSearched g.C.Calls.step c.args.self.now.config
+    (g.M.Matcher.facts c.args.matcher.now).meaning gone c.args.window.now input
+    first c.args.start c.args.walk.now c.args.sink.now
+    → (end : ℕ) → AreChosen c.args.self.now.config c.args.window.now c.skip_unmatched-start.result
+    c.in-Ok.ahead c.skip_unmatched-start.new.walk end
+    → (outcome : Outcome g.row.C-Error.Denot) (new : g.row.C-Sink.Denot)
+    → AreMade g.C.Calls.step c.args.self.now.config c.lines.sink
+    (chosen_calls c.args.self.now.config c.args.window.now c.skip_unmatched-start.result end
+    c.skip_unmatched-start.new.walk) outcome new
+    → LinesCome g.C.Calls.step c.args.self.now.config
+    (g.M.Matcher.facts c.args.matcher.now).meaning gone c.args.window.now input first
+    c.requires.configured.bare (HasSearched g.C.Calls.step c.args.self.now.config
+    (g.M.Matcher.facts c.args.matcher.now).meaning gone c.args.window.now input first end
+    (after_chosen c.args.self.now.config c.skip_unmatched-start.new.walk
+    (slice_range c.args.window.now c.skip_unmatched-start.result end))) outcome new
+chosen g c lawful gone input first so_far end are outcome new made =
+    let now = c.lines.invariant.searched lawful gone input first so_far in
+    let known = c.in-Ok.ensures.known lawful _ now.walked.inside.line.begins
+    (c.lines.invariant.known lawful gone input first so_far) in
+    let skipped = c.skip_unmatched-start.ensures in
+    let here = uncounted.searched-on c.requires.configured.bare now c.in-Ok.ensures.bounded known
+    skipped.position skipped.walk in
+    let later = skips.known-later _ _ _ _ _ _ skipped.low known in
+    chosen-come _ _ _ gone _ input first c.requires.configured.bare
+    c.skip_unmatched-start.new.walk c.skip_unmatched-start.result end c.in-Ok.ahead
+    c.lines.sink here later are
+    (omega (arith, are.known, c.in-Ok.ensures.bounded.ordered, c.in-Ok.ensures.bounded.within))
+    outcome new made
 
 pub lines-init : goal.lines-init
 lines-init g c = record {
@@ -60,8 +114,9 @@ returns-in-Err-clause-fault g c =
     (c.lines.invariant.searched lawful gone input first so_far) ahead.some ahead.allowed
     c.in-Err.error _ c.error_message.ensures ahead.fault
 
-pub returns-in_default-clause-goes_on : goal.returns-in_default-clause-goes_on
-returns-in_default-clause-goes_on g c = λ lawful goes gone input first so_far.
+pub returns-in_default-line_end-clause-goes_on : goal.returns-in_default-line_end-clause-goes_on
+returns-in_default-line_end-clause-goes_on g c = λ lawful goes gone input first so_far.
+    let same : c.sink_chosen_lines.new.sink ≡ c.lines.sink = search rules in
     let learns = c.in-Ok.ensures.known in
     let position = c.skip_unmatched-start.ensures.position in
     let skipped = c.skip_unmatched-start.ensures.walk in
@@ -71,9 +126,12 @@ returns-in_default-clause-goes_on g c = λ lawful goes gone input first so_far.
     (c.lines.invariant.known lawful gone input first so_far) in
     let here = uncounted.searched-on bare now c.in-Ok.ensures.bounded known position skipped in
     let terminator = c.terminator-terminator.ensures in
-    search.passed-all _ _ _ _ _ _ _ _ _ _ here c.in_default.ensures.end
+    search.passed-all _ _ _ _ _ _ _ _ _ _ (subst (HasSearched g.C.Calls.step
+    c.args.self.now.config (g.M.Matcher.facts c.args.matcher.now).meaning gone c.args.window.now
+    input first c.skip_unmatched-start.result c.skip_unmatched-start.new.walk) (sym same) here)
+    c.in_default-line_end.ensures.end
     (subst (λ b. (i : ℕ) → IsLineStart b c.args.window.now c.skip_unmatched-start.result i → i
-    ≡ length (lines b c.args.window.now)) terminator c.in_default.ensures.last)
+    ≡ length (lines b c.args.window.now)) terminator c.in_default-line_end.ensures.last)
 
 pub returns-in-Err-judge-clause-fault : goal.returns-in-Err-judge-clause-fault
 returns-in-Err-judge-clause-fault g c =
@@ -81,17 +139,17 @@ returns-in-Err-judge-clause-fault g c =
     λ lawful gone input first so_far.
     let call = reached g (goal.at.returns-in-Err-judge-clause-fault g c).After-known_at-known lawful
     _ _ _ so_far in
-    uncounted.failed-asked _ _ c.requires.configured.bare call c.in-Some.ensures.within.1 below
+    uncounted.failed-asked _ _ c.requires.configured.bare call c.in-Some-line_end.ensures.within.1 below
     c.in-Err-judge.error _ c.error_message-in-Err-judge.ensures c.in-Err-judge.ensures.fault
 
 pub returns-in_err-sink_line-clause-fault : goal.returns-in_err-sink_line-clause-fault
 returns-in_err-sink_line-clause-fault g c =
     let decided = c.in-Ok-judge.ensures.decided in
-    let p = err_from_is_err_and c.from_residual.result c.from_residual.ensures.1 in
+    let p = err_from_is_err_and c.from_residual-in_err-sink_line.result c.from_residual-in_err-sink_line.ensures.1 in
     rw (p.1, p.2) (λ lawful gone input first so_far.
     let call = reached g (goal.at.returns-in_err-sink_line-clause-fault g c).After-known_at-known
     lawful _ _ _ so_far in
-    at_call (uncounted.line-comes c.requires.configured.bare call c.in-Some.ensures.within.1
+    at_call (uncounted.line-comes c.requires.configured.bare call c.in-Some-line_end.ensures.within.1
     (decided call.agrees) (failed _) _ (c.in_err-sink_line.ensures.reported gone input
     (uncounted.inside-counted call.here))))
 
@@ -101,12 +159,12 @@ returns-then-not-branch-clause-ends g c = λ lawful ends.
     let stops : c.in_ok-sink_line.field-0 ≡ false = search rules in
     let reported = rw stops at c.in_ok-sink_line.ensures.reported in (
       stopped (counted (line_end c.skip_unmatched-start.new.walk
-          (slice_range c.args.window.now c.skip_unmatched-start.result c.in-Some.end))),
+          (slice_range c.args.window.now c.skip_unmatched-start.result c.in-Some-line_end.end))),
       λ gone input first so_far.
           let call = reached g
           (goal.at.returns-then-not-branch-clause-ends g c).After-known_at-known lawful _ _ _
           so_far in
-          uncounted.line-comes c.requires.configured.bare call c.in-Some.ensures.within.1
+          uncounted.line-comes c.requires.configured.bare call c.in-Some-line_end.ensures.within.1
           (decided call.agrees)
           (stopped _) _ (reported gone input (uncounted.inside-counted call.here)) refl,
     )
@@ -117,7 +175,7 @@ returns-then-is_over-clause-ends g c = λ lawful ends.
     let chosen = c.is_chosen-chosen.ensures in
     let next = c.after_line.ensures
     ∙ ap (after_line c.args.self.now.config c.skip_unmatched-start.new.walk
-    (slice_range c.args.window.now c.skip_unmatched-start.result c.in-Some.end)) chosen in
+    (slice_range c.args.window.now c.skip_unmatched-start.result c.in-Some-line_end.end)) chosen in
     let over_is = c.is_over.ensures in
     let goes : c.in_ok-sink_line.field-0 ≡ true = search rules in
     let reported = rw goes at c.in_ok-sink_line.ensures.reported in
@@ -129,7 +187,7 @@ returns-then-is_over-clause-ends g c = λ lawful ends.
       λ gone input first so_far.
           let call = reached g (goal.at.returns-then-is_over-clause-ends g c).After-known_at-known
           lawful _ _ _ so_far in
-          (uncounted.line-comes c.requires.configured.bare call c.in-Some.ensures.within.1
+          (uncounted.line-comes c.requires.configured.bare call c.in-Some-line_end.ensures.within.1
           (decided call.agrees)
           all_true _ (reported gone input (uncounted.inside-counted call.here))).0 over,
     )
@@ -141,7 +199,7 @@ lines-preserved g c =
     let chosen = c.is_chosen-chosen.ensures in
     let next = c.after_line.ensures
     ∙ ap (after_line c.args.self.now.config c.skip_unmatched-start.new.walk
-    (slice_range c.args.window.now c.skip_unmatched-start.result c.in-Some.end)) chosen in
+    (slice_range c.args.window.now c.skip_unmatched-start.result c.in-Some-line_end.end)) chosen in
     let over_is = c.is_over.ensures in
     let goes : c.in_ok-sink_line.field-0 ≡ true = search rules in
     let reported = rw goes at c.in_ok-sink_line.ensures.reported in
@@ -149,16 +207,16 @@ lines-preserved g c =
     let on = ap (λ p. is_over c.args.self.now.config p (chooses c.in-Ok-judge.verdict)) (sym next)
     ∙ (ap (is_over c.args.self.now.config c.after_line.result) (sym chosen)
     ∙ rw over_is at c.if-is_over.false) in
-    let size = length-take (c.in-Some.end - c.skip_unmatched-start.result)
+    let size = length-take (c.in-Some-line_end.end - c.skip_unmatched-start.result)
     (drop c.skip_unmatched-start.result c.args.window.now) in
     rw next (record {
-      within = c.in-Some.ensures.within.1;
+      within = c.in-Some-line_end.ensures.within.1;
       same = omega (
         arith,
         size,
         length-drop c.skip_unmatched-start.result c.args.window.now,
-        c.in-Some.ensures.within.0,
-        c.in-Some.ensures.within.1,
+        c.in-Some-line_end.ensures.within.0,
+        c.in-Some-line_end.ensures.within.1,
         c.skip_unmatched-start.ensures.moved,
         c.lines.invariant.same,
       );
@@ -166,26 +224,26 @@ lines-preserved g c =
         arith,
         c.lines.invariant.ahead,
         c.skip_unmatched-start.ensures.low,
-        c.in-Some.ensures.within.0,
+        c.in-Some-line_end.ensures.within.0,
       );
       ordered = ordered-next c.args.self.now.config _ c.skip_unmatched-start.result
-          c.in-Some.end c.args.window.now
-          (chooses c.in-Ok-judge.verdict) c.in-Some.ensures.within.0 c.in-Some.ensures.within.1
+          c.in-Some-line_end.end c.args.window.now
+          (chooses c.in-Ok-judge.verdict) c.in-Some-line_end.ensures.within.0 c.in-Some-line_end.ensures.within.1
           c.skip_unmatched-start.ensures.ordered;
       bounded = c.in-Ok.ensures.bounded;
       known = λ lawful gone input first so_far.
           let now = c.lines.invariant.searched lawful gone input first so_far in
           skips.known-later _ _ _ _
-          _ _ (omega (arith, c.skip_unmatched-start.ensures.low, c.in-Some.ensures.within.0))
+          _ _ (omega (arith, c.skip_unmatched-start.ensures.low, c.in-Some-line_end.ensures.within.0))
           (learns lawful _ now.walked.inside.line.begins
           (c.lines.invariant.known lawful gone input first so_far));
       searched = λ lawful gone input first so_far.
           let call = reached g (goal.at.lines-preserved g c).After-known_at-known lawful _ _ _
           so_far in
-          (uncounted.line-comes c.requires.configured.bare call c.in-Some.ensures.within.1
+          (uncounted.line-comes c.requires.configured.bare call c.in-Some-line_end.ensures.within.1
           (decided call.agrees)
           all_true _ (reported gone input (uncounted.inside-counted call.here))).1 on;
-      called = called-then _ _ _ _ _ _ c.lines.invariant.called (here 0);
+      called = called-then _ _ _ _ _ _ (called g (goal.at.lines-preserved g c).After-known_at-known) (here 0);
       may_call = c.in_ok-sink_line.ensures.may_call;
     })
 
@@ -197,13 +255,13 @@ returns-in-Err-clause-in_order g c =
 pub returns-in-Err-judge-clause-in_order : goal.returns-in-Err-judge-clause-in_order
 returns-in-Err-judge-clause-in_order g c =
     of_question _ c.in-Err-judge.error c.in-Err-judge.ensures.fault
-    c.error_message-in-Err-judge.ensures c.lines.invariant.called
+    c.error_message-in-Err-judge.ensures (called g (goal.at.returns-in-Err-judge-clause-in_order g c).After-known_at-known)
 
 pub returns-in_err-sink_line-clause-in_order : goal.returns-in_err-sink_line-clause-in_order
 returns-in_err-sink_line-clause-in_order g c =
-    let p = err_from_is_err_and c.from_residual.result c.from_residual.ensures.1 in
+    let p = err_from_is_err_and c.from_residual-in_err-sink_line.result c.from_residual-in_err-sink_line.ensures.1 in
     rw (p.1, p.2) (of_call (called-then _ _ _ _ _
-    _ c.lines.invariant.called (c.in_err-sink_line.ensures.called 0)))
+    _ (called g (goal.at.returns-in_err-sink_line-clause-in_order g c).After-known_at-known) (c.in_err-sink_line.ensures.called 0)))
 
 pub returns-then-not-branch-clause-in_order : goal.returns-then-not-branch-clause-in_order
 returns-then-not-branch-clause-in_order g c =
@@ -211,9 +269,9 @@ returns-then-not-branch-clause-in_order g c =
     let here = rw stops at c.in_ok-sink_line.ensures.called in
     record {
       outcome = stopped (counted (c.skip_unmatched-start.new.walk.offset + length
-          (slice_range c.args.window.now c.skip_unmatched-start.result c.in-Some.end)));
+          (slice_range c.args.window.now c.skip_unmatched-start.result c.in-Some-line_end.end)));
       ends = refl;
-      called = called-then _ _ _ _ _ _ c.lines.invariant.called (here _);
+      called = called-then _ _ _ _ _ _ (called g (goal.at.returns-then-not-branch-clause-in_order g c).After-known_at-known) (here _);
     }
 
 pub returns-then-is_over-clause-in_order : goal.returns-then-is_over-clause-in_order
@@ -223,5 +281,69 @@ returns-then-is_over-clause-in_order g c =
     record {
       outcome = all_true;
       ends = tt;
-      called = called-then _ _ _ _ _ _ c.lines.invariant.called (here 0);
+      called = called-then _ _ _ _ _ _ (called g (goal.at.returns-then-is_over-clause-in_order g c).After-known_at-known) (here 0);
+    }
+
+pub returns-in_err-end-clause-fault : goal.returns-in_err-end-clause-fault
+returns-in_err-end-clause-fault g c =
+    let p = err_from_is_err_and c.from_residual.result c.from_residual.ensures.1 in
+    let failed-at = c.in_err-end.ensures.error in
+    rw (p.1, p.2) (λ lawful gone input first so_far. at_call (chosen g
+    (goal.at.returns-in_err-end-clause-fault g c).After-sink_chosen_lines lawful gone
+    input first so_far failed-at.0 failed-at.1 (failed _) _ failed-at.2))
+
+pub returns-in_err-end-clause-in_order : goal.returns-in_err-end-clause-in_order
+returns-in_err-end-clause-in_order g c =
+    let p = err_from_is_err_and c.from_residual.result c.from_residual.ensures.1 in
+    rw (p.1, p.2) (of_call (called-then _ _ _ _ _ _ c.lines.invariant.called
+    (called-matches _ _ _ _ _ _ _ _ _ c.in_err-end.ensures.error.2)))
+
+pub lines-preserved-in-Some : goal.lines-preserved-in-Some
+lines-preserved-in-Some g c =
+    let some : AreChosen c.args.self.now.config c.args.window.now c.skip_unmatched-start.result
+    c.in-Ok.ahead c.skip_unmatched-start.new.walk c.in-Some.end
+    × AreMade g.C.Calls.step c.args.self.now.config c.lines.sink
+    (chosen_calls c.args.self.now.config c.args.window.now c.skip_unmatched-start.result
+    c.in-Some.end c.skip_unmatched-start.new.walk) all_true c.sink_chosen_lines.new.sink =
+    search rules in
+    let bounded = c.in-Ok.ensures.bounded in
+    let size = length-take (c.in-Some.end - c.skip_unmatched-start.result)
+    (drop c.skip_unmatched-start.result c.args.window.now) in
+    record {
+      within = omega (arith, some.0.known, bounded.ordered, bounded.within);
+      same = omega (
+        arith,
+        size,
+        length-drop c.skip_unmatched-start.result c.args.window.now,
+        some.0.some,
+        some.0.known,
+        bounded.ordered,
+        bounded.within,
+        c.skip_unmatched-start.ensures.moved,
+        c.lines.invariant.same,
+        ap (λ (w : Walk). w.offset) c.after_chosen.ensures.walk,
+      );
+      ahead = omega (
+        arith,
+        c.lines.invariant.ahead,
+        c.skip_unmatched-start.ensures.low,
+        some.0.some,
+      );
+      ordered = c.after_chosen.ensures.ordered;
+      bounded = bounded;
+      known = λ lawful gone input first so_far.
+          let now = c.lines.invariant.searched lawful gone input first so_far in
+          skips.known-later _ _ _ _
+          _ _ (omega (arith, c.skip_unmatched-start.ensures.low, some.0.some))
+          (c.in-Ok.ensures.known lawful _ now.walked.inside.line.begins
+          (c.lines.invariant.known lawful gone input first so_far));
+      searched = λ lawful gone input first so_far. subst (λ w. HasSearched g.C.Calls.step
+          c.args.self.now.config (g.M.Matcher.facts c.args.matcher.now).meaning gone
+          c.args.window.now input first c.in-Some.end w c.sink_chosen_lines.new.sink)
+          (sym c.after_chosen.ensures.walk)
+          (chosen g (goal.at.lines-preserved-in-Some g c).After-sink_chosen_lines lawful gone input
+          first so_far c.in-Some.end some.0 all_true _ some.1);
+      called = called-then _ _ _ _ _ _ c.lines.invariant.called
+          (called-matches _ _ _ _ _ _ _ _ _ some.1);
+      may_call = c.in_ok-end.ensures.may_call;
     }

@@ -1,0 +1,22 @@
+use Rattle.std.proofs.Common.{◌≡◌, ◌∙◌, [], ap, false, rules}
+use Rattle.grep_searcher.specs.Plans.{Call}
+use Rattle.grep_searcher.specs.SinkArguments.{match_call}
+use Rattle.grep_printer.specs.Formats.{AreTexts, Scene}
+use Rattle.grep_printer.specs.StandardTexts.{call_text, is_hidden, progress_after}
+use Rattle.grep_printer.proofs.TakenLineLemmas.{match-texts}
+use Rattle.grep_printer.proofs.standard.StandardFormatFormat.push_lines.Goals as goal
+
+pub returns-clause-texts : goal.returns-clause-texts
+returns-clause-texts g c = λ taken there.
+    let scene : Scene =
+    record { path = c.args.path; settings = c.args.searcher.now.settings } in
+    let old = c.args.self.now in
+    let shown : is_hidden old.progress c.args.searcher.now.settings.binary_detection ≡ false =
+    search rules in
+    let text : c.push_report.new.text.text
+    ≡ call_text old.config old.progress scene (match_call c.args.lines.now) [] = search rules in
+    let after = c.push_report.ensures.progress
+    ∙ ap (λ (call : Call). progress_after old.progress call) c.of_match.ensures.call in
+    rw c.push_report.ensures.config
+    (match-texts old.config scene old.progress _ c.args.lines.now _ shown c.requires.split
+    c.requires.some c.requires.numbers text after)

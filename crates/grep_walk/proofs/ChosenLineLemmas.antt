@@ -1,0 +1,237 @@
+-- A walk over lines one after another that are chosen, against the calls that are defined for the
+-- input.
+use Rattle.std.proofs.Common.{◌≡◌, ℕ, zero, suc, ◌+◌, ◌-◌, ◌<◌, ◌≤◌, true, false, List, [], ◌∷◌}
+use Rattle.std.proofs.Common.{length, drop, refl, sym, ◌∙◌, ap, ap₂, subst, arith, inl, inr, None}
+use Rattle.std.proofs.Common.{length-take, length-drop, take, Ok, Err, ◌++◌}
+use Rattle.std.proofs.lemmas.Bool.Decides.{nat_tests}
+use Rattle.std.specs.Prelude.{slice_range, nat_lt, ◌&&◌}
+use Rattle.std.specs.Option.{option_map}
+use Rattle.grep_lines.specs.Positions.{IsLine, IsLineStart}
+use Rattle.grep_lines.proofs.LineRangeLemmas.{line-from, start-same, starts-until}
+use Rattle.grep_lines.proofs.LineRangeLemmas.{comes-from, line-first}
+use Rattle.grep_matcher.specs.Lines.{lines, line_start, byte_of}
+use Rattle.grep_matcher.specs.Meanings.{Meaning}
+use Rattle.grep_definitions.specs.Plans.{Settings, Steps, Outcome, Planned, all_true, AreMade}
+use Rattle.grep_definitions.specs.Plans.{stopped, failed, planned, matches, line_plan, counted}
+use Rattle.grep_definitions.specs.Plans.{joined_from}
+use Rattle.grep_definitions.specs.LineCalls.{breaks_near, broken_calls, listed_calls, matches_line}
+use Rattle.grep_definitions.specs.MatchedLines.{match_calls}
+use Rattle.grep_definitions.specs.SearchLaws.{number_of}
+use Rattle.grep_walk.specs.declared.look_ahead.Ahead.{Ahead}
+use Rattle.grep_walk.specs.declared.walk.Walk.{Walk}
+use Rattle.grep_walk.specs.ChosenLines.{AreChosen, after_chosen, chooses_unmatched, chosen_calls}
+use Rattle.grep_walk.specs.LookAheads.{IsKnown}
+use Rattle.grep_walk.specs.Origins.{AreMadeFrom, IsMadeToFrom, Origin}
+use Rattle.grep_walk.specs.Walks.{IsDecided, after_line, is_over, line_calls, line_end}
+use Rattle.grep_walk.specs.Windows.{HasSearched}
+use Rattle.grep_walk.proofs.UncountedLemmas as uncounted
+use Rattle.grep_walk.proofs.WalkLemmas.{Bare, Comes}
+
+-- what a walk has that chooses lines which don't match
+pub record IsChoosing (k : Settings) (w : Walk) : Type 0 where
+  pub inverted : k.invert_match ≡ true
+  pub unlimited : k.max_matches ≡ None
+  pub close : w.next_unreported ≡ w.line
+  pub after : w.after_context_left ≡ k.after_context
+
+pub is_choosing : (k : Settings) (w : Walk) → chooses_unmatched k w ≡ true → IsChoosing k w
+is_choosing k w is = grind (arith, nat_tests)
+
+-- the number of a line that comes so many lines after another
+numbered : (k : Settings) (i n : ℕ) → option_map (λ first. first + n) (number_of k i)
+    ≡ number_of k (i + n)
+numbered k i n = grind arith
+
+module _ {S E : Type 0} (step : Steps S E) (k : Settings) (meaning : Meaning)
+    (gone window input : List ℕ) (first : Origin S) (bare : Bare k meaning input) where
+  abbrev t : ℕ
+  t = byte_of k.line_terminator
+
+  abbrev Searched : ℕ → Walk → S → Type 0
+  Searched p w now = HasSearched step k meaning gone window input first p w now
+
+  -- the lines from one position up to another don't match
+  abbrev Misses : ℕ → ℕ → Type 0
+  Misses p q = (i a b : ℕ) → IsLine t window i a b → p ≤ a → a < q
+      → matches_line k meaning (slice_range window a b) ≡ false
+
+  -- what comes of such calls: the walk goes on, or the search has ended with one of them
+  abbrev pub LinesCome : (S → Type 0) → Outcome E → S → Type 0
+  LinesCome On all_true new = On new
+  LinesCome On (stopped finish) new =
+      IsMadeToFrom step k first (line_plan k meaning input) (stopped finish) finish new
+  LinesCome On (failed e) new =
+      AreMadeFrom step k first (line_plan k meaning input).calls (failed e) new
+
+  -- the call of a chosen line
+  abbrev match_of_line : Walk → List ℕ → Planned
+  match_of_line w here = planned (matches (number_of k w.line) w.offset here) (line_end w here)
+
+  -- that line is chosen
+  module _ (w : Walk) (p q i : ℕ) (now : S) (so_far : Searched p w now) (choosing : IsChoosing k w)
+      (line : IsLine t window i p q)
+      (missed : matches_line k meaning (slice_range window p q) ≡ false) where
+    abbrev here : List ℕ
+    here = slice_range window p q
+
+    there : (j : ℕ) → IsLineStart t window p j → IsLine t window j p q
+    there j start = subst (λ m. IsLine t window m p q)
+        (start-same (record { listed = omega arith; begins = line.begins }) start) line
+
+    value : IsDecided k meaning w here true false
+    value = record {
+      chosen_is = grind (arith, missed, choosing.inverted, choosing.unlimited);
+      trailing_is = λ some. grind (arith, missed, choosing.inverted, choosing.unlimited);
+    }
+
+    goes_on : is_over k (after_line k w here true) true ≡ false
+    goes_on = grind (arith, nat_tests, choosing.unlimited)
+
+    one-call : line_calls k input w here true false ≡ match_of_line w here ∷ []
+    one-call =
+        let none : w.line - w.next_unreported ≡ 0 = omega (arith, choosing.close) in
+        let unbroken : (nat_lt 0 k.after_context && breaks_near k w.next_unreported w.line w.line)
+        ≡ false = grind (arith, nat_tests, choosing.close) in
+        ap₂ (λ xs ys. xs ++ ys)
+        (ap (joined_from (listed_calls k input w.next_unreported w.line (line_end w here))
+        w.next_unreported) none)
+        (ap (λ due. broken_calls due (matches (number_of k w.line) w.offset here) (line_end w here))
+        unbroken)
+
+    one-comes : (outcome : Outcome E) (new : S)
+        → AreMade step k now (match_of_line w here ∷ []) outcome new
+        → Comes k meaning input step first (line_end w here) false
+        (Searched q (after_line k w here true)) outcome new
+    one-comes outcome new made = subst (λ over. Comes k meaning input step first (line_end w here)
+        over (Searched q (after_line k w here true)) outcome new) goes_on
+        (uncounted.line-comes {known = None} bare
+        (record { here = so_far; line = there; agrees = tt })
+        line.within value outcome new
+        (subst (λ calls. AreMade step k now calls outcome new) (sym one-call) made))
+
+  -- many lines are chosen
+  lines-come : (n : ℕ) (w : Walk) (p q i from index : ℕ) (now : S) → Searched p w now
+      → IsChoosing k w → w.line ≡ from + index → IsLineStart t window p i
+      → IsLineStart t window q (i + n) → q ≤ length window → Misses p q
+      → (outcome : Outcome E) (new : S) → AreMade step k now
+      (match_calls (number_of k from) index w.offset (lines t (slice_range window p q))) outcome new
+      → LinesCome (Searched q (after_chosen k w (slice_range window p q))) outcome new
+  lines-come zero w p q i from index now so_far choosing at begins ends within misses outcome new
+      made =
+      let plain : i ≡ i + zero = omega arith in
+      let same : p ≡ q = sym begins.begins ∙ (ap (line_start t window) plain ∙ ends.begins) in
+      let none : q - p ≡ 0 = omega arith in
+      let empty : slice_range window p q ≡ [] = ap (λ m. take m (drop p window)) none in
+      let ended : (outcome ≡ all_true) × (new ≡ now) = subst (λ ls. AreMade step k now
+      (match_calls (number_of k from) index w.offset (lines t ls)) outcome new) empty made in
+      let stays : w ≡ after_chosen k w (slice_range window p q) =
+      grind (arith, empty, choosing.close) in
+      subst (λ o. LinesCome (Searched q (after_chosen k w (slice_range window p q))) o new)
+      (sym ended.0) (subst (Searched q (after_chosen k w (slice_range window p q))) (sym ended.1)
+      (subst (λ v. Searched q v now) stays (subst (λ a. Searched a w now) same so_far)))
+  lines-come (suc n) w p q i from index now so_far choosing at begins ends within misses outcome new
+      made = go (λ mid so_far. lines-come n next end q (i + 1) from (suc index) mid so_far
+      (record {
+        inverted = choosing.inverted;
+        unlimited = choosing.unlimited;
+        close = refl;
+        after = refl;
+      }) (omega (arith, at)) (record { listed = omega arith; begins = refl })
+      (subst (IsLineStart t window q) (sym sum) ends) within
+      (λ j a b own after early. misses j a b own (omega (arith, line.above)) early)) outcome (subst (λ ls. AreMade step k now
+      (match_calls (number_of k from) index w.offset ls) outcome new) split made)
+    where
+      end : ℕ
+      end = line_start t window (i + 1)
+
+      line : IsLine t window i p end
+      line = line-from begins (record { listed = omega arith; begins = refl })
+
+      low : end ≤ q
+      low = starts-until ends (i + 1) (omega arith)
+
+      here : List ℕ
+      here = slice_range window p end
+
+      split : lines t (slice_range window p q) ≡ here ∷ lines t (slice_range window end q)
+      split = line-first t window i p end q line low within
+
+      named : option_map (λ first. first + index) (number_of k from) ≡ number_of k w.line
+      named = numbered k from index ∙ ap (number_of k) (sym at)
+
+      comes : (outcome : Outcome E) (new : S)
+          → AreMade step k now (match_of_line w here ∷ []) outcome new
+          → Comes k meaning input step first (line_end w here) false
+          (Searched end (after_line k w here true)) outcome new
+      comes = one-comes w p end i now so_far choosing line
+          (misses i p end line (omega arith) (omega (arith, line.above, low)))
+
+      next : Walk
+      next = after_line k w here true
+
+      both : after_chosen k next (slice_range window end q)
+          ≡ after_chosen k w (slice_range window p q)
+      both = grind (
+        arith,
+        ap length split,
+        length-take (q - p) (drop p window),
+        length-take (q - end) (drop end window),
+        length-take (end - p) (drop p window),
+        length-drop p window,
+        length-drop end window,
+        low,
+        line.above,
+        choosing.after,
+      )
+
+      sum : (i + 1) + n ≡ i + suc n
+      sum = omega arith
+
+      go : ((mid : S) → Searched end next mid → (outcome : Outcome E) (new : S)
+          → AreMade step k mid (match_calls (number_of k from) (suc index) next.offset
+          (lines t (slice_range window end q))) outcome new
+          → LinesCome (Searched q (after_chosen k next (slice_range window end q))) outcome new)
+          → (outcome : Outcome E) → AreMade step k now
+          (match_calls (number_of k from) index w.offset (here ∷ lines t (slice_range window end q)))
+          outcome new
+          → LinesCome (Searched q (after_chosen k w (slice_range window p q))) outcome new
+      go later outcome (inl (mid, goes, made)) = subst (λ v. LinesCome (Searched q v) outcome new) both
+          (later mid ((comes all_true mid (inl (
+            mid,
+            subst (λ number. step now k
+                (matches number w.offset here) (Ok true) mid) named goes,
+            (refl, refl),
+          ))).1 refl)
+          outcome new made)
+      go later outcome (inr (inl (is, stops))) =
+          subst (λ o. LinesCome (Searched q (after_chosen k w (slice_range window p q))) o new)
+          (sym is) (comes (stopped (counted (line_end w here))) new (inr (inl (
+            refl,
+            subst (λ number.
+                step now k (matches number w.offset here) (Ok false) new) named stops,
+          ))) refl)
+      go later outcome (inr (inr (e, is, fails))) =
+          subst (λ o. LinesCome (Searched q (after_chosen k w (slice_range window p q))) o new)
+          (sym is) (comes (failed e) new (inr (inr (
+            e,
+            refl,
+            subst (λ number.
+                step now k (matches number w.offset here) (Err e) new) named fails,
+          ))))
+
+  -- the lines up to another line's start are chosen, as they are known not to match
+  pub chosen-come : (w : Walk) (p q : ℕ) (a : Ahead) (now : S) → Searched p w now
+      → IsKnown k meaning window p a → AreChosen k window p a w q → q ≤ length window
+      → (outcome : Outcome E) (new : S)
+      → AreMade step k now (chosen_calls k window p q w) outcome new
+      → LinesCome (Searched q (after_chosen k w (slice_range window p q))) outcome new
+  chosen-come w p q a now so_far known chosen within outcome new made =
+      let begins = so_far.walked.inside.line.begins in
+      let i = so_far.line - length (lines t gone) in
+      let ends = chosen.line_start i known.index begins known.at in
+      let ordered = comes-from begins ends.0 (omega (arith, chosen.some, ends.1.begins)) in
+      let sum : i + (ends.0 - i) ≡ ends.0 = omega (arith, ordered) in
+      lines-come (ends.0 - i) w p q i w.line 0 now so_far (is_choosing k w chosen.chooses)
+      (omega arith) begins (subst (IsLineStart t window q) (sym sum) ends.1) within
+      (λ j x b own after early. known.miss j x b own after (omega (arith, early, chosen.known)))
+      outcome new made
