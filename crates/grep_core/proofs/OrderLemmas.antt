@@ -14,7 +14,7 @@ use Rattle.grep_decode.specs.Source.{ReadResult}
 use Rattle.grep_definitions.specs.Searches.{is_detecting, planned_binary, IsReadingError, IsInOrder}
 use Rattle.grep_definitions.specs.Searches.{ran_in_order, comes_between, HasFailedRead}
 use Rattle.grep_definitions.specs.CallOrder.{AreInner, HasCalled, HasCalledTo, binary_count}
-use Rattle.grep_definitions.specs.MatchedLines.{match_calls}
+use Rattle.grep_definitions.specs.MatchedLines.{calls_of_lines}
 use Rattle.grep_report.specs.ErrorMakers.{ErrorMakers}
 use Rattle.grep_matcher.specs.Meanings.{MatcherFacts}
 use Rattle.grep_definitions.specs.Plans.{Settings, Call, begins, matches, context, breaks}
@@ -46,7 +46,7 @@ clear-filled d old new given found is clear none = found ∙ rw (clear none, is,
 
 -- calls of matches may come between `begin` and `finish`
 matches-inner : (k : Settings) (number : Option ℕ) (index offset : ℕ) (ls : List (List ℕ))
-    → AreInner k (match_calls number index offset ls)
+    → AreInner k (calls_of_lines number index offset ls)
 matches-inner k number index offset [] = All-nil (order.IsInner k)
 matches-inner k number index offset (line ∷ later) =
     All-cons (order.IsInner k) (planned (matches (option_map (λ first. first + index) number) offset line)
@@ -54,21 +54,21 @@ matches-inner k number index offset (line ∷ later) =
     (matches-inner k number (suc index) (offset + length line) later)
 
 matches-few : (number : Option ℕ) (index offset : ℕ) (ls : List (List ℕ))
-    → binary_count (match_calls number index offset ls) ≡ 0
+    → binary_count (calls_of_lines number index offset ls) ≡ 0
 matches-few number index offset [] = refl
 matches-few number index offset (line ∷ later) = omega (
   arith,
   order.binary-cons (planned (matches (option_map (λ first. first + index) number) offset line)
-      (offset + length line)) (match_calls number (suc index) (offset + length line) later),
+      (offset + length line)) (calls_of_lines number (suc index) (offset + length line) later),
   matches-few number (suc index) (offset + length line) later,
 )
 
 pub called-matches : {S E : Type 0} (step : Steps S E) (k : Settings) (number : Option ℕ)
     (index offset : ℕ) (ls : List (List ℕ)) (old : S) (outcome : Outcome E) (new : S)
-    → AreMade step k old (match_calls number index offset ls) outcome new
+    → AreMade step k old (calls_of_lines number index offset ls) outcome new
     → HasCalled step k 0 old outcome new
 called-matches step k number index offset ls old outcome new made = record {
-  calls = match_calls number index offset ls;
+  calls = calls_of_lines number index offset ls;
   inner = matches-inner k number index offset ls;
   few = omega (arith, matches-few number index offset ls);
   reported = made;

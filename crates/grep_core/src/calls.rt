@@ -5,7 +5,7 @@ ghost use Rattle.grep_matcher.specs.Lines.{byte_of};
 ghost use Rattle.grep_core.specs.Configured.{IsConfigured};
 ghost use Rattle.grep_definitions.specs.Plans.{Settings, Call, begins, breaks, binary_data};
 ghost use Rattle.grep_definitions.specs.Plans.{finish_result, NeverFails};
-ghost use Rattle.grep_definitions.specs.MatchedLines.{AreTaken, line_match_calls};
+ghost use Rattle.grep_definitions.specs.MatchedLines.{AreTaken, calls_of_match};
 ghost use Rattle.grep_report.specs.SinkReports.{match_bytes};
 ghost use Rattle.grep_definitions.specs.SinkArguments.{match_call, context_call, finish_call};
 
@@ -71,7 +71,7 @@ pub trait Calls<T> {
         requires numbers { IfSome lines.now.line_number
             (λ number. number + length (match_bytes lines.now) ≤ 2 ^ 64) }
         requires fits { lines.now.offset + length (match_bytes lines.now) < 2 ^ 64 }
-        ensures taken { AreTaken step search.now.config sink.old (line_match_calls lines.now) result
+        ensures taken { AreTaken step search.now.config sink.old (calls_of_match lines.now) result
             sink.new }
         ensures succeeds { NeverFails step may_call → IsOk result }
         ensures may_call { may_call sink.new }

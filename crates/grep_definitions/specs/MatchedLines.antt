@@ -9,16 +9,16 @@ use Rattle.grep_definitions.specs.Plans.{matches, planned}
 
 -- the calls that report lines of which the first comes so many lines after one with this number,
 -- and begins at this offset
-abbrev pub match_calls : Option ℕ → ℕ → ℕ → List (List ℕ) → List Planned
-match_calls number index offset [] = []
-match_calls number index offset (line ∷ later) =
+abbrev pub calls_of_lines : Option ℕ → ℕ → ℕ → List (List ℕ) → List Planned
+calls_of_lines number index offset [] = []
+calls_of_lines number index offset (line ∷ later) =
     planned (matches (option_map (λ first. first + index) number) offset line)
     (offset + length line)
-    ∷ match_calls number (suc index) (offset + length line) later
+    ∷ calls_of_lines number (suc index) (offset + length line) later
 
 -- those that report the lines of a match
-abbrev pub line_match_calls : MatchReport → List Planned
-line_match_calls m = match_calls m.line_number 0 m.offset (lines m.terminator (match_bytes m))
+abbrev pub calls_of_match : MatchReport → List Planned
+calls_of_match m = calls_of_lines m.line_number 0 m.offset (lines m.terminator (match_bytes m))
 
 -- what came of calls that a sink takes at once or doesn't, by what it returned: all returned true,
 -- or none was made, or one failed after others that returned true

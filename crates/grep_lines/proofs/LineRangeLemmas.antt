@@ -1,17 +1,30 @@
 -- Lines by their indices: where a line is, and how many lines there are between two positions.
-use Rattle.std.proofs.Common.{◌≡◌, ℕ, ◌+◌, ◌-◌, ◌<◌, ◌≤◌, List, ◌∷◌, ◌++◌, length, drop, get_or}
+use Rattle.std.proofs.Common.{◌≡◌, ℕ, ◌+◌, ◌-◌, ◌<◌, ◌≤◌, List, [], ◌∷◌, ◌++◌, length, drop, get_or}
 use Rattle.std.proofs.Common.{refl}
 use Rattle.std.proofs.Common.{sym, ◌∙◌, ap, arith, subst, ⊎_elim, length-take, length-drop}
 use Rattle.std.proofs.Common.{length-append}
 use Rattle.std.proofs.lemmas.Bool.{cases_lt}
 use Rattle.std.proofs.lemmas.List.{take-append-drop, get_or-drop, get_or-take, drop-drop, take_all}
-use Rattle.grep_matcher.proofs.LineLemmas.{lines-append, IsClosed}
+use Rattle.grep_matcher.proofs.LineLemmas.{lines-append, lines-joined, IsClosed}
 use Rattle.grep_lines.proofs.LineStepLemmas.{IsAt-start, IsStep-line, all_passed, slice-first}
 use Rattle.grep_lines.specs.FirstLine.{IsFirstLine}
+use Rattle.std.specs.List.{concat}
 use Rattle.std.specs.Prelude.{slice_range}
 use Rattle.grep_lines.specs.Positions.{IsLine, IsLineStart}
 use Rattle.grep_matcher.specs.Lines.{lines, line_start}
 use Rattle.grep_matcher.proofs.LineStartLemmas.{line_start-ascends, line_start-last, line_start-le}
+
+-- some bytes have a line
+pub some-lines : (t : ℕ) (bytes : List ℕ) → 0 < length bytes
+    → (line : List ℕ) × (later : List (List ℕ)) × (lines t bytes ≡ line ∷ later)
+some-lines t bytes some = go (lines t bytes) refl
+  where
+    go : (ls : List (List ℕ)) → lines t bytes ≡ ls
+        → (line : List ℕ) × (later : List (List ℕ)) × (lines t bytes ≡ line ∷ later)
+    go [] is =
+        let none = ap length (sym (lines-joined t bytes) ∙ ap concat is) in
+        absurd (omega (arith, none))
+    go (line ∷ later) is = (line, later, is)
 
 -- how many lines there are between the starts of two
 pub lines-between : (t : ℕ) (window : List ℕ) (p q i j : ℕ) → IsLineStart t window p i

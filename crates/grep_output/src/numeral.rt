@@ -32,7 +32,9 @@ impl Model for Numeral {
 
 impl Numeral {
     /// No number was put yet.
-    pub fn new() -> Numeral {
+    pub fn new() -> Numeral
+        ensures { result ≡ 0 }
+    {
         Numeral {
             hundreds: 0,
             len: 1,

@@ -10,11 +10,11 @@ use Rattle.grep_output.proofs.OutputLemmas.{Writes-none}
 use Rattle.grep_output.specs.Outputs.{OutputCall, WritesAll}
 use Rattle.grep_output.specs.PendingTexts.{PutsAll, pending_bytes}
 use Rattle.grep_matcher.specs.Meanings.{MatcherFacts}
-use Rattle.grep_searcher.specs.MatchedLines.{line_match_calls, match_calls}
+use Rattle.grep_searcher.specs.MatchedLines.{calls_of_match, calls_of_lines}
 use Rattle.grep_searcher.specs.Plans.{AreMade, Call, Planned, Settings, Steps, all_true, failed}
 use Rattle.grep_searcher.specs.Plans.{matches, planned}
 use Rattle.grep_report.specs.SinkReports.{MatchReport, match_bytes}
-use Rattle.grep_printer.proofs.TakenLineLemmas.{some-lines}
+use Rattle.grep_lines.proofs.LineRangeLemmas.{some-lines}
 use Rattle.grep_printer.specs.CallParts.{Anything}
 use Rattle.grep_printer.specs.Formats.{AreTexts, Rules, is_text, without_parts}
 use Rattle.grep_printer.specs.PrinterSteps.{HasFound, IsSameSink, Prints, PrintsCall, scene_of}
@@ -83,10 +83,10 @@ module _ {F M W E : Type 0} (rules : Rules F) (output : E → Option (List ℕ))
   pub lines-kept : (old new : PrinterSink F M W) (number : Option ℕ) (index offset : ℕ)
       (line : List ℕ) (later : List (List ℕ)) (text : List ℕ) (format : F)
       → AreTexts rules (scene_of old settings) old.format
-      (match_calls number index offset (line ∷ later)) text format
+      (calls_of_lines number index offset (line ∷ later)) text format
       → HasKept old text format new
       → AreMade (PrintsCall rules output facts first_at write_step) settings old
-      (match_calls number index offset (line ∷ later)) all_true new
+      (calls_of_lines number index offset (line ∷ later)) all_true new
   lines-kept old new number index offset line [] text format texts kept = inl (
     new,
     one-kept old new number index offset line texts.2 (record {
@@ -160,24 +160,24 @@ module _ {F M W E : Type 0} (rules : Rules F) (output : E → Option (List ℕ))
   -- of the lines of a match
   pub match-kept : (old new : PrinterSink F M W) (m : MatchReport) (text : List ℕ) (format : F)
       → 0 < length (match_bytes m)
-      → AreTexts rules (scene_of old settings) old.format (line_match_calls m) text format
+      → AreTexts rules (scene_of old settings) old.format (calls_of_match m) text format
       → HasKept old text format new
       → AreMade (PrintsCall rules output facts first_at write_step) settings old
-      (line_match_calls m) all_true new
+      (calls_of_match m) all_true new
   match-kept old new m text format some texts kept =
       let found = some-lines m.terminator (match_bytes m) some in
       subst (λ ls. AreMade (PrintsCall rules output facts first_at write_step) settings old
-      (match_calls m.line_number 0 m.offset ls) all_true new) (sym found.2)
+      (calls_of_lines m.line_number 0 m.offset ls) all_true new) (sym found.2)
       (lines-kept old new m.line_number 0 m.offset found.0 found.1 text format
       (subst (λ ls. AreTexts rules (scene_of old settings) old.format
-      (match_calls m.line_number 0 m.offset ls) text format) found.2 texts) kept)
+      (calls_of_lines m.line_number 0 m.offset ls) text format) found.2 texts) kept)
 
 -- the lines of a match fail if the call of any line does
 pub match-failed : {S E : Type 0} (step : Steps S E) (settings : Settings) (old new : S) (e : E)
     (m : MatchReport) → 0 < length (match_bytes m)
     → ((call : Call) → step old settings call (Err e) new)
-    → AreMade step settings old (line_match_calls m) (failed e) new
+    → AreMade step settings old (calls_of_match m) (failed e) new
 match-failed step settings old new e m some fails =
     let found = some-lines m.terminator (match_bytes m) some in
-    subst (λ ls. AreMade step settings old (match_calls m.line_number 0 m.offset ls) (failed e) new)
+    subst (λ ls. AreMade step settings old (calls_of_lines m.line_number 0 m.offset ls) (failed e) new)
     (sym found.2) (inr (inr (e, refl, fails _)))

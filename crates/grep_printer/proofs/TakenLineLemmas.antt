@@ -9,13 +9,12 @@ use Rattle.std.specs.Option.{option_map}
 use Rattle.std.specs.Prelude.{All, IfSome, if◌then◌else◌}
 use Rattle.grep_matcher.proofs.LineLemmas.{lines-end, lines-inner}
 use Rattle.grep_matcher.specs.Lines.{lines, onto_first}
-use Rattle.grep_matcher.proofs.LineLemmas.{lines-joined}
+use Rattle.grep_lines.proofs.LineRangeLemmas.{some-lines}
 use Rattle.grep_lines.proofs.LineStepLemmas.{lines-at-most}
 use Rattle.grep_report.specs.SinkReports.{MatchReport, match_bytes}
-use Rattle.grep_searcher.specs.MatchedLines.{line_match_calls}
+use Rattle.grep_searcher.specs.MatchedLines.{calls_of_match}
 use Rattle.grep_searcher.specs.SinkArguments.{match_call}
-use Rattle.std.specs.List.{concat}
-use Rattle.grep_searcher.specs.MatchedLines.{match_calls}
+use Rattle.grep_searcher.specs.MatchedLines.{calls_of_lines}
 use Rattle.grep_printer.specs.ColoredTexts.{is_matched, matched_color, painted}
 use Rattle.grep_printer.specs.Formats.{AreTexts, Scene}
 use Rattle.grep_printer.specs.LineTexts.{counted_parts, end_byte, fields, is_long, line_text}
@@ -64,17 +63,6 @@ lines-alone t (b ∷ bytes) = ⊎_elim
     (alone-first t b (lines t bytes) (lines-inner t b [] other)
     (λ line. lines-inner t b line other) (lines-alone t bytes)))
     (cases_eq b t)
-
--- some bytes have a line
-pub some-lines : (t : ℕ) (bytes : List ℕ) → 0 < length bytes
-    → (line : List ℕ) × (later : List (List ℕ)) × (lines t bytes ≡ line ∷ later)
-some-lines t bytes some = go (lines t bytes) refl
-  where
-    go : (ls : List (List ℕ)) → lines t bytes ≡ ls
-        → (line : List ℕ) × (later : List (List ℕ)) × (lines t bytes ≡ line ∷ later)
-    go [] is =
-        let none = ap length (sym (lines-joined t bytes) ∙ ap concat is) in absurd (omega (arith, none))
-    go (line ∷ later) is = (line, later, is)
 
 -- ---- lines of a standard printer
 
@@ -184,7 +172,7 @@ module _ (config : Config) (scene : Scene) where
       → All (IsAlone t) (line ∷ later)
       → IfSome number (λ first. first + index + length (line ∷ later) ≤ 2 ^ 64)
       → AreTexts standard_rules scene (format_with progress)
-      (match_calls number index offset (line ∷ later))
+      (calls_of_lines number index offset (line ∷ later))
       (text_before layout progress
       ++ lines_text layout Match (record (place_of layout (number_at number index) offset) {
         start = start;
@@ -203,7 +191,7 @@ module _ (config : Config) (scene : Scene) where
     first-text progress shown (number_at number index) offset start line (next ∷ later) alone,
     ap not shown,
     subst (λ n. AreTexts standard_rules scene (format_with (opened progress))
-        (match_calls number (suc index) (offset + length line) (next ∷ later))
+        (calls_of_lines number (suc index) (offset + length line) (next ∷ later))
         (lines_text layout Match (record (place_of layout n (offset + length line)) {
           start = start + length line;
         }) [] (next ∷ later))
@@ -219,7 +207,7 @@ module _ (config : Config) (scene : Scene) where
       → IfSome m.line_number (λ first. first + length (match_bytes m) ≤ 2 ^ 64)
       → text ≡ call_text config progress scene (match_call m) []
       → new ≡ progress_after progress (match_call m)
-      → AreTexts standard_rules scene (format_with progress) (line_match_calls m) text
+      → AreTexts standard_rules scene (format_with progress) (calls_of_match m) text
       (format_with new)
   match-texts progress new m text shown split some fits is after =
       let found = some-lines t (match_bytes m) some in
@@ -235,11 +223,11 @@ module _ (config : Config) (scene : Scene) where
       (found.0 ∷ found.1) =
       is ∙ rw (shown, writes-none layout, found.2, number-zero m.line_number) refl in
       subst (λ ls. AreTexts standard_rules scene (format_with progress)
-      (match_calls m.line_number 0 m.offset ls) text (format_with new)) (sym same)
+      (calls_of_lines m.line_number 0 m.offset ls) text (format_with new)) (sym same)
       (subst (λ p. AreTexts standard_rules scene (format_with progress)
-      (match_calls m.line_number 0 m.offset (found.0 ∷ found.1)) text (format_with p)) (sym after)
+      (calls_of_lines m.line_number 0 m.offset (found.0 ∷ found.1)) text (format_with p)) (sym after)
       (subst (λ bytes. AreTexts standard_rules scene (format_with progress)
-      (match_calls m.line_number 0 m.offset (found.0 ∷ found.1)) bytes
+      (calls_of_lines m.line_number 0 m.offset (found.0 ∷ found.1)) bytes
       (format_with (opened progress))) (sym whole) texts))
 
 -- ---- lines that are counted
@@ -248,7 +236,7 @@ pub lines-counted : (scene : Scene) (config : SummaryConfig) (number : Option �
     (index offset : ℕ) (line : List ℕ) (later : List (List ℕ)) (counts : Counts)
     → counts_on config.kind ≡ true
     → AreTexts summary_rules scene (record { config = config; counts = counts })
-    (match_calls number index offset (line ∷ later)) []
+    (calls_of_lines number index offset (line ∷ later)) []
     (record { config = config; counts = with_matches counts (length (line ∷ later)) 0 })
 lines-counted scene config number index offset line [] counts on = ([], refl, on, (refl, refl))
 lines-counted scene config number index offset line (next ∷ later) counts on = (
@@ -257,7 +245,7 @@ lines-counted scene config number index offset line (next ∷ later) counts on =
   on,
   subst (λ after. AreTexts summary_rules scene
       (record { config = config; counts = with_matches counts 1 0 })
-      (match_calls number (suc index) (offset + length line) (next ∷ later)) []
+      (calls_of_lines number (suc index) (offset + length line) (next ∷ later)) []
       (record { config = config; counts = after })) (grind arith)
       (lines-counted scene config number (suc index) (offset + length line) next later
       (with_matches counts 1 0) on),
@@ -268,7 +256,7 @@ pub match-counted : (scene : Scene) (config : SummaryConfig) (m : MatchReport) (
     → text ≡ [] → new ≡ with_matches counts count 0
     → count ≡ length (lines m.terminator (match_bytes m))
     → AreTexts summary_rules scene (record { config = config; counts = counts })
-    (line_match_calls m) text (record { config = config; counts = new })
+    (calls_of_match m) text (record { config = config; counts = new })
 match-counted scene config m counts new count text some on none is many =
     let found = some-lines m.terminator (match_bytes m) some in
     rw (none, is, many, found.2)

@@ -4,7 +4,7 @@ ghost use Rattle.std.specs.Prelude.{IfSome};
 ghost use Rattle.grep_searcher.specs.Plans.{finishes, reported_bytes};
 ghost use Rattle.grep_report.specs.SinkReports.{match_bytes};
 ghost use Rattle.grep_searcher.specs.Lines.{byte_of};
-ghost use Rattle.grep_searcher.specs.MatchedLines.{line_match_calls};
+ghost use Rattle.grep_searcher.specs.MatchedLines.{calls_of_match};
 ghost use Rattle.grep_printer.specs.Formats.{AreTexts, PrintedCall, Rules, Scene};
 ghost use Rattle.grep_printer.specs.MatchedParts.{AreInOrder};
 ghost use Rattle.grep_output.specs.PendingTexts.{Adds, pending_bytes};
@@ -103,7 +103,7 @@ pub trait Format: Copy {
         ensures before { result ≡ true → text.new.before ≡ pending_bytes text.old }
         ensures texts { result ≡ true → text.new.has_failed ≡ false → AreTexts rules
             (record { path = path.entry; settings = searcher.now.settings }) self.old
-            (line_match_calls lines.now) text.new.text self.new }
+            (calls_of_match lines.now) text.new.text self.new }
         ensures same { result ≡ false → (self.new ≡ self.old) × (text.new ≡ text.old) }
     {
         false

@@ -265,7 +265,8 @@ pub fn bytes_closures_keep_calls<F: FnMut(u64, &[u8]) -> Result<bool, io::Error>
 /// up to the first at which it returned false. If each call that returns goes on and appends a part
 /// for the match to what is kept, through one reference, the run appends the parts of all these
 /// matches; or the number, the offset and the bytes of each. The part may depend on what no call
-/// changes of what the closure has captured. An error of a call is the closure's. Pass the sink, since a closure's type has no name. `X` is what is appended.
+/// changes of what the closure has captured. An error of a call is the closure's. Pass the sink,
+/// since a closure's type has no name. `X` is what is appended.
 pub fn matches_are_lent<F: FnMut(&SinkMatch<'_>) -> Result<bool, io::Error>, X>(_: &Matches<F>)
     ensures lent { ClosuresAreLent F.step (λ (s : Matches F). s.0) }
     ensures appended { ClosuresAppendMatches F.step X (λ (s : Matches F). s.0) }

@@ -4,7 +4,7 @@ ghost use Rattle.std.specs.Prelude.{IfSome, IsOk};
 ghost use Rattle.grep_matcher.specs.Lines.{byte_of};
 ghost use Rattle.grep_definitions.specs.Plans.{Settings, Call, begins, breaks, binary_data};
 ghost use Rattle.grep_definitions.specs.Plans.{finish_result, NeverFails};
-ghost use Rattle.grep_definitions.specs.MatchedLines.{AreTaken, line_match_calls};
+ghost use Rattle.grep_definitions.specs.MatchedLines.{AreTaken, calls_of_match};
 ghost use Rattle.grep_report.specs.SinkReports.{match_bytes};
 ghost use Rattle.grep_definitions.specs.SinkArguments.{match_call, context_call, finish_call};
 
@@ -78,7 +78,7 @@ pub trait Sink {
         requires numbers { IfSome lines.now.line_number
             (λ number. number + length (match_bytes lines.now) ≤ 2 ^ 64) }
         requires fits { lines.now.offset + length (match_bytes lines.now) < 2 ^ 64 }
-        ensures taken { AreTaken step searcher.now.settings self.old (line_match_calls lines.now)
+        ensures taken { AreTaken step searcher.now.settings self.old (calls_of_match lines.now)
             result self.new }
         ensures succeeds { NeverFails step may_call → IsOk result }
         ensures may_call { may_call self.new }

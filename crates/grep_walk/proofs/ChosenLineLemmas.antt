@@ -15,7 +15,7 @@ use Rattle.grep_definitions.specs.Plans.{Settings, Steps, Outcome, Planned, all_
 use Rattle.grep_definitions.specs.Plans.{stopped, failed, planned, matches, line_plan, counted}
 use Rattle.grep_definitions.specs.Plans.{joined_from}
 use Rattle.grep_definitions.specs.LineCalls.{breaks_near, broken_calls, listed_calls, matches_line}
-use Rattle.grep_definitions.specs.MatchedLines.{match_calls}
+use Rattle.grep_definitions.specs.MatchedLines.{calls_of_lines}
 use Rattle.grep_definitions.specs.SearchLaws.{number_of}
 use Rattle.grep_walk.specs.declared.look_ahead.Ahead.{Ahead}
 use Rattle.grep_walk.specs.declared.walk.Walk.{Walk}
@@ -114,7 +114,7 @@ module _ {S E : Type 0} (step : Steps S E) (k : Settings) (meaning : Meaning)
       → IsChoosing k w → w.line ≡ from + index → IsLineStart t window p i
       → IsLineStart t window q (i + n) → q ≤ length window → Misses p q
       → (outcome : Outcome E) (new : S) → AreMade step k now
-      (match_calls (number_of k from) index w.offset (lines t (slice_range window p q))) outcome new
+      (calls_of_lines (number_of k from) index w.offset (lines t (slice_range window p q))) outcome new
       → LinesCome (Searched q (after_chosen k w (slice_range window p q))) outcome new
   lines-come zero w p q i from index now so_far choosing at begins ends within misses outcome new
       made =
@@ -123,7 +123,7 @@ module _ {S E : Type 0} (step : Steps S E) (k : Settings) (meaning : Meaning)
       let none : q - p ≡ 0 = omega arith in
       let empty : slice_range window p q ≡ [] = ap (λ m. take m (drop p window)) none in
       let ended : (outcome ≡ all_true) × (new ≡ now) = subst (λ ls. AreMade step k now
-      (match_calls (number_of k from) index w.offset (lines t ls)) outcome new) empty made in
+      (calls_of_lines (number_of k from) index w.offset (lines t ls)) outcome new) empty made in
       let stays : w ≡ after_chosen k w (slice_range window p q) =
       grind (arith, empty, choosing.close) in
       subst (λ o. LinesCome (Searched q (after_chosen k w (slice_range window p q))) o new)
@@ -139,7 +139,7 @@ module _ {S E : Type 0} (step : Steps S E) (k : Settings) (meaning : Meaning)
       }) (omega (arith, at)) (record { listed = omega arith; begins = refl })
       (subst (IsLineStart t window q) (sym sum) ends) within
       (λ j a b own after early. misses j a b own (omega (arith, line.above)) early)) outcome (subst (λ ls. AreMade step k now
-      (match_calls (number_of k from) index w.offset ls) outcome new) split made)
+      (calls_of_lines (number_of k from) index w.offset ls) outcome new) split made)
     where
       end : ℕ
       end = line_start t window (i + 1)
@@ -188,11 +188,11 @@ module _ {S E : Type 0} (step : Steps S E) (k : Settings) (meaning : Meaning)
       sum = omega arith
 
       go : ((mid : S) → Searched end next mid → (outcome : Outcome E) (new : S)
-          → AreMade step k mid (match_calls (number_of k from) (suc index) next.offset
+          → AreMade step k mid (calls_of_lines (number_of k from) (suc index) next.offset
           (lines t (slice_range window end q))) outcome new
           → LinesCome (Searched q (after_chosen k next (slice_range window end q))) outcome new)
           → (outcome : Outcome E) → AreMade step k now
-          (match_calls (number_of k from) index w.offset (here ∷ lines t (slice_range window end q)))
+          (calls_of_lines (number_of k from) index w.offset (here ∷ lines t (slice_range window end q)))
           outcome new
           → LinesCome (Searched q (after_chosen k w (slice_range window p q))) outcome new
       go later outcome (inl (mid, goes, made)) = subst (λ v. LinesCome (Searched q v) outcome new) both

@@ -2,7 +2,7 @@
 -- that of its match. No contract of grep_searcher cites these definitions.
 use Rattle.std.specs.Prelude.{◌≡◌, ◌+◌, ◌<◌, ◌≤◌, ◌&&◌, ◌==◌, Bool, true, List, ℕ, is_none, length}
 use Rattle.std.specs.Prelude.{slice_range}
-use Rattle.grep_definitions.specs.MatchedLines.{match_calls}
+use Rattle.grep_definitions.specs.MatchedLines.{calls_of_lines}
 use Rattle.grep_definitions.specs.Plans.{Planned, Settings}
 use Rattle.grep_definitions.specs.SearchLaws.{number_of}
 use Rattle.grep_lines.specs.Positions.{IsLineStart}
@@ -41,5 +41,5 @@ after_chosen settings w passed = record w {
 -- the calls that report them
 abbrev pub chosen_calls : Settings → List ℕ → ℕ → ℕ → Walk → List Planned
 chosen_calls settings window start end w =
-    match_calls (number_of settings w.line) 0 w.offset
+    calls_of_lines (number_of settings w.line) 0 w.offset
     (lines (byte_of settings.line_terminator) (slice_range window start end))

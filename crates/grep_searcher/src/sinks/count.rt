@@ -3,6 +3,7 @@ ghost use Rattle.std.specs.Prelude.{◌≡◌};
 
 use crate::searcher::Searcher;
 use crate::sink::Sink;
+use grep_lines::line_count;
 use grep_report::{SinkContext, SinkFinish, SinkMatch};
 use std::alloc::Allocator;
 use std::marker::{Model, PhantomData};
@@ -65,6 +66,19 @@ impl<E> Sink for Count<E> {
         _: &SinkMatch<'_>,
     ) -> Result<bool, E> {
         self.matches = self.matches.saturating_add(1);
+        Ok(true)
+    }
+
+    fn matched_lines<A: Allocator + Copy>(
+        &mut self,
+        searcher: &Searcher<A>,
+        lines: &SinkMatch<'_>,
+    ) -> Result<bool, E> {
+        if lines.bytes().is_empty() {
+            return Ok(false);
+        }
+        let count = line_count(lines.bytes(), searcher.line_terminator().as_byte());
+        self.matches = self.matches.saturating_add(count);
         Ok(true)
     }
 

@@ -1,5 +1,5 @@
 use Rattle.std.specs.Box.{with_value}
-use Rattle.grep_definitions.specs.MatchedLines.{line_match_calls}
+use Rattle.grep_definitions.specs.MatchedLines.{calls_of_match}
 use Rattle.grep_searcher.proofs.WrappedSinkLemmas.{taken-passed, never-passed}
 use Rattle.grep_searcher.proofs.sink.boxes.BoxSink.matched_lines.Goals as goal
 
@@ -8,7 +8,7 @@ returns-clause-taken g c = taken-passed g.S.Sink.step
     (λ s settings call result t. g.S.Sink.step s.value settings call result t.value)
     (with_value c.args.self.now)
     (λ old settings call result new made. made) c.args.searcher.now.settings
-    (line_match_calls c.args.lines.now) _ _ _
+    (calls_of_match c.args.lines.now) _ _ _
     (rw c.deref_mut.ensures.value at c.matched_lines.ensures.taken)
 
 pub returns-clause-succeeds : goal.returns-clause-succeeds
