@@ -9,11 +9,11 @@ use Rattle.grep_searcher.specs.Meanings.{Meaning}
 use Rattle.grep_searcher.specs.Plans.{is_across, reported_bytes, Call, Settings}
 use Rattle.grep_printer.proofs.ReportLemmas.{reported_bytes-report}
 use Rattle.grep_printer.proofs.SuccessiveLemmas.{parts-below}
-use Rattle.grep_printer.specs.CallParts.{HasParts, Surroundings, asked_bytes, asked_start, has_match}
+use Rattle.grep_printer.specs.CallParts.{HasParts, Surroundings, asked_bytes, asked_start}
 use Rattle.grep_printer.specs.CallParts.{parts_of_call, shown_bytes, shown_start}
 use Rattle.grep_printer.specs.JsonLaws.{IsWordRange}
 use Rattle.grep_printer.specs.MatchedParts.{first_from, parts_in}
-use Rattle.grep_printer.specs.Reports.{IsAround, IsShownAs, call_of, event_call, event_has_match, kind_has_match, reporting_call}
+use Rattle.grep_printer.specs.Reports.{IsAround, IsShownAs, call_of, event_call, reporting_call}
 use Rattle.grep_printer.specs.Reports.{surroundings_of}
 use Rattle.grep_printer.specs.SearchMessages.{PartsHaveWords}
 use Rattle.grep_printer.specs.declared.format.Event.{Event}
@@ -22,22 +22,6 @@ use Rattle.grep_printer.specs.declared.format.Event.TheVariants.{Report as repor
 use Rattle.grep_printer.specs.declared.report.Report.{Report}
 use Rattle.grep_printer.specs.declared.report.ReportKind.{ReportKind}
 use Rattle.grep_printer.specs.declared.report.ReportKind.TheVariants.{Match, Context}
-
--- whether the lines of a report match
-pub has_match-report : (settings : Settings) (kind : ReportKind) (number : Option ℕ) (offset : ℕ) (bytes : List ℕ)
-    → has_match settings (reporting_call kind number offset bytes) ≡ kind_has_match kind settings.invert_match
-has_match-report settings Match number offset bytes = refl
-has_match-report settings (Context kind) number offset bytes = refl
-
--- whether a call reports lines that match
-pub has_match-event : (settings : Settings) (event : Event)
-    → has_match settings (event_call event) ≡ event_has_match event settings.invert_match
-has_match-event settings (report_event report) =
-    has_match-report settings report.kind report.number report.offset report.bytes.now
-has_match-event settings Begin = refl
-has_match-event settings Break = refl
-has_match-event settings (BinaryData offset) = refl
-has_match-event settings (Finish count binary) = refl
 
 -- what is around the report of a call
 some-around : (event : Event) → (around : Surroundings) × IsAround event around

@@ -1,14 +1,13 @@
 -- A sink of a printer that keeps the texts of lines at once, against its calls one after another.
-use Rattle.std.proofs.Common.{◌≡◌, ◌∙◌, ℕ, suc, ◌+◌, Bool, true, false, not, ◌&&◌, ◌||◌}
+use Rattle.std.proofs.Common.{◌≡◌, ◌∙◌, ℕ, suc, ◌+◌, true, ◌||◌}
 use Rattle.std.proofs.Common.{List, [], ◌∷◌, ◌++◌, length, Option, Err, ap, arith, inl, inr, ◌<◌}
 use Rattle.std.proofs.Common.{refl, sym, subst, append_assoc, length-append}
 use Rattle.std.proofs.Math.Bool.{or_assoc}
 use Rattle.std.proofs.lemmas.List.{append-nil}
-use Rattle.std.specs.Global.{Global}
 use Rattle.std.specs.Option.{option_map}
 use Rattle.grep_output.proofs.OutputLemmas.{Writes-none}
 use Rattle.grep_output.specs.Outputs.{OutputCall, WritesAll}
-use Rattle.grep_output.specs.PendingTexts.{PutsAll, pending_bytes}
+use Rattle.grep_output.specs.PendingTexts.{pending_bytes}
 use Rattle.grep_matcher.specs.Meanings.{MatcherFacts}
 use Rattle.grep_searcher.specs.MatchedLines.{calls_of_match, calls_of_lines}
 use Rattle.grep_searcher.specs.Plans.{AreMade, Call, Planned, Settings, Steps, all_true, failed}

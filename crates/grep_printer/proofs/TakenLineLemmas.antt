@@ -1,10 +1,9 @@
 -- Lines that are printed at once, against the texts of their calls one after another.
-use Rattle.std.proofs.Common.{◌≡◌, ◌∙◌, ℕ, suc, ◌+◌, ◌-◌, ◌^◌, ◌≤◌, ◌<◌, min, Bool, true, false, not}
-use Rattle.std.proofs.Common.{List, [], ◌∷◌, ◌++◌, length, Option, None, Some, ap, ap₂, arith, cond}
+use Rattle.std.proofs.Common.{◌≡◌, ◌∙◌, ℕ, suc, ◌+◌, ◌^◌, ◌≤◌, ◌<◌, true, false, not}
+use Rattle.std.proofs.Common.{List, [], ◌∷◌, ◌++◌, length, Option, None, Some, ap, ap₂, arith}
 use Rattle.std.proofs.Common.{refl, sym, subst, ⊎_elim, append_assoc}
 use Rattle.std.proofs.lemmas.Bool.{cases_eq}
 use Rattle.std.proofs.lemmas.List.Elements.{All-nil, All-cons, All-head, All-tail}
-use Rattle.std.specs.List.{count_by}
 use Rattle.std.specs.Option.{option_map}
 use Rattle.std.specs.Prelude.{All, IfSome, if◌then◌else◌}
 use Rattle.grep_matcher.proofs.LineLemmas.{lines-end, lines-inner}
@@ -27,16 +26,13 @@ use Rattle.grep_printer.proofs.ColorLemmas.{painted-none}
 use Rattle.grep_printer.specs.declared.config.Config.{Config}
 use Rattle.grep_printer.specs.declared.standard.Progress.{Progress}
 use Rattle.std.proofs.lemmas.List.{append-nil}
-use Rattle.grep_printer.specs.StatsSums.{capped_sum}
 use Rattle.grep_printer.specs.SummaryTexts.{counts_on, summary_rules, with_matches}
 use Rattle.grep_printer.specs.declared.summary.Counts.{Counts}
 use Rattle.grep_printer.specs.declared.summary_builder.SummaryConfig.{SummaryConfig}
 use Rattle.grep_printer.specs.declared.fields.Layout.{Layout}
-use Rattle.grep_printer.specs.declared.fields.LineKind.{LineKind}
 use Rattle.grep_printer.specs.declared.fields.LineKind.TheVariants.{Match}
 use Rattle.grep_printer.specs.declared.fields.Place.{Place}
 use Rattle.grep_printer.specs.declared.standard.StandardFormat.{StandardFormat}
-use Rattle.grep_printer.specs.declared.summary.SummaryFormat.{SummaryFormat}
 
 -- ---- a line by itself
 

@@ -3,7 +3,7 @@ use Rattle.std.proofs.Common.{◌≡◌, ℕ, ◌+◌, ◌-◌, ◌≤◌, List,
 use Rattle.std.proofs.Common.{◌∙◌, append_assoc, subst, take, drop, refl}
 use Rattle.std.proofs.lemmas.List.{drop-take, take-take}
 use Rattle.std.proofs.lemmas.List.Sums.{sum_by-take-drop}
-use Rattle.std.specs.Prelude.{◌<◌, ◌==◌, cond, count_by, false, if◌then◌else◌, slice_range}
+use Rattle.std.specs.Prelude.{◌<◌, ◌==◌, cond, count_by, false, slice_range}
 use Rattle.grep_lines.specs.Blocks.{lines_before}
 use Rattle.grep_output.specs.PendingTexts.{Adds, PendingText}
 use Rattle.grep_printer.proofs.FoundPartLemmas.{ordered-from}

@@ -1,9 +1,8 @@
-use Rattle.std.proofs.Common.{◌≡◌, ◌<◌, inl, inr, length, refl, rules, Err}
+use Rattle.std.proofs.Common.{◌<◌, inl, inr, length, refl, rules}
 use Rattle.grep_report.specs.SinkReports.{match_bytes}
-use Rattle.grep_searcher.specs.Plans.{Call, begins}
+use Rattle.grep_searcher.specs.Plans.{begins}
 use Rattle.grep_printer.specs.PrinterSteps.{PrintsCall}
 use Rattle.grep_printer.proofs.TakenCallLemmas.{match-failed, match-kept}
-use Rattle.grep_printer.proofs.printer.PrinterSinkSink.matched_lines.Given.{Over}
 use Rattle.grep_printer.proofs.printer.PrinterSinkSink.matched_lines.Goals as goal
 
 pub returns-then-has_failed-clause-taken : goal.returns-then-has_failed-clause-taken

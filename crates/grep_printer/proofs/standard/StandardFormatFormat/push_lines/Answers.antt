@@ -1,7 +1,7 @@
 use Rattle.std.proofs.Common.{◌≡◌, ◌∙◌, [], ap, false, rules}
 use Rattle.grep_searcher.specs.Plans.{Call}
 use Rattle.grep_searcher.specs.SinkArguments.{match_call}
-use Rattle.grep_printer.specs.Formats.{AreTexts, Scene}
+use Rattle.grep_printer.specs.Formats.{Scene}
 use Rattle.grep_printer.specs.StandardTexts.{call_text, is_hidden, progress_after}
 use Rattle.grep_printer.proofs.TakenLineLemmas.{match-texts}
 use Rattle.grep_printer.proofs.standard.StandardFormatFormat.push_lines.Goals as goal
