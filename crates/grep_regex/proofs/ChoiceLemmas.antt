@@ -4,12 +4,12 @@ use Rattle.std.proofs.Common.{take}
 use Rattle.std.proofs.Common.{Option, None, Some, slice_get, refl, sym, ap, ap₂, ◌∙◌, ⊎_elim, arith, All, inl, inr, ◌⊎◌}
 use Rattle.std.proofs.lemmas.Bool.{cases_Bool, cases_lt, false≢true}
 use Rattle.std.proofs.lemmas.List.{take_more, map-append}
-use Rattle.std.proofs.lemmas.Option.{none-some, same_Some}
+use Rattle.std.proofs.lemmas.Option.{none-some}
 use Rattle.std.specs.Global.{Global}
 use Rattle.std.specs.Prelude.{Vec}
 use Rattle.regex_class.specs.Ranges.{in_ranges}
 use Rattle.regex_hir.specs.Meaning.{alt_all}
-use Rattle.regex_hir.specs.Re.{Re}
+use Rattle.regex_hir.specs.Re.{Re, alt}
 use Rattle.grep_matcher.specs.ByteSets.{holds}
 use Rattle.grep_matcher.specs.declared.byte_set.ByteSet.{ByteSet}
 use Rattle.grep_regex.specs.Choices.{items_of}
@@ -129,12 +129,6 @@ next-choice choices i sets d inside is =
     ap items_of (take_more choices i d inside ∙ ap (λ x. take i choices ++ x ∷ []) is)
     ∙ map-append (λ (s : Vec ByteSet Global). s.items) (take i choices) (sets ∷ [])
 
--- the sets of the first
-pub first-items : (choices : List (Vec ByteSet Global)) (sets : Vec ByteSet Global)
-    → slice_get choices 0 ≡ Some sets → slice_get (items_of choices) 0 ≡ Some sets.items
-first-items [] sets is = absurd (none-some sets is)
-first-items (first ∷ choices) sets is = ap (λ (s : Vec ByteSet Global). Some s.items) (same_Some first sets is)
-
 -- alternatives that are decided
 pub none-decide : DecideAny (alt_all []) []
 unfolding in_ranges
@@ -175,4 +169,17 @@ more-decide parts a choices sets p q = record {
   no = λ hay i j decided m.
       let none = either-false _ _ (sym (any-last choices sets hay i) ∙ decided) in
       ⊎_elim (λ front. p.no hay i j none.0 front) (λ last. q.no hay i j none.1 last) (last-alt parts a hay i j m);
+}
+
+-- an alternative before others
+pub first-decides : (a b : Re) (sets : List (List Bool)) (choices : List (List (List Bool))) → Decides a sets
+    → DecideAny b choices → DecideAny (alt a b) (sets ∷ choices)
+first-decides a b sets choices p q = record {
+  yes = λ hay i decided. ⊎_elim
+      (λ first. let m = p.yes hay i first in (m.0, inl m.1))
+      (λ second. let m = q.yes hay i second in (m.0, inr m.1))
+      (either-true _ _ decided);
+  no = λ hay i j decided m.
+      let none = either-false _ _ decided in
+      ⊎_elim (λ ma. p.no hay i j none.0 ma) (λ mb. q.no hay i j none.1 mb) m;
 }

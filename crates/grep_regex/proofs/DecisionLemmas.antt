@@ -21,6 +21,18 @@ decision-other set after b low has = grind (arith, low, has)
 pub decision-high : (set : List Bool) (after : Option Bool) (b : ℕ) → 128 ≤ b → decision_by set after (Some b) ≡ None
 decision-high set after b high = grind (arith, high)
 
+-- of a byte that follows, the decision is that of the bytes after it
+pub decision-later : (set : List Bool) (after : Option Bool) (next : Option ℕ) → decision_by set after next ≡ Some true
+    → after ≡ Some true
+decision-later set after None has = absurd (grind (arith, has))
+decision-later set after (Some b) has = ⊎_elim
+    (λ (low : b < 128). ⊎_elim
+    (λ member. sym (decision-member set after b low member) ∙ has)
+    (λ other. absurd (grind (arith, sym (decision-other set after b low other) ∙ has)))
+    (cases_Bool (holds set b)))
+    (λ high. absurd (grind (arith, sym (decision-high set after b high) ∙ has)))
+    (cases_lt b 128)
+
 -- the bytes from a position up to another are ASCII
 abbrev pub AreLow : List ℕ → ℕ → ℕ → Type 0
 AreLow hay from to = (q : ℕ) → from ≤ q → q < to → get_or hay q 0 < 128
@@ -30,7 +42,7 @@ pub decision-cons : (set : List Bool) (sets : List (List Bool)) (hay : List ℕ)
     → decision (set ∷ sets) hay i ≡ decision_by set (decision sets hay (i + 1)) (Some (get_or hay i 0))
 decision-cons set sets hay i inside = ap (decision_by set (decision sets hay (i + 1))) (slice_get-get_or hay i 0 inside)
 
-decision-past : (set : List Bool) (sets : List (List Bool)) (hay : List ℕ) (i : ℕ) → length hay ≤ i
+pub decision-past : (set : List Bool) (sets : List (List Bool)) (hay : List ℕ) (i : ℕ) → length hay ≤ i
     → decision (set ∷ sets) hay i ≡ Some false
 decision-past set sets hay i past = ap (decision_by set (decision sets hay (i + 1))) (slice_get_past hay i past)
 

@@ -25,3 +25,4 @@ pub mod StartLemmas
 pub mod PrefixLemmas
 pub mod UnionLemmas
 pub mod ChoiceLemmas
+pub mod SizeLemmas

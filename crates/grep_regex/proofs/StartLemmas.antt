@@ -1,6 +1,6 @@
 -- Where the first match starts, by what sets of bytes decide.
 use Rattle.std.proofs.Common.{◌≡◌, ℕ, ◌+◌, ◌<◌, ◌≤◌, Bool, true, false, List, length, get_or, Option, Some, None, refl}
-use Rattle.std.proofs.Common.{sym, ap, ◌∙◌, option_map, arith, slice_get}
+use Rattle.std.proofs.Common.{sym, ap, ◌∙◌, option_map, arith}
 use Rattle.std.proofs.Math.Logic.{∥∥₁_elim}
 use Rattle.std.proofs.lemmas.Option.{same_Some}
 use Rattle.std.specs.Coded.{coded_ℕ, coded_option, coded×}
@@ -11,12 +11,11 @@ use Rattle.regex_hir.proofs.AttemptLemmas.{attempt_sound, attempt_complete}
 use Rattle.regex_hir.proofs.FindLemmas.{first_between_here, first_between_none, first_between_skip}
 use Rattle.regex_hir.proofs.OptionLemmas.{none_of_no_value, value_of_IsSome}
 use Rattle.regex_vm.specs.Found.{span}
-use Rattle.grep_regex.specs.Classes.{any_decision, decision, DecideAny, IsPrefix, IsRunOf}
+use Rattle.grep_regex.specs.Classes.{any_decision, first_size, DecideAny, HasSizes, IsPrefix}
 use Rattle.grep_regex.specs.Patterns.{leftmost_match_at}
 use Rattle.grep_regex.specs.Decisions.{IsPassed}
 use Rattle.grep_regex.specs.Views.{program_re, regex_text_at}
 use Rattle.grep_regex.specs.declared.regex.Regex.{Regex}
-use Rattle.grep_regex.proofs.ChoiceLemmas.{one-choice}
 use Rattle.grep_regex.proofs.EngineLemmas.{finds-at}
 
 module _ (re : Re) (choices : List (List (List Bool))) (decides : DecideAny re choices) (hay : List ℕ) where
@@ -51,24 +50,21 @@ module _ (re : Re) (choices : List (List (List Bool))) (decides : DecideAny re c
       ap (λ (o : Option Match). option_map (λ (m : ℕ × ℕ). m.0) (option_map span o))
       (first_between_here (attempt hay re accept) at (length hay) found.0 fits found.1)
 
-  -- a run matches a byte of each set
-  whole : (only : IsRunOf re choices) (at : ℕ) → at ≤ length hay → any_decision choices hay at ≡ Some true
-      → leftmost_match_at re hay at ≡ Some (at, at + length only.sets)
+  -- a match has the size of the first sequence that follows
+  whole : HasSizes re choices → (at size : ℕ) → at ≤ length hay → any_decision choices hay at ≡ Some true
+      → first_size choices hay at ≡ Some size → leftmost_match_at re hay at ≡ Some (at, at + size)
   unfolding find
-  whole only at fits has =
-      let one : decision only.sets hay at ≡ Some true =
-      one-choice (decision only.sets hay at) ∙ (ap (λ c. any_decision c hay at) (sym only.is) ∙ has) in
+  whole sizes at size fits has first =
+      let matches = decides.yes hay at has in
       let found = value_of_IsSome (attempt hay re accept at)
-      (attempt_complete hay re accept at (at + length only.sets) (only.run.yes hay at one) refl) in
-      let goes = attempt_sound hay re accept at found.0 found.1 in
-      let last : goes.at ≡ goes.rest.end = ap (λ (t : Trace). t.end) (same_Some _ _ goes.gave) in
-      let end : found.0.end ≡ at + length only.sets =
-      goes.same_end ∙ (sym last ∙ only.run.only hay at goes.at one goes.leads) in
+      (attempt_complete hay re accept at matches.0 matches.1 refl) in
+      let end : found.0.end ≡ at + size =
+      same_Some _ _ (ap (option_map (λ (t : Trace). t.end)) (sym found.1) ∙ sizes.end hay at size first) in
       ap (option_map span) (first_between_here (attempt hay re accept) at (length hay) found.0 fits found.1)
       ∙ ap (λ e. Some (at, e)) end
 
-module _ (r : Regex) (choices : List (List (List Bool))) (is_run : Bool)
-    (prefix : ∥ IsPrefix (program_re r) choices is_run ∥₁)
+module _ (r : Regex) (choices : List (List (List Bool))) (has_sizes : Bool)
+    (prefix : ∥ IsPrefix (program_re r) choices has_sizes ∥₁)
     (hay : List ℕ) (bytes : (k : ℕ) → get_or hay k 0 < 256) where
   pub skipped-same : (start at : ℕ) → start ≤ at → at ≤ length hay → IsPassed (any_decision choices hay) start at
       → regex_text_at r hay at ≡ regex_text_at r hay start
@@ -91,13 +87,10 @@ module _ (r : Regex) (choices : List (List (List Bool))) (is_run : Bool)
       ∙ sym (finds-at r hay at bytes fits))
       ∙ here (program_re r) choices p.decides hay at fits has)
 
-  pub run-decided : is_run ≡ true → (sets : List (List Bool)) → slice_get choices 0 ≡ Some sets → (start at : ℕ)
-      → start ≤ at → at ≤ length hay → IsPassed (any_decision choices hay) start at
-      → any_decision choices hay at ≡ Some true → regex_text_at r hay start ≡ Some (at, at + length sets)
-  run-decided is sets one start at ordered fits passed has =
+  pub size-decided : has_sizes ≡ true → (start at size : ℕ) → start ≤ at → at ≤ length hay
+      → IsPassed (any_decision choices hay) start at → any_decision choices hay at ≡ Some true
+      → first_size choices hay at ≡ Some size → regex_text_at r hay start ≡ Some (at, at + size)
+  size-decided is start at size ordered fits passed has first =
       ∥∥₁_elim prefix (Coded-set (coded_option (coded× coded_ℕ coded_ℕ)) _ _) (λ p.
-      let only = p.run is in
-      let same : only.sets ≡ sets = same_Some _ _ (ap (λ c. slice_get c 0) (sym only.is) ∙ one) in
       sym (skipped-same start at ordered fits passed) ∙ (sym (finds-at r hay at bytes fits)
-      ∙ (whole (program_re r) choices p.decides hay only at fits has
-      ∙ ap (λ (s : List (List Bool)). Some (at, at + length s)) same)))
+      ∙ whole (program_re r) choices p.decides hay (p.sizes is) at size fits has first))

@@ -1,10 +1,11 @@
 -- Patterns whose matches the first bytes decide: a byte of each of some sets, one after another.
 use Rattle.std.specs.Prelude.{◌≡◌, ℕ, ◌+◌, ◌<◌, Bool, true, false, if◌then◌else◌, nat_lt, List}
 use Rattle.std.specs.Prelude.{[], ◌∷◌}
-use Rattle.std.specs.Prelude.{length, Option, None, Some, slice_get, zero, suc, ◌++◌}
+use Rattle.std.specs.Prelude.{length, option_map, Option, None, Some, slice_get, zero, suc, ◌++◌}
 use Rattle.regex_class.specs.Ranges.{in_ranges}
 use Rattle.regex_hir.specs.Matches.{Matches}
-use Rattle.regex_hir.specs.Re.{Re}
+use Rattle.regex_hir.specs.Meaning.{alt_all}
+use Rattle.regex_hir.specs.Re.{Re, accept, attempt}
 use Rattle.grep_matcher.specs.ByteSets.{holds}
 
 -- what a set decides of a byte, by what is decided of the bytes after it: nothing if it isn't ASCII
@@ -59,16 +60,39 @@ pub record DecideAny (re : Re) (choices : List (List (List Bool))) : Type 0 wher
   pub yes : (hay : List ℕ) (i : ℕ) → any_decision choices hay i ≡ Some true → (j : ℕ) × Matches hay re i j
   pub no : (hay : List ℕ) (i j : ℕ) → any_decision choices hay i ≡ Some false → Matches hay re i j → ⊥
 
--- the pattern is a run of the only sequence
-pub record IsRunOf (re : Re) (choices : List (List (List Bool))) : Type 0 where
-  pub sets : List (List Bool)
-  pub is : choices ≡ sets ∷ []
-  pub run : IsRun re sets
+-- the size of a sequence that follows, or what comes later if it doesn't
+abbrev pub size_by : ℕ → Option ℕ → Option Bool → Option ℕ
+size_by size later (Some true) = Some size
+size_by size later (Some false) = later
+size_by size later None = None
 
--- the sequences decide, and if the flag says so the pattern is a run of the only one
-pub record IsPrefix (re : Re) (choices : List (List (List Bool))) (is_run : Bool) : Type 0 where
+-- the size of the first sequence that follows, if it is decided that those before it don't
+abbrev pub first_size : List (List (List Bool)) → List ℕ → ℕ → Option ℕ
+first_size [] hay i = None
+first_size (sets ∷ more) hay i = size_by (length sets) (first_size more hay i) (decision sets hay i)
+
+-- a match has the size of the first sequence that follows
+pub record HasSizes (re : Re) (choices : List (List (List Bool))) : Type 0 where
+  pub end : (hay : List ℕ) (i size : ℕ) → first_size choices hay i ≡ Some size
+      → option_map (λ t. t.end) (attempt hay re accept i) ≡ Some (i + size)
+
+-- the sequences decide, and if the flag says so matches have their sizes
+pub record IsPrefix (re : Re) (choices : List (List (List Bool))) (has_sizes : Bool) : Type 0 where
   pub decides : DecideAny re choices
-  pub run : is_run ≡ true → IsRunOf re choices
+  pub sizes : has_sizes ≡ true → HasSizes re choices
+
+-- each pattern is a run of its sequence
+abbrev pub AreRuns : List Re → List (List (List Bool)) → Type 0
+AreRuns [] [] = Unit {0}
+AreRuns [] (sets ∷ more) = ⊥
+AreRuns (re ∷ res) [] = ⊥
+AreRuns (re ∷ res) (sets ∷ more) = IsRun re sets × AreRuns res more
+
+-- the pattern has alternatives, each of which is a run of its sequence
+pub record HasRuns (re : Re) (choices : List (List (List Bool))) : Type 0 where
+  pub res : List Re
+  pub is : re ≡ alt_all res
+  pub runs : AreRuns res choices
 
 -- the sets, as often as a number says
 abbrev pub repeated : ℕ → List (List Bool) → List (List Bool)

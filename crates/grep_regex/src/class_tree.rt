@@ -3,7 +3,7 @@ ghost use Rattle.std.specs.Prelude.{◌≡◌, [], ◌∷◌, ◌++◌, map, IfO
 ghost use Rattle.regex_hir.specs.Meaning.{meaning, alt_all, cat_all};
 ghost use Rattle.grep_regex.specs.Choices.{items_of};
 ghost use Rattle.grep_regex.specs.Classes.{AreBytes, IsAsciiOf, IsClassSet, IsRepeated};
-ghost use Rattle.grep_regex.specs.Classes.{Decides, DecideAny, IsPrefix, IsRun};
+ghost use Rattle.grep_regex.specs.Classes.{Decides, DecideAny, HasRuns, IsPrefix, IsRun};
 
 use crate::prefix::Prefix;
 use crate::unions::unite;
@@ -18,14 +18,17 @@ const LONGEST: usize = 64;
 // How many alternatives there are at most, each of which is looked at.
 const MOST_CHOICES: usize = 8;
 
-// The sequences of sets that decide where a pattern matches, if there are such, and whether it is a
-// run of the only one.
+// The sequences of sets that decide where a pattern matches, if there are such, and whether they say
+// where a match ends, too.
 pub(crate) fn prefix_of(alloc: Global, hir: &Hir) -> Result<Option<Prefix>, AllocError>
     ensures { IfOk result (λ found. IfSome found
-        (λ p. IsPrefix (meaning hir.now) (items_of p.choices.items) p.is_run)) }
+        (λ p. IsPrefix (meaning hir.now) (items_of p.choices.items) p.has_sizes)) }
 {
     if let Some(sets) = run_sets(alloc, hir)? {
         let choices = only(alloc, sets)?;
+        return Ok(Some(Prefix::new(alloc, choices, true)?));
+    }
+    if let Some(choices) = run_choices(alloc, hir)? {
         return Ok(Some(Prefix::new(alloc, choices, true)?));
     }
     match choices_of(alloc, hir)? {
@@ -41,6 +44,32 @@ fn only(alloc: Global, sets: Vec<ByteSet>) -> Result<Vec<Vec<ByteSet>>, AllocErr
     let mut choices = Vec::new(alloc);
     choices.push(sets)?;
     Ok(choices)
+}
+
+// For each alternative the sets that it is a run of, if all are runs.
+fn run_choices(alloc: Global, hir: &Hir) -> Result<Option<Vec<Vec<ByteSet>>>, AllocError>
+    ensures { IfOk result (λ found. IfSome found
+        (λ choices. HasRuns (meaning hir.now) (items_of choices.items))) }
+{
+    match hir {
+        Hir::Alternation(subs) if subs.len() <= MOST_CHOICES => runs_of(alloc, subs),
+        _ => Ok(None),
+    }
+}
+
+// For each alternative the sets that it is a run of, if all are runs.
+fn runs_of(alloc: Global, subs: &[Hir]) -> Result<Option<Vec<Vec<ByteSet>>>, AllocError>
+    ensures { IfOk result (λ found. IfSome found
+        (λ choices. HasRuns (alt_all (map meaning subs.now)) (items_of choices.items))) }
+{
+    let mut choices = Vec::new(alloc);
+    for i in 0..subs.len() {
+        let Some(sets) = run_sets(alloc, &subs[i])? else {
+            return Ok(None);
+        };
+        choices.push(sets)?;
+    }
+    Ok(Some(choices))
 }
 
 // The sequences of sets that decide where a pattern matches, if there are such.

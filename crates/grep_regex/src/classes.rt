@@ -1,7 +1,7 @@
 //! A search for bytes of some sets, one after another.
-ghost use Rattle.std.specs.Prelude.{◌≡◌, ◌≤◌, length, All, false};
+ghost use Rattle.std.specs.Prelude.{◌≡◌, ◌≤◌, ◌+◌, length, All, false, Some, IfSome};
 ghost use Rattle.grep_matcher.specs.ByteSets.{holds};
-ghost use Rattle.grep_regex.specs.Classes.{any_decision, decision};
+ghost use Rattle.grep_regex.specs.Classes.{any_decision, decision, first_size};
 ghost use Rattle.grep_regex.specs.Decisions.{IsStart, IsVerdict};
 ghost use Rattle.grep_regex.specs.Choices.{items_of};
 
@@ -56,6 +56,24 @@ pub(crate) fn find_start(prefix: &Prefix, haystack: &[u8], start: usize) -> Star
             return Start::From(from);
         }
     }
+}
+
+// The size of the first sequence that follows, if it is decided that those before it don't.
+pub(crate) fn first_size(choices: &[Vec<ByteSet>], haystack: &[u8], at: usize) -> Option<usize>
+    requires { at ≤ length haystack.now }
+    ensures size { IfSome result
+        (λ size. first_size (items_of choices.now) haystack.now at ≡ Some size) }
+    ensures fits { IfSome result (λ size. at + size ≤ length haystack.now) }
+{
+    for i in 0..choices.len() {
+        let sets = &choices[i];
+        match decide(sets, haystack, at) {
+            Verdict::Matches => return Some(sets.len()),
+            Verdict::Passes(_) => {}
+            Verdict::Unknown => return None,
+        }
+    }
+    None
 }
 
 // What is decided of a position by sequences of sets, one of which has to follow.

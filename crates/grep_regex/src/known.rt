@@ -6,7 +6,7 @@ ghost use Rattle.grep_regex.specs.Known.{IsKnown};
 ghost use Rattle.grep_regex.specs.Views.{program_re};
 
 use crate::asked::Asked;
-use crate::classes::{Start, find_start};
+use crate::classes::{Start, find_start, first_size};
 use crate::prefix::Prefix;
 use crate::regex::Regex;
 
@@ -30,13 +30,13 @@ pub(crate) fn known_by(
 ) -> Known
     requires start { start ≤ length haystack.now }
     requires is_prefix { ∥ IsPrefix (program_re regex.now) (items_of prefix.now.choices.items)
-        prefix.now.is_run ∥₁ }
+        prefix.now.has_sizes ∥₁ }
     ensures { IsKnown regex.now asked haystack.now start result }
 {
     match find_start(prefix, haystack, start) {
         Start::Match(at) => match asked {
-            Asked::FirstMatch => match prefix.choices.first() {
-                Some(sets) if prefix.is_run => Known::Answer(Some((at, at + sets.len()))),
+            Asked::FirstMatch => match first_size(&prefix.choices, haystack, at) {
+                Some(size) if prefix.has_sizes => Known::Answer(Some((at, at + size))),
                 _ => Known::From(at),
             },
             Asked::AnyMatch => Known::Answer(Some((at, at))),

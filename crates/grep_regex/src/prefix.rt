@@ -24,8 +24,8 @@ use std::simd::prelude::*;
 #[derive(Drop)]
 pub(crate) struct Prefix {
     pub(crate) choices: Vec<Vec<ByteSet>>,
-    // Whether there is one sequence, and a match is a byte of each of its sets and nothing else.
-    pub(crate) is_run: bool,
+    // Whether a match is a byte of each set of a sequence, and nothing else.
+    pub(crate) has_sizes: bool,
     cover: Vec<ByteSet>,
     first: Table,
     second: Table,
@@ -40,10 +40,10 @@ impl Prefix {
     pub(crate) fn new(
         alloc: Global,
         choices: Vec<Vec<ByteSet>>,
-        is_run: bool,
+        has_sizes: bool,
     ) -> Result<Prefix, AllocError>
         ensures choices { IfOk result (λ p. p.choices ≡ choices) }
-        ensures is_run { IfOk result (λ p. p.is_run ≡ is_run) }
+        ensures has_sizes { IfOk result (λ p. p.has_sizes ≡ has_sizes) }
     {
         let cover = cover_of(alloc, &choices)?;
         let first = Table::new(&cover, 0);
@@ -51,7 +51,7 @@ impl Prefix {
         let third = Table::new(&cover, 2);
         Ok(Prefix {
             choices,
-            is_run,
+            has_sizes,
             cover,
             first,
             second,
@@ -59,10 +59,11 @@ impl Prefix {
         })
     }
 
-    // Whether it is of use for what is asked. Where a match ends isn't known of several sequences.
+    // Whether it is of use for what is asked: if several sequences don't say where a match ends, an
+    // engine finds where it starts, too.
     #[inline]
     pub(crate) fn answers(&self, asked: Asked) -> bool {
-        self.choices.len() == 1 || !matches!(asked, Asked::FirstMatch)
+        self.has_sizes || self.choices.len() == 1 || !matches!(asked, Asked::FirstMatch)
     }
 
     // A position up to which it is decided that there is no match.

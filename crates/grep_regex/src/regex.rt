@@ -206,7 +206,7 @@ impl Regex {
     // The sets of bytes that decide where it matches, if there are such.
     pub(crate) fn prefix(&self, alloc: Global) -> Result<Option<Prefix>, AllocError>
         ensures { IfOk result (λ found. IfSome found
-            (λ p. IsPrefix (program_re self.now) (items_of p.choices.items) p.is_run)) }
+            (λ p. IsPrefix (program_re self.now) (items_of p.choices.items) p.has_sizes)) }
     {
         prefix_of(alloc, &self.shared.program.hir)
     }

@@ -26,7 +26,7 @@ pub(crate) struct Shortcut<'r> {
         (IsSpelled (meaning (arc_value regex.now.shared).program.hir)) ∥₁ },
     ghost is_prefix: { ∥ IfSome prefix
         (λ p. IsPrefix (meaning (arc_value regex.now.shared).program.hir) (items_of p.choices.items)
-        p.is_run) ∥₁ },
+        p.has_sizes) ∥₁ },
 }
 
 // Written out, so that a caller's proof sees one call.

@@ -1,12 +1,10 @@
-use Rattle.std.proofs.Common.{◌≡◌, ℕ, Some, ◌∙◌, ◌+◌, ap, arith, length, slice_get, subst, sym}
+use Rattle.std.proofs.Common.{arith, subst, sym}
 use Rattle.grep_matcher.specs.FindResults.{IsFrom}
 use Rattle.grep_regex.specs.Choices.{items_of}
 use Rattle.grep_regex.specs.PatternFirstMatches.{text-within}
 use Rattle.grep_regex.specs.Views.{regex_options, regex_patterns, regex_text_at}
-use Rattle.std.specs.Option.{option_copied}
-use Rattle.grep_regex.proofs.ChoiceLemmas.{first-items}
 use Rattle.grep_regex.proofs.EngineLemmas.{none-answers, start-answers}
-use Rattle.grep_regex.proofs.StartLemmas.{nowhere-decided, run-decided, skipped-same, start-decided}
+use Rattle.grep_regex.proofs.StartLemmas.{nowhere-decided, size-decided, skipped-same, start-decided}
 use Rattle.grep_regex.proofs.known.known_by.Goals as goal
 
 pub returns-in-Some : goal.returns-in-Some
@@ -15,15 +13,9 @@ returns-in-Some c =
     let p = c.args.prefix.now in
     let r = c.args.regex.now in
     let hay = c.args.haystack.now in
-    let sets = c.in-Some.sets.now in
-    let first : slice_get p.choices.items 0 ≡ Some sets =
-    ap (λ xs. slice_get xs 0) (sym c.deref.ensures.value)
-    ∙ (sym c.first.ensures.value ∙ ap option_copied c.in-Some.is) in
-    let size : length sets.items ≡ c.len.result = omega (arith, c.len.ensures, sets.ok) in
-    let found = run-decided r (items_of p.choices.items) p.is_run c.requires.is_prefix hay
-    (λ k. (c.type_inv.haystack k).fits) c.if-prefix.true sets.items (first-items p.choices.items sets first)
-    c.args.start c.in-Match.at start.0 start.1 start.2 start.3
-    ∙ ap (λ (n : ℕ). Some (c.in-Match.at, c.in-Match.at + n)) size in (
+    let found = size-decided r (items_of p.choices.items) p.has_sizes c.requires.is_prefix hay
+    (λ k. (c.type_inv.haystack k).fits) c.if-prefix.true c.args.start c.in-Match.at c.in-Some.size
+    start.0 start.1 start.2 start.3 (rw c.deref.ensures.value at c.in-Some.ensures.size) in (
       rw c.in-FirstMatch.is (sym found),
       subst (IsFrom c.args.start hay) found
           (text-within (regex_options r) (regex_patterns r) hay c.args.start),
@@ -34,7 +26,17 @@ returns-in_default c =
     let start = c.in-Match.ensures in (
       start.0,
       start.1,
-      skipped-same c.args.regex.now (items_of c.args.prefix.now.choices.items) c.args.prefix.now.is_run
+      skipped-same c.args.regex.now (items_of c.args.prefix.now.choices.items) c.args.prefix.now.has_sizes
+          c.requires.is_prefix
+          c.args.haystack.now (λ k. (c.type_inv.haystack k).fits) c.args.start c.in-Match.at start.0 start.1 start.2,
+    )
+
+pub returns-in_default-2 : goal.returns-in_default-2
+returns-in_default-2 c =
+    let start = c.in-Match.ensures in (
+      start.0,
+      start.1,
+      skipped-same c.args.regex.now (items_of c.args.prefix.now.choices.items) c.args.prefix.now.has_sizes
           c.requires.is_prefix
           c.args.haystack.now (λ k. (c.type_inv.haystack k).fits) c.args.start c.in-Match.at start.0 start.1 start.2,
     )
@@ -44,7 +46,7 @@ returns-in-AnyMatch c =
     let start = c.in-Match.ensures in
     let first = regex_text_at c.args.regex.now c.args.haystack.now c.args.start in (
       rw c.in-AnyMatch.is ((start-answers first c.in-Match.at
-          (start-decided c.args.regex.now (items_of c.args.prefix.now.choices.items) c.args.prefix.now.is_run
+          (start-decided c.args.regex.now (items_of c.args.prefix.now.choices.items) c.args.prefix.now.has_sizes
           c.requires.is_prefix
           c.args.haystack.now (λ k. (c.type_inv.haystack k).fits) c.args.start c.in-Match.at start.0 start.1 start.2
           start.3)).0),
@@ -56,7 +58,7 @@ returns-in-Start c =
     let start = c.in-Match.ensures in
     let first = regex_text_at c.args.regex.now c.args.haystack.now c.args.start in (
       rw c.in-Start.is ((start-answers first c.in-Match.at
-          (start-decided c.args.regex.now (items_of c.args.prefix.now.choices.items) c.args.prefix.now.is_run
+          (start-decided c.args.regex.now (items_of c.args.prefix.now.choices.items) c.args.prefix.now.has_sizes
           c.requires.is_prefix
           c.args.haystack.now (λ k. (c.type_inv.haystack k).fits) c.args.start c.in-Match.at start.0 start.1 start.2
           start.3)).1),
@@ -68,7 +70,7 @@ returns-in-From c =
     let start = c.in-From.ensures in (
       start.0,
       start.1,
-      skipped-same c.args.regex.now (items_of c.args.prefix.now.choices.items) c.args.prefix.now.is_run
+      skipped-same c.args.regex.now (items_of c.args.prefix.now.choices.items) c.args.prefix.now.has_sizes
           c.requires.is_prefix
           c.args.haystack.now (λ k. (c.type_inv.haystack k).fits) c.args.start c.in-From.at start.0 start.1 start.2,
     )
@@ -76,7 +78,7 @@ returns-in-From c =
 pub returns-in-Nowhere : goal.returns-in-Nowhere
 returns-in-Nowhere c = (
   none-answers c.args.asked (regex_text_at c.args.regex.now c.args.haystack.now c.args.start)
-      (nowhere-decided c.args.regex.now (items_of c.args.prefix.now.choices.items) c.args.prefix.now.is_run
+      (nowhere-decided c.args.regex.now (items_of c.args.prefix.now.choices.items) c.args.prefix.now.has_sizes
       c.requires.is_prefix
       c.args.haystack.now (λ k. (c.type_inv.haystack k).fits) c.args.start c.requires.start c.in-Nowhere.ensures),
   (tt, tt),
