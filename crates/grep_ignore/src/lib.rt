@@ -4,6 +4,7 @@
 
 mod class;
 mod glob;
+mod layers;
 mod line;
 mod rows;
 mod rules;
@@ -12,5 +13,6 @@ mod tests;
 mod wildcards;
 
 pub use glob::GlobError;
+pub use layers::{Layer, Layers, Origin};
 pub use rules::{Decision, Misread, Rules};
 pub use wildcards::{Piece, Wildcards};

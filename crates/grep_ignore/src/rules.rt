@@ -1,6 +1,6 @@
 //! The rules of an ignore file.
 ghost use Rattle.std.specs.Prelude.{◌≡◌, ◌↔◌, ◌++◌, [], List, IfErr, IfOk, IsTrue, OnOk};
-ghost use Rattle.grep_ignore.specs.Decisions.{IsAbout, IsDecided, decision_of};
+ghost use Rattle.grep_ignore.specs.Decisions.{IsAbout, IsDecided, decision_of, is_kept};
 ghost use Rattle.grep_ignore.specs.Globs.{OnMalformed};
 ghost use Rattle.grep_ignore.specs.Lines.{AreOfLine, AreOfLines, IsMisread, IsRead, lines_of};
 ghost use Rattle.grep_ignore.specs.declared.rules.Misread.{Misread};
@@ -21,6 +21,19 @@ pub enum Decision {
     Kept,
     /// No rule matches it.
     Unmatched,
+}
+
+impl Decision {
+    /// Whether what this is about is kept, where `unmatched` says it of what no rule matches.
+    pub fn is_kept(self, unmatched: bool) -> bool
+        ensures { result ≡ is_kept self unmatched }
+    {
+        match self {
+            Decision::Ignored => false,
+            Decision::Kept => true,
+            Decision::Unmatched => unmatched,
+        }
+    }
 }
 
 /// The rules of an ignore file, in their order.

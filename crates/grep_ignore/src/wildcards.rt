@@ -1,5 +1,6 @@
 //! The wildcards of a glob, which match paths.
-ghost use Rattle.std.specs.Prelude.{◌≡◌, ◌↔◌, IfOk, IsTrue};
+ghost use Rattle.std.specs.Prelude.{◌≡◌, ◌↔◌, Bool, IfOk, IfSome, IsTrue, List, MatchOption};
+ghost use Rattle.grep_matcher.specs.ByteSets.{holds};
 ghost use Rattle.grep_ignore.specs.Matches.{Matches};
 
 use crate::rows::match_pieces;
@@ -46,9 +47,51 @@ impl Wildcards {
     pub fn is_match(&self, row: &mut Vec<bool>, path: &[u8]) -> Result<bool, AllocError>
         ensures { IfOk result (λ matches. IsTrue matches ↔ Matches self.now path.now) }
     {
-        row.clear();
-        row.resize(path.len(), false)?;
-        row.push(true)?;
-        Ok(match_pieces(self.pieces.as_slice(), path, row.as_mut_slice()))
+        match without_ends(self.pieces.as_slice(), path) {
+            Some((pieces, path)) => match_rest(pieces, row, path),
+            None => Ok(false),
+        }
+    }
+}
+
+// Whether a path matches some pieces.
+fn match_rest(pieces: &[Piece], row: &mut Vec<bool>, path: &[u8]) -> Result<bool, AllocError>
+    ensures { IfOk result (λ matches. IsTrue matches ↔ Matches pieces.now path.now) }
+{
+    row.clear();
+    row.resize(path.len(), false)?;
+    row.push(true)?;
+    Ok(match_pieces(pieces, path, row.as_mut_slice()))
+}
+
+// Pieces and a path without the last ones of the pieces that are one byte each and without the bytes at
+// the end of the path that they match. `None` means that one doesn't, so that the path doesn't match.
+fn without_ends<'a>(pieces: &'a [Piece], path: &'a [u8]) -> Option<(&'a [Piece], &'a [u8])>
+    ensures { MatchOption result (Matches pieces.now path.now → ⊥)
+        (λ r. Matches pieces.now path.now ↔ Matches r.0.now r.1.now) }
+{
+    let mut count = pieces.len();
+    let mut length = path.len();
+    while count > 0 && length > 0 {
+        match fits(&pieces[count - 1], path[length - 1]) {
+            Some(true) => {}
+            Some(false) => return None,
+            None => break,
+        }
+        count -= 1;
+        length -= 1;
+    }
+    Some((&pieces[..count], &path[..length]))
+}
+
+// Whether a piece that is one byte is of a set that has a byte.
+fn fits(piece: &Piece, byte: u8) -> Option<bool>
+    ensures { IfSome result (λ fits. (set : List Bool) × (piece.now ≡ Piece.One set)
+        × (fits ≡ holds set byte)) }
+{
+    match piece {
+        Piece::One(set) => Some(set.contains(byte)),
+        Piece::Many(_) => None,
+        Piece::Folders => None,
     }
 }

@@ -186,6 +186,135 @@ const FILE_ROWS: &[Row] = &[
     },
 ];
 
+// Which ignore files count, and how.
+const IGNORE_ROWS: &[Row] = &[
+    Row {
+        id: OptionId::NoIgnore,
+        name: "no-ignore",
+        letter: None,
+    },
+    Row {
+        id: OptionId::Ignore,
+        name: "ignore",
+        letter: None,
+    },
+    Row {
+        id: OptionId::NoIgnoreDot,
+        name: "no-ignore-dot",
+        letter: None,
+    },
+    Row {
+        id: OptionId::IgnoreDot,
+        name: "ignore-dot",
+        letter: None,
+    },
+    Row {
+        id: OptionId::NoIgnoreExclude,
+        name: "no-ignore-exclude",
+        letter: None,
+    },
+    Row {
+        id: OptionId::IgnoreExclude,
+        name: "ignore-exclude",
+        letter: None,
+    },
+    Row {
+        id: OptionId::NoIgnoreFiles,
+        name: "no-ignore-files",
+        letter: None,
+    },
+    Row {
+        id: OptionId::IgnoreFiles,
+        name: "ignore-files",
+        letter: None,
+    },
+    Row {
+        id: OptionId::NoIgnoreGlobal,
+        name: "no-ignore-global",
+        letter: None,
+    },
+    Row {
+        id: OptionId::IgnoreGlobal,
+        name: "ignore-global",
+        letter: None,
+    },
+    Row {
+        id: OptionId::NoIgnoreParent,
+        name: "no-ignore-parent",
+        letter: None,
+    },
+    Row {
+        id: OptionId::IgnoreParent,
+        name: "ignore-parent",
+        letter: None,
+    },
+    Row {
+        id: OptionId::NoIgnoreVcs,
+        name: "no-ignore-vcs",
+        letter: None,
+    },
+    Row {
+        id: OptionId::IgnoreVcs,
+        name: "ignore-vcs",
+        letter: None,
+    },
+    Row {
+        id: OptionId::NoIgnoreMessages,
+        name: "no-ignore-messages",
+        letter: None,
+    },
+    Row {
+        id: OptionId::IgnoreMessages,
+        name: "ignore-messages",
+        letter: None,
+    },
+    Row {
+        id: OptionId::NoRequireGit,
+        name: "no-require-git",
+        letter: None,
+    },
+    Row {
+        id: OptionId::RequireGit,
+        name: "require-git",
+        letter: None,
+    },
+    Row {
+        id: OptionId::IgnoreFile,
+        name: "ignore-file",
+        letter: None,
+    },
+    Row {
+        id: OptionId::IgnoreFileCaseInsensitive,
+        name: "ignore-file-case-insensitive",
+        letter: None,
+    },
+    Row {
+        id: OptionId::NoIgnoreFileCaseInsensitive,
+        name: "no-ignore-file-case-insensitive",
+        letter: None,
+    },
+    Row {
+        id: OptionId::Iglob,
+        name: "iglob",
+        letter: None,
+    },
+    Row {
+        id: OptionId::GlobCaseInsensitive,
+        name: "glob-case-insensitive",
+        letter: None,
+    },
+    Row {
+        id: OptionId::NoGlobCaseInsensitive,
+        name: "no-glob-case-insensitive",
+        letter: None,
+    },
+    Row {
+        id: OptionId::Unrestricted,
+        name: "unrestricted",
+        letter: Some('u'),
+    },
+];
+
 // What is written of a line.
 const LINE_ROWS: &[Row] = &[
     Row {
@@ -338,6 +467,11 @@ const OUTPUT_ROWS: &[Row] = &[
         letter: None,
     },
     Row {
+        id: OptionId::Files,
+        name: "files",
+        letter: None,
+    },
+    Row {
         id: OptionId::Quiet,
         name: "quiet",
         letter: Some('q'),
@@ -361,8 +495,6 @@ const NOTHING: &[&str] = &[
     "no-auto-hybrid-regex",
     "pcre2-unicode",
     "unicode",
-    "no-multiline-dotall",
-    "no-glob-case-insensitive",
     "no-one-file-system",
     "no-include-zero",
     "no-max-columns-preview",
@@ -371,8 +503,8 @@ const NOTHING: &[&str] = &[
 ];
 
 /// The options of the command line, in tables, since a long one is proved slowly.
-pub fn tables() -> [&'static [Row]; 4] {
-    [PATTERN_ROWS, FILE_ROWS, LINE_ROWS, OUTPUT_ROWS]
+pub fn tables() -> [&'static [Row]; 5] {
+    [PATTERN_ROWS, FILE_ROWS, IGNORE_ROWS, LINE_ROWS, OUTPUT_ROWS]
 }
 
 /// The command line of the program. The only error is being out of memory.

@@ -16,6 +16,9 @@ pub trait Engine {
     /// Searches standard input, and writes what is found in it, with a path if there is one.
     fn search_input(&mut self, path: Option<&str>) -> Searched;
 
+    /// Writes the path of a file that isn't searched, as that of one with a match.
+    fn list(&mut self, path: &str) -> Searched;
+
     /// Writes a text to standard error, after what was found before. An error is that of writing
     /// what was found.
     fn say(&mut self, text: &str) -> io::Result<()>;
@@ -80,6 +83,18 @@ impl<'e, M: FindAt + Copy, R: Source, W: Output, E: Output> Engine
         let mut haystack: Haystack<'_, File, R> = Haystack::Reader(&mut *self.input);
         self.printer
             .search(self.rt, self.searcher, self.matcher, &mut haystack, path)
+    }
+
+    fn list(&mut self, path: &str) -> Searched {
+        let mut line: &[u8] = b"\n";
+        let mut haystack: Haystack<'_, File, &[u8]> = Haystack::Reader(&mut line);
+        self.printer.search(
+            self.rt,
+            self.searcher,
+            self.matcher,
+            &mut haystack,
+            Some(path),
+        )
     }
 
     fn say(&mut self, text: &str) -> io::Result<()> {

@@ -1,8 +1,8 @@
 //! A run over files.
+use crate::choices::Choices;
 use crate::engine::{Engine, written_error};
 use crate::failures::Failure;
 use crate::file_id::FileId;
-use crate::globs::Globs;
 use crate::option_id::OptionId;
 use crate::options::Options;
 use crate::printers::Searched;
@@ -15,7 +15,7 @@ use std::{fs, io};
 // The name of standard input.
 const STDIN: &str = "<stdin>";
 
-const NO_FILE: &str = "no file was searched: none is chosen by -g, or all are hidden";
+const NO_FILE: &str = "no file was searched: none is chosen by -g, or all are hidden or ignored";
 
 const IS_OUTPUT: &str = "input file is also the output";
 
@@ -26,8 +26,11 @@ pub struct Scope {
     searches_input: bool,
     // Whether the search of a file of a folder goes on after a NUL.
     searches_binary: bool,
-    shows_hidden: bool,
     follows_links: bool,
+    // Whether nothing is said of what is wrong with ignore files.
+    is_lenient: bool,
+    // Whether the paths of files are written, and nothing is searched.
+    lists_files: bool,
     shows_paths: bool,
     is_silent: bool,
     is_quiet: bool,
@@ -43,9 +46,10 @@ impl Scope {
         let searches_input = options.searches_input();
         Scope {
             searches_input,
-            searches_binary: options.has(OptionId::Binary),
-            shows_hidden: options.has(OptionId::Hidden),
+            searches_binary: options.searches_binary(),
             follows_links: options.has(OptionId::Follow),
+            is_lenient: options.has(OptionId::NoIgnoreMessages),
+            lists_files: options.has(OptionId::Files),
             shows_paths: options.shows_paths(
                 !searches_input && searches_several(rt, options.paths()),
             ),
@@ -85,7 +89,7 @@ impl Scope {
 pub struct Run<'r, E> {
     rt: &'r HostRuntime,
     engine: &'r mut E,
-    globs: &'r mut Globs,
+    choices: Choices<'r>,
     scope: Scope,
     // Whether a file or the input was searched, a match was found, and something couldn't be read.
     has_searched: bool,
@@ -100,13 +104,13 @@ impl<'r, E: Engine> Run<'r, E> {
     pub fn new(
         rt: &'r HostRuntime,
         engine: &'r mut E,
-        globs: &'r mut Globs,
+        choices: Choices<'r>,
         scope: Scope,
     ) -> Run<'r, E> {
         Run {
             rt,
             engine,
-            globs,
+            choices,
             scope,
             has_searched: false,
             has_match: false,
@@ -145,7 +149,7 @@ impl<'r, E: Engine> Run<'r, E> {
             return self.search_input();
         }
         self.search_folder("");
-        if !self.has_searched {
+        if !self.has_searched && !self.scope.lists_files {
             self.has_error = true;
             self.say(&Failure::new(self.rt.alloc(), &NO_FILE));
         }
@@ -153,15 +157,30 @@ impl<'r, E: Engine> Run<'r, E> {
 
     // Searches what an operand names: the input, a folder or a file.
     fn search_operand(&mut self, path: &str) {
-        if path == "-" {
+        if path == "-" && !self.scope.lists_files {
             self.search_input();
         } else if is_escaped(path) {
             self.report(path, &NOT_UTF8);
         } else if is_folder(self.rt, path) {
             self.search_folder(path);
+        } else if self.scope.lists_files {
+            self.list_operand(path);
         } else {
             self.search_path(path);
         }
+    }
+
+    // Lists the file that an operand names, or says why there is none.
+    fn list_operand(&mut self, path: &str) {
+        match fs::metadata(self.rt, path) {
+            Ok(_) => self.list(path),
+            Err(error) => self.report(path, &error),
+        }
+    }
+
+    fn list(&mut self, path: &str) {
+        let searched = self.engine.list(path);
+        self.keep(path, searched);
     }
 
     // Whether what is found after this makes no difference.
@@ -173,13 +192,11 @@ impl<'r, E: Engine> Run<'r, E> {
     // ask for binary files too.
     fn search_folder(&mut self, folder: &str) {
         self.engine.set_quits(!self.scope.searches_binary);
-        let mut walk = Walk::new(
-            self.rt,
-            self.scope.shows_hidden,
-            self.scope.follows_links,
-            folder,
-        );
-        self.visit_all(&mut walk);
+        let mut walk = Walk::new(self.rt, self.scope.follows_links, folder);
+        match self.choices.begin(folder) {
+            Ok(()) => self.visit_all(&mut walk),
+            Err(_) => self.failure = Some(io::Error::from(io::ErrorKind::OutOfMemory)),
+        }
         self.engine.set_quits(false);
     }
 
@@ -202,8 +219,12 @@ impl<'r, E: Engine> Run<'r, E> {
     // Searches a file, enters a folder, or says why something can't be read.
     fn visit(&mut self, walk: &mut Walk<'r>, entry: &Entry) {
         match entry {
+            Entry::File(path) if self.scope.lists_files => self.list(path.as_str()),
             Entry::File(path) => self.search_path(path.as_str()),
-            Entry::Folder(path) => walk.enter(self.globs, path.as_str()),
+            Entry::Folder(path) => {
+                walk.enter(&mut self.choices, path.as_str());
+                self.warn();
+            }
             Entry::Unread(path, error) => self.report(path.as_str(), error),
         }
     }
@@ -240,6 +261,18 @@ impl<'r, E: Engine> Run<'r, E> {
             Err(error) if self.engine.has_failed() => self.failure = Some(written_error(error)),
             Err(error) => self.report(path, &error),
         }
+    }
+
+    // Says what is wrong with ignore files.
+    fn warn(&mut self) {
+        if !self.scope.is_lenient && !self.scope.is_silent {
+            for warning in self.choices.warnings() {
+                if let Err(error) = self.engine.say(warning.text()) {
+                    self.failure = Some(error);
+                }
+            }
+        }
+        self.choices.clear_warnings();
     }
 
     // Says what can't be read, and why.

@@ -34,25 +34,44 @@ struct Glob {
 impl Globs {
     /// Reads globs, of which an empty one is left out. An error is that one isn't well formed, or
     /// that there is no memory.
-    pub fn read(alloc: Global, texts: &[&str]) -> Result<Globs, Failure> {
+    /// The letters of `iglobs`, which come after the others, match in either case, and if
+    /// `ignores_case` is set those of all.
+    pub fn read(
+        alloc: Global,
+        texts: &[&str],
+        iglobs: &[&str],
+        ignores_case: bool,
+    ) -> Result<Globs, Failure> {
         let mut globs = Globs {
             globs: Vec::new(alloc),
             are_exclusions: true,
         };
-        for text in texts {
-            if let Err(error) = globs.add(alloc, text) {
-                return Err(glob_failure(alloc, text, error));
-            }
-        }
+        globs.add_all(alloc, texts, ignores_case)?;
+        globs.add_all(alloc, iglobs, true)?;
         Ok(globs)
     }
 
+    // Adds the globs of some texts.
+    fn add_all(
+        &mut self,
+        alloc: Global,
+        texts: &[&str],
+        ignores_case: bool,
+    ) -> Result<(), Failure> {
+        for text in texts {
+            if let Err(error) = self.add(alloc, text, ignores_case) {
+                return Err(glob_failure(alloc, text, error));
+            }
+        }
+        Ok(())
+    }
+
     // Adds the glob of a text, unless the text is empty.
-    fn add(&mut self, alloc: Global, text: &str) -> Result<(), Error> {
+    fn add(&mut self, alloc: Global, text: &str, ignores_case: bool) -> Result<(), Error> {
         if text.is_empty() {
             return Ok(());
         }
-        let glob = compile(alloc, text)?;
+        let glob = compile(alloc, text, ignores_case)?;
         self.are_exclusions = self.are_exclusions && glob.is_exclusion;
         self.globs.push(glob)?;
         Ok(())
@@ -99,7 +118,7 @@ impl Glob {
 // Compiles the text of a glob: an exclamation mark at its start leaves paths out, all of them if
 // nothing follows it, a slash at its end means folders alone, and without any other slash it is
 // about names in any folder.
-fn compile(alloc: Global, text: &str) -> Result<Glob, Error> {
+fn compile(alloc: Global, text: &str, ignores_case: bool) -> Result<Glob, Error> {
     let (is_exclusion, glob) = match text.strip_prefix('!') {
         Some("") => (true, "*"),
         Some(glob) => (true, glob),
@@ -110,15 +129,15 @@ fn compile(alloc: Global, text: &str) -> Result<Glob, Error> {
         None => (false, glob),
     };
     Ok(Glob {
-        wildcards: wildcards(alloc, glob)?,
+        wildcards: wildcards(alloc, glob, ignores_case)?,
         is_exclusion,
         names_folders,
     })
 }
 
-fn wildcards(alloc: Global, glob: &str) -> Result<Wildcards, Error> {
+fn wildcards(alloc: Global, glob: &str, ignores_case: bool) -> Result<Wildcards, Error> {
     let letters = letters(alloc, glob.strip_prefix('/').unwrap_or(glob))?;
-    Wildcards::new(alloc, &letters, !glob.contains('/'))
+    Wildcards::new(alloc, &letters, !glob.contains('/'), ignores_case)
 }
 
 fn letters(alloc: Global, text: &str) -> Result<Vec<char>, AllocError> {

@@ -10,7 +10,8 @@ standard input if that is a file or a pipe, and else the current folder.
 Patterns: -e PATTERN, -f FILE, -F (literals), -i, -s, -S (case), -w (words),
           -x (lines), -U (across lines)
 Lines:    -v, -m NUM, -A NUM, -B NUM, -C NUM, --passthru, --crlf, --null-data
-Files:    -g GLOB, -. (hidden), -L (follow links), -a (text), --binary, -E LABEL
+Files:    -g GLOB, --iglob GLOB, -. (hidden), -u (ignored), -uu (both), --files,
+          -L (follow links), -a (text), --binary, -E LABEL
 Output:   -n, -N (numbers), -H, -I (paths), -b, --column, -o, -M NUM, -0,
           --heading, --color WHEN, -p (pretty), --json
 Instead:  -c, --count-matches, -l, --files-without-match, -q
@@ -64,7 +65,23 @@ Lines:
 
 Files:
   -g, --glob GLOB            Search the files of folders that match GLOB
+      --iglob GLOB           As -g, with letters in either case
+      --glob-case-insensitive
+                             As if each -g were --iglob
   -., --hidden               Search hidden files and folders too
+      --no-ignore            Search files that ignore files leave out
+  -u, --unrestricted         As --no-ignore, -uu as with --hidden too, -uuu with --binary
+      --ignore-file FILE     Leave out what the lines of FILE say, for all folders
+      --no-ignore-dot        Don't read .ignore and .rgignore
+      --no-ignore-vcs        Don't read .gitignore, nor the next two
+      --no-ignore-exclude    Don't read .git/info/exclude
+      --no-ignore-global     Don't read the user's git/ignore
+      --no-ignore-parent     Don't read the ignore files of the folders above
+      --no-ignore-files      Don't read the files of --ignore-file
+      --no-require-git       Read git's files where there is no repository too
+      --ignore-file-case-insensitive
+                             Letters in ignore files match in either case
+      --no-ignore-messages   Don't say what is wrong with ignore files
   -L, --follow               Follow links in folders
       --binary               Search all of a binary file of a folder
   -a, --text                 Search binary files as text
@@ -91,6 +108,7 @@ Output:
       --json                 Write messages in JSON
 
 In place of lines:
+      --files                Write the paths of the files that would be searched
   -c, --count                Write how many lines match, for each file
       --count-matches        Write how many single matches there are, for each file
   -l, --files-with-matches   Write the paths of the files with a match
@@ -113,6 +131,10 @@ its end about folders alone.
 Encodings are utf-8, utf-16, utf-16le and utf-16be, auto, which is meant if none
 is given: UTF-8 or what else the mark at the start of a file says, and none: the
 bytes as they are.
+
+Files of folders are left out as .rgignore, .ignore, .gitignore, in a repository
+.git/info/exclude and the user's git/ignore say, the first of these first, and in
+folders the nearest. A path that is named is searched, whatever they say.
 
 The status is 0 if a line matches, 1 if none does, and 2 if something can't be
 read or written, or the arguments are wrong.

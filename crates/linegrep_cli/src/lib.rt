@@ -5,6 +5,7 @@
 //! `CALLING.md` has an example.
 #![tactic(auto)]
 
+mod choices;
 mod colors;
 mod command;
 mod engine;
@@ -14,6 +15,7 @@ mod file_run;
 mod globs;
 mod haystacks;
 mod help;
+mod ignores;
 mod json_run;
 mod option_id;
 mod options;

@@ -42,6 +42,30 @@ pub enum OptionId {
     NoHidden,
     Follow,
     NoFollow,
+    NoIgnore,
+    Ignore,
+    NoIgnoreDot,
+    IgnoreDot,
+    NoIgnoreExclude,
+    IgnoreExclude,
+    NoIgnoreFiles,
+    IgnoreFiles,
+    NoIgnoreGlobal,
+    IgnoreGlobal,
+    NoIgnoreParent,
+    IgnoreParent,
+    NoIgnoreVcs,
+    IgnoreVcs,
+    NoIgnoreMessages,
+    IgnoreMessages,
+    NoRequireGit,
+    RequireGit,
+    IgnoreFileCaseInsensitive,
+    NoIgnoreFileCaseInsensitive,
+    GlobCaseInsensitive,
+    NoGlobCaseInsensitive,
+    Unrestricted,
+    Files,
     Count,
     CountMatches,
     FilesWithMatches,
@@ -63,6 +87,8 @@ pub enum OptionId {
     Regexp,
     File,
     Glob,
+    Iglob,
+    IgnoreFile,
     MaxCount,
     MaxColumns,
     AfterContext,
@@ -78,6 +104,7 @@ pub const COUNT: usize = 128;
 #[derive(Clone, Copy)]
 pub enum Kind {
     Flag,
+    Count,
     Number,
     Label,
     Color,
@@ -129,8 +156,9 @@ impl OptionId {
             OptionId::Color => Kind::Color,
             OptionId::Sort => Kind::Order,
             OptionId::Regexp => Kind::Pattern,
-            OptionId::File => Kind::File,
-            OptionId::Glob => Kind::Glob,
+            OptionId::File | OptionId::IgnoreFile => Kind::File,
+            OptionId::Glob | OptionId::Iglob => Kind::Glob,
+            OptionId::Unrestricted => Kind::Count,
             OptionId::Encoding => Kind::Label,
             OptionId::MaxCount
             | OptionId::MaxColumns
@@ -177,6 +205,11 @@ impl OptionId {
             OptionId::NoMessages => &[OptionId::Messages],
             OptionId::Hidden => &[OptionId::NoHidden],
             OptionId::Follow => &[OptionId::NoFollow],
+            OptionId::NoIgnoreFiles => &[OptionId::IgnoreFiles],
+            OptionId::NoIgnoreMessages => &[OptionId::IgnoreMessages],
+            OptionId::NoRequireGit => &[OptionId::RequireGit],
+            OptionId::IgnoreFileCaseInsensitive => &[OptionId::NoIgnoreFileCaseInsensitive],
+            OptionId::GlobCaseInsensitive => &[OptionId::NoGlobCaseInsensitive],
             OptionId::Encoding => &[OptionId::NoEncoding],
             OptionId::WithFilename => &[OptionId::NoFilename],
             OptionId::NoFilename => &[OptionId::WithFilename],
@@ -200,6 +233,7 @@ impl Kind {
     pub fn action(self) -> ArgAction {
         match self {
             Kind::Flag => ArgAction::SetTrue,
+            Kind::Count => ArgAction::Count,
             Kind::Pattern | Kind::File | Kind::Glob => ArgAction::Append,
             Kind::Number | Kind::Label | Kind::Color | Kind::Order => ArgAction::Set,
         }
@@ -208,7 +242,7 @@ impl Kind {
     /// What help calls the value, if there is one.
     pub fn value_names(self) -> &'static [&'static str] {
         match self {
-            Kind::Flag => &[],
+            Kind::Flag | Kind::Count => &[],
             Kind::Number => &["NUM"],
             Kind::Label => &["LABEL"],
             Kind::Color => &["WHEN"],
@@ -223,6 +257,7 @@ impl Kind {
     pub fn value_parser(self) -> ValueParser<'static> {
         match self {
             Kind::Flag => ValueParser::Bool,
+            Kind::Count => ValueParser::Signed(0, 255),
             Kind::Number => ValueParser::Unsigned(0, u64::MAX),
             Kind::Color => ValueParser::Names(&["auto", "always", "never", "ansi"]),
             Kind::Order => ValueParser::Names(&["none", "path"]),

@@ -1,7 +1,7 @@
 //! The options of the command line.
 use crate::command::{Row, tables};
 use crate::file_id::FileId;
-use crate::option_id::{COUNT, OptionId};
+use crate::option_id::{COUNT, Kind, OptionId};
 use crate::patterns::{names_patterns, reads_patterns};
 use crate::program::Streams;
 use clap::ArgMatches;
@@ -52,12 +52,21 @@ impl Uses {
 // The place of the last use of an option among the words, from 1, or 0 if it isn't used. A flag
 // that isn't used has a place too.
 fn last_use(matches: &ArgMatches<'_>, row: &Row) -> usize {
-    if row.id.kind().is_flag() && !matches.get_flag(row.name) {
+    if !is_used(matches, row) {
         return 0;
     }
     match matches.indices_of(row.name) {
         Some(indices) => indices.last().copied().unwrap_or(0),
         None => 0,
+    }
+}
+
+// Whether an option may be used: a flag that isn't has a place all the same.
+fn is_used(matches: &ArgMatches<'_>, row: &Row) -> bool {
+    match row.id.kind() {
+        Kind::Flag => matches.get_flag(row.name),
+        Kind::Count => matches.get_count(row.name) > 0,
+        _ => true,
     }
 }
 
@@ -78,6 +87,11 @@ pub struct Options<'m, 'w> {
     encoding: Option<&'w str>,
     /// The globs, which choose among the files of folders.
     pub globs: Option<&'m [&'w str]>,
+    /// Those whose letters match in either case.
+    pub iglobs: Option<&'m [&'w str]>,
+    ignore_files: Option<&'m [&'w str]>,
+    // How often `-u` is given.
+    unrestricted: u8,
     operands: Option<&'m [&'w str]>,
     // Whether patterns are read from standard input.
     reads_patterns: bool,
@@ -99,15 +113,60 @@ impl<'m, 'w> Options<'m, 'w> {
             color: matches.get_str("color"),
             encoding: matches.get_str("encoding"),
             globs: matches.get_strs("glob"),
+            iglobs: matches.get_strs("iglob"),
+            ignore_files: matches.get_strs("ignore-file"),
+            unrestricted: matches.get_count("unrestricted"),
             operands: matches.get_strs("operands"),
             reads_patterns: reads_patterns(matches),
-            names_patterns: names_patterns(matches),
+            names_patterns: names_patterns(matches) || matches.get_flag("files"),
         }
     }
 
     /// Whether an option is used, and none after it that takes it back.
     pub fn has(&self, option: OptionId) -> bool {
         self.uses.has(option)
+    }
+
+    /// Whether ignore files of a kind are read, which one option asks for and another doesn't. The last
+    /// of these and of those about all kinds decides.
+    pub fn reads(&self, option: OptionId, opposite: OptionId) -> bool {
+        let asked = self.last_of_both(option, OptionId::Ignore);
+        let refused = self.last_of_both(opposite, OptionId::NoIgnore);
+        asked >= refused && asked >= self.uses.last_of(OptionId::Unrestricted)
+    }
+
+    // The place of the last use of either of two options, or 0.
+    fn last_of_both(&self, one: OptionId, other: OptionId) -> usize {
+        self.uses.last_of(one).max(self.uses.last_of(other))
+    }
+
+    /// The paths of ignore files that are named.
+    pub fn ignore_files(&self) -> &'m [&'w str] {
+        match self.ignore_files {
+            Some(files) if !self.has(OptionId::NoIgnoreFiles) => files,
+            _ => &[],
+        }
+    }
+
+    /// Whether hidden files of folders are searched.
+    pub fn shows_hidden(&self) -> bool {
+        self.has(OptionId::Hidden)
+            || self.unrestricted > 1
+                && self.uses.last_of(OptionId::NoHidden) < self.uses.last_of(OptionId::Unrestricted)
+    }
+
+    /// Whether the search of a file of a folder goes on after a NUL, though it isn't searched as text.
+    pub fn searches_binary(&self) -> bool {
+        self.has(OptionId::Binary) || self.is_all_searched()
+    }
+
+    // Whether `-u` is given three times, and nothing after it about binary files.
+    fn is_all_searched(&self) -> bool {
+        let last = self.uses.last_of(OptionId::Unrestricted);
+        self.unrestricted > 2
+            && [OptionId::Text, OptionId::NoText, OptionId::NoBinary]
+                .iter()
+                .all(|option| self.uses.last_of(*option) < last)
     }
 
     /// When there are colors.
@@ -143,6 +202,8 @@ impl<'m, 'w> Options<'m, 'w> {
     pub fn summary_kind(&self, is_across: bool) -> Option<SummaryKind> {
         if self.has(OptionId::Quiet) {
             Some(SummaryKind::Quiet)
+        } else if self.has(OptionId::Files) {
+            Some(SummaryKind::PathWithMatch)
         } else if self.counts_matches(is_across) {
             Some(SummaryKind::CountMatches)
         } else if self.counts() {
@@ -182,7 +243,7 @@ impl<'m, 'w> Options<'m, 'w> {
     /// Whether standard input is searched, and nothing else.
     pub fn searches_input(&self) -> bool {
         match self.paths() {
-            [] => self.streams.has_input && !self.reads_patterns,
+            [] => self.streams.has_input && !self.reads_patterns && !self.has(OptionId::Files),
             [path] => *path == "-",
             _ => false,
         }
@@ -208,7 +269,9 @@ impl<'m, 'w> Options<'m, 'w> {
     }
 
     fn is_summary_of_paths(&self) -> bool {
-        self.has(OptionId::FilesWithMatches) || self.has(OptionId::FilesWithoutMatch)
+        self.has(OptionId::FilesWithMatches)
+            || self.has(OptionId::FilesWithoutMatch)
+            || self.has(OptionId::Files)
     }
 
     /// Whether lines are numbered. For a terminal they are, if nothing else is asked for and not
@@ -276,7 +339,8 @@ impl<'m, 'w> Options<'m, 'w> {
 
     /// What is done about a file with a NUL, which is binary unless it is to be searched as text.
     pub fn binary_detection(&self) -> BinaryDetection {
-        if self.has(OptionId::Text) || self.has(OptionId::NullData) {
+        let is_text = self.has(OptionId::Text) && !self.is_all_searched();
+        if is_text || self.has(OptionId::NullData) {
             BinaryDetection::none()
         } else {
             BinaryDetection::convert(0)

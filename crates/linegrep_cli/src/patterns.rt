@@ -136,12 +136,18 @@ fn push_text(alloc: Global, texts: &mut Vec<String>, text: &str) -> Result<(), A
     Ok(())
 }
 
-/// Compiles patterns as the options say. An error is that of a pattern, or that there is no memory.
+/// Compiles patterns as the options say; where files are listed one that matches everywhere. An error is that of a pattern, or that there is no memory.
 pub fn compile(
     alloc: Global,
     options: &Options<'_, '_>,
     patterns: &[String],
 ) -> Result<Regex, Failure> {
+    if options.has(OptionId::Files) {
+        return match RegexMatcherBuilder::new().build_many(alloc, &[""]) {
+            Ok(regex) => Ok(regex),
+            Err(error) => Err(pattern_failure(alloc, &[""], &error)),
+        };
+    }
     let Ok(texts) = texts_of(alloc, patterns) else {
         return Err(Failure::out_of_memory());
     };

@@ -123,7 +123,11 @@ fn search_parsed<R: Source, W: Output + Drop, E: Output>(
     if let Some(word) = misplaced(words, options.paths()) {
         return Err(Failure::of_cause(rt.alloc(), word, &"the argument isn't UTF-8"));
     }
-    let patterns = read_patterns(rt, matches, input)?;
+    let patterns = if options.has(OptionId::Files) {
+        Vec::new(rt.alloc())
+    } else {
+        read_patterns(rt, matches, input)?
+    };
     search_all(rt, &options, &patterns, input, output, errors)
 }
 

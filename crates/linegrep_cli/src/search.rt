@@ -1,10 +1,10 @@
 //! The search of all that the arguments name.
 ghost use Rattle.grep_regex.specs.Views.{IsNamed};
 
+use crate::choices::Choices;
 use crate::engine::PrintingEngine;
 use crate::failures::Failure;
 use crate::file_run::{Run, Scope};
-use crate::globs::Globs;
 use crate::options::Options;
 use crate::patterns::compile;
 use crate::settings::{build_printer, build_searcher};
@@ -61,10 +61,10 @@ fn search_with<M: FindAt, R: Source, W: Output + Drop, E: Output>(
     input: &mut R,
     errors: &mut E,
 ) -> Result<u8, Failure> {
-    let mut globs = Globs::read(rt.alloc(), options.globs.unwrap_or(&[]))?;
+    let choices = Choices::read(rt, options)?;
     let scope = Scope::new(rt, options);
     let is_across = searcher.multi_line_with_matcher(matcher);
     let mut printer = build_printer(rt, options, is_across, output);
     let mut engine = PrintingEngine::new(rt, searcher, matcher, &mut printer, input, errors);
-    Ok(Run::new(rt, &mut engine, &mut globs, scope).complete(options.paths()))
+    Ok(Run::new(rt, &mut engine, choices, scope).complete(options.paths()))
 }

@@ -12,7 +12,7 @@ use grep_printer::{
 use grep_searcher::{ConfigError, Encoding, Searcher, SearcherBuilder};
 use std::alloc::Global;
 
-/// The searcher that the options ask for. Lines are numbered for a terminal, if nothing else is
+/// The searcher that the options ask for; where files are listed any does. Lines are numbered for a terminal, if nothing else is
 /// asked for. An error is that of a setting, or that there is no memory.
 pub fn build_searcher(alloc: Global, options: &Options<'_, '_>) -> Result<Searcher, Failure> {
     match try_searcher(alloc, options) {
@@ -22,6 +22,9 @@ pub fn build_searcher(alloc: Global, options: &Options<'_, '_>) -> Result<Search
 }
 
 fn try_searcher(alloc: Global, options: &Options<'_, '_>) -> Result<Searcher, ConfigError> {
+    if options.has(OptionId::Files) {
+        return SearcherBuilder::new().build(alloc);
+    }
     let encoding = encoding(alloc, options.encoding())?;
     let mut builder = SearcherBuilder::new();
     builder

@@ -1,6 +1,6 @@
 //! The files of a folder and of the folders in it.
+use crate::choices::Choices;
 use crate::file_id::FileId;
-use crate::globs::{Choice, Globs};
 use crate::words::{NOT_UTF8, escape};
 use std::alloc::AllocError;
 use std::fs::Metadata;
@@ -29,7 +29,6 @@ pub enum Entry {
 #[derive(Drop)]
 pub struct Walk<'r> {
     rt: &'r HostRuntime,
-    shows_hidden: bool,
     follows_links: bool,
     // How many bytes the path of its folder has, without a slash at the end.
     root: usize,
@@ -39,18 +38,11 @@ pub struct Walk<'r> {
 }
 
 impl<'r> Walk<'r> {
-    /// A walk through the folder at a path, or through the current one if the path is empty. Hidden
-    /// files and folders, whose names begin with a dot, are found only if `shows_hidden` is set or
-    /// a glob asks for them. Links are left out, or if `follows_links` is set followed.
-    pub fn new(
-        rt: &'r HostRuntime,
-        shows_hidden: bool,
-        follows_links: bool,
-        folder: &str,
-    ) -> Walk<'r> {
+    /// A walk through the folder at a path, or through the current one if the path is empty. Links are
+    /// left out, or if `follows_links` is set followed.
+    pub fn new(rt: &'r HostRuntime, follows_links: bool, folder: &str) -> Walk<'r> {
         let mut walk = Walk {
             rt,
-            shows_hidden,
             follows_links,
             root: folder.trim_end_matches('/').len(),
             pending: Vec::new(rt.alloc()),
@@ -77,10 +69,10 @@ impl<'r> Walk<'r> {
         self.is_out_of_memory
     }
 
-    /// Adds what a folder holds and the globs choose, or that the folder can't be read.
-    pub fn enter(&mut self, globs: &mut Globs, folder: &str) {
+    /// Adds what a folder holds and is chosen, or that the folder can't be read.
+    pub fn enter(&mut self, choices: &mut Choices<'_>, folder: &str) {
         let start = self.pending.len();
-        match self.read_folder(globs, folder) {
+        match self.read_folder(choices, folder) {
             Ok(()) => {}
             Err(error) if error.kind() == io::ErrorKind::OutOfMemory => {
                 self.is_out_of_memory = true;
@@ -90,35 +82,50 @@ impl<'r> Walk<'r> {
         self.sort_from(start);
     }
 
-    // Adds what a folder holds and the globs choose.
-    fn read_folder(&mut self, globs: &mut Globs, folder: &str) -> io::Result<()> {
-        let path = self.join(name_of(folder), "")?;
-        let mut names = vec![in self.rt.alloc(); 0u8; ROOM]?;
-        let mut dir = self.rt.open_dir(path.as_str())?;
-        for _ in 0..u64::MAX {
-            match dir.read(names.as_mut_slice())? {
-                0 => break,
-                count => self.push_names(globs, folder, &names[..count]),
+    // Adds what a folder holds and is chosen.
+    fn read_folder(&mut self, choices: &mut Choices<'_>, folder: &str) -> io::Result<()> {
+        let names = self.names(folder)?;
+        let below = folder
+            .get(self.root..)
+            .unwrap_or("")
+            .trim_start_matches('/');
+        choices.enter(folder, below, names.as_slice())?;
+        for name in names.split(|byte| *byte == 0) {
+            if !matches!(name, b"" | b"." | b"..") {
+                self.push_bytes(choices, folder, name)?;
             }
         }
         Ok(())
     }
 
-    // Adds what has a name in a folder, of names that end in a NUL each.
-    fn push_names(&mut self, globs: &mut Globs, folder: &str, names: &[u8]) {
-        for name in names.split(|byte| *byte == 0) {
-            if !matches!(name, b"" | b"." | b"..") {
-                self.push_bytes(globs, folder, name);
+    // The names in a folder, each with a NUL at its end.
+    fn names(&self, folder: &str) -> io::Result<Vec<u8>> {
+        let path = self.join(name_of(folder), "")?;
+        let mut names = Vec::new(self.rt.alloc());
+        let mut room = vec![in self.rt.alloc(); 0u8; ROOM]?;
+        let mut dir = self.rt.open_dir(path.as_str())?;
+        for _ in 0..u64::MAX {
+            match dir.read(room.as_mut_slice())? {
+                0 => break,
+                count => names.extend_from_slice(&room[..count])?,
             }
         }
+        Ok(names)
     }
 
-    // Adds what has a name in a folder, or that the name isn't UTF-8.
-    fn push_bytes(&mut self, globs: &mut Globs, folder: &str, name: &[u8]) {
+    // Adds what has a name in a folder, or that the name isn't UTF-8, if it is to be visited.
+    fn push_bytes(
+        &mut self,
+        choices: &mut Choices<'_>,
+        folder: &str,
+        name: &[u8],
+    ) -> Result<(), AllocError> {
         match str::from_utf8(name) {
-            Ok(name) => self.push_name(globs, folder, name),
-            Err(_) => self.push_escaped(folder, name),
+            Ok(name) => self.push_name(choices, folder, name)?,
+            Err(_) if choices.is_name_chosen(name)? => self.push_escaped(folder, name),
+            Err(_) => {}
         }
+        Ok(())
     }
 
     // Adds that a name in a folder isn't UTF-8.
@@ -139,18 +146,18 @@ impl<'r> Walk<'r> {
 
     // Adds what has a name in a folder, if it is to be visited. What can't be looked at is left out
     // like a file.
-    fn push_name(&mut self, globs: &mut Globs, folder: &str, name: &str) {
-        match self.join(folder, name) {
-            Ok(path) => self.push_chosen(globs, path, name),
-            Err(_) => self.is_out_of_memory = true,
-        }
-    }
-
-    fn push_chosen(&mut self, globs: &mut Globs, path: String, name: &str) {
+    fn push_name(
+        &mut self,
+        choices: &mut Choices<'_>,
+        folder: &str,
+        name: &str,
+    ) -> Result<(), AllocError> {
+        let path = self.join(folder, name)?;
         match self.entry(path) {
-            Some(entry) if self.is_chosen(globs, &entry, name) => self.push(entry),
+            Some(entry) if is_chosen(choices, &entry, name)? => self.push(entry),
             _ => {}
         }
+        Ok(())
     }
 
     fn push_unread(&mut self, folder: &str, error: io::Error) {
@@ -226,14 +233,6 @@ impl<'r> Walk<'r> {
         }
     }
 
-    fn is_chosen(&self, globs: &mut Globs, entry: &Entry, name: &str) -> bool {
-        match globs.choice(entry.path(), matches!(entry, Entry::Folder(_))) {
-            Choice::Chosen => true,
-            Choice::LeftOut => false,
-            Choice::Unmatched => self.shows_hidden || !name.starts_with('.'),
-        }
-    }
-
     // The path of a name in a folder.
     fn join(&self, folder: &str, name: &str) -> Result<String, AllocError> {
         let mut path = String::from_str(self.rt.alloc(), folder)?;
@@ -259,6 +258,11 @@ impl Entry {
             Entry::Unread(path, _) => path.as_str(),
         }
     }
+}
+
+// Whether what has a name in a folder is to be visited.
+fn is_chosen(choices: &mut Choices<'_>, entry: &Entry, name: &str) -> Result<bool, AllocError> {
+    choices.is_chosen(entry.path(), name, matches!(entry, Entry::Folder(_)))
 }
 
 // The name of a folder for the system, which has none for an empty path.

@@ -26,6 +26,8 @@ impl<T: Drop> From<AllocFailed<T>> for Error {
 #[derive(Drop)]
 pub struct Wildcards {
     parts: Vec<Part>,
+    // Whether letters of ASCII match in either case.
+    ignores_case: bool,
 }
 
 // The parts of a glob, as far as it is read.
@@ -85,8 +87,14 @@ struct Brace {
 }
 
 impl Wildcards {
-    /// Reads a glob: one of names in any folder, or of whole paths.
-    pub fn new(alloc: Global, glob: &[char], is_of_names: bool) -> Result<Wildcards, Error> {
+    /// Reads a glob: one of names in any folder, or of whole paths. Its letters of ASCII match in either
+    /// case if `ignores_case` is set.
+    pub fn new(
+        alloc: Global,
+        glob: &[char],
+        is_of_names: bool,
+        ignores_case: bool,
+    ) -> Result<Wildcards, Error> {
         let mut reader = Reader {
             parts: Vec::new(alloc),
             braces: Vec::new(alloc),
@@ -97,6 +105,7 @@ impl Wildcards {
         match reader.error {
             None => Ok(Wildcards {
                 parts: reader.parts,
+                ignores_case,
             }),
             Some(error) => Err(error),
         }
@@ -105,9 +114,14 @@ impl Wildcards {
     /// Whether a path matches.
     pub fn is_match(&mut self, path: &str) -> bool {
         let parts = self.parts.as_mut_slice();
-        let mut is_match = advance(parts, None);
+        let mut is_match = advance(parts, Step::Start);
         for letter in path.chars() {
-            is_match = advance(parts, Some(letter));
+            let other = if self.ignores_case {
+                other_case(letter)
+            } else {
+                letter
+            };
+            is_match = advance(parts, Step::Letter(letter, other));
         }
         is_match
     }
@@ -268,30 +282,38 @@ impl Reader {
     }
 }
 
-// Takes a letter of a path, or none before the first, and says whether a match may end there. The
-// parts are gone through in order, and each says whether the next is reached.
-fn advance(parts: &mut [Part], letter: Option<char>) -> bool {
-    let mut is_reached = letter.is_none();
+// What is taken of a path: nothing before the first letter, or a letter, with that in the other case
+// if it may stand for it.
+#[derive(Clone, Copy)]
+enum Step {
+    Start,
+    Letter(char, char),
+}
+
+// Takes a step along a path, and says whether a match may end there. The parts are gone through in
+// order, and each says whether the next is reached.
+fn advance(parts: &mut [Part], step: Step) -> bool {
+    let mut is_reached = matches!(step, Step::Start);
     let mut is_member = false;
     for at in 0..parts.len() {
         let part = parts[at];
         let (here, next) = match part.kind {
             Kind::Range(first, last) => {
-                is_member = is_member || is_between(letter, first, last);
+                is_member = is_member || is_between(step, first, last);
                 (false, is_reached)
             }
             Kind::One(letters) => {
-                let passes = part.is_reached && letters.have(letter, is_member);
+                let passes = part.is_reached && letters.have(step, is_member);
                 is_member = false;
                 (is_reached, passes)
             }
             Kind::Folders => {
-                let stays = part.is_reached && letter.is_some();
-                let ends = part.is_reached && letter == Some('/');
+                let stays = part.is_reached && Letters::All.have(step, false);
+                let ends = part.is_reached && Letters::Only('/').have(step, false);
                 (is_reached || stays, is_reached || ends)
             }
             Kind::Many(letters) => {
-                let stays = is_reached || part.is_reached && letters.have(letter, false);
+                let stays = is_reached || part.is_reached && letters.have(step, false);
                 (stays, stays)
             }
             Kind::Open => (is_reached, is_reached),
@@ -315,23 +337,34 @@ fn was_reached(parts: &[Part], at: Option<usize>) -> bool {
 }
 
 // Whether there is a letter, and it is between two.
-fn is_between(letter: Option<char>, first: char, last: char) -> bool {
-    match letter {
-        Some(letter) => first <= letter && letter <= last,
-        None => false,
+fn is_between(step: Step, first: char, last: char) -> bool {
+    match step {
+        Step::Letter(letter, other) => {
+            first <= letter && letter <= last || first <= other && other <= last
+        }
+        Step::Start => false,
+    }
+}
+
+// The letter of ASCII that a letter is in the other case; any other is itself.
+fn other_case(letter: char) -> char {
+    if letter.is_ascii_uppercase() {
+        letter.to_ascii_lowercase()
+    } else {
+        letter.to_ascii_uppercase()
     }
 }
 
 impl Letters {
     // Whether a letter, if there is one, is one of these. The class may have it as a member.
-    fn have(self, letter: Option<char>, is_member: bool) -> bool {
-        let Some(letter) = letter else {
+    fn have(self, step: Step, is_member: bool) -> bool {
+        let Step::Letter(letter, other) = step else {
             return false;
         };
         match self {
             Letters::All => true,
             Letters::NotSlash => letter != '/',
-            Letters::Only(only) => letter == only,
+            Letters::Only(only) => letter == only || other == only,
             Letters::Class { is_negated } => is_member != is_negated,
         }
     }

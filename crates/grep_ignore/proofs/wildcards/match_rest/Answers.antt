@@ -1,6 +1,6 @@
 use Rattle.std.proofs.Common.{◌++◌, ◌∷◌, [], true, ap, ◌∙◌, length}
 use Rattle.grep_ignore.proofs.RowLemmas.{first-row, filled}
-use Rattle.grep_ignore.proofs.wildcards.Wildcards.is_match.Goals as goal
+use Rattle.grep_ignore.proofs.wildcards.match_rest.Goals as goal
 
 pub match_pieces-requires : goal.match_pieces-requires
 match_pieces-requires c = first-row c.args.path.now c.as_mut_slice.result.now

@@ -1,0 +1,404 @@
+//! The ignore files that count in a folder, and what they say of what is in it.
+use crate::failures::Failure;
+use grep_ignore::{Decision, Layer, Layers, Misread, Origin, Rules};
+use std::alloc::AllocError;
+use std::{env, fs, io};
+
+/// Which ignore files are read, and how.
+#[derive(Clone, Copy)]
+pub struct Sources {
+    /// Whether `.ignore` and `.rgignore` are.
+    pub dot: bool,
+    /// Whether `.gitignore` is.
+    pub git: bool,
+    /// Whether `.git/info/exclude` is.
+    pub exclude: bool,
+    /// Whether the user's file for all repositories is.
+    pub global: bool,
+    /// Whether those of the folders are that a searched folder is in.
+    pub parents: bool,
+    /// Whether git's count in repositories alone.
+    pub needs_repository: bool,
+    /// Whether letters match in either case.
+    pub ignores_case: bool,
+}
+
+impl Sources {
+    // Whether any is read.
+    fn has_any(&self) -> bool {
+        self.dot || self.has_git()
+    }
+
+    // Whether any of git's is read.
+    fn has_git(&self) -> bool {
+        self.git || self.exclude || self.global
+    }
+}
+
+/// Which names of interest a folder has.
+#[derive(Clone, Copy)]
+pub struct Marks {
+    has_rgignore: bool,
+    has_ignore: bool,
+    has_gitignore: bool,
+    has_git: bool,
+    has_jj: bool,
+}
+
+// What a folder may have whose names aren't known.
+const ANY_MARKS: Marks = Marks {
+    has_rgignore: true,
+    has_ignore: true,
+    has_gitignore: true,
+    has_git: true,
+    has_jj: true,
+};
+
+impl Marks {
+    /// Those among names that end in a NUL each.
+    pub fn read(names: &[u8]) -> Marks {
+        let mut marks = Marks {
+            has_rgignore: false,
+            has_ignore: false,
+            has_gitignore: false,
+            has_git: false,
+            has_jj: false,
+        };
+        for name in names.split(|byte| *byte == 0) {
+            if name.starts_with(b".") {
+                marks.add(name);
+            }
+        }
+        marks
+    }
+
+    fn add(&mut self, name: &[u8]) {
+        match name {
+            b".rgignore" => self.has_rgignore = true,
+            b".ignore" => self.has_ignore = true,
+            b".gitignore" => self.has_gitignore = true,
+            b".git" => self.has_git = true,
+            b".jj" => self.has_jj = true,
+            _ => {}
+        }
+    }
+}
+
+/// The ignore files that count in a folder.
+#[derive(Drop)]
+pub struct Ignores<'r> {
+    rt: &'r HostRuntime,
+    sources: Sources,
+    // Whether files are named that count everywhere.
+    has_named: bool,
+    layers: Layers,
+    // The depths of the repositories that the folder is in, the nearest last.
+    repositories: Vec<usize>,
+    // The path of the folder from the root of the system on, with a slash at its end.
+    path: Vec<u8>,
+    // How many bytes of it are that of the folder that is searched, without the slash.
+    root: usize,
+    // How many bytes of it are before what is where the program runs.
+    start: usize,
+    row: Vec<bool>,
+    // What is wrong with files, as lines for standard error.
+    warnings: Vec<Failure>,
+}
+
+impl<'r> Ignores<'r> {
+    /// What the files of some sources say, and those at some paths, of which a later one decides before
+    /// an earlier one. An error is one of being out of memory.
+    pub fn read(
+        rt: &'r HostRuntime,
+        sources: Sources,
+        paths: &[&str],
+    ) -> Result<Ignores<'r>, AllocError> {
+        let mut ignores = Ignores {
+            rt,
+            sources,
+            has_named: !paths.is_empty(),
+            layers: Layers::new(rt.alloc()),
+            repositories: Vec::new(rt.alloc()),
+            path: Vec::new(rt.alloc()),
+            root: 0,
+            start: 0,
+            row: Vec::new(rt.alloc()),
+            warnings: Vec::new(rt.alloc()),
+        };
+        for path in paths {
+            ignores.add_file(Origin::Named, 0, path, true)?;
+        }
+        if sources.global {
+            ignores.add_global()?;
+        }
+        Ok(ignores)
+    }
+
+    /// Takes up a folder that is searched, which may be the current one, with an empty path: what the
+    /// folders say that it is in.
+    pub fn begin(&mut self, folder: &str) -> Result<(), AllocError> {
+        self.path.clear();
+        self.repositories.clear();
+        self.layers.leave(1);
+        if self.is_idle() {
+            return Ok(());
+        }
+        match fs::canonicalize(self.rt, if folder.is_empty() { "." } else { folder }) {
+            Ok(path) => self.begin_at(path.as_str().trim_end_matches('/')),
+            Err(_) => self.begin_at(""),
+        }
+    }
+
+    // Takes up the folder at a path from the root of the system on, without a slash at its end.
+    fn begin_at(&mut self, path: &str) -> Result<(), AllocError> {
+        self.root = path.len();
+        self.start = match env::current_dir(self.rt) {
+            Ok(current) => start_in(path, current.as_str().trim_end_matches('/')),
+            Err(_) => 1,
+        };
+        for (at, letter) in path.char_indices() {
+            if letter == '/' {
+                self.set_path(path.get(..at).unwrap_or(""))?;
+                self.add_parent(if at == 0 {
+                    "/"
+                } else {
+                    path.get(..at).unwrap_or("")
+                })?;
+            }
+        }
+        self.set_path(path)
+    }
+
+    // Adds what a folder says that the searched one is in. It is in a repository, whether the files of
+    // such folders are read or not.
+    fn add_parent(&mut self, folder: &str) -> Result<(), AllocError> {
+        if self.sources.has_git() && (self.has(folder, ".git")? || self.has(folder, ".jj")?) {
+            let depth = self.depth();
+            self.repositories.push(depth)?;
+        }
+        if self.sources.parents {
+            self.add_files(folder, ANY_MARKS)?;
+        }
+        Ok(())
+    }
+
+    /// Goes on in a folder with some names, which is at a path below the folder that is searched: what
+    /// its files say. `folder` is its path for the system.
+    pub fn enter(&mut self, folder: &str, below: &str, names: &[u8]) -> Result<(), AllocError> {
+        if self.is_idle() {
+            return Ok(());
+        }
+        self.path.truncate(self.root.saturating_add(1));
+        if !below.is_empty() {
+            self.path.extend_from_slice(below.as_bytes())?;
+            self.path.push(b'/')?;
+        }
+        let depth = self.depth();
+        self.layers.leave(depth);
+        for _ in 0..self.repositories.len() {
+            match self.repositories.last() {
+                Some(last) if *last >= depth => {
+                    self.repositories.pop();
+                }
+                _ => break,
+            }
+        }
+        let marks = Marks::read(names);
+        if marks.has_git || marks.has_jj {
+            self.repositories.push(depth)?;
+        }
+        self.add_files(folder, marks)
+    }
+
+    /// What the files say of a name in the folder.
+    pub fn decision(&mut self, name: &[u8], is_folder: bool) -> Result<Decision, AllocError> {
+        if self.layers.is_empty() {
+            return Ok(Decision::Unmatched);
+        }
+        let length = self.path.len();
+        self.path.extend_from_slice(name)?;
+        let repository = self.repository();
+        let decision = self.layers.decision(
+            &mut self.row,
+            self.path.as_slice(),
+            is_folder,
+            self.start,
+            repository,
+        );
+        self.path.truncate(length);
+        decision
+    }
+
+    /// What is wrong with files that were read, as lines for standard error.
+    pub fn warnings(&self) -> &[Failure] {
+        self.warnings.as_slice()
+    }
+
+    /// Forgets what was wrong.
+    pub fn clear_warnings(&mut self) {
+        self.warnings.clear();
+    }
+
+    // Whether nothing is read.
+    fn is_idle(&self) -> bool {
+        !self.has_named && !self.sources.has_any()
+    }
+
+    // The depth of the repository that the folder is in. If none is needed it is in one.
+    fn repository(&self) -> Option<usize> {
+        match self.repositories.last() {
+            Some(depth) => Some(*depth),
+            None if self.sources.needs_repository => None,
+            None => Some(0),
+        }
+    }
+
+    // Goes to the folder at a path without a slash at its end.
+    fn set_path(&mut self, path: &str) -> Result<(), AllocError> {
+        self.path.clear();
+        self.path.extend_from_slice(path.as_bytes())?;
+        self.path.push(b'/')?;
+        Ok(())
+    }
+
+    // How many folders the folder is in, and one more.
+    fn depth(&self) -> usize {
+        self.path.iter().filter(|byte| **byte == b'/').count()
+    }
+
+    // Adds the rules of the files that are in the folder, which has some names and a path for the
+    // system.
+    fn add_files(&mut self, folder: &str, marks: Marks) -> Result<(), AllocError> {
+        let depth = self.depth();
+        if marks.has_git && self.sources.exclude {
+            self.add_in(Origin::GitExclude, depth, folder, ".git/info/exclude")?;
+        }
+        if marks.has_gitignore && self.sources.git {
+            self.add_in(Origin::GitIgnore, depth, folder, ".gitignore")?;
+        }
+        if marks.has_ignore && self.sources.dot {
+            self.add_in(Origin::Ignore, depth, folder, ".ignore")?;
+        }
+        if marks.has_rgignore && self.sources.dot {
+            self.add_in(Origin::RgIgnore, depth, folder, ".rgignore")?;
+        }
+        Ok(())
+    }
+
+    // Whether a folder has something with a name.
+    fn has(&self, folder: &str, name: &str) -> Result<bool, AllocError> {
+        let path = join(self.rt, folder, name)?;
+        Ok(fs::metadata(self.rt, path.as_str()).is_ok())
+    }
+
+    // Adds the rules of a file of a folder, if it is there.
+    fn add_in(
+        &mut self,
+        origin: Origin,
+        depth: usize,
+        folder: &str,
+        name: &str,
+    ) -> Result<(), AllocError> {
+        let path = join(self.rt, folder, name)?;
+        self.add_file(origin, depth, path.as_str(), false)
+    }
+
+    // Adds the rules of the user's file for all repositories, if it is there.
+    fn add_global(&mut self) -> Result<(), AllocError> {
+        match env::var(self.rt, "XDG_CONFIG_HOME") {
+            Ok(folder) if !folder.is_empty() => {
+                self.add_in(Origin::GitGlobal, 0, folder.as_str(), "git/ignore")
+            }
+            _ => match env::var(self.rt, "HOME") {
+                Ok(home) if !home.is_empty() => {
+                    self.add_in(Origin::GitGlobal, 0, home.as_str(), ".config/git/ignore")
+                }
+                _ => Ok(()),
+            },
+        }
+    }
+
+    // Adds the rules of the file at a path, or what is wrong with it. A file that needn't be there may
+    // be absent.
+    fn add_file(
+        &mut self,
+        origin: Origin,
+        depth: usize,
+        path: &str,
+        is_needed: bool,
+    ) -> Result<(), AllocError> {
+        match fs::read(self.rt, path) {
+            Ok(contents) => self.add_rules(origin, depth, path, contents.as_slice()),
+            Err(error) if error.kind() == io::ErrorKind::OutOfMemory => Err(AllocError),
+            Err(error) if is_needed || !is_absent(&error) => {
+                self.warnings
+                    .push(Failure::of_cause(self.rt.alloc(), path, &error))?;
+                Ok(())
+            }
+            Err(_) => Ok(()),
+        }
+    }
+
+    fn add_rules(
+        &mut self,
+        origin: Origin,
+        depth: usize,
+        path: &str,
+        contents: &[u8],
+    ) -> Result<(), AllocError> {
+        let mut rules = Rules::new(self.rt.alloc());
+        let mut misread = Vec::new(self.rt.alloc());
+        rules.add_lines(
+            self.rt.alloc(),
+            contents,
+            self.sources.ignores_case,
+            &mut misread,
+        )?;
+        for line in &misread {
+            self.warnings.push(misread_failure(self.rt, path, line))?;
+        }
+        if rules.is_empty() {
+            return Ok(());
+        }
+        self.layers.insert(Layer {
+            origin,
+            depth,
+            start: self.path.len(),
+            rules,
+        })
+    }
+}
+
+// How many bytes of the path of a folder are before what is in the current one, or if it isn't in that
+// before the first name.
+fn start_in(folder: &str, current: &str) -> usize {
+    match folder.strip_prefix(current) {
+        Some(rest) if rest.is_empty() || rest.starts_with('/') => current.len().saturating_add(1),
+        _ => 1,
+    }
+}
+
+// Whether an error is that there is no file at a path.
+fn is_absent(error: &io::Error) -> bool {
+    matches!(
+        error.kind(),
+        io::ErrorKind::NotFound | io::ErrorKind::NotADirectory | io::ErrorKind::IsADirectory
+    )
+}
+
+// What is wrong with a line of a file.
+fn misread_failure(rt: &HostRuntime, path: &str, line: &Misread) -> Failure {
+    let number = line.number;
+    let cause = line.cause;
+    Failure::of_text(format!(in rt.alloc(); "linegrep: {path}: line {number}: {cause}\n"))
+}
+
+// The path of a name in a folder.
+fn join(rt: &HostRuntime, folder: &str, name: &str) -> Result<String, AllocError> {
+    let mut path = String::from_str(rt.alloc(), folder)?;
+    if !folder.is_empty() && !folder.ends_with('/') {
+        path.push('/')?;
+    }
+    path.push_str(name)?;
+    Ok(path)
+}
