@@ -1,4 +1,5 @@
 pub mod ClassLemmas
+pub mod DecisionLemmas
 pub mod GlobLemmas
 pub mod LayerLemmas
 pub mod LineLemmas

@@ -1,6 +1,6 @@
 -- What the rules of an ignore file say of a path: the last rule that is about it decides.
 use Rattle.std.specs.Prelude.{◌≡◌, ℕ, ◌+◌, ◌<◌, ◌≤◌, ◌⊎◌, Bool, true, false, if◌then◌else◌, List, length}
-use Rattle.std.specs.Prelude.{slice_index_or}
+use Rattle.std.specs.Prelude.{slice_index_or, ◌∷◌, ◌++◌}
 use Rattle.grep_ignore.specs.Matches.{Matches}
 use Rattle.grep_ignore.specs.declared.rules.Decision.{Decision}
 use Rattle.grep_ignore.specs.declared.rules.Decision.TheVariants.{Ignored, Kept, Unmatched}
@@ -33,3 +33,10 @@ IsDecided rules path is_folder decision =
     ⊎ ((last : ℕ) × (rule : Rule) × (last < length rules) × (slice_index_or rules last rule ≡ rule)
     × IsAbout path is_folder rule × (decision ≡ decision_of rule)
     × NoneFrom (last + 1) rules path is_folder)
+
+-- what is at a path is left out if the rules leave it out, or a folder on the way to it: nothing below
+-- such a folder comes back
+abbrev pub IsLeftOut : List Rule → List ℕ → Bool → Type 0
+IsLeftOut rules path is_folder = IsDecided rules path is_folder Ignored
+    ⊎ ((folder : List ℕ) × (rest : List ℕ) × (path ≡ folder ++ 47 ∷ rest)
+    × IsDecided rules folder true Ignored)

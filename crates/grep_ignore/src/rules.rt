@@ -1,8 +1,10 @@
 //! The rules of an ignore file.
 ghost use Rattle.std.specs.Prelude.{◌≡◌, ◌↔◌, ◌++◌, [], List, IfErr, IfOk, IsTrue, OnOk};
-ghost use Rattle.grep_ignore.specs.Decisions.{IsAbout, IsDecided, decision_of, is_kept};
+ghost use Rattle.std.specs.Prelude.{◌<◌, length, slice_index, take, true};
+ghost use Rattle.grep_ignore.specs.Decisions.{IsAbout, IsDecided, IsLeftOut, decision_of, is_kept};
 ghost use Rattle.grep_ignore.specs.Globs.{OnMalformed};
 ghost use Rattle.grep_ignore.specs.Lines.{AreOfLine, AreOfLines, IsMisread, IsRead, lines_of};
+ghost use Rattle.grep_ignore.specs.declared.rules.Decision.TheVariants.{Ignored};
 ghost use Rattle.grep_ignore.specs.declared.rules.Misread.{Misread};
 ghost use Rattle.grep_ignore.specs.declared.rules.Rule.{Rule};
 
@@ -168,6 +170,54 @@ impl Rules {
             }
         }
         Ok(Decision::Unmatched)
+    }
+
+    /// Whether the rules leave out what is at a path, or a folder on the way to it. `row` is room to
+    /// work in. An error is one of being out of memory.
+    pub fn leaves_out(
+        &self,
+        row: &mut Vec<bool>,
+        path: &[u8],
+        is_folder: bool,
+    ) -> Result<bool, AllocError>
+        ensures { IfOk result
+            (λ is_left_out. IsTrue is_left_out ↔ IsLeftOut self.now path.now is_folder) }
+    {
+        let mut at = 0;
+        while at < path.len() {
+            match self.ignores_at(row, path, at) {
+                Ok(false) => {}
+                Ok(true) => return Ok(true),
+                Err(error) => return Err(error),
+            }
+            at += 1;
+        }
+        self.ignores(row, path, is_folder)
+    }
+
+    // Whether there is a slash at a position of a path, and the folder before it is left out.
+    fn ignores_at(&self, row: &mut Vec<bool>, path: &[u8], at: usize) -> Result<bool, AllocError>
+        requires { at < length path.now }
+        ensures { IfOk result (λ ignores. IsTrue ignores ↔ ((slice_index path.now at ≡ 47)
+            × IsDecided self.now (take at path.now) true Ignored)) }
+    {
+        if path[at] == b'/' {
+            self.ignores(row, &path[..at], true)
+        } else {
+            Ok(false)
+        }
+    }
+
+    // Whether the last rule that matches what is at a path leaves it out.
+    fn ignores(&self, row: &mut Vec<bool>, path: &[u8], is_folder: bool) -> Result<bool, AllocError>
+        ensures { IfOk result
+            (λ ignores. IsTrue ignores ↔ IsDecided self.now path.now is_folder Ignored) }
+    {
+        match self.decision(row, path, is_folder)? {
+            Decision::Ignored => Ok(true),
+            Decision::Kept => Ok(false),
+            Decision::Unmatched => Ok(false),
+        }
     }
 
     /// Whether there is no rule.

@@ -1,5 +1,5 @@
 //! What the lines of ignore files leave out.
-use crate::{Decision, Rules};
+use crate::Rules;
 use std::alloc::{AllocError, Global};
 
 // The lines of a file, a path, which is that of a folder if a slash is at its end, and whether it is
@@ -36,6 +36,8 @@ const PLACES: &[Row] = &[
     (b"b/**", b"b/", false),
     (b"b/**/a", b"b/a", true),
     (b"b/**/a", b"b/c/d/a", true),
+    (b"b/\n!b/a", b"b/a", true),
+    (b"b/*\n!b/a", b"b/a", false),
 ];
 
 const LINES: &[Row] = &[
@@ -80,9 +82,8 @@ fn ignores(alloc: Global, contents: &[u8], path: &[u8]) -> Result<bool, AllocErr
     let mut misread = Vec::new(alloc);
     rules.add_lines(alloc, contents, false, &mut misread)?;
     let mut row = Vec::new(alloc);
-    let decision = match path {
-        [path @ .., b'/'] => rules.decision(&mut row, path, true)?,
-        _ => rules.decision(&mut row, path, false)?,
-    };
-    Ok(decision == Decision::Ignored)
+    match path {
+        [path @ .., b'/'] => rules.leaves_out(&mut row, path, true),
+        _ => rules.leaves_out(&mut row, path, false),
+    }
 }
