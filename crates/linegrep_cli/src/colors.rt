@@ -1,11 +1,17 @@
 //! Whether what is written has colors.
+ghost use Rattle.std.specs.Prelude.{◌≡◌, IfSome, option_map};
+ghost use Rattle.linegrep_cli.specs.PrinterOptions.{known_colors};
+
 use grep_printer::ColorSpecs;
 use std::env;
 use std::env::VarError;
 
 /// The colors for a choice of the options. If it is open, a terminal gets colors, unless the
 /// environment asks for none.
-pub fn color_specs(rt: &HostRuntime, choice: Option<&str>, is_terminal: bool) -> ColorSpecs {
+pub fn color_specs(rt: &HostRuntime, choice: Option<&str>, is_terminal: bool) -> ColorSpecs
+    ensures { IfSome (known_colors (option_map (λ text. text.now) choice.entry) is_terminal)
+        (λ known. result ≡ known) }
+{
     let is_colored = match choice {
         Some("always" | "ansi") => true,
         Some("never") => false,

@@ -1,4 +1,6 @@
 //! Searches of which the reports are written as JSON.
+ghost use Rattle.std.specs.Prelude.{◌≡◌};
+
 use crate::haystacks::search;
 use crate::printers::Searched;
 use grep_output::Output;
@@ -18,7 +20,9 @@ pub struct JsonRun<W> {
 
 impl<W: Output> JsonRun<W> {
     /// A run that begins now.
-    pub fn new(rt: &HostRuntime, printer: Json<W>) -> JsonRun<W> {
+    pub fn new(rt: &HostRuntime, printer: Json<W>) -> JsonRun<W>
+        ensures { result.printer ≡ printer }
+    {
         JsonRun {
             printer,
             stats: Stats::new(),

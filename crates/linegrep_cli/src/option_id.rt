@@ -1,4 +1,7 @@
 //! What options there are.
+ghost use Rattle.std.specs.Prelude.{◌≡◌};
+ghost use Rattle.linegrep_cli.specs.OptionUses.{contraries, own_contraries};
+
 use clap::ArgAction;
 use clap::builder::ValueParser;
 
@@ -170,8 +173,12 @@ impl OptionId {
         }
     }
 
-    /// The options that take this one back if they are used after it.
-    pub fn contraries(self) -> &'static [OptionId] {
+    /// The options that take this one back if they are used after it: those that speak of the same
+    /// thing.
+    #[tactic(auto, unfolding(crate::specs::OptionUses::contraries))]
+    pub fn contraries(self) -> &'static [OptionId]
+        ensures { result.now ≡ contraries self }
+    {
         match self {
             OptionId::Count
             | OptionId::CountMatches
@@ -191,12 +198,15 @@ impl OptionId {
             OptionId::Crlf => &[OptionId::NoCrlf, OptionId::NullData],
             OptionId::Multiline => &[OptionId::NoMultiline, OptionId::StopOnNonmatch],
             OptionId::StopOnNonmatch => &[OptionId::Multiline],
-            _ => self.own_contraries(),
+            _ => &[],
         }
     }
 
-    // Those of an option that only its opposite takes back.
-    fn own_contraries(self) -> &'static [OptionId] {
+    /// Those of an option that only its opposite takes back.
+    #[tactic(auto, unfolding(crate::specs::OptionUses::own_contraries))]
+    pub fn own_contraries(self) -> &'static [OptionId]
+        ensures { result.now ≡ own_contraries self }
+    {
         match self {
             OptionId::FixedStrings => &[OptionId::NoFixedStrings],
             OptionId::InvertMatch => &[OptionId::NoInvertMatch],

@@ -1,4 +1,16 @@
 //! The options of the command line.
+ghost use Rattle.std.specs.Prelude.{◌≡◌, ◌&&◌, None, if◌then◌else◌, option_map};
+ghost use Rattle.linegrep_cli.specs.OptionMeanings.{after_lines, before_lines, context_lines};
+ghost use Rattle.linegrep_cli.specs.OptionMeanings.{paths_of, searches_input, shows_numbers};
+ghost use Rattle.linegrep_cli.specs.OptionMeanings.{value_of};
+ghost use Rattle.linegrep_cli.specs.PrinterOptions.{color_choice, counts, counts_matches};
+ghost use Rattle.linegrep_cli.specs.PrinterOptions.{is_line_buffered, is_summary};
+ghost use Rattle.linegrep_cli.specs.PrinterOptions.{is_summary_of_paths, shows_headings};
+ghost use Rattle.linegrep_cli.specs.PrinterOptions.{shows_paths, summary_kind};
+ghost use Rattle.linegrep_cli.specs.SearcherOptions.{detection_of, is_all_searched, label_of};
+ghost use Rattle.linegrep_cli.specs.SearcherOptions.{terminator_of};
+ghost use Rattle.linegrep_cli.specs.OptionUses.{applies, has, is_none_after, last_use};
+
 use crate::command::{Row, tables};
 use crate::file_id::FileId;
 use crate::option_id::{COUNT, Kind, OptionId};
@@ -35,16 +47,27 @@ impl Uses {
     }
 
     // Whether an option is used, and none after it that takes it back.
-    fn has(&self, option: OptionId) -> bool {
+    #[tactic(auto, unfolding(crate::specs::OptionUses::applies))]
+    fn has(&self, option: OptionId) -> bool
+        ensures { result ≡ applies self.now option }
+    {
         let last = self.last_of(option);
         last > 0
-            && option
-                .contraries()
-                .iter()
-                .all(|contrary| self.last_of(*contrary) <= last)
+            && self.is_none_after(last, option.contraries())
+            && self.is_none_after(last, option.own_contraries())
     }
 
-    fn last_of(&self, option: OptionId) -> usize {
+    // Whether none of some options is used after a place.
+    fn is_none_after(&self, place: usize, options: &[OptionId]) -> bool
+        ensures { result ≡ is_none_after self.now place options.now }
+    {
+        options.iter().all(|option| self.last_of(*option) <= place)
+    }
+
+    #[tactic(auto, unfolding(crate::specs::OptionUses::last_use))]
+    fn last_of(&self, option: OptionId) -> usize
+        ensures { result ≡ last_use self.now option }
+    {
         self.last.get(option as usize).copied().unwrap_or(0)
     }
 }
@@ -123,7 +146,9 @@ impl<'m, 'w> Options<'m, 'w> {
     }
 
     /// Whether an option is used, and none after it that takes it back.
-    pub fn has(&self, option: OptionId) -> bool {
+    pub fn has(&self, option: OptionId) -> bool
+        ensures { result ≡ has self.now option }
+    {
         self.uses.has(option)
     }
 
@@ -161,16 +186,20 @@ impl<'m, 'w> Options<'m, 'w> {
     }
 
     // Whether `-u` is given three times, and nothing after it about binary files.
-    fn is_all_searched(&self) -> bool {
+    fn is_all_searched(&self) -> bool
+        ensures { result ≡ is_all_searched self.now }
+    {
         let last = self.uses.last_of(OptionId::Unrestricted);
         self.unrestricted > 2
-            && [OptionId::Text, OptionId::NoText, OptionId::NoBinary]
-                .iter()
-                .all(|option| self.uses.last_of(*option) < last)
+            && self.uses.last_of(OptionId::Text) < last
+            && self.uses.last_of(OptionId::NoText) < last
+            && self.uses.last_of(OptionId::NoBinary) < last
     }
 
     /// When there are colors.
-    pub fn color(&self) -> Option<&'w str> {
+    pub fn color(&self) -> Option<&'w str>
+        ensures { option_map (λ text. text.now) result ≡ color_choice self.now }
+    {
         if self.has(OptionId::Color) {
             self.color
         } else if self.has(OptionId::Pretty) {
@@ -181,7 +210,9 @@ impl<'m, 'w> Options<'m, 'w> {
     }
 
     /// The label of the files' encoding.
-    pub fn encoding(&self) -> Option<&'w str> {
+    pub fn encoding(&self) -> Option<&'w str>
+        ensures { result ≡ label_of self.now }
+    {
         if self.has(OptionId::Encoding) {
             self.encoding
         } else {
@@ -190,7 +221,9 @@ impl<'m, 'w> Options<'m, 'w> {
     }
 
     /// The paths of what is searched.
-    pub fn paths(&self) -> &'m [&'w str] {
+    pub fn paths(&self) -> &'m [&'w str]
+        ensures { result.now ≡ paths_of self.now }
+    {
         match self.operands {
             Some(operands) if self.names_patterns => operands,
             Some([_, paths @ ..]) => paths,
@@ -199,7 +232,9 @@ impl<'m, 'w> Options<'m, 'w> {
     }
 
     /// The kind of the summary that is asked for, if one is, of a search by line or across lines.
-    pub fn summary_kind(&self, is_across: bool) -> Option<SummaryKind> {
+    pub fn summary_kind(&self, is_across: bool) -> Option<SummaryKind>
+        ensures { result ≡ summary_kind self.now is_across }
+    {
         if self.has(OptionId::Quiet) {
             Some(SummaryKind::Quiet)
         } else if self.has(OptionId::Files) {
@@ -218,30 +253,41 @@ impl<'m, 'w> Options<'m, 'w> {
     }
 
     // Whether lines or matches are counted.
-    fn counts(&self) -> bool {
+    fn counts(&self) -> bool
+        ensures { result ≡ counts self.now }
+    {
         self.has(OptionId::Count) || self.has(OptionId::CountMatches)
     }
 
     // Whether single matches are counted, and not lines: across lines `-c` counts them too. An
     // inverted count is one of lines.
-    fn counts_matches(&self, is_across: bool) -> bool {
+    fn counts_matches(&self, is_across: bool) -> bool
+        ensures { result ≡ counts_matches self.now is_across }
+    {
         let counts_parts = self.has(OptionId::OnlyMatching) || is_across;
         !self.has(OptionId::InvertMatch)
             && (self.has(OptionId::CountMatches) || self.has(OptionId::Count) && counts_parts)
     }
 
     // Whether something is written in place of lines, or nothing.
-    fn is_summary(&self) -> bool {
+    fn is_summary(&self) -> bool
+        ensures { result ≡ is_summary self.now }
+    {
         self.has(OptionId::Quiet) || self.counts() || self.is_summary_of_paths()
     }
 
     /// Whether a file counts as a match if it has none.
-    pub fn seeks_unmatched(&self) -> bool {
+    pub fn seeks_unmatched(&self) -> bool
+        ensures { result
+            ≡ (has self.now OptionId.FilesWithoutMatch && has self.now OptionId.Quiet) }
+    {
         self.has(OptionId::FilesWithoutMatch) && self.has(OptionId::Quiet)
     }
 
     /// Whether standard input is searched, and nothing else.
-    pub fn searches_input(&self) -> bool {
+    pub fn searches_input(&self) -> bool
+        ensures { result ≡ searches_input self.now }
+    {
         match self.paths() {
             [] => self.streams.has_input && !self.reads_patterns && !self.has(OptionId::Files),
             [path] => *path == "-",
@@ -251,7 +297,9 @@ impl<'m, 'w> Options<'m, 'w> {
 
     /// Whether paths are written: always in JSON and in summaries of paths; else, unless they are
     /// asked not to be, if they are asked for or several files may be searched.
-    pub fn shows_paths(&self, searches_several: bool) -> bool {
+    pub fn shows_paths(&self, searches_several: bool) -> bool
+        ensures { result ≡ shows_paths self.now searches_several }
+    {
         if self.has(OptionId::Json) || self.is_summary_of_paths() {
             return true;
         }
@@ -260,7 +308,10 @@ impl<'m, 'w> Options<'m, 'w> {
 
     /// The file that isn't searched, if there is one: that which the lines are written to. Without
     /// lines nothing grows while it is searched.
-    pub fn left_out(&self) -> Option<FileId> {
+    pub fn left_out(&self) -> Option<FileId>
+        ensures { result
+            ≡ (if is_summary self.now then None else self.now.streams.output) }
+    {
         if self.is_summary() {
             None
         } else {
@@ -268,7 +319,9 @@ impl<'m, 'w> Options<'m, 'w> {
         }
     }
 
-    fn is_summary_of_paths(&self) -> bool {
+    fn is_summary_of_paths(&self) -> bool
+        ensures { result ≡ is_summary_of_paths self.now }
+    {
         self.has(OptionId::FilesWithMatches)
             || self.has(OptionId::FilesWithoutMatch)
             || self.has(OptionId::Files)
@@ -276,7 +329,9 @@ impl<'m, 'w> Options<'m, 'w> {
 
     /// Whether lines are numbered. For a terminal they are, if nothing else is asked for and not
     /// standard input alone is searched.
-    pub fn shows_numbers(&self) -> bool {
+    pub fn shows_numbers(&self) -> bool
+        ensures { result ≡ shows_numbers self.now }
+    {
         !self.has(OptionId::NoLineNumber)
             && (self.has(OptionId::LineNumber)
                 || self.has(OptionId::Pretty)
@@ -287,7 +342,9 @@ impl<'m, 'w> Options<'m, 'w> {
 
     /// Whether a path is written once, above the lines of its file. For a terminal it is, if
     /// nothing else is asked for.
-    pub fn shows_headings(&self) -> bool {
+    pub fn shows_headings(&self) -> bool
+        ensures { result ≡ shows_headings self.now }
+    {
         !self.has(OptionId::NoHeading)
             && (self.has(OptionId::Heading)
                 || self.has(OptionId::Pretty)
@@ -296,13 +353,17 @@ impl<'m, 'w> Options<'m, 'w> {
 
     /// Whether each line is written at once, and not many together. For a terminal it is, if nothing
     /// else is asked for.
-    pub fn is_line_buffered(&self) -> bool {
+    pub fn is_line_buffered(&self) -> bool
+        ensures { result ≡ is_line_buffered self.now }
+    {
         self.has(OptionId::LineBuffered)
             || self.streams.is_terminal && !self.has(OptionId::BlockBuffered)
     }
 
     /// What ends a line.
-    pub fn line_terminator(&self) -> LineTerminator {
+    pub fn line_terminator(&self) -> LineTerminator
+        ensures { result ≡ terminator_of self.now }
+    {
         if self.has(OptionId::NullData) {
             LineTerminator::byte(0)
         } else if self.has(OptionId::Crlf) {
@@ -313,18 +374,24 @@ impl<'m, 'w> Options<'m, 'w> {
     }
 
     /// How many lines of context are after a match.
-    pub fn after_context(&self) -> usize {
+    pub fn after_context(&self) -> usize
+        ensures { result ≡ after_lines self.now }
+    {
         self.context_of(self.value(OptionId::AfterContext, self.after_context))
     }
 
     /// How many lines of context are before a match.
-    pub fn before_context(&self) -> usize {
+    pub fn before_context(&self) -> usize
+        ensures { result ≡ before_lines self.now }
+    {
         self.context_of(self.value(OptionId::BeforeContext, self.before_context))
     }
 
     // How many lines of context are on a side: by its own option, or else by the one for both. Where
     // all lines are written there are none besides.
-    fn context_of(&self, own: Option<u64>) -> usize {
+    fn context_of(&self, own: Option<u64>) -> usize
+        ensures { result ≡ context_lines self.now own }
+    {
         if self.has(OptionId::Passthru) {
             return 0;
         }
@@ -333,12 +400,16 @@ impl<'m, 'w> Options<'m, 'w> {
     }
 
     // The value of an option, unless one after it takes it back.
-    fn value(&self, option: OptionId, value: Option<u64>) -> Option<u64> {
+    fn value(&self, option: OptionId, value: Option<u64>) -> Option<u64>
+        ensures { result ≡ value_of self.now option value }
+    {
         if self.has(option) { value } else { None }
     }
 
     /// What is done about a file with a NUL, which is binary unless it is to be searched as text.
-    pub fn binary_detection(&self) -> BinaryDetection {
+    pub fn binary_detection(&self) -> BinaryDetection
+        ensures { result ≡ detection_of self.now }
+    {
         let is_text = self.has(OptionId::Text) && !self.is_all_searched();
         if is_text || self.has(OptionId::NullData) {
             BinaryDetection::none()

@@ -1,4 +1,12 @@
 //! The patterns that are searched for.
+ghost use Rattle.std.specs.Prelude.{◌≡◌, map, string_bytes, IfOk};
+ghost use Rattle.std.specs.List.{list_any};
+ghost use Rattle.grep_regex.specs.Views.{regex_options, regex_patterns};
+ghost use Rattle.linegrep_cli.specs.OptionUses.{has};
+ghost use Rattle.linegrep_cli.specs.PatternOptions.{has_capital, ignores_case, is_escape};
+ghost use Rattle.linegrep_cli.specs.PatternOptions.{pattern_options, pattern_texts};
+ghost use Rattle.linegrep_cli.specs.PatternOptions.{searched_options};
+
 use crate::failures::{Failure, pattern_failure};
 use crate::option_id::OptionId;
 use crate::options::Options;
@@ -136,28 +144,47 @@ fn push_text(alloc: Global, texts: &mut Vec<String>, text: &str) -> Result<(), A
     Ok(())
 }
 
-/// Compiles patterns as the options say; where files are listed one that matches everywhere. An error is that of a pattern, or that there is no memory.
+/// Compiles patterns as the options say; where files are listed one that matches everywhere. An
+/// error is that of a pattern, or that there is no memory.
 pub fn compile(
     alloc: Global,
     options: &Options<'_, '_>,
     patterns: &[String],
-) -> Result<Regex, Failure> {
+) -> Result<Regex, Failure>
+    ensures options { IfOk result (λ regex.
+        regex_options regex ≡ pattern_options options.now patterns.now) }
+    ensures patterns { IfOk result (λ regex.
+        regex_patterns regex ≡ pattern_texts options.now patterns.now) }
+{
     if options.has(OptionId::Files) {
-        return match RegexMatcherBuilder::new().build_many(alloc, &[""]) {
-            Ok(regex) => Ok(regex),
-            Err(error) => Err(pattern_failure(alloc, &[""], &error)),
-        };
+        return compile_with(alloc, &RegexMatcherBuilder::new(), &[""]);
     }
-    let Ok(texts) = texts_of(alloc, patterns) else {
-        return Err(Failure::out_of_memory());
-    };
-    match builder(options, patterns).build_many(alloc, &texts) {
-        Ok(regex) => Ok(regex),
-        Err(error) => Err(pattern_failure(alloc, &texts, &error)),
+    match texts_of(alloc, patterns) {
+        Ok(texts) => compile_with(alloc, &builder(options, patterns), &texts),
+        Err(_) => Err(Failure::out_of_memory()),
     }
 }
 
-fn texts_of<'p>(alloc: Global, patterns: &'p [String]) -> Result<Vec<&'p str>, AllocError> {
+fn compile_with(
+    alloc: Global,
+    builder: &RegexMatcherBuilder,
+    texts: &[&str],
+) -> Result<Regex, Failure>
+    ensures options { IfOk result (λ regex. regex_options regex ≡ builder.now) }
+    ensures patterns { IfOk result
+        (λ regex. regex_patterns regex ≡ map (λ text. text.now) texts.now) }
+{
+    match builder.build_many(alloc, texts) {
+        Ok(regex) => Ok(regex),
+        Err(error) => Err(pattern_failure(alloc, texts, &error)),
+    }
+}
+
+// The texts of patterns.
+fn texts_of<'p>(alloc: Global, patterns: &'p [String]) -> Result<Vec<&'p str>, AllocError>
+    ensures { IfOk result (λ texts.
+        map (λ text. text.now) texts.items ≡ map string_bytes patterns.entry.now) }
+{
     let mut texts = Vec::new(alloc);
     for pattern in patterns {
         texts.push(pattern.as_str())?;
@@ -166,7 +193,9 @@ fn texts_of<'p>(alloc: Global, patterns: &'p [String]) -> Result<Vec<&'p str>, A
 }
 
 // How the patterns are compiled. Where a match may run over lines no terminator is declared.
-fn builder(options: &Options<'_, '_>, patterns: &[String]) -> RegexMatcherBuilder {
+fn builder(options: &Options<'_, '_>, patterns: &[String]) -> RegexMatcherBuilder
+    ensures { result ≡ searched_options options.now patterns.now }
+{
     let mut builder = RegexMatcherBuilder::new();
     builder
         .multi_line(true)
@@ -189,29 +218,45 @@ fn builder(options: &Options<'_, '_>, patterns: &[String]) -> RegexMatcherBuilde
 }
 
 // Whether letters match in either case.
-fn ignores_case(options: &Options<'_, '_>, patterns: &[String]) -> bool {
-    if options.has(OptionId::IgnoreCase) {
-        return true;
-    }
-    let escape = if options.has(OptionId::FixedStrings) {
-        None
-    } else {
-        Some('\\')
-    };
-    options.has(OptionId::SmartCase)
-        && !patterns
-            .iter()
-            .any(|text| has_capital(text.as_str(), escape))
+fn ignores_case(options: &Options<'_, '_>, patterns: &[String]) -> bool
+    ensures { result ≡ ignores_case options.now patterns.now }
+{
+    let is_literal = options.has(OptionId::FixedStrings);
+    options.has(OptionId::IgnoreCase)
+        || options.has(OptionId::SmartCase) && !have_capital(patterns, is_literal)
 }
 
-// Whether a pattern has a capital letter, but for one right after an escape character.
-fn has_capital(pattern: &str, escape: Option<char>) -> bool {
+// Whether one of some patterns has a capital letter.
+fn have_capital(patterns: &[String], is_literal: bool) -> bool
+    ensures { result ≡ list_any (λ text. has_capital is_literal (string_bytes text)) patterns.now }
+{
+    patterns
+        .iter()
+        .any(|text| has_capital(text.as_str(), is_literal))
+}
+
+// Whether a pattern has a capital letter, but for one right after an escape.
+#[tactic(auto, unfolding(crate::specs::PatternOptions::has_capital))]
+fn has_capital(pattern: &str, is_literal: bool) -> bool
+    ensures { result ≡ has_capital is_literal pattern.now }
+{
     let mut is_escaped = false;
     for letter in pattern.chars() {
-        if !is_escaped && letter.is_uppercase() {
+        if is_escaped {
+            is_escaped = false;
+            continue;
+        }
+        if letter.is_uppercase() {
             return true;
         }
-        is_escaped = !is_escaped && Some(letter) == escape;
+        is_escaped = is_escape(letter, is_literal);
     }
     false
+}
+
+// Whether a letter takes its meaning from the one after it.
+fn is_escape(letter: char, is_literal: bool) -> bool
+    ensures { result ≡ is_escape is_literal letter }
+{
+    !is_literal && letter == '\\'
 }

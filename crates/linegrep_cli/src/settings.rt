@@ -1,4 +1,16 @@
 //! The searcher and the printer that the options ask for.
+ghost use Rattle.std.specs.Prelude.{◌≡◌, ◌⊎◌, false, true, if◌then◌else◌, IfErr, IfOk};
+ghost use Rattle.linegrep_cli.specs.OptionMeanings.{after_lines, before_lines, shows_numbers};
+ghost use Rattle.linegrep_cli.specs.OptionUses.{has};
+ghost use Rattle.linegrep_cli.specs.PrinterOptions.{IsPrinterOf, column_limit, line_settings};
+ghost use Rattle.linegrep_cli.specs.PrinterOptions.{path_terminator_of, separator_of, shows_headings};
+ghost use Rattle.linegrep_cli.specs.PrinterOptions.{summary_settings};
+ghost use Rattle.linegrep_cli.specs.SearcherOptions.{IsLabelError, detection_of};
+ghost use Rattle.linegrep_cli.specs.SearcherOptions.{encoding_of_label, is_unknown_label, label_of};
+ghost use Rattle.linegrep_cli.specs.SearcherOptions.{looks_for_mark, refuses_label};
+ghost use Rattle.linegrep_cli.specs.SearcherOptions.{searcher_settings};
+ghost use Rattle.linegrep_cli.specs.SearcherOptions.{terminator_of};
+
 use crate::colors::color_specs;
 use crate::failures::Failure;
 use crate::json_run::JsonRun;
@@ -12,16 +24,29 @@ use grep_printer::{
 use grep_searcher::{ConfigError, Encoding, Searcher, SearcherBuilder};
 use std::alloc::Global;
 
-/// The searcher that the options ask for; where files are listed any does. Lines are numbered for a terminal, if nothing else is
-/// asked for. An error is that of a setting, or that there is no memory.
-pub fn build_searcher(alloc: Global, options: &Options<'_, '_>) -> Result<Searcher, Failure> {
+/// The searcher that the options ask for; where files are listed any does. Lines are numbered for a
+/// terminal, if nothing else is asked for. An error is that of a label of an encoding that isn't known, or that there is no
+/// memory.
+pub fn build_searcher(alloc: Global, options: &Options<'_, '_>) -> Result<Searcher, Failure>
+    ensures settings { IfOk result (λ searcher.
+        searcher ≡ record { settings = searcher_settings options.now; has_buffers = true }) }
+    ensures known { IfOk result (λ _. refuses_label options.now ≡ false) }
+{
     match try_searcher(alloc, options) {
         Ok(searcher) => Ok(searcher),
         Err(error) => Err(Failure::new(alloc, &error)),
     }
 }
 
-fn try_searcher(alloc: Global, options: &Options<'_, '_>) -> Result<Searcher, ConfigError> {
+// The searcher. An error is that of a label that isn't known, or that there is no memory.
+fn try_searcher(alloc: Global, options: &Options<'_, '_>) -> Result<Searcher, ConfigError>
+    ensures settings { IfOk result (λ searcher.
+        searcher ≡ record { settings = searcher_settings options.now; has_buffers = true }) }
+    ensures known { IfOk result (λ _. refuses_label options.now ≡ false) }
+    ensures error { IfErr result (λ error. (error ≡ ConfigError.Memory)
+        ⊎ (IsLabelError (label_of options.now) error
+        × (refuses_label options.now ≡ true))) }
+{
     if options.has(OptionId::Files) {
         return SearcherBuilder::new().build(alloc);
     }
@@ -29,7 +54,7 @@ fn try_searcher(alloc: Global, options: &Options<'_, '_>) -> Result<Searcher, Co
     let mut builder = SearcherBuilder::new();
     builder
         .encoding(encoding)
-        .bom_sniffing(options.encoding() != Some("none"))
+        .bom_sniffing(looks_for_mark(options.encoding()))
         .line_number(options.shows_numbers());
     select(&mut builder, options);
     surround(&mut builder, options);
@@ -37,7 +62,16 @@ fn try_searcher(alloc: Global, options: &Options<'_, '_>) -> Result<Searcher, Co
 }
 
 // Sets which lines a search selects.
-fn select(builder: &mut SearcherBuilder, options: &Options<'_, '_>) {
+fn select(builder: &mut SearcherBuilder, options: &Options<'_, '_>)
+    ensures { builder.new ≡ record builder.old {
+      line_terminator = terminator_of options.now;
+      invert_match = has options.now OptionId.InvertMatch;
+      multi_line = has options.now OptionId.Multiline;
+      stop_on_nonmatch = has options.now OptionId.StopOnNonmatch;
+      max_matches = options.now.max_count;
+      binary_detection = detection_of options.now;
+    } }
+{
     builder
         .line_terminator(options.line_terminator())
         .invert_match(options.has(OptionId::InvertMatch))
@@ -48,14 +82,26 @@ fn select(builder: &mut SearcherBuilder, options: &Options<'_, '_>) {
 }
 
 // Sets which other lines a search reports.
-fn surround(builder: &mut SearcherBuilder, options: &Options<'_, '_>) {
+fn surround(builder: &mut SearcherBuilder, options: &Options<'_, '_>)
+    ensures { builder.new ≡ record builder.old {
+      after_context = after_lines options.now;
+      before_context = before_lines options.now;
+      passthru = has options.now OptionId.Passthru;
+    } }
+{
     builder
         .after_context(options.after_context())
         .before_context(options.before_context())
         .passthru(options.has(OptionId::Passthru));
 }
 
-fn encoding(alloc: Global, label: Option<&str>) -> Result<Option<Encoding>, ConfigError> {
+// The encoding that a label names, if it is one of an encoding.
+fn encoding(alloc: Global, label: Option<&str>) -> Result<Option<Encoding>, ConfigError>
+    ensures encoding { IfOk result (λ encoding. encoding ≡ encoding_of_label label.entry) }
+    ensures known { IfOk result (λ _. is_unknown_label label.entry ≡ false) }
+    ensures unknown { IfErr result (λ _. is_unknown_label label.entry ≡ true) }
+    ensures error { IfErr result (IsLabelError label.entry) }
+{
     match label {
         None | Some("auto" | "none") => Ok(None),
         Some(label) => match Encoding::new(alloc, label) {
@@ -65,6 +111,13 @@ fn encoding(alloc: Global, label: Option<&str>) -> Result<Option<Encoding>, Conf
     }
 }
 
+// Whether a mark at the start of the input is looked for.
+fn looks_for_mark(label: Option<&str>) -> bool
+    ensures { result ≡ looks_for_mark label.entry }
+{
+    !matches!(label, Some("none"))
+}
+
 /// The printer that the options ask for, which writes to `writer` what searches find, by line or
 /// across lines. A terminal gets headings, and colors.
 pub fn build_printer<W: Output>(
@@ -72,7 +125,9 @@ pub fn build_printer<W: Output>(
     options: &Options<'_, '_>,
     is_across: bool,
     writer: W,
-) -> Printer<W> {
+) -> Printer<W>
+    ensures { IsPrinterOf options.now is_across writer result }
+{
     let is_line_buffered = options.is_line_buffered();
     let colors = color_specs(rt, options.color(), options.streams.is_terminal);
     if let Some(kind) = options.summary_kind(is_across) {
@@ -91,7 +146,10 @@ pub fn build_printer<W: Output>(
 fn buffered<F, W>(
     is_line_buffered: bool,
     mut printer: grep_printer::Printer<F, W>,
-) -> grep_printer::Printer<F, W> {
+) -> grep_printer::Printer<F, W>
+    ensures { result
+        ≡ record printer { room = if is_line_buffered then 0 else printer.room } }
+{
     if is_line_buffered {
         printer.set_buffer_size(0);
     }
@@ -99,7 +157,9 @@ fn buffered<F, W>(
 }
 
 // How a summary is written.
-fn summary(options: &Options<'_, '_>, kind: SummaryKind, colors: ColorSpecs) -> SummaryBuilder {
+fn summary(options: &Options<'_, '_>, kind: SummaryKind, colors: ColorSpecs) -> SummaryBuilder
+    ensures { result ≡ summary_settings options.now kind colors }
+{
     let mut builder = SummaryBuilder::new();
     builder
         .kind(kind)
@@ -109,7 +169,9 @@ fn summary(options: &Options<'_, '_>, kind: SummaryKind, colors: ColorSpecs) -> 
 }
 
 // How lines are written.
-fn lines(options: &Options<'_, '_>, colors: ColorSpecs) -> StandardBuilder {
+fn lines(options: &Options<'_, '_>, colors: ColorSpecs) -> StandardBuilder
+    ensures { result ≡ line_settings options.now colors }
+{
     let heading = options.shows_headings();
     let mut builder = StandardBuilder::new();
     builder
@@ -122,7 +184,14 @@ fn lines(options: &Options<'_, '_>, colors: ColorSpecs) -> StandardBuilder {
 }
 
 // Sets what is written of a line.
-fn show(builder: &mut StandardBuilder, options: &Options<'_, '_>) {
+fn show(builder: &mut StandardBuilder, options: &Options<'_, '_>)
+    ensures { builder.new ≡ record builder.old {
+      column = has options.now OptionId.Column;
+      byte_offset = has options.now OptionId.ByteOffset;
+      only_matching = has options.now OptionId.OnlyMatching;
+      max_columns = column_limit options.now.max_columns;
+    } }
+{
     builder
         .column(options.has(OptionId::Column))
         .byte_offset(options.has(OptionId::ByteOffset))
@@ -131,14 +200,18 @@ fn show(builder: &mut StandardBuilder, options: &Options<'_, '_>) {
 }
 
 // How many bytes a line has at most that is written. 0 is no limit.
-fn max_columns(options: &Options<'_, '_>) -> Option<u64> {
+fn max_columns(options: &Options<'_, '_>) -> Option<u64>
+    ensures { result ≡ column_limit options.now.max_columns }
+{
     match options.max_columns {
         Some(0) => None,
         most => most,
     }
 }
 
-fn path_terminator(options: &Options<'_, '_>) -> Option<u8> {
+fn path_terminator(options: &Options<'_, '_>) -> Option<u8>
+    ensures { result ≡ path_terminator_of options.now }
+{
     if options.has(OptionId::Null) {
         Some(0)
     } else {
@@ -148,7 +221,10 @@ fn path_terminator(options: &Options<'_, '_>) -> Option<u8> {
 
 // Headings are set apart by an empty line. Without them groups of lines of two files are set apart
 // as those of one are.
-fn separator(options: &Options<'_, '_>, heading: bool) -> SearchSeparator {
+fn separator(options: &Options<'_, '_>, heading: bool) -> SearchSeparator
+    requires { heading ≡ shows_headings options.now }
+    ensures { result ≡ separator_of options.now }
+{
     if heading {
         SearchSeparator::Blank
     } else if options.after_context() > 0 || options.before_context() > 0 {

@@ -1,0 +1,5 @@
+pub mod OptionMeanings
+pub mod OptionUses
+pub mod PatternOptions
+pub mod PrinterOptions
+pub mod SearcherOptions

@@ -1,0 +1,64 @@
+-- The options with which the patterns of a command line are compiled.
+use Rattle.std.specs.Prelude.{Bool, true, ℕ, not, ◌&&◌, ◌||◌, ◌==◌, if◌then◌else◌}
+use Rattle.std.specs.Prelude.{List, [], ◌∷◌, None, Some, String, map}
+use Rattle.std.specs.Prelude.{string_bytes}
+use Rattle.std.specs.Global.{Global}
+use Rattle.std.specs.List.{list_any}
+use Rattle.std.specs.Str.{chars}
+use Rattle.std.specs.Char.Unicode.Uppercase.{is_uppercase}
+use Rattle.grep_regex.specs.Patterns.{default_options}
+use Rattle.grep_regex.specs.declared.options.Options.{Options as PatternSettings}
+use Rattle.linegrep_cli.specs.OptionUses.{has}
+use Rattle.linegrep_cli.specs.SearcherOptions.{terminator_of}
+use Rattle.linegrep_cli.specs.declared.option_id.OptionId.TheVariants.{Crlf, Files}
+use Rattle.linegrep_cli.specs.declared.option_id.OptionId.TheVariants.{FixedStrings}
+use Rattle.linegrep_cli.specs.declared.option_id.OptionId.TheVariants.{IgnoreCase, LineRegexp}
+use Rattle.linegrep_cli.specs.declared.option_id.OptionId.TheVariants.{Multiline, NullData}
+use Rattle.linegrep_cli.specs.declared.option_id.OptionId.TheVariants.{SmartCase, WordRegexp}
+use Rattle.linegrep_cli.specs.declared.options.Options.{Options}
+
+-- a letter that takes its meaning from the one after it: a backslash, but in a literal
+abbrev pub is_escape : Bool → ℕ → Bool
+is_escape is_literal letter = not is_literal && (letter == 92)
+
+-- the letters of a pattern, without those that are right after an escape
+unfoldable pub unescaped : Bool → List ℕ → List ℕ
+unescaped is_literal [] = []
+unescaped is_literal (letter ∷ []) = letter ∷ []
+unescaped is_literal (letter ∷ next ∷ later) = if is_escape is_literal letter
+    then letter ∷ unescaped is_literal later
+    else letter ∷ unescaped is_literal (next ∷ later)
+
+-- a pattern has a capital letter, but for those right after an escape
+unfoldable pub has_capital : Bool → List ℕ → Bool
+has_capital is_literal text = list_any is_uppercase (unescaped is_literal (chars text))
+
+-- letters match in either case: with `-i`, and with `-S` if no pattern has a capital letter
+abbrev pub ignores_case : Options → List (String Global) → Bool
+ignores_case options patterns = has options IgnoreCase || (has options SmartCase
+    && not (list_any (λ text. has_capital (has options FixedStrings) (string_bytes text)) patterns))
+
+-- lines end in a carriage return and a line feed too
+abbrev pub ends_in_crlf : Options → Bool
+ends_in_crlf options = not (has options NullData) && has options Crlf
+
+-- the options of the patterns: `^` and `$` match at the ends of lines, and no match has the end of a
+-- line in it, unless it may run over several lines. What no option sets is at its default
+abbrev pub searched_options : Options → List (String Global) → PatternSettings
+searched_options options patterns = record default_options {
+  case_insensitive = ignores_case options patterns;
+  fixed_strings = has options FixedStrings;
+  word = has options WordRegexp;
+  whole_line = has options LineRegexp;
+  multi_line = true;
+  crlf = ends_in_crlf options;
+  line_terminator = if has options Multiline then None else Some (terminator_of options);
+}
+
+-- and where files are listed those of a pattern that matches everywhere, which is compiled instead
+abbrev pub pattern_options : Options → List (String Global) → PatternSettings
+pattern_options options patterns =
+    if has options Files then default_options else searched_options options patterns
+
+abbrev pub pattern_texts : Options → List (String Global) → List (List ℕ)
+pattern_texts options patterns = if has options Files then [] ∷ [] else map string_bytes patterns

@@ -1,0 +1,157 @@
+-- The printer that options ask for, and its settings.
+use Rattle.std.specs.Prelude.{◌≡◌, ℕ, Bool, true, false, not, ◌&&◌, ◌||◌, ◌==◌, if◌then◌else◌}
+use Rattle.std.specs.Prelude.{List, [], codes, nat_lt, Option, None, Some, IfSome}
+use Rattle.std.specs.Option.{option_map}
+use Rattle.std.specs.Str.{bytes_eq}
+use Rattle.grep_output.specs.PendingTexts.{pending_bytes}
+use Rattle.grep_printer.specs.declared.colors.ColorSpecs.{ColorSpecs}
+use Rattle.grep_printer.specs.declared.colors.ColorSpecs.TheVariants.{Default, Plain}
+use Rattle.grep_printer.specs.declared.config.Config.{Config}
+use Rattle.grep_printer.specs.declared.config.SearchSeparator.{SearchSeparator}
+use Rattle.grep_printer.specs.declared.config.SearchSeparator.TheVariants.{Blank, Dashes, Nothing}
+use Rattle.grep_printer.specs.declared.printer.Printer.{Printer as Writer}
+use Rattle.grep_printer.specs.declared.summary_builder.SummaryConfig.{SummaryConfig}
+use Rattle.grep_printer.specs.declared.summary_builder.SummaryKind.{SummaryKind}
+use Rattle.grep_printer.specs.declared.summary_builder.SummaryKind.TheVariants.{Count as lines}
+use Rattle.grep_printer.specs.declared.summary_builder.SummaryKind.TheVariants.{CountMatches as parts}
+use Rattle.grep_printer.specs.declared.summary_builder.SummaryKind.TheVariants.{PathWithMatch}
+use Rattle.grep_printer.specs.declared.summary_builder.SummaryKind.TheVariants.{PathWithoutMatch}
+use Rattle.grep_printer.specs.declared.summary_builder.SummaryKind.TheVariants.{Quiet as silent}
+use Rattle.linegrep_cli.specs.OptionMeanings.{after_lines, before_lines}
+use Rattle.linegrep_cli.specs.OptionUses.{has}
+use Rattle.linegrep_cli.specs.declared.option_id.OptionId.TheVariants.{BlockBuffered, ByteOffset}
+use Rattle.linegrep_cli.specs.declared.option_id.OptionId.TheVariants.{Color, Column, Count}
+use Rattle.linegrep_cli.specs.declared.option_id.OptionId.TheVariants.{CountMatches}
+use Rattle.linegrep_cli.specs.declared.option_id.OptionId.TheVariants.{Files, FilesWithMatches}
+use Rattle.linegrep_cli.specs.declared.option_id.OptionId.TheVariants.{FilesWithoutMatch, Heading}
+use Rattle.linegrep_cli.specs.declared.option_id.OptionId.TheVariants.{InvertMatch, Json}
+use Rattle.linegrep_cli.specs.declared.option_id.OptionId.TheVariants.{LineBuffered, NoFilename}
+use Rattle.linegrep_cli.specs.declared.option_id.OptionId.TheVariants.{NoHeading, Null}
+use Rattle.linegrep_cli.specs.declared.option_id.OptionId.TheVariants.{OnlyMatching, Pretty, Quiet}
+use Rattle.linegrep_cli.specs.declared.option_id.OptionId.TheVariants.{WithFilename}
+use Rattle.linegrep_cli.specs.declared.options.Options.{Options}
+use Rattle.linegrep_cli.specs.declared.printers.Printer.{Printer}
+use Rattle.linegrep_cli.specs.declared.printers.Printer.TheVariants.{Lines, Summary}
+use Rattle.linegrep_cli.specs.declared.printers.Printer.TheVariants.{Json as Messages}
+
+-- lines or matches are counted
+abbrev pub counts : Options → Bool
+counts options = has options Count || has options CountMatches
+
+-- single matches are counted, and not lines, in a search by line or across lines: an inverted count
+-- is one of lines
+abbrev pub counts_matches : Options → Bool → Bool
+counts_matches options is_across = not (has options InvertMatch) && (has options CountMatches
+    || (has options Count && (has options OnlyMatching || is_across)))
+
+-- the paths of files are written, and nothing else of them
+abbrev pub is_summary_of_paths : Options → Bool
+is_summary_of_paths options = has options FilesWithMatches || has options FilesWithoutMatch
+    || has options Files
+
+-- something is written in place of lines, or nothing
+abbrev pub is_summary : Options → Bool
+is_summary options = has options Quiet || counts options || is_summary_of_paths options
+
+-- what is written in place of lines, if something is, by line or across lines
+abbrev pub summary_kind : Options → Bool → Option SummaryKind
+summary_kind options is_across = if has options Quiet then Some silent
+    else if has options Files then Some PathWithMatch
+    else if counts_matches options is_across then Some parts
+    else if counts options then Some lines
+    else if has options FilesWithMatches then Some PathWithMatch
+    else if has options FilesWithoutMatch then Some PathWithoutMatch
+    else None
+
+-- the path of each line or count is written, or of each file that is named: always in JSON and in
+-- summaries of paths; else, unless it is asked not to be, if it is asked for or several files may be
+-- searched
+abbrev pub shows_paths : Options → Bool → Bool
+shows_paths options searches_several = has options Json || is_summary_of_paths options
+    || (not (has options NoFilename) && (has options WithFilename || searches_several))
+
+-- a path is written once, above the lines of its file
+abbrev pub shows_headings : Options → Bool
+shows_headings options = not (has options NoHeading)
+    && (has options Heading || has options Pretty || options.streams.is_terminal)
+
+-- each line is written at once, and not many together
+abbrev pub is_line_buffered : Options → Bool
+is_line_buffered options = has options LineBuffered
+    || (options.streams.is_terminal && not (has options BlockBuffered))
+
+-- how many bytes a line has at most that is written, by the value of `-M`
+abbrev pub column_limit : Option ℕ → Option ℕ
+column_limit None = None
+column_limit (Some most) = if most == 0 then None else Some most
+
+-- the byte after a path, in place of a colon or of the end of a line
+abbrev pub path_terminator_of : Options → Option ℕ
+path_terminator_of options = if has options Null then Some 0 else None
+
+-- what is written between the lines of two files
+abbrev pub separator_of : Options → SearchSeparator
+separator_of options = if shows_headings options then Blank
+    else if nat_lt 0 (after_lines options) || nat_lt 0 (before_lines options) then Dashes
+    else Nothing
+
+-- when there are colors, in the words of `--color`
+abbrev pub color_choice : Options → Option (List ℕ)
+color_choice options = if has options Color then option_map (λ choice. choice.now) options.color
+    else if has options Pretty then Some (codes "always") else None
+
+-- the colors, if they are known without the environment, which is asked for a terminal alone
+abbrev pub open_colors : Bool → Option ColorSpecs
+open_colors is_terminal = if is_terminal then None else Some Plain
+
+abbrev pub known_colors : Option (List ℕ) → Bool → Option ColorSpecs
+known_colors None is_terminal = open_colors is_terminal
+known_colors (Some choice) is_terminal =
+    if bytes_eq choice (codes "always") || bytes_eq choice (codes "ansi") then Some Default
+    else if bytes_eq choice (codes "never") then Some Plain
+    else open_colors is_terminal
+
+-- the settings of the printer of lines, with some colors
+abbrev pub line_settings : Options → ColorSpecs → Config
+line_settings options colors = record {
+  heading = shows_headings options;
+  column = has options Column;
+  byte_offset = has options ByteOffset;
+  only_matching = has options OnlyMatching;
+  max_columns = column_limit options.max_columns;
+  path_terminator = path_terminator_of options;
+  separator = separator_of options;
+  color_specs = colors;
+}
+
+-- the settings of the printer of a kind of summary
+abbrev pub summary_settings : Options → SummaryKind → ColorSpecs → SummaryConfig
+summary_settings options kind colors =
+    record { kind = kind; path_terminator = path_terminator_of options; color_specs = colors }
+
+-- the printer has written nothing yet, writes to this writer, and at once if options ask for that
+pub record IsNew {F W : Type 0} (options : Options) (writer : W) (printer : Writer F W) : Type 0 where
+  pub writes_to : printer.writer ≡ writer
+  pub pending : pending_bytes printer.pending ≡ []
+  pub has_written : printer.has_written ≡ false
+  pub has_failed : printer.has_failed ≡ false
+  pub room : is_line_buffered options ≡ true → printer.room ≡ 0
+
+-- the printer is the one that options ask for, by line or across lines, with some colors
+abbrev pub IsPrinterFor : {W : Type 0} → Options → Bool → W → ColorSpecs → Printer W → Type 0
+IsPrinterFor options is_across writer colors (Lines printer) =
+    (summary_kind options is_across ≡ None) × (has options Json ≡ false)
+    × (printer.format.config ≡ line_settings options colors) × IsNew options writer printer
+IsPrinterFor options is_across writer colors (Summary printer) =
+    (kind : SummaryKind) × (summary_kind options is_across ≡ Some kind)
+    × (printer.format.config ≡ summary_settings options kind colors) × IsNew options writer printer
+IsPrinterFor options is_across writer colors (Messages run) =
+    (summary_kind options is_across ≡ None) × (has options Json ≡ true)
+    × (run.printer.format.always_begin_end ≡ false) × IsNew options writer run.printer
+
+-- the printer is the one that options ask for, with the colors that they ask for
+abbrev pub IsPrinterOf : {W : Type 0} → Options → Bool → W → Printer W → Type 0
+IsPrinterOf options is_across writer printer = (colors : ColorSpecs)
+    × IfSome (known_colors (color_choice options) options.streams.is_terminal)
+    (λ known. colors ≡ known)
+    × IsPrinterFor options is_across writer colors printer
