@@ -170,6 +170,7 @@ impl Config {
     /// They are counted only if lines are numbered or have contexts. The caller ensures that
     /// `start` is in the window, where the walk is, and that the offset of the window's end is
     /// below 2^64.
+    #[inline(always)]
     pub fn skip_unmatched(
         &self,
         window: &[u8],

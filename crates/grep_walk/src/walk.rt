@@ -157,6 +157,7 @@ impl Config {
     /// match. The matcher is asked about it without its terminator, but not if it is `known`
     /// whether the line matches, nor past both the limit and that context. The error is the
     /// matcher's.
+    #[inline(always)]
     pub fn judge<M: Matcher>(
         &self,
         matcher: &M,
