@@ -25,8 +25,8 @@ use grep_searcher::{ConfigError, Encoding, Searcher, SearcherBuilder};
 use std::alloc::Global;
 
 /// The searcher that the options ask for; where files are listed any does. Lines are numbered for a
-/// terminal, if nothing else is asked for. An error is that of a label of an encoding that isn't known, or that there is no
-/// memory.
+/// terminal, if nothing else is asked for. An error is that of a label of an encoding that isn't
+/// known, or that there is no memory.
 pub fn build_searcher(alloc: Global, options: &Options<'_, '_>) -> Result<Searcher, Failure>
     ensures settings { IfOk result (λ searcher.
         searcher ≡ record { settings = searcher_settings options.now; has_buffers = true }) }
