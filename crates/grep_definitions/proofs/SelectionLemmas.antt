@@ -103,7 +103,13 @@ module _ {k : Settings} {bytes : List ℕ} {selection : Selection} {v i left : �
   -- after any line that isn't selected
   pub IsNear-missed : (k.passthru ≡ true → k.before_context ≡ 0) → i < reportable → selected i
       ≡ false → Near (if nat_lt 0 left || k.passthru then i + 1 else v) (i + 1) (left - 1)
-  IsNear-missed bare has misses = grind arith
+  IsNear-missed bare has misses = go (nat_lt 0 left) k.passthru refl refl
+    where
+      go : (b p : Bool) → nat_lt 0 left ≡ b → k.passthru ≡ p
+          → Near (if b || p then i + 1 else v) (i + 1) (left - 1)
+      go true p is_b is_p = grind (arith, follows-here)
+      go false true is_b is_p = grind (arith, follows-here)
+      go false false is_b is_p = grind (arith, follows-here)
 
   -- what is joined over the lines grows by that line's part, if it is reported
   pub headed-missed : {X : Type 0} (first : X) (f : ℕ → List X) (after other : List X)
