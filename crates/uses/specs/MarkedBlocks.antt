@@ -4,7 +4,6 @@ use Rattle.std.specs.Prelude.{List, [], ◌∷◌, ◌++◌}
 use Rattle.std.specs.Str.{bytes_eq}
 use Rattle.grep_searcher.specs.declared.LineTerminator.TheVariants.{Byte}
 use Rattle.grep_searcher.specs.Lines.{strip}
-use Rattle.grep_searcher.specs.Plans.{Call, reported_bytes}
 
 -- a line is a mark, without its terminator
 abbrev pub is_mark : List ℕ → List ℕ → Bool
@@ -24,22 +23,3 @@ module _ (begins ends : List ℕ) where
   text_between [] = []
   text_between (line ∷ before) = text_between before
       ++ (if not (is_either line) && is_open before then line else [])
-
--- what a handler knows that keeps them: the marks, whether it is in a block, and the text so far
-pub record BlockState : Type 0 where
-  pub begins : List ℕ
-  pub ends : List ℕ
-  pub inside : Bool
-  pub text : List ℕ
-
--- after another line
-abbrev pub with_line : BlockState → Call → BlockState
-with_line old found = record old {
-  inside =
-      if is_either old.begins old.ends (reported_bytes found)
-      then is_mark old.begins (reported_bytes found)
-      else old.inside;
-  text = old.text ++ (if not (is_either old.begins old.ends (reported_bytes found)) && old.inside
-      then reported_bytes found
-      else []);
-}

@@ -1,11 +1,11 @@
 -- The counts of files at paths.
 use Rattle.std.specs.List.{AllZip, sum}
-use Rattle.std.specs.Prelude.{◌≡◌, ℕ, ◌-◌, ◌^◌, List, min, Option, Some, Result, Ok}
+use Rattle.std.specs.Prelude.{◌≡◌, ℕ, ◌-◌, ◌^◌, true, List, min, Option, Some, Result, Ok}
 use Rattle.std.specs.declared.io.Error.{Error}
 use Rattle.grep_searcher.specs.FileSearches.{OpensAt}
 use Rattle.grep_searcher.specs.LineCounts.{IsLineCount}
 use Rattle.grep_searcher.specs.Meanings.{MatcherFacts}
-use Rattle.grep_searcher.specs.Plans.{Settings}
+use Rattle.grep_searcher.specs.Plans.{SearcherState, Settings}
 
 -- how many decoded lines are matched of the file that opening a path returned, if it says which
 -- bytes remain
@@ -22,3 +22,8 @@ abbrev pub IsTotal : {F G P : Type 0} → (List ℕ → Result F Error → Type 
 IsTotal opens remaining matcher settings text paths total = (counts : List ℕ)
     × AllZip (λ path count. IsCountAt opens remaining matcher settings (text path) count)
     paths counts × (total ≡ min (sum counts) (2 ^ 64 - 1))
+
+-- a searcher has the settings that it had, and its buffers if it had them
+abbrev pub IsKept : SearcherState → SearcherState → Type 0
+IsKept old new =
+    (new.settings ≡ old.settings) × (old.has_buffers ≡ true → new.has_buffers ≡ true)

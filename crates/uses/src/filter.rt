@@ -1,12 +1,14 @@
 //! The lines of a slice that match, in a vector.
-ghost use Rattle.std.specs.Prelude.{◌≡◌, filter, is_some, IfOk};
+ghost use Rattle.std.specs.Prelude.{◌≡◌, true, filter, is_some, IfOk, IfErr};
 ghost use Rattle.grep_searcher.specs.Lines.{lines, strip};
 ghost use Rattle.grep_searcher.specs.MatchHandlers.{bytes_of_each};
 ghost use Rattle.grep_searcher.specs.Plans.{IsLawful};
+ghost use Rattle.grep_searcher.specs.SearchErrors.{is_out_of_memory};
+ghost use Rattle.grep_searcher.specs.SearchFailures.{IsFaultless};
 ghost use Rattle.uses.specs.PlainSettings.{as_it_is};
 
 use crate::plain::{input_is_searched, searcher_as_it_is};
-use grep_searcher::laws::{lines_are_filtered, runs_keep_bytes, searches_run};
+use grep_searcher::laws::{lines_are_filtered, runs_keep_bytes, searches_run, slices_fail};
 use grep_searcher::sinks::{EachLine, OnMatch};
 use grep_searcher::{LineTerminator, Matcher, SearchError};
 use std::alloc::Global;
@@ -20,16 +22,19 @@ pub fn lines_that_match<M: Matcher + Drop>(
     matcher: M,
     bytes: &[u8],
 ) -> Result<Vec<Vec<u8>>, SearchError>
-    ensures { IsLawful (M.facts matcher) as_it_is → IfOk result (λ found.
+    ensures lines { IsLawful (M.facts matcher) as_it_is → IfOk result (λ found.
         bytes_of_each found.items ≡ filter (λ line. is_some ((M.facts matcher).meaning.first
         (strip (LineTerminator.Byte 10) line))) (lines 10 bytes.now)) }
+    ensures error { IsFaultless (M.facts matcher) as_it_is
+        → IfErr result (λ e. is_out_of_memory e ≡ true) }
 {
     let mut searcher = searcher_as_it_is(alloc)?;
     let mut sink = OnMatch::new(EachLine::new(alloc));
+    input_is_searched();
+    slices_fail::<Global, M, _>(&sink);
     searcher.search_slice(matcher, bytes, &mut sink)?;
     searches_run::<Global, M, _>(&sink);
     runs_keep_bytes::<Global>();
     lines_are_filtered();
-    input_is_searched();
     Ok(sink.into_handler().into_lines())
 }

@@ -1,13 +1,15 @@
 //! The first matches of a reader, and the first alone.
-ghost use Rattle.std.specs.Prelude.{◌≡◌, true, List, ℕ, Some, IfOk};
-ghost use Rattle.grep_searcher.specs.Searches.{IsInput, Taken};
+ghost use Rattle.std.specs.Prelude.{◌≡◌, ◌⊎◌, true, List, ℕ, Some, IfOk, IfErr};
+ghost use Rattle.grep_searcher.specs.Searches.{EndsUnread, IsInput, Taken};
 ghost use Rattle.grep_searcher.specs.LineCounts.{IsLineSearch};
 ghost use Rattle.grep_searcher.specs.Plans.{IsLawful};
+ghost use Rattle.grep_searcher.specs.SearchErrors.{is_out_of_memory};
+ghost use Rattle.grep_searcher.specs.SearchFailures.{IsFaultless};
 ghost use Rattle.uses.specs.MatchedLines.{first_lines, IsFirstLine};
 ghost use Rattle.uses.specs.PlainSettings.{held_to};
 
 use crate::plain::{input_is_searched, searcher_held_to};
-use grep_searcher::laws::{reader_searches_run, readers_keep_first, runs_keep_first};
+use grep_searcher::laws::{reader_searches_run, readers_fail, readers_keep_first, runs_keep_first};
 use grep_searcher::sinks::{First, KeptMatch, OnMatch};
 use grep_searcher::{Matcher, SearchError, Searcher, Source};
 use std::alloc::Global;
@@ -56,12 +58,19 @@ pub fn first_line_that_matches<M: Matcher + Drop, R: Source>(
     reader: &mut R,
     limit: usize,
 ) -> Result<Option<KeptMatch>, SearchError>
-    ensures { (input : List ℕ) → R.remaining reader.old ≡ Some input
+    ensures line { (input : List ℕ) → R.remaining reader.old ≡ Some input
         → IsLawful (M.facts matcher) (held_to limit) → IfOk result
         (IsFirstLine limit (M.facts matcher).meaning input (R.remaining reader.new)) }
+    ensures error { IsFaultless (M.facts matcher) (held_to limit) → IfErr result (λ e.
+        (is_out_of_memory e ≡ true) ⊎ EndsUnread R.remaining R.step
+        (λ error e. e ≡ SearchError.Io error) (record {
+          settings = held_to limit;
+          has_buffers = true;
+        }) (M.facts matcher).meaning reader.old e reader.new) }
 {
     let mut searcher = searcher_held_to(alloc, limit)?;
     let mut sink = OnMatch::new(First::new(alloc, 1));
+    readers_fail::<Global, M, R, _>(&sink);
     searcher.search_reader(matcher, reader, &mut sink)?;
     readers_keep_first::<Global, M, R>();
     input_is_searched();

@@ -1,5 +1,5 @@
 //! Searchers of input as it is.
-ghost use Rattle.std.specs.Prelude.{◌≡◌, ℕ, List, false, true, None, IfOk};
+ghost use Rattle.std.specs.Prelude.{◌≡◌, ℕ, List, false, true, None, IfOk, IfErr};
 ghost use Rattle.grep_searcher.specs.Plans.{Settings};
 ghost use Rattle.grep_searcher.specs.Searches.{searched_bytes};
 ghost use Rattle.grep_searcher.specs.SliceSearches.{is_searched_unchanged};
@@ -23,16 +23,18 @@ pub(crate) fn input_is_searched()
 
 // A searcher that searches its input as it is.
 pub(crate) fn searcher_as_it_is(alloc: Global) -> Result<Searcher, ConfigError>
-    ensures { IfOk result (λ searcher.
+    ensures settings { IfOk result (λ searcher.
         searcher ≡ record { settings = as_it_is; has_buffers = true }) }
+    ensures error { IfErr result (λ e. e ≡ ConfigError.Memory) }
 {
     SearcherBuilder::new().bom_sniffing(false).build(alloc)
 }
 
 // One that holds at most so many bytes of it.
 pub(crate) fn searcher_held_to(alloc: Global, limit: usize) -> Result<Searcher, ConfigError>
-    ensures { IfOk result (λ searcher.
+    ensures settings { IfOk result (λ searcher.
         searcher ≡ record { settings = held_to limit; has_buffers = true }) }
+    ensures error { IfErr result (λ e. e ≡ ConfigError.Memory) }
 {
     SearcherBuilder::new()
         .bom_sniffing(false)

@@ -11,4 +11,4 @@ first_match-requires g c =
     let all = filter_passes (λ line. is_some (first_in (g.M.Matcher.facts c.args.matcher.now).meaning line))
     (lines 10 c.args.bytes.now) c.loop-line.line-index c.line-item.result.items in
     let text = c.deref.ensures.value in let items = c.deref-line-items.ensures.value in
-    grind (arith, common_steps, all, c.loop-line-test.true, c.line-item.is, text, items, c.in_ok-lines.ensures c.requires)
+    grind (arith, common_steps, all, c.loop-line-test.true, c.line-item.is, text, items, c.in_ok-lines.ensures.lines c.requires)
