@@ -1,37 +1,11 @@
--- Decisions of rules: there is one, and what is left out on the way to a path.
-use Rattle.std.proofs.Common.{◌≡◌, ℕ, ◌+◌, ◌<◌, ◌≤◌, Bool, true, List, [], ◌∷◌, ◌++◌, length, get_or, take, drop}
+-- Decisions of rules on the way to a path.
+use Rattle.std.proofs.Common.{◌≡◌, ℕ, ◌+◌, ◌<◌, true, List, [], ◌∷◌, ◌++◌, length, get_or, take, drop}
 use Rattle.std.proofs.Common.{refl, sym, ap, ◌∙◌, subst, arith, inl, inr}
-use Rattle.std.proofs.lemmas.Bool.{cases_lt, cases_eq}
-use Rattle.std.proofs.lemmas.List.{get_or_default, drop_more, take-append-drop}
-use Rattle.grep_ignore.specs.Decisions.{IsAbout, IsDecided, NoneFrom, decision_of}
-use Rattle.grep_ignore.specs.declared.rules.Decision.{Decision}
+use Rattle.std.proofs.lemmas.Bool.{cases_eq}
+use Rattle.std.proofs.lemmas.List.{drop_more, take-append-drop}
+use Rattle.grep_ignore.specs.Decisions.{IsDecided}
 use Rattle.grep_ignore.specs.declared.rules.Decision.TheVariants.{Ignored}
 use Rattle.grep_ignore.specs.declared.rules.Rule.{Rule}
-
--- a rule that is about a path isn't among those of which none is
-not-among : (start k : ℕ) (rules : List Rule) (path : List ℕ) (is_folder : Bool) (rule : Rule)
-    → NoneFrom start rules path is_folder → start ≤ k → k < length rules → get_or rules k rule ≡ rule
-    → IsAbout path is_folder rule → ⊥
-not-among start k rules path is_folder rule none from below is about =
-    none k rule from below (subst (IsAbout path is_folder) (sym is) about)
-
--- rules have one decision
-pub decided-once : (rules : List Rule) (path : List ℕ) (is_folder : Bool) (one other : Decision)
-    → IsDecided rules path is_folder one → IsDecided rules path is_folder other → one ≡ other
-decided-once rules path is_folder one other (inl first) (inl second) = first.0 ∙ sym second.0
-decided-once rules path is_folder one other (inl first) (inr (last, rule, below, is, about, says, none)) =
-    absurd (not-among 0 last rules path is_folder rule first.1 (omega arith) below is about)
-decided-once rules path is_folder one other (inr (last, rule, below, is, about, says, none)) (inl second) =
-    absurd (not-among 0 last rules path is_folder rule second.1 (omega arith) below is about)
-decided-once rules path is_folder one other (inr (last, rule, below, is, about, says, none))
-    (inr (last', rule', below', is', about', says', none')) = elim (cases_eq last last') [
-      | inl same ↦ says ∙ ap decision_of (sym is ∙ get_or_default rules last rule rule' below
-          ∙ ap (λ n. get_or rules n rule') same ∙ is') ∙ sym says'
-      | inr apart ↦ elim (cases_lt last last') [
-        | inl less ↦ absurd (not-among (last + 1) last' rules path is_folder rule' none (omega arith) below' is' about')
-        | inr more ↦ absurd (not-among (last' + 1) last rules path is_folder rule none' (omega (arith, apart)) below is about)
-      ]
-    ]
 
 -- a path is what is before a byte, the byte, and what is after it
 pub around : (path : List ℕ) (at : ℕ) → at < length path → get_or path at 0 ≡ 47

@@ -4,7 +4,7 @@ use Rattle.std.proofs.Common.{nat_lt, List, [], ◌∷◌, ◌++◌, length, tak
 use Rattle.std.proofs.Common.{subst, append_assoc, inl, inr, length-drop}
 use Rattle.std.specs.List.{All, slice_split}
 use Rattle.std.proofs.lemmas.Bool.{lt-ltb, le-ltb, false≢true, cases_Bool, cases_lt}
-use Rattle.std.proofs.lemmas.List.{drop_more, drop_all, take_more, take_all, take-append-drop}
+use Rattle.std.proofs.lemmas.List.{drop_more, take_more, take_all, take-append-drop}
 use Rattle.std.proofs.lemmas.List.Elements.{All-append}
 use Rattle.std.proofs.lemmas.List.Splits.{slice_split_at, slice_split_none}
 use Rattle.grep_ignore.specs.Classes.{is_empty}
@@ -101,10 +101,6 @@ steps-escaped text at end below escaped =
     ap (cut_with text at end) here
     ∙ kept text at (get_or text (at + 1) 0 ∷ without_spaces (drop (at + 2) text)) first
     ∙ kept-cut text (at + 1) (at + 2) (without_spaces (drop (at + 2) text)) next below
-
--- at the end nothing is left
-pub cut-end : (text : List ℕ) (at end : ℕ) → length text ≤ at → cut_at text at end ≡ take end text
-cut-end text at end all = ap (λ l. cut_with text at end (without_spaces l)) (drop_all at text all)
 
 -- no line feed up to a position, and none at it
 pub none-more : (text : List ℕ) (at : ℕ) → at < length text → (get_or text at 0 == 10) ≡ false

@@ -19,9 +19,6 @@ use Rattle.grep_regex.specs.declared.regex.Regex.{Regex}
 use Rattle.grep_regex.proofs.EngineLemmas.{finds-at}
 
 module _ (re : Re) (choices : List (List (List Bool))) (decides : DecideAny re choices) (hay : List ℕ) where
-  abbrev decided : ℕ → Option Bool
-  decided = any_decision choices hay
-
   no-attempt : (i : ℕ) → any_decision choices hay i ≡ Some false → attempt hay re accept i ≡ None
   no-attempt i lacks = none_of_no_value _ (λ t e.
       let c = attempt_sound hay re accept i t e in decides.no hay i c.at lacks c.leads)
