@@ -18,8 +18,7 @@ returns-clause-lines g c = λ lawful. let meaning = (g.M.Matcher.facts c.args.ma
 
 pub returns-in_err-search_slice-clause-error : goal.returns-in_err-search_slice-clause-error
 returns-in_err-search_slice-clause-error g c = λ sound. let residual = c.from_residual-in_err-search_slice in
-    let error = err_from_is_err_and residual.result residual.ensures.1 in
-    let plain = c.input_is_searched.ensures.unchanged as_it_is c.args.bytes.now refl refl in rw (error.1, error.2)
-    (⊎_elim (λ step. rw (step.2.1.0.1, step.2.1.0.2) refl) (λ undecoded. absurd (false≢true (sym undecoded.3.0 ∙ plain)))
-    (c.slices_fail.ensures c.args.matcher _ _ _ _ _ sound
+    let error = err_from_is_err_and residual.result residual.ensures.1 in rw (error.1, error.2)
+    (⊎_elim (λ step. rw (step.2.1.0.1, step.2.1.0.2) refl) (λ undecoded. absurd (false≢true (sym undecoded.3.0
+    ∙ c.input_is_searched.ensures.unchanged as_it_is _ refl refl))) (c.slices_fail.ensures _ _ _ _ _ _ sound
     (rw c.in_ok-searcher.ensures.settings at c.in_err-search_slice.ensures.searched)))
