@@ -129,6 +129,9 @@ impl<'c, A: Allocator + Copy, T> Search<'c, A, T> {
         let terminator = self.terminator();
         let mut start = start;
         let mut ahead = NOTHING_AHEAD;
+        // What is asked of the lines after one that matches: nothing until the sink has taken lines
+        // at once, since it may take none.
+        let mut further = Questions::OneLine;
         'lines: loop {
             ahead = match self
                 .config
@@ -138,11 +141,16 @@ impl<'c, A: Allocator + Copy, T> Search<'c, A, T> {
                 Err(error) => return Err(C::Error::error_message(self.alloc, error)),
             };
             start = self.config.skip_unmatched(window, start, &ahead, walk);
-            if let Some(end) = self.sink_chosen_lines::<C>(window, start, &ahead, walk, sink)? {
-                *walk = self.config.after_chosen(walk, &window[start..end]);
-                start = end;
+            if let Some(lines) = self.sink_chosen_lines::<M, C>(
+                matcher, further, window, start, walk, &ahead, sink,
+            )? {
+                *walk = self.config.after_chosen(walk, &window[start..lines.end]);
+                start = lines.end;
+                ahead = lines.ahead;
+                further = questions;
                 continue;
             }
+            further = Questions::OneLine;
             let Some(end) = ahead.line_end(window, start, terminator) else {
                 return Ok(true);
             };

@@ -9,7 +9,8 @@ ghost use Rattle.grep_definitions.specs.SearchLaws.{number_of};
 ghost use Rattle.grep_definitions.specs.LineCalls.{before_calls, pending_calls, selected_calls};
 ghost use Rattle.grep_definitions.specs.SinkRuns.{outcome_of};
 ghost use Rattle.grep_walk.specs.ChosenLines.{AreChosen, chosen_calls};
-ghost use Rattle.grep_walk.specs.LookAheads.{IsBounded};
+ghost use Rattle.grep_walk.specs.declared.chosen_lines.ChosenLines.{ChosenLines};
+ghost use Rattle.grep_walk.specs.LookAheads.{AreAllowed, IsBounded};
 ghost use Rattle.grep_walk.specs.Walks.{IsOrdered, chooses, counts_lines, line_calls, line_end};
 ghost use Rattle.grep_walk.specs.Walks.{trails};
 ghost use Rattle.grep_walk.specs.Windows.{IsInWindow, IsLineIn};
@@ -17,8 +18,9 @@ ghost use Rattle.grep_core.specs.Configured.{IsConfigured};
 
 use crate::calls::Calls;
 use crate::search::Search;
+use grep_matcher::Matcher;
 use grep_report::{SinkContext, SinkContextKind, SinkMatch};
-use grep_walk::{Ahead, Verdict, Walk};
+use grep_walk::{Ahead, ChosenLines, Questions, Verdict, Walk};
 use std::alloc::Allocator;
 
 // What each line goes through is inlined into the loops: called, it made a search that reports
@@ -278,41 +280,52 @@ impl<'c, A: Allocator + Copy, T> Search<'c, A, T> {
     }
 
     // Reports lines from `start` on that are chosen one after another, if there are some and the
-    // sink takes them at once. Returns where they end; `None` if nothing was reported.
+    // sink takes them at once, and returns them; `None` if nothing was reported.
     #[inline(always)]
-    pub(crate) fn sink_chosen_lines<C: Calls<T>>(
+    pub(crate) fn sink_chosen_lines<M: Matcher, C: Calls<T>>(
         &self,
+        matcher: &M,
+        questions: Questions,
         window: &[u8],
         start: usize,
-        ahead: &Ahead,
         walk: &Walk,
+        ahead: &Ahead,
         sink: &mut C::Sink,
-    ) -> Result<Option<usize>, C::Error>
+    ) -> Result<Option<ChosenLines>, C::Error>
+        requires allowed { AreAllowed self.now.config (M.facts matcher.now).meaning questions }
         requires bounded { IsBounded window.now ahead.now }
         requires inside { start ≤ length window.now }
         requires fits { walk.now.offset + (length window.now - start) < 2 ^ 64 }
         requires ordered { IsOrdered walk.now }
         requires configured { IsConfigured (C.settings self.now.searcher.now) self.now.config }
         requires may_call { C.may_call sink.old }
-        ensures none { IfOk result (λ end. IfNone end (sink.new ≡ sink.old)) }
-        ensures some { IfOk result (λ end. IfSome end (λ end.
-            AreChosen self.now.config window.now start ahead.now walk.now end
+        ensures none { IfOk result (λ lines. IfNone lines (sink.new ≡ sink.old)) }
+        ensures some { IfOk result (λ lines. IfSome lines (λ lines.
+            AreChosen self.now.config (M.facts matcher.now) window.now start ahead.now walk.now
+            lines
             × AreMade C.step self.now.config sink.old
-            (chosen_calls self.now.config window.now start end walk.now) all_true sink.new)) }
-        ensures error { IfErr result (λ e. (end : ℕ)
-            × AreChosen self.now.config window.now start ahead.now walk.now end
+            (chosen_calls self.now.config window.now start lines.end walk.now) all_true
+            sink.new)) }
+        ensures error { IfErr result (λ e. (lines : ChosenLines)
+            × AreChosen self.now.config (M.facts matcher.now) window.now start ahead.now walk.now
+            lines
             × AreMade C.step self.now.config sink.old
-            (chosen_calls self.now.config window.now start end walk.now) (failed e) sink.new) }
+            (chosen_calls self.now.config window.now start lines.end walk.now) (failed e)
+            sink.new) }
         ensures succeeds { NeverFails C.step C.may_call → IsOk result }
         ensures may_call { C.may_call sink.new }
     {
-        let Some(end) = self.config.chosen_lines_end(window, start, ahead, walk) else {
+        let chosen = self
+            .config
+            .chosen_lines(matcher, questions, window, start, walk, ahead);
+        let Some(lines) = chosen else {
             return Ok(None);
         };
         let number = self.config.number(walk.line);
-        let lines = SinkMatch::new(self.terminator(), number, walk.offset, window, start..end);
-        match C::matched_lines(self, sink, &lines) {
-            Ok(true) => Ok(Some(end)),
+        let range = start..lines.end;
+        let found = SinkMatch::new(self.terminator(), number, walk.offset, window, range);
+        match C::matched_lines(self, sink, &found) {
+            Ok(true) => Ok(Some(lines)),
             Ok(false) => Ok(None),
             Err(error) => Err(error),
         }

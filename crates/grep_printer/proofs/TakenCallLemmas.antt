@@ -1,5 +1,5 @@
 -- A sink of a printer that keeps the texts of lines at once, against its calls one after another.
-use Rattle.std.proofs.Common.{◌≡◌, ◌∙◌, ℕ, suc, ◌+◌, true, ◌||◌}
+use Rattle.std.proofs.Common.{◌≡◌, ◌∙◌, ℕ, suc, ◌+◌, true, false, not, ◌&&◌, ◌||◌}
 use Rattle.std.proofs.Common.{List, [], ◌∷◌, ◌++◌, length, Option, Err, ap, arith, inl, inr, ◌<◌}
 use Rattle.std.proofs.Common.{refl, sym, subst, append_assoc, length-append}
 use Rattle.std.proofs.Math.Bool.{or_assoc}
@@ -25,8 +25,7 @@ is_text-both a b = grind (arith, length-append)
 
 module _ {F M W E : Type 0} (rules : Rules F) (output : E → Option (List ℕ))
     (facts : M → MatcherFacts E) (first_at : M → List ℕ → ℕ → Option (ℕ × ℕ))
-    (write_step : W → OutputCall → W → Type 0) (settings : Settings)
-    (inverted : settings.invert_match ≡ true) where
+    (write_step : W → OutputCall → W → Type 0) (settings : Settings) where
   -- a sink that has kept a text more, and nothing else
   pub record HasKept (old : PrinterSink F M W) (text : List ℕ) (after : F)
       (new : PrinterSink F M W) : Type 0 where
@@ -44,28 +43,35 @@ module _ {F M W E : Type 0} (rules : Rules F) (output : E → Option (List ℕ))
       planned (matches (option_map (λ first. first + index) number) offset line)
       (offset + length line)
 
-  -- it has none under inversion
+  -- none are asked for, or the search is inverted
+  abbrev HasNoParts : PrinterSink F M W → Call → Type 0
+  HasNoParts old call = (settings.invert_match || not (rules.asks old.format call)) ≡ true
+
   found-none : (old : PrinterSink F M W) (number : Option ℕ) (index offset : ℕ) (line : List ℕ)
+      → HasNoParts old (match_of number index offset line).call
       → HasFound rules Anything facts first_at old settings old.format
       (without_parts (match_of number index offset line))
-  found-none old number index offset line =
-      (record { before = []; after = [] }, tt, rw inverted refl)
+  found-none old number index offset line none =
+      let unasked : (not settings.invert_match
+      && rules.asks old.format (match_of number index offset line).call) ≡ false = grind arith in
+      (record { before = []; after = [] }, tt, rw unasked refl)
 
   -- a call of which the text is kept
   one-kept : (old new : PrinterSink F M W) (number : Option ℕ) (index offset : ℕ) (line : List ℕ)
       → rules.goes_on old.format (scene_of old settings)
       (without_parts (match_of number index offset line)) ≡ true
+      → HasNoParts old (match_of number index offset line).call
       → HasKept old (rules.text old.format (scene_of old settings)
       (without_parts (match_of number index offset line)))
       (rules.next old.format (scene_of old settings)
       (without_parts (match_of number index offset line))) new
       → Prints rules output facts first_at write_step Anything old settings
       (match_of number index offset line).call true new
-  one-kept old new number index offset line goes kept = record {
+  one-kept old new number index offset line goes none kept = record {
     same = kept.same;
     printed = without_parts (match_of number index offset line);
     is_call = refl;
-    has_parts = found-none old number index offset line;
+    has_parts = found-none old number index offset line none;
     goes_on = sym goes;
     put = record {
       bytes = [];
@@ -88,11 +94,11 @@ module _ {F M W E : Type 0} (rules : Rules F) (output : E → Option (List ℕ))
       (calls_of_lines number index offset (line ∷ later)) all_true new
   lines-kept old new number index offset line [] text format texts kept = inl (
     new,
-    one-kept old new number index offset line texts.2 (record {
+    one-kept old new number index offset line texts.2 texts.3 (record {
       same = kept.same;
       writer = kept.writer;
       pending = kept.pending ∙ ap (λ t. pending_bytes old.printer.now.pending ++ t) whole;
-      format = kept.format ∙ texts.3.1;
+      format = kept.format ∙ texts.4.1;
       has_written = kept.has_written ∙ ap (λ t. old.printer.now.has_written || is_text t) whole;
       has_failed = kept.has_failed;
     }),
@@ -102,12 +108,12 @@ module _ {F M W E : Type 0} (rules : Rules F) (output : E → Option (List ℕ))
       whole : text ≡ rules.text old.format (scene_of old settings)
           (without_parts (match_of number index offset line))
       whole = texts.1 ∙ (ap (λ t. rules.text old.format (scene_of old settings)
-          (without_parts (match_of number index offset line)) ++ t) texts.3.0
+          (without_parts (match_of number index offset line)) ++ t) texts.4.0
           ∙ append-nil (rules.text old.format (scene_of old settings)
           (without_parts (match_of number index offset line))))
   lines-kept old new number index offset line (next ∷ later) text format texts kept = inl (
     mid,
-    one-kept old mid number index offset line texts.2 (record {
+    one-kept old mid number index offset line texts.2 texts.3 (record {
       same = record { printer = refl; format = refl; matcher = refl; path = refl };
       writer = refl;
       pending = append-nil (pending_bytes old.printer.now.pending ++ first);
@@ -115,7 +121,7 @@ module _ {F M W E : Type 0} (rules : Rules F) (output : E → Option (List ℕ))
       has_written = refl;
       has_failed = refl;
     }),
-    lines-kept mid new number (suc index) (offset + length line) next later texts.0 format texts.3
+    lines-kept mid new number (suc index) (offset + length line) next later texts.0 format texts.4
         (record {
           same = record {
             printer = kept.same.printer;

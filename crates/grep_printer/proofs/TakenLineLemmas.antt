@@ -1,5 +1,5 @@
 -- Lines that are printed at once, against the texts of their calls one after another.
-use Rattle.std.proofs.Common.{◌≡◌, ◌∙◌, ℕ, suc, ◌+◌, ◌^◌, ◌≤◌, ◌<◌, true, false, not}
+use Rattle.std.proofs.Common.{◌≡◌, ◌∙◌, ℕ, suc, ◌+◌, ◌^◌, ◌≤◌, ◌<◌, true, false, not, ◌||◌}
 use Rattle.std.proofs.Common.{List, [], ◌∷◌, ◌++◌, length, Option, None, Some, ap, ap₂, arith}
 use Rattle.std.proofs.Common.{refl, sym, subst, ⊎_elim, append_assoc}
 use Rattle.std.proofs.lemmas.Bool.{cases_eq}
@@ -19,14 +19,14 @@ use Rattle.grep_printer.specs.Formats.{AreTexts, Scene}
 use Rattle.grep_printer.specs.LineTexts.{counted_parts, end_byte, fields, is_long, line_text}
 use Rattle.grep_printer.specs.LineTexts.{lines_text, missing_end, next_number, notice, place_after}
 use Rattle.grep_printer.specs.PartTexts.{match_text, writes_parts}
-use Rattle.grep_printer.specs.StandardTexts.{call_text, is_hidden, layout_of, progress_after}
-use Rattle.grep_printer.specs.StandardTexts.{standard_rules, text_before}
+use Rattle.grep_printer.specs.StandardTexts.{asks_for_parts, call_text, is_hidden, layout_of}
+use Rattle.grep_printer.specs.StandardTexts.{progress_after, standard_rules, text_before}
 use Rattle.grep_searcher.specs.Plans.{matches}
 use Rattle.grep_printer.proofs.ColorLemmas.{painted-none}
 use Rattle.grep_printer.specs.declared.config.Config.{Config}
 use Rattle.grep_printer.specs.declared.standard.Progress.{Progress}
 use Rattle.std.proofs.lemmas.List.{append-nil}
-use Rattle.grep_printer.specs.SummaryTexts.{counts_on, summary_rules, with_matches}
+use Rattle.grep_printer.specs.SummaryTexts.{counts_on, counts_parts, summary_rules, with_matches}
 use Rattle.grep_printer.specs.declared.summary.Counts.{Counts}
 use Rattle.grep_printer.specs.declared.summary_builder.SummaryConfig.{SummaryConfig}
 use Rattle.grep_printer.specs.declared.fields.Layout.{Layout}
@@ -164,6 +164,7 @@ module _ (config : Config) (scene : Scene) where
   -- of lines, after what comes before the first
   pub lines-texts : (progress : Progress)
       → is_hidden progress scene.settings.binary_detection ≡ false
+      → (scene.settings.invert_match || not (asks_for_parts config)) ≡ true
       → (number : Option ℕ) (index offset start : ℕ) (line : List ℕ) (later : List (List ℕ))
       → All (IsAlone t) (line ∷ later)
       → IfSome number (λ first. first + index + length (line ∷ later) ≤ 2 ^ 64)
@@ -174,45 +175,48 @@ module _ (config : Config) (scene : Scene) where
         start = start;
       }) [] (line ∷ later))
       (format_with (opened progress))
-  lines-texts progress shown number index offset start line [] alone fits = (
+  lines-texts progress shown bare number index offset start line [] alone fits = (
     [],
     first-text progress shown (number_at number index) offset start line [] alone,
     ap not shown,
+    bare,
     (refl, refl),
   )
-  lines-texts progress shown number index offset start line (next ∷ later) alone fits = (
+  lines-texts progress shown bare number index offset start line (next ∷ later) alone fits = (
     lines_text layout Match (place_after (record (place_of layout (number_at number index) offset) {
       start = start;
     }) line) [] (next ∷ later),
     first-text progress shown (number_at number index) offset start line (next ∷ later) alone,
     ap not shown,
+    bare,
     subst (λ n. AreTexts standard_rules scene (format_with (opened progress))
         (calls_of_lines number (suc index) (offset + length line) (next ∷ later))
         (lines_text layout Match (record (place_of layout n (offset + length line)) {
           start = start + length line;
         }) [] (next ∷ later))
         (format_with (opened progress))) (sym (number-next number index (grind (arith, fits))))
-        (lines-texts (opened progress) shown number (suc index) (offset + length line)
+        (lines-texts (opened progress) shown bare number (suc index) (offset + length line)
         (start + length line) next later (All-tail (IsAlone t) line (next ∷ later) alone)
         (grind (arith, fits))),
   )
 
   pub match-texts : (progress new : Progress) (m : MatchReport) (text : List ℕ)
       → is_hidden progress scene.settings.binary_detection ≡ false
+      → (scene.settings.invert_match || not (asks_for_parts config)) ≡ true
       → m.terminator ≡ t → 0 < length (match_bytes m)
       → IfSome m.line_number (λ first. first + length (match_bytes m) ≤ 2 ^ 64)
       → text ≡ call_text config progress scene (match_call m) []
       → new ≡ progress_after progress (match_call m)
       → AreTexts standard_rules scene (format_with progress) (calls_of_match m) text
       (format_with new)
-  match-texts progress new m text shown split some fits is after =
+  match-texts progress new m text shown bare split some fits is after =
       let found = some-lines t (match_bytes m) some in
       let few = lines-at-most t (match_bytes m) in
       let count = ap length found.2 in
       let same : lines m.terminator (match_bytes m) ≡ found.0 ∷ found.1 =
       ap (λ b. lines b (match_bytes m)) split ∙ found.2 in
       let alone = subst (All (IsAlone t)) found.2 (lines-alone t (match_bytes m)) in
-      let texts = lines-texts progress shown m.line_number 0 m.offset 0 found.0 found.1 alone
+      let texts = lines-texts progress shown bare m.line_number 0 m.offset 0 found.0 found.1 alone
       (grind (arith, fits, few, count)) in
       let whole : text ≡ text_before layout progress
       ++ lines_text layout Match (place_of layout (number_at m.line_number 0) m.offset) []
@@ -231,29 +235,33 @@ module _ (config : Config) (scene : Scene) where
 pub lines-counted : (scene : Scene) (config : SummaryConfig) (number : Option ℕ)
     (index offset : ℕ) (line : List ℕ) (later : List (List ℕ)) (counts : Counts)
     → counts_on config.kind ≡ true
+    → (scene.settings.invert_match || not (counts_parts config.kind)) ≡ true
     → AreTexts summary_rules scene (record { config = config; counts = counts })
     (calls_of_lines number index offset (line ∷ later)) []
     (record { config = config; counts = with_matches counts (length (line ∷ later)) 0 })
-lines-counted scene config number index offset line [] counts on = ([], refl, on, (refl, refl))
-lines-counted scene config number index offset line (next ∷ later) counts on = (
+lines-counted scene config number index offset line [] counts on bare =
+    ([], refl, on, grind arith, (refl, refl))
+lines-counted scene config number index offset line (next ∷ later) counts on bare = (
   [],
   refl,
   on,
+  grind arith,
   subst (λ after. AreTexts summary_rules scene
       (record { config = config; counts = with_matches counts 1 0 })
       (calls_of_lines number (suc index) (offset + length line) (next ∷ later)) []
       (record { config = config; counts = after })) (grind arith)
       (lines-counted scene config number (suc index) (offset + length line) next later
-      (with_matches counts 1 0) on),
+      (with_matches counts 1 0) on bare),
 )
 
 pub match-counted : (scene : Scene) (config : SummaryConfig) (m : MatchReport) (counts new : Counts)
     (count : ℕ) (text : List ℕ) → 0 < length (match_bytes m) → counts_on config.kind ≡ true
+    → (scene.settings.invert_match || not (counts_parts config.kind)) ≡ true
     → text ≡ [] → new ≡ with_matches counts count 0
     → count ≡ length (lines m.terminator (match_bytes m))
     → AreTexts summary_rules scene (record { config = config; counts = counts })
     (calls_of_match m) text (record { config = config; counts = new })
-match-counted scene config m counts new count text some on none is many =
+match-counted scene config m counts new count text some on bare none is many =
     let found = some-lines m.terminator (match_bytes m) some in
     rw (none, is, many, found.2)
-    (lines-counted scene config m.line_number 0 m.offset found.0 found.1 counts on)
+    (lines-counted scene config m.line_number 0 m.offset found.0 found.1 counts on bare)

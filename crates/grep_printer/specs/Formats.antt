@@ -1,5 +1,5 @@
 -- What a printer makes of the calls of a search, whatever its format is.
-use Rattle.std.specs.Prelude.{◌≡◌, ◌⊎◌, ℕ, Bool, true, false, not, ◌==◌, List, [], ◌∷◌, ◌++◌}
+use Rattle.std.specs.Prelude.{◌≡◌, ◌⊎◌, ℕ, Bool, true, false, not, ◌||◌, ◌==◌, List, [], ◌∷◌, ◌++◌}
 use Rattle.std.specs.Prelude.{length, Option}
 use Rattle.std.specs.Borrow.{Bor}
 use Rattle.std.specs.List.{fold}
@@ -57,13 +57,14 @@ abbrev pub without_parts : Planned → PrintedCall
 without_parts planned = record { call = planned.call; parts = [] }
 
 module _ {F : Type 0} (rules : Rules F) (scene : Scene) where
-  -- what is made of calls without parts, after each of which the search goes on: the text of all,
-  -- and the format after them
+  -- what is made of matches without parts, since none are asked for or the search is inverted, and
+  -- after each of which it goes on: the text of all, and the format after them
   abbrev pub AreTexts : F → List Planned → List ℕ → F → Type 0
   AreTexts format [] text new = (text ≡ []) × (new ≡ format)
   AreTexts format (planned ∷ later) text new =
       (rest : List ℕ) × (text ≡ rules.text format scene (without_parts planned) ++ rest)
       × (rules.goes_on format scene (without_parts planned) ≡ true)
+      × ((scene.settings.invert_match || not (rules.asks format planned.call)) ≡ true)
       × AreTexts (rules.next format scene (without_parts planned)) later rest new
 
 -- Calls with their parts, by what these may be.

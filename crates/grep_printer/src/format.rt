@@ -83,9 +83,10 @@ pub trait Format: Copy {
             (record { path = path.entry; settings = searcher.now.settings })
             (record { call = event_call event.now; parts = parts.now }) };
 
-    /// Pushes the texts of the lines of a match, each of which is a match that has no parts, as one
-    /// text after those that are kept, and returns whether it did: only if the search goes on after
-    /// each of them. If it didn't, nothing has changed. If memory is out, the text has failed.
+    /// Pushes the texts of the lines of a match, each of which is a match, as one text after those
+    /// that are kept, and returns whether it did: only if no parts of them are asked for or the
+    /// search is inverted, and if it goes on after each of them. If it didn't, nothing has changed.
+    /// If memory is out, the text has failed.
     ///
     /// The default doesn't.
     fn push_lines<A: Allocator + Copy>(

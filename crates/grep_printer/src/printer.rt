@@ -362,14 +362,14 @@ impl<'s, F: Format, M: FindAt, W: Output> Sink for PrinterSink<'s, F, M, W> {
         self.print(searcher, &Event::Report(Report::of_match(found)))
     }
 
-    /// Keeps the texts of lines, if the format pushes them at once: under inversion, where no parts
-    /// of them match, and where less text is kept than is written at once. It writes nothing.
+    /// Keeps the texts of lines, if the format pushes them at once, and where less text is kept than
+    /// is written at once. It writes nothing.
     fn matched_lines<A: Allocator + Copy>(
         &mut self,
         searcher: &Searcher<A>,
         lines: &SinkMatch<'_>,
     ) -> Result<bool, SearchError> {
-        if !searcher.invert_match() || lines.bytes().is_empty() || self.printer.is_full() {
+        if lines.bytes().is_empty() || self.printer.is_full() {
             return Ok(false);
         }
         let before = self.format;

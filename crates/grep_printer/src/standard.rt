@@ -185,7 +185,8 @@ impl Format for StandardFormat {
         path: Option<&str>,
         lines: &SinkMatch<'_>,
     ) -> bool {
-        if self.progress.is_hidden(searcher.binary_detection()) {
+        let has_parts = !searcher.invert_match() && self.config.asks_for_parts();
+        if has_parts || self.progress.is_hidden(searcher.binary_detection()) {
             return false;
         }
         text.begin();

@@ -135,7 +135,8 @@ impl Format for SummaryFormat {
         _path: Option<&str>,
         lines: &SinkMatch<'_>,
     ) -> bool {
-        if !self.config.kind.counts_on() {
+        let has_parts = !searcher.invert_match() && self.config.kind.counts_parts();
+        if has_parts || !self.config.kind.counts_on() {
             return false;
         }
         text.begin();

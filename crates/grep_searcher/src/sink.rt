@@ -60,10 +60,11 @@ pub trait Sink {
     /// these calls failed, with an error that is the sink's own. If it doesn't take them, nothing
     /// has changed, and the search calls `matched` for each line.
     ///
-    /// The lines are those of `lines`, whose number and offset are the first line's; a search gives
-    /// 16 KiB of them at most. It does so where it knows of lines in a row that each is a match:
-    /// under inversion, of lines in which its matcher found nothing. The caller ensures what
-    /// `matched` asks of each line.
+    /// The lines are those of `lines`, whose number and offset are the first line's. A search gives
+    /// them where it knows that lines in a row are matches and nothing else is to be reported: under
+    /// inversion those in which its matcher found nothing, else those that it confirmed. It gives
+    /// 16 KiB at most, or one line, and looks for a second confirmed one only if the sink took the
+    /// lines before. The caller ensures what `matched` asks of each line.
     ///
     /// The default doesn't take them. A sink that writes lines as one text, or counts them, is
     /// faster if it does.

@@ -2,40 +2,60 @@
 -- input.
 use Rattle.std.proofs.Common.{◌≡◌, ℕ, zero, suc, ◌+◌, ◌-◌, ◌<◌, ◌≤◌, true, false, List, [], ◌∷◌}
 use Rattle.std.proofs.Common.{length, drop, refl, sym, ◌∙◌, ap, ap₂, subst, arith, inl, inr, None}
+use Rattle.std.proofs.Common.{⊎_elim, ◌⊎◌}
 use Rattle.std.proofs.Common.{length-take, length-drop, take, Ok, Err, ◌++◌}
+use Rattle.std.proofs.lemmas.Bool.{cases_eq, cases_lt}
 use Rattle.std.proofs.lemmas.Bool.Decides.{nat_tests}
 use Rattle.std.specs.Prelude.{slice_range, nat_lt, ◌&&◌}
 use Rattle.std.specs.Option.{option_map}
 use Rattle.grep_lines.specs.Positions.{IsLine, IsLineStart}
 use Rattle.grep_lines.proofs.LineRangeLemmas.{line-from, start-same, starts-until}
-use Rattle.grep_lines.proofs.LineRangeLemmas.{comes-from, line-first}
+use Rattle.grep_lines.proofs.LineRangeLemmas.{comes-before, line-first}
 use Rattle.grep_matcher.specs.Lines.{lines, line_start, byte_of}
 use Rattle.grep_matcher.specs.Meanings.{Meaning}
 use Rattle.grep_definitions.specs.Plans.{Settings, Steps, Outcome, Planned, all_true, AreMade}
 use Rattle.grep_definitions.specs.Plans.{stopped, failed, planned, matches, line_plan, counted}
-use Rattle.grep_definitions.specs.Plans.{joined_from}
+use Rattle.grep_definitions.specs.Plans.{hits_if, joined_from}
 use Rattle.grep_definitions.specs.LineCalls.{breaks_near, broken_calls, listed_calls, matches_line}
+use Rattle.grep_definitions.specs.LineCalls.{pending_calls}
 use Rattle.grep_definitions.specs.MatchedLines.{calls_of_lines}
 use Rattle.grep_definitions.specs.SearchLaws.{number_of}
-use Rattle.grep_walk.specs.declared.look_ahead.Ahead.{Ahead}
+use Rattle.grep_walk.specs.declared.chosen_lines.ChosenLines.{ChosenLines}
 use Rattle.grep_walk.specs.declared.walk.Walk.{Walk}
-use Rattle.grep_walk.specs.ChosenLines.{AreChosen, after_chosen, chooses_unmatched, chosen_calls}
-use Rattle.grep_walk.specs.LookAheads.{IsKnown}
+use Rattle.grep_walk.specs.ChosenLines.{AllHit, AreHits, after_chosen, chooses_alone}
+use Rattle.grep_walk.specs.ChosenLines.{chosen_calls}
 use Rattle.grep_walk.specs.Origins.{AreMadeFrom, IsMadeToFrom, Origin}
 use Rattle.grep_walk.specs.Walks.{IsDecided, after_line, is_over, line_calls, line_end}
 use Rattle.grep_walk.specs.Windows.{HasSearched}
+use Rattle.grep_walk.proofs.BeforeContextLemmas.{pending-none}
 use Rattle.grep_walk.proofs.UncountedLemmas as uncounted
 use Rattle.grep_walk.proofs.WalkLemmas.{Bare, Comes}
 
--- what a walk has that chooses lines which don't match
-pub record IsChoosing (k : Settings) (w : Walk) : Type 0 where
-  pub inverted : k.invert_match ≡ true
-  pub unlimited : k.max_matches ≡ None
-  pub close : w.next_unreported ≡ w.line
-  pub after : w.after_context_left ≡ k.after_context
+-- what a walk has of which each chosen line makes one call
+record IsAlone (k : Settings) (w : Walk) : Type 0 where
+  unlimited : k.max_matches ≡ None
+  close : (w.next_unreported ≡ w.line) ⊎ ((k.before_context ≡ 0) × (k.after_context ≡ 0))
 
-pub is_choosing : (k : Settings) (w : Walk) → chooses_unmatched k w ≡ true → IsChoosing k w
-is_choosing k w is = grind (arith, nat_tests)
+is_alone : (k : Settings) (w : Walk) → chooses_alone k w ≡ true → IsAlone k w
+is_alone k w is = record {
+  unlimited = grind (arith, nat_tests);
+  close = ⊎_elim (λ same. inl (grind (arith, nat_tests)))
+      (λ other. inr (grind (arith, nat_tests), grind (arith, nat_tests)))
+      (cases_eq w.next_unreported w.line);
+}
+
+-- nothing is reported before such a line
+pending-silent : (k : Settings) (w : Walk) → IsAlone k w → (input : List ℕ) (end : ℕ)
+    → pending_calls k input w.next_unreported w.line end w.next_unreported
+    (w.line - w.next_unreported) ≡ []
+pending-silent k w alone input end = ⊎_elim (λ same.
+    let none : w.line - w.next_unreported ≡ 0 = omega arith in
+    ap (joined_from (listed_calls k input w.next_unreported w.line end) w.next_unreported) none)
+    (λ bare. ⊎_elim (λ less.
+    let none : w.line - w.next_unreported ≡ 0 = omega arith in
+    ap (joined_from (listed_calls k input w.next_unreported w.line end) w.next_unreported) none)
+    (λ low. pending-none k input w.next_unreported w.line end low (omega (arith, bare.0)))
+    (cases_lt w.line w.next_unreported)) alone.close
 
 -- the number of a line that comes so many lines after another
 numbered : (k : Settings) (i n : ℕ) → option_map (λ first. first + n) (number_of k i)
@@ -50,11 +70,6 @@ module _ {S E : Type 0} (step : Steps S E) (k : Settings) (meaning : Meaning)
   abbrev Searched : ℕ → Walk → S → Type 0
   Searched p w now = HasSearched step k meaning gone window input first p w now
 
-  -- the lines from one position up to another don't match
-  abbrev Misses : ℕ → ℕ → Type 0
-  Misses p q = (i a b : ℕ) → IsLine t window i a b → p ≤ a → a < q
-      → matches_line k meaning (slice_range window a b) ≡ false
-
   -- what comes of such calls: the walk goes on, or the search has ended with one of them
   abbrev pub LinesCome : (S → Type 0) → Outcome E → S → Type 0
   LinesCome On all_true new = On new
@@ -68,9 +83,9 @@ module _ {S E : Type 0} (step : Steps S E) (k : Settings) (meaning : Meaning)
   match_of_line w here = planned (matches (number_of k w.line) w.offset here) (line_end w here)
 
   -- that line is chosen
-  module _ (w : Walk) (p q i : ℕ) (now : S) (so_far : Searched p w now) (choosing : IsChoosing k w)
+  module _ (w : Walk) (p q i : ℕ) (now : S) (so_far : Searched p w now) (alone : IsAlone k w)
       (line : IsLine t window i p q)
-      (missed : matches_line k meaning (slice_range window p q) ≡ false) where
+      (hit : hits_if k (matches_line k meaning (slice_range window p q)) ≡ true) where
     abbrev here : List ℕ
     here = slice_range window p q
 
@@ -80,21 +95,19 @@ module _ {S E : Type 0} (step : Steps S E) (k : Settings) (meaning : Meaning)
 
     value : IsDecided k meaning w here true false
     value = record {
-      chosen_is = grind (arith, missed, choosing.inverted, choosing.unlimited);
-      trailing_is = λ some. grind (arith, missed, choosing.inverted, choosing.unlimited);
+      chosen_is = grind (arith, hit, alone.unlimited);
+      trailing_is = λ some. grind (arith, hit, alone.unlimited);
     }
 
     goes_on : is_over k (after_line k w here true) true ≡ false
-    goes_on = grind (arith, nat_tests, choosing.unlimited)
+    goes_on = grind (arith, nat_tests, alone.unlimited)
 
     one-call : line_calls k input w here true false ≡ match_of_line w here ∷ []
     one-call =
-        let none : w.line - w.next_unreported ≡ 0 = omega (arith, choosing.close) in
         let unbroken : (nat_lt 0 k.after_context && breaks_near k w.next_unreported w.line w.line)
-        ≡ false = grind (arith, nat_tests, choosing.close) in
-        ap₂ (λ xs ys. xs ++ ys)
-        (ap (joined_from (listed_calls k input w.next_unreported w.line (line_end w here))
-        w.next_unreported) none)
+        ≡ false = ⊎_elim (λ same. grind (arith, nat_tests)) (λ bare. grind (arith, nat_tests, bare.1))
+        alone.close in
+        ap₂ (λ xs ys. xs ++ ys) (pending-silent k w alone input (line_end w here))
         (ap (λ due. broken_calls due (matches (number_of k w.line) w.offset here) (line_end w here))
         unbroken)
 
@@ -109,14 +122,20 @@ module _ {S E : Type 0} (step : Steps S E) (k : Settings) (meaning : Meaning)
         line.within value outcome new
         (subst (λ calls. AreMade step k now calls outcome new) (sym one-call) made))
 
+  -- a walk whose last line was chosen
+  record IsAfterMatch (w : Walk) : Type 0 where
+    close : w.next_unreported ≡ w.line
+    after : w.after_context_left ≡ k.after_context
+
   -- many lines are chosen
   lines-come : (n : ℕ) (w : Walk) (p q i from index : ℕ) (now : S) → Searched p w now
-      → IsChoosing k w → w.line ≡ from + index → IsLineStart t window p i
-      → IsLineStart t window q (i + n) → q ≤ length window → Misses p q
+      → IsAlone k w → IsAfterMatch w ⊎ (0 < n) → w.line ≡ from + index
+      → IsLineStart t window p i
+      → IsLineStart t window q (i + n) → q ≤ length window → AllHit k meaning window p q
       → (outcome : Outcome E) (new : S) → AreMade step k now
       (calls_of_lines (number_of k from) index w.offset (lines t (slice_range window p q))) outcome new
       → LinesCome (Searched q (after_chosen k w (slice_range window p q))) outcome new
-  lines-come zero w p q i from index now so_far choosing at begins ends within misses outcome new
+  lines-come zero w p q i from index now so_far alone least at begins ends within hit outcome new
       made =
       let plain : i ≡ i + zero = omega arith in
       let same : p ≡ q = sym begins.begins ∙ (ap (line_start t window) plain ∙ ends.begins) in
@@ -124,21 +143,20 @@ module _ {S E : Type 0} (step : Steps S E) (k : Settings) (meaning : Meaning)
       let empty : slice_range window p q ≡ [] = ap (λ m. take m (drop p window)) none in
       let ended : (outcome ≡ all_true) × (new ≡ now) = subst (λ ls. AreMade step k now
       (calls_of_lines (number_of k from) index w.offset (lines t ls)) outcome new) empty made in
+      let last : IsAfterMatch w = ⊎_elim (λ is. is) (λ some. absurd (omega arith)) least in
       let stays : w ≡ after_chosen k w (slice_range window p q) =
-      grind (arith, empty, choosing.close) in
+      grind (arith, empty, last.close, last.after) in
       subst (λ o. LinesCome (Searched q (after_chosen k w (slice_range window p q))) o new)
       (sym ended.0) (subst (Searched q (after_chosen k w (slice_range window p q))) (sym ended.1)
       (subst (λ v. Searched q v now) stays (subst (λ a. Searched a w now) same so_far)))
-  lines-come (suc n) w p q i from index now so_far choosing at begins ends within misses outcome new
+  lines-come (suc n) w p q i from index now so_far alone least at begins ends within hit outcome new
       made = go (λ mid so_far. lines-come n next end q (i + 1) from (suc index) mid so_far
-      (record {
-        inverted = choosing.inverted;
-        unlimited = choosing.unlimited;
-        close = refl;
-        after = refl;
-      }) (omega (arith, at)) (record { listed = omega arith; begins = refl })
+      (record { unlimited = alone.unlimited; close = inl refl })
+      (inl (record { close = refl; after = refl }))
+      (omega (arith, at)) (record { listed = omega arith; begins = refl })
       (subst (IsLineStart t window q) (sym sum) ends) within
-      (λ j a b own after early. misses j a b own (omega (arith, line.above)) early)) outcome (subst (λ ls. AreMade step k now
+      (λ j a b own after early. hit j a b own (omega (arith, line.above)) early)) outcome
+      (subst (λ ls. AreMade step k now
       (calls_of_lines (number_of k from) index w.offset ls) outcome new) split made)
     where
       end : ℕ
@@ -163,8 +181,8 @@ module _ {S E : Type 0} (step : Steps S E) (k : Settings) (meaning : Meaning)
           → AreMade step k now (match_of_line w here ∷ []) outcome new
           → Comes k meaning input step first (line_end w here) false
           (Searched end (after_line k w here true)) outcome new
-      comes = one-comes w p end i now so_far choosing line
-          (misses i p end line (omega arith) (omega (arith, line.above, low)))
+      comes = one-comes w p end i now so_far alone line
+          (hit i p end line (omega arith) (omega (arith, line.above, low)))
 
       next : Walk
       next = after_line k w here true
@@ -181,7 +199,6 @@ module _ {S E : Type 0} (step : Steps S E) (k : Settings) (meaning : Meaning)
         length-drop end window,
         low,
         line.above,
-        choosing.after,
       )
 
       sum : (i + 1) + n ≡ i + suc n
@@ -219,19 +236,17 @@ module _ {S E : Type 0} (step : Steps S E) (k : Settings) (meaning : Meaning)
                 step now k (matches number w.offset here) (Err e) new) named fails,
           ))))
 
-  -- the lines up to another line's start are chosen, as they are known not to match
-  pub chosen-come : (w : Walk) (p q : ℕ) (a : Ahead) (now : S) → Searched p w now
-      → IsKnown k meaning window p a → AreChosen k window p a w q → q ≤ length window
-      → (outcome : Outcome E) (new : S)
-      → AreMade step k now (chosen_calls k window p q w) outcome new
-      → LinesCome (Searched q (after_chosen k w (slice_range window p q))) outcome new
-  chosen-come w p q a now so_far known chosen within outcome new made =
+  -- the lines that are chosen at once
+  pub chosen-come : (w : Walk) (p : ℕ) (found : ChosenLines) (now : S) → Searched p w now
+      → AreHits k meaning window p found → p < found.end → found.end ≤ length window
+      → chooses_alone k w ≡ true → (outcome : Outcome E) (new : S)
+      → AreMade step k now (chosen_calls k window p found.end w) outcome new
+      → LinesCome (Searched found.end (after_chosen k w (slice_range window p found.end))) outcome new
+  chosen-come w p found now so_far hits some within is outcome new made =
       let begins = so_far.walked.inside.line.begins in
       let i = so_far.line - length (lines t gone) in
-      let ends = chosen.line_start i known.index begins known.at in
-      let ordered = comes-from begins ends.0 (omega (arith, chosen.some, ends.1.begins)) in
-      let sum : i + (ends.0 - i) ≡ ends.0 = omega (arith, ordered) in
-      lines-come (ends.0 - i) w p q i w.line 0 now so_far (is_choosing k w chosen.chooses)
-      (omega arith) begins (subst (IsLineStart t window q) (sym sum) ends.1) within
-      (λ j x b own after early. known.miss j x b own after (omega (arith, early, chosen.known)))
-      outcome new made
+      let before = comes-before hits.at i (omega (arith, begins.begins, some)) in
+      let sum : i + (hits.index - i) ≡ hits.index = omega (arith, before) in
+      lines-come (hits.index - i) w p found.end i w.line 0 now so_far (is_alone k w is)
+      (inr (omega (arith, before))) (omega arith) begins
+      (subst (IsLineStart t window found.end) (sym sum) hits.at) within hits.all outcome new made

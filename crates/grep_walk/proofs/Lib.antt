@@ -6,6 +6,7 @@ pub mod BeforeContextLemmas
 pub mod ChosenLineLemmas
 pub mod FinishLemmas
 pub mod FoundMatchLemmas
+pub mod HitLemmas
 pub mod LookAheadLemmas
 pub mod OriginLemmas
 pub mod QuestionLemmas

@@ -56,6 +56,11 @@ abbrev pub AreQuestions : Settings → Meaning → Questions → Type 0
 AreQuestions settings meaning OneLine = AsksAhead settings meaning → ⊥
 AreQuestions settings meaning ManyLines = AsksAhead settings meaning
 
+-- the settings and the matcher allow these questions
+abbrev pub AreAllowed : Settings → Meaning → Questions → Type 0
+AreAllowed settings meaning OneLine = Unit {0}
+AreAllowed settings meaning ManyLines = AsksAhead settings meaning
+
 -- a walk may ask about many lines at once
 pub record MayAskAhead (settings : Settings) (meaning : Meaning) (w : Walk) : Type 0 where
   pub allowed : AsksAhead settings meaning

@@ -1,55 +1,160 @@
 //! Lines one after another that are chosen, of which no call is made but that of each match.
-ghost use Rattle.std.specs.Prelude.{◌≡◌, ◌≤◌, ◌<◌, ◌+◌, ◌^◌, length, IfSome};
-ghost use Rattle.grep_walk.specs.ChosenLines.{AreChosen, after_chosen, chooses_unmatched};
-ghost use Rattle.grep_walk.specs.LookAheads.{IsBounded};
+ghost use Rattle.std.specs.Prelude.{◌≡◌, ◌≤◌, ◌<◌, ◌+◌, ◌^◌, ℕ, true, false, length, Some};
+ghost use Rattle.std.specs.Prelude.{IfSome};
+ghost use Rattle.grep_definitions.specs.Plans.{AsksAhead, IsLawful};
+ghost use Rattle.grep_lines.specs.Positions.{IsLineStart};
+ghost use Rattle.grep_matcher.specs.Lines.{byte_of};
+ghost use Rattle.grep_matcher.specs.Meanings.{Meaning};
+ghost use Rattle.grep_walk.specs.ChosenLines.{AreChosen, AreHits, after_chosen, chooses_alone};
+ghost use Rattle.grep_walk.specs.LookAheads.{AreAllowed, IsBounded, IsKnown, known_at};
 ghost use Rattle.grep_walk.specs.Walks.{IsOrdered};
 
 use crate::config::Config;
-use crate::look_ahead::Ahead;
+use crate::look_ahead::{Ahead, Questions};
 use crate::walk::Walk;
 use grep_lines::{line_count, line_of};
+use grep_matcher::Matcher;
 
-// How many bytes of lines are chosen at once, at most: what a sink makes of them may take as much
-// memory.
+// How many bytes of lines are chosen at once, at most, unless it is one line: what a sink makes of
+// them may take as much memory.
 const ROOM: usize = 16 * 1024;
 
+/// Lines one after another that are chosen, by positions in a window.
+#[derive(Clone, Copy)]
+pub struct ChosenLines {
+    /// Where they end.
+    pub end: usize,
+    /// What is known of the lines from there on.
+    pub ahead: Ahead,
+}
+
 impl Config {
-    /// Where lines end that are chosen one after another from `start` on, without a call but that
-    /// of each match: lines that are known not to match, 16 KiB of them at most. `None` if there
-    /// are none. The caller ensures that a line of the window begins at `start`.
+    /// The lines that are chosen one after another from `start` on, without a call but that of each
+    /// match: under inversion lines that are known not to match; else the line that is known to
+    /// match, and those after it that do, if the matcher may be asked about many lines. They are
+    /// one line, or 16 KiB at most. `None` if there are none. The caller ensures that a line of the
+    /// window begins at `start`.
     #[inline(always)]
-    pub fn chosen_lines_end(
+    pub fn chosen_lines<M: Matcher>(
+        &self,
+        matcher: &M,
+        questions: Questions,
+        window: &[u8],
+        start: usize,
+        walk: &Walk,
+        ahead: &Ahead,
+    ) -> Option<ChosenLines>
+        requires allowed { AreAllowed self.now (M.facts matcher.now).meaning questions }
+        requires bounded { IsBounded window.now ahead.now }
+        requires inside { start ≤ length window.now }
+        ensures { IfSome result (AreChosen self.now (M.facts matcher.now) window.now start ahead.now
+            walk.now) }
+    {
+        if !self.chooses_alone(walk) {
+            return None;
+        }
+        let matches = ahead.known_at(start)?;
+        if !self.hits_if(matches) {
+            return None;
+        }
+        if !matches {
+            return self.lines_up_to_candidate(window, start, ahead);
+        }
+        match questions {
+            Questions::OneLine => Some(ChosenLines {
+                end: ahead.match_end,
+                ahead: *ahead,
+            }),
+            Questions::ManyLines => Some(self.matching_lines(matcher, window, start, ahead)),
+        }
+    }
+
+    // Whether each chosen line makes no call but its match's from here on.
+    fn chooses_alone(&self, walk: &Walk) -> bool
+        ensures { result ≡ chooses_alone self.now walk.now }
+    {
+        self.max_matches.is_none()
+            && (walk.next_unreported == walk.line
+                || self.before_context == 0 && self.after_context == 0)
+    }
+
+    // The lines from `start` on that are known not to match.
+    fn lines_up_to_candidate(
         &self,
         window: &[u8],
         start: usize,
         ahead: &Ahead,
-        walk: &Walk,
-    ) -> Option<usize>
+    ) -> Option<ChosenLines>
         requires bounded { IsBounded window.now ahead.now }
-        requires inside { start ≤ length window.now }
-        ensures { IfSome result (AreChosen self.now window.now start ahead.now walk.now) }
+        requires unmatched { known_at ahead.now start ≡ Some false }
+        requires inverted { self.now.invert_match ≡ true }
+        ensures some { IfSome result (λ lines. start < lines.end) }
+        ensures within { IfSome result (λ lines. lines.end ≤ length window.now) }
+        ensures bounded { IfSome result (λ lines. IsBounded window.now lines.ahead) }
+        ensures hits { IfSome result (λ lines. (meaning : Meaning) (i : ℕ)
+            → IsLineStart (byte_of self.now.line_terminator) window.now start i
+            → IsKnown self.now meaning window.now start ahead.now
+            → AreHits self.now meaning window.now start lines) }
     {
-        if start >= ahead.candidate || !self.chooses_unmatched(walk) {
-            return None;
-        }
         if ahead.candidate - start <= ROOM {
-            return Some(ahead.candidate);
+            return Some(ChosenLines {
+                end: ahead.candidate,
+                ahead: *ahead,
+            });
         }
-        let last = line_of(&window[start..], self.line_terminator.as_byte(), ROOM).start();
+        let terminator = self.line_terminator.as_byte();
+        let last = line_of(&window[start..], terminator, ROOM).start();
         if last == 0 {
             return None;
         }
-        Some(start + last)
+        Some(ChosenLines {
+            end: start + last,
+            ahead: *ahead,
+        })
     }
 
-    // Whether lines that don't match are chosen, and no call is made of each but its match's.
-    fn chooses_unmatched(&self, walk: &Walk) -> bool
-        ensures { result ≡ chooses_unmatched self.now walk.now }
+    // The lines from `start` on that match, the first of which is known to. The matcher is asked
+    // about many lines.
+    #[inline(always)]
+    fn matching_lines<M: Matcher>(
+        &self,
+        matcher: &M,
+        window: &[u8],
+        start: usize,
+        ahead: &Ahead,
+    ) -> ChosenLines
+        requires allowed { AsksAhead self.now (M.facts matcher.now).meaning }
+        requires bounded { IsBounded window.now ahead.now }
+        requires matched { known_at ahead.now start ≡ Some true }
+        requires plain { self.now.invert_match ≡ false }
+        ensures some { start < result.end }
+        ensures within { result.end ≤ length window.now }
+        ensures bounded { IsBounded window.now result.ahead }
+        ensures hits { IsLawful (M.facts matcher.now) self.now
+            → (i : ℕ) → IsLineStart (byte_of self.now.line_terminator) window.now start i
+            → IsKnown self.now (M.facts matcher.now).meaning window.now start ahead.now
+            → AreHits self.now (M.facts matcher.now).meaning window.now start result }
     {
-        self.invert_match
-            && self.max_matches.is_none()
-            && walk.next_unreported == walk.line
-            && walk.after_context_left == self.after_context
+        let mut lines = ChosenLines {
+            end: ahead.match_end,
+            ahead: *ahead,
+        };
+        'lines: loop {
+            if lines.end == window.len() || lines.end - start >= ROOM {
+                return lines;
+            }
+            let Ok(found) = matcher.find_candidate_line(&window[lines.end..]) else {
+                return lines;
+            };
+            lines.ahead = self.ahead_of(window, lines.end, found);
+            let Some(true) = lines.ahead.known_at(lines.end) else {
+                return lines;
+            };
+            if lines.ahead.match_end - start > ROOM {
+                return lines;
+            }
+            lines.end = lines.ahead.match_end;
+        }
     }
 
     /// The walk after such lines. The caller ensures that the offset of their end is below 2^64.
@@ -64,8 +169,8 @@ impl Config {
             offset: walk.offset + lines.len() as u64,
             line: walk.line + count,
             next_unreported: walk.line + count,
+            after_context_left: self.after_context,
             match_count: walk.match_count + count,
-            ..*walk
         }
     }
 }

@@ -16,6 +16,7 @@ mod units;
 mod walk;
 
 pub use blocks::Blocks;
+pub use chosen_lines::ChosenLines;
 pub use config::Config;
 pub use look_ahead::{Ahead, NOTHING_AHEAD, Questions};
 pub use walk::{Verdict, WALK_START, Walk};

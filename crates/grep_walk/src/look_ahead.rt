@@ -137,7 +137,12 @@ impl Config {
     }
 
     // What a matcher's result for the lines from `start` on says of them.
-    fn ahead_of(&self, window: &[u8], start: usize, found: Option<LineMatchKind>) -> Ahead
+    pub(crate) fn ahead_of(
+        &self,
+        window: &[u8],
+        start: usize,
+        found: Option<LineMatchKind>,
+    ) -> Ahead
         requires inside { start ≤ length window.now }
         requires found { IsInside (drop start window.now) found }
         ensures bounded { IsBounded window.now result }

@@ -9,11 +9,14 @@ use Rattle.grep_definitions.specs.Plans.{IsLawful, all_true, failed, stopped, co
 use Rattle.grep_walk.specs.Origins.{Origin}
 use Rattle.grep_walk.specs.Windows.{HasSearched}
 use Rattle.grep_walk.specs.Walks.{chooses, is_over, line_end, after_line}
+use Rattle.grep_walk.proofs.LookAheadLemmas.{are-allowed}
 use Rattle.grep_walk.proofs.SkipLemmas as skips
 use Rattle.grep_walk.proofs.WindowSearchLemmas as search
 use Rattle.grep_walk.proofs.WindowSearchLemmas.{ordered-next}
 use Rattle.grep_walk.proofs.UncountedLemmas as uncounted
 use Rattle.grep_walk.specs.WalkFaults.{at_call}
+use Rattle.grep_walk.specs.LookAheads.{IsKnown}
+use Rattle.grep_walk.specs.declared.chosen_lines.ChosenLines.{ChosenLines}
 use Rattle.grep_walk.specs.declared.walk.Walk.{Walk}
 use Rattle.grep_walk.specs.ChosenLines.{AreChosen, after_chosen, chosen_calls}
 use Rattle.grep_walk.proofs.ChosenLineLemmas.{LinesCome, chosen-come}
@@ -60,6 +63,28 @@ reached g c lawful gone input first so_far = subst (λ sink. uncounted.HasLine g
     c.skip_unmatched-start.ensures.position c.skip_unmatched-start.ensures.walk
     c.terminator-terminator.ensures c.in-Some-line_end.ensures.line c.known_at-known.ensures)
 
+-- where the walk is after the lines that are skipped, and what is known there
+here : (g : Over) (c : After-sink_chosen_lines g)
+    → IsLawful (g.M.Matcher.facts c.args.matcher.now) c.args.self.now.config
+    → (gone input : List ℕ) (first : Origin g.row.C-Sink.Denot)
+    → HasSearched g.C.Calls.step c.args.self.now.config
+    (g.M.Matcher.facts c.args.matcher.now).meaning gone c.args.window.now input
+    first c.args.start c.args.walk.now c.args.sink.now
+    → HasSearched g.C.Calls.step c.args.self.now.config
+    (g.M.Matcher.facts c.args.matcher.now).meaning gone c.args.window.now input
+    first c.skip_unmatched-start.result c.skip_unmatched-start.new.walk c.lines.sink
+    × IsKnown c.args.self.now.config (g.M.Matcher.facts c.args.matcher.now).meaning
+    c.args.window.now c.skip_unmatched-start.result c.in-Ok.ahead
+here g c lawful gone input first so_far =
+    let now = c.lines.invariant.searched lawful gone input first so_far in
+    let known = c.in-Ok.ensures.known lawful _ now.walked.inside.line.begins
+    (c.lines.invariant.known lawful gone input first so_far) in
+    let skipped = c.skip_unmatched-start.ensures in (
+      uncounted.searched-on c.requires.configured.bare now c.in-Ok.ensures.bounded known
+          skipped.position skipped.walk,
+      skips.known-later _ _ _ _ _ _ skipped.low known,
+    )
+
 -- what comes of lines that are chosen one after another
 chosen : (g : Over) (c : After-sink_chosen_lines g)
     → IsLawful (g.M.Matcher.facts c.args.matcher.now) c.args.self.now.config
@@ -67,30 +92,24 @@ chosen : (g : Over) (c : After-sink_chosen_lines g)
     → HasSearched g.C.Calls.step c.args.self.now.config
     (g.M.Matcher.facts c.args.matcher.now).meaning gone c.args.window.now input
     first c.args.start c.args.walk.now c.args.sink.now
-    → (end : ℕ) → AreChosen c.args.self.now.config c.args.window.now c.skip_unmatched-start.result
-    c.in-Ok.ahead c.skip_unmatched-start.new.walk end
+    → (lines : ChosenLines) → AreChosen c.args.self.now.config
+    (g.M.Matcher.facts c.args.matcher.now) c.args.window.now c.skip_unmatched-start.result
+    c.in-Ok.ahead c.skip_unmatched-start.new.walk lines
     → (outcome : Outcome g.row.C-Error.Denot) (new : g.row.C-Sink.Denot)
     → AreMade g.C.Calls.step c.args.self.now.config c.lines.sink
-    (chosen_calls c.args.self.now.config c.args.window.now c.skip_unmatched-start.result end
+    (chosen_calls c.args.self.now.config c.args.window.now c.skip_unmatched-start.result lines.end
     c.skip_unmatched-start.new.walk) outcome new
     → LinesCome g.C.Calls.step c.args.self.now.config
     (g.M.Matcher.facts c.args.matcher.now).meaning gone c.args.window.now input first
     c.requires.configured.bare (HasSearched g.C.Calls.step c.args.self.now.config
-    (g.M.Matcher.facts c.args.matcher.now).meaning gone c.args.window.now input first end
+    (g.M.Matcher.facts c.args.matcher.now).meaning gone c.args.window.now input first lines.end
     (after_chosen c.args.self.now.config c.skip_unmatched-start.new.walk
-    (slice_range c.args.window.now c.skip_unmatched-start.result end))) outcome new
-chosen g c lawful gone input first so_far end are outcome new made =
-    let now = c.lines.invariant.searched lawful gone input first so_far in
-    let known = c.in-Ok.ensures.known lawful _ now.walked.inside.line.begins
-    (c.lines.invariant.known lawful gone input first so_far) in
-    let skipped = c.skip_unmatched-start.ensures in
-    let here = uncounted.searched-on c.requires.configured.bare now c.in-Ok.ensures.bounded known
-    skipped.position skipped.walk in
-    let later = skips.known-later _ _ _ _ _ _ skipped.low known in
+    (slice_range c.args.window.now c.skip_unmatched-start.result lines.end))) outcome new
+chosen g c lawful gone input first so_far lines are outcome new made =
+    let at = here g c lawful gone input first so_far in
     chosen-come _ _ _ gone _ input first c.requires.configured.bare
-    c.skip_unmatched-start.new.walk c.skip_unmatched-start.result end c.in-Ok.ahead
-    c.lines.sink here later are
-    (omega (arith, are.known, c.in-Ok.ensures.bounded.ordered, c.in-Ok.ensures.bounded.within))
+    c.skip_unmatched-start.new.walk c.skip_unmatched-start.result lines c.lines.sink at.0
+    (are.hits lawful _ at.0.walked.inside.line.begins at.1) are.some are.within are.alone
     outcome new made
 
 pub lines-init : goal.lines-init
@@ -100,6 +119,7 @@ lines-init g c = record {
   ahead = omega arith;
   ordered = c.requires.ordered;
   bounded = record { ordered = omega arith; within = omega arith };
+  further = tt;
   known = λ lawful gone input first so_far. skips.known-nothing _ _ _ _;
   searched = λ lawful gone input first so_far. so_far;
   called = called-none _ _ _;
@@ -231,6 +251,7 @@ lines-preserved g c =
           (chooses c.in-Ok-judge.verdict) c.in-Some-line_end.ensures.within.0 c.in-Some-line_end.ensures.within.1
           c.skip_unmatched-start.ensures.ordered;
       bounded = c.in-Ok.ensures.bounded;
+      further = tt;
       known = λ lawful gone input first so_far.
           let now = c.lines.invariant.searched lawful gone input first so_far in
           skips.known-later _ _ _ _
@@ -284,41 +305,40 @@ returns-then-is_over-clause-in_order g c =
       called = called-then _ _ _ _ _ _ (called g (goal.at.returns-then-is_over-clause-in_order g c).After-known_at-known) (here 0);
     }
 
-pub returns-in_err-end-clause-fault : goal.returns-in_err-end-clause-fault
-returns-in_err-end-clause-fault g c =
+pub returns-in_err-lines-clause-fault : goal.returns-in_err-lines-clause-fault
+returns-in_err-lines-clause-fault g c =
     let p = err_from_is_err_and c.from_residual.result c.from_residual.ensures.1 in
-    let failed-at = c.in_err-end.ensures.error in
+    let failed-at = c.in_err-lines.ensures.error in
     rw (p.1, p.2) (λ lawful gone input first so_far. at_call (chosen g
-    (goal.at.returns-in_err-end-clause-fault g c).After-sink_chosen_lines lawful gone
+    (goal.at.returns-in_err-lines-clause-fault g c).After-sink_chosen_lines lawful gone
     input first so_far failed-at.0 failed-at.1 (failed _) _ failed-at.2))
 
-pub returns-in_err-end-clause-in_order : goal.returns-in_err-end-clause-in_order
-returns-in_err-end-clause-in_order g c =
+pub returns-in_err-lines-clause-in_order : goal.returns-in_err-lines-clause-in_order
+returns-in_err-lines-clause-in_order g c =
     let p = err_from_is_err_and c.from_residual.result c.from_residual.ensures.1 in
     rw (p.1, p.2) (of_call (called-then _ _ _ _ _ _ c.lines.invariant.called
-    (called-matches _ _ _ _ _ _ _ _ _ c.in_err-end.ensures.error.2)))
+    (called-matches _ _ _ _ _ _ _ _ _ c.in_err-lines.ensures.error.2)))
 
 pub lines-preserved-in-Some : goal.lines-preserved-in-Some
 lines-preserved-in-Some g c =
-    let some : AreChosen c.args.self.now.config c.args.window.now c.skip_unmatched-start.result
-    c.in-Ok.ahead c.skip_unmatched-start.new.walk c.in-Some.end
+    let some : AreChosen c.args.self.now.config (g.M.Matcher.facts c.args.matcher.now)
+    c.args.window.now c.skip_unmatched-start.result c.in-Ok.ahead
+    c.skip_unmatched-start.new.walk c.in-Some.lines
     × AreMade g.C.Calls.step c.args.self.now.config c.lines.sink
     (chosen_calls c.args.self.now.config c.args.window.now c.skip_unmatched-start.result
-    c.in-Some.end c.skip_unmatched-start.new.walk) all_true c.sink_chosen_lines.new.sink =
+    c.in-Some.lines.end c.skip_unmatched-start.new.walk) all_true c.sink_chosen_lines.new.sink =
     search rules in
-    let bounded = c.in-Ok.ensures.bounded in
-    let size = length-take (c.in-Some.end - c.skip_unmatched-start.result)
+    let size = length-take (c.in-Some.lines.end - c.skip_unmatched-start.result)
     (drop c.skip_unmatched-start.result c.args.window.now) in
+    let at = (goal.at.lines-preserved-in-Some g c).After-sink_chosen_lines in
     record {
-      within = omega (arith, some.0.known, bounded.ordered, bounded.within);
+      within = some.0.within;
       same = omega (
         arith,
         size,
         length-drop c.skip_unmatched-start.result c.args.window.now,
         some.0.some,
-        some.0.known,
-        bounded.ordered,
-        bounded.within,
+        some.0.within,
         c.skip_unmatched-start.ensures.moved,
         c.lines.invariant.same,
         ap (λ (w : Walk). w.offset) c.after_chosen.ensures.walk,
@@ -330,20 +350,17 @@ lines-preserved-in-Some g c =
         some.0.some,
       );
       ordered = c.after_chosen.ensures.ordered;
-      bounded = bounded;
+      bounded = some.0.bounded;
+      further = are-allowed _ _ _ c.requires.questions;
       known = λ lawful gone input first so_far.
-          let now = c.lines.invariant.searched lawful gone input first so_far in
-          skips.known-later _ _ _ _
-          _ _ (omega (arith, c.skip_unmatched-start.ensures.low, some.0.some))
-          (c.in-Ok.ensures.known lawful _ now.walked.inside.line.begins
-          (c.lines.invariant.known lawful gone input first so_far));
+          let now = here g at lawful gone input first so_far in
+          (some.0.hits lawful _ now.0.walked.inside.line.begins now.1).known;
       searched = λ lawful gone input first so_far. subst (λ w. HasSearched g.C.Calls.step
           c.args.self.now.config (g.M.Matcher.facts c.args.matcher.now).meaning gone
-          c.args.window.now input first c.in-Some.end w c.sink_chosen_lines.new.sink)
+          c.args.window.now input first c.in-Some.lines.end w c.sink_chosen_lines.new.sink)
           (sym c.after_chosen.ensures.walk)
-          (chosen g (goal.at.lines-preserved-in-Some g c).After-sink_chosen_lines lawful gone input
-          first so_far c.in-Some.end some.0 all_true _ some.1);
+          (chosen g at lawful gone input first so_far c.in-Some.lines some.0 all_true _ some.1);
       called = called-then _ _ _ _ _ _ c.lines.invariant.called
           (called-matches _ _ _ _ _ _ _ _ _ some.1);
-      may_call = c.in_ok-end.ensures.may_call;
+      may_call = c.in_ok-lines.ensures.may_call;
     }

@@ -1,7 +1,7 @@
 use Rattle.std.proofs.Common.{◌≡◌, ◌≤◌, ◌+◌, ◌-◌, ℕ, List, length}
 use Rattle.grep_definitions.specs.CallOrder.{HasCalled}
 use Rattle.grep_definitions.specs.Plans.{all_true, IsLawful}
-use Rattle.grep_walk.specs.LookAheads.{IsBounded, IsKnown}
+use Rattle.grep_walk.specs.LookAheads.{AreAllowed, IsBounded, IsKnown}
 use Rattle.grep_walk.specs.Origins.{Origin}
 use Rattle.grep_walk.specs.Walks.{IsOrdered}
 use Rattle.grep_walk.specs.Windows.{HasSearched}
@@ -14,6 +14,7 @@ invariant-lines g l = record {
   ahead : l.fn.start ≤ l.start;
   ordered : IsOrdered l.walk;
   bounded : IsBounded l.window l.ahead;
+  further : AreAllowed l.self.config (g.M.Matcher.facts l.matcher).meaning l.further;
   known : IsLawful (g.M.Matcher.facts l.matcher) l.self.config
       → (gone input : List ℕ) (first : Origin g.row.C-Sink.Denot)
       → HasSearched g.C.Calls.step l.self.config (g.M.Matcher.facts l.matcher).meaning gone l.window

@@ -40,7 +40,7 @@ pub returns-clause-taken : goal.returns-clause-taken
 returns-clause-taken g c =
     let some : 0 < length (match_bytes c.args.lines.now) = search rules in
     match-kept g.F.Format.rules g.M.Error.Display.output g.M.Matcher.facts g.M.FindAt.first_at
-    g.W.Output.step c.args.searcher.now.settings (search rules) c.args.self.now _ c.args.lines.now
+    g.W.Output.step c.args.searcher.now.settings c.args.self.now _ c.args.lines.now
     c.push_lines.new.text.text c.push_lines.new.self some (search rules) (record {
       same = record { printer = refl; format = refl; matcher = refl; path = refl };
       writer = refl;

@@ -1,8 +1,9 @@
-use Rattle.std.proofs.Common.{◌≡◌, ◌∙◌, [], ap, false, rules}
+use Rattle.std.proofs.Common.{◌≡◌, ◌∙◌, ◌||◌, [], ap, false, not, rules, true}
 use Rattle.grep_searcher.specs.Plans.{Call}
 use Rattle.grep_searcher.specs.SinkArguments.{match_call}
 use Rattle.grep_printer.specs.Formats.{Scene}
-use Rattle.grep_printer.specs.StandardTexts.{call_text, is_hidden, progress_after}
+use Rattle.grep_printer.specs.StandardTexts.{asks_for_parts, call_text, is_hidden}
+use Rattle.grep_printer.specs.StandardTexts.{progress_after}
 use Rattle.grep_printer.proofs.TakenLineLemmas.{match-texts}
 use Rattle.grep_printer.proofs.standard.StandardFormatFormat.push_lines.Goals as goal
 
@@ -13,10 +14,12 @@ returns-clause-texts g c = λ taken there.
     let old = c.args.self.now in
     let shown : is_hidden old.progress c.args.searcher.now.settings.binary_detection ≡ false =
     search rules in
+    let bare : (c.args.searcher.now.settings.invert_match || not (asks_for_parts old.config)) ≡ true =
+    search rules in
     let text : c.push_report.new.text.text
     ≡ call_text old.config old.progress scene (match_call c.args.lines.now) [] = search rules in
     let after = c.push_report.ensures.progress
     ∙ ap (λ (call : Call). progress_after old.progress call) c.of_match.ensures.call in
     rw c.push_report.ensures.config
-    (match-texts old.config scene old.progress _ c.args.lines.now _ shown c.requires.split
+    (match-texts old.config scene old.progress _ c.args.lines.now _ shown bare c.requires.split
     c.requires.some c.requires.numbers text after)
