@@ -2,14 +2,15 @@
 -- a selected one.
 use Rattle.std.specs.Prelude.{◌≡◌, ℕ, ◌+◌, List, length, map, Option, slice_get, Some, take}
 use Rattle.std.specs.List.{flat_map}
+use Rattle.grep_searcher.specs.declared.LineTerminator.{LineTerminator}
 use Rattle.grep_searcher.specs.declared.LineTerminator.TheVariants.{Byte}
 use Rattle.grep_searcher.specs.BoundedReads.{IsReadUpTo}
 use Rattle.grep_searcher.specs.HitLines.{kept_hits}
 use Rattle.grep_searcher.specs.Lines.{strip}
 use Rattle.grep_searcher.specs.MatchHandlers.{KeptReport, kept_line}
 use Rattle.grep_searcher.specs.Meanings.{Meaning}
-use Rattle.grep_searcher.specs.Plans.{line, Settings}
-use Rattle.grep_searcher.specs.SearchLaws.{matched_lines}
+use Rattle.grep_searcher.specs.Plans.{line, reported_bytes, search_plan, Settings}
+use Rattle.grep_searcher.specs.SearchLaws.{match_calls, matched_lines}
 use Rattle.uses.specs.PlainSettings.{held_to}
 
 -- the first matched lines, at most n, with their numbers, their offsets and their bytes
@@ -27,9 +28,18 @@ abbrev pub numbered_lines_of : Settings → Meaning → List ℕ → List (ℕ �
 numbered_lines_of settings meaning bytes =
     map (λ i. (i + 1, line settings bytes i)) (matched_lines settings meaning bytes)
 
--- the first match in a line, without its terminator
+-- the first match in a line, without its terminator; and that is a line feed
+abbrev pub first_in_line : LineTerminator → Meaning → List ℕ → Option (ℕ × ℕ)
+first_in_line terminator meaning line = meaning.first (strip terminator line)
+
 abbrev pub first_in : Meaning → List ℕ → Option (ℕ × ℕ)
-first_in meaning line = meaning.first (strip (Byte 10) line)
+first_in = first_in_line (Byte 10)
+
+-- the first match in each line that is reported as a match
+abbrev pub firsts_in_matches : Settings → Meaning → List ℕ → List (Option (ℕ × ℕ))
+firsts_in_matches settings meaning bytes =
+    map (first_in_line settings.line_terminator meaning)
+    (map reported_bytes (match_calls (search_plan settings meaning bytes).calls))
 
 -- the first line that hits is found in an input that is searched as it is, if there is one; and of
 -- the input, of which this is left, at most so many bytes, and three, were read beyond that line

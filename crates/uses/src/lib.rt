@@ -10,7 +10,8 @@
 //! about one line, or about many; `count_pattern_lines` and `first_pattern_line` compile a regular
 //! expression. `lines_that_match` keeps the lines of a slice that match, `matches_in_lines` the first
 //! match in each of them, `last_matches` the last lines of a reader, and `lines_between` those between
-//! two marks; `count_in_paths` adds up the counts of files. `CALLING.md` says which laws they use.
+//! two marks; `first_in_each` finds the first match in each line that a search reports, and
+//! `count_in_paths` adds up the counts of files. `CALLING.md` says which laws they use.
 #![tactic(auto)]
 
 mod around;
@@ -42,7 +43,7 @@ pub use filter::lines_that_match;
 pub use first::{first_line_that_matches, first_matches};
 pub use json::json_lines;
 pub use last::last_matches;
-pub use matched::matches_in_lines;
+pub use matched::{first_in_each, matches_in_lines};
 pub use non_ascii::{NonAscii, count_non_ascii_lines};
 pub use numbered::numbered_lines;
 pub use path::{count_in_path, has_match};

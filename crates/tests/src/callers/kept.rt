@@ -3,7 +3,7 @@
 use grep_searcher::sinks::KeptMatch;
 use grep_searcher::{LiteralMatcher, Match, SearchError, Searcher};
 use std::alloc::Global;
-use uses::{first_pattern_line, last_matches, lines_between, matches_in_lines};
+use uses::{first_in_each, first_pattern_line, last_matches, lines_between, matches_in_lines};
 
 // Line 2, line 4 and line 5 have an `a`.
 const INPUT: &[u8] = b"x\nab\ny\nba\nca";
@@ -80,6 +80,18 @@ fn are_found(lines: &[Vec<u8>], firsts: &[Match]) -> bool {
 fn finds_in_lines(alloc: Global) -> Result<bool, SearchError> {
     let (lines, firsts) = matches_in_lines(alloc, &LiteralMatcher::borrowed(b"b"), INPUT)?;
     Ok(are_found(&lines, &firsts))
+}
+
+fn finds_in_each(alloc: Global) -> Result<bool, SearchError> {
+    let mut searcher = Searcher::new(alloc)?;
+    let letter = LiteralMatcher::borrowed(b"b");
+    let firsts = first_in_each(alloc, &mut searcher, &letter, INPUT)?;
+    Ok(matches!(firsts.as_slice(), [at_end, at_start] if at_end.end() == 2 && at_start.end() == 1))
+}
+
+#[test]
+fn first_matches_in_reports_are_found(rt: HostRuntime) {
+    assert!(rt; matches!(finds_in_each(rt.alloc()), Ok(true)));
 }
 
 #[test]
