@@ -1,6 +1,6 @@
 -- The text that a printer of summaries writes for a search.
 use Rattle.std.specs.Prelude.{ℕ, nat_lt, Bool, true, false, ◌==◌, if◌then◌else◌, List, [], ◌∷◌}
-use Rattle.std.specs.Prelude.{◌++◌, decimal, length, Option, None, is_some, ◌&&◌}
+use Rattle.std.specs.Prelude.{◌++◌, decimal, length, Option, None, is_some, not, ◌&&◌, ◌||◌}
 use Rattle.std.specs.Borrow.{Bor}
 use Rattle.std.specs.Option.{unwrap_or}
 use Rattle.grep_matcher.specs.Lines.{byte_of}
@@ -25,7 +25,12 @@ use Rattle.grep_printer.specs.declared.summary_builder.SummaryKind.TheVariants.{
 
 -- the settings of a new builder
 abbrev pub default_summary_config : SummaryConfig
-default_summary_config = record { kind = Count; path_terminator = None; color_specs = Plain }
+default_summary_config = record {
+  kind = Count;
+  exclude_zero = true;
+  path_terminator = None;
+  color_specs = Plain;
+}
 
 -- nothing was reported yet
 abbrev pub no_counts : Counts
@@ -58,7 +63,21 @@ has_found PathWithMatch count = nat_lt 0 count
 has_found PathWithoutMatch count = count == 0
 has_found Quiet count = nat_lt 0 count
 
--- what is written of a search that found it, by what counts
+-- whether the search goes on after a match: only to count the others
+abbrev pub counts_on : SummaryKind → Bool
+counts_on Count = true
+counts_on CountMatches = true
+counts_on PathWithMatch = false
+counts_on PathWithoutMatch = false
+counts_on Quiet = false
+
+-- whether something is written of a search: of one that found it, and of any that is counted if a
+-- count of zero is written
+abbrev pub is_written : SummaryKind → ℕ → Bool → Bool
+is_written kind count exclude_zero =
+    has_found kind count || (counts_on kind && not exclude_zero)
+
+-- what is written then, by what counts
 abbrev pub found_line : SummaryKind → SummaryConfig → Option (Bor (List ℕ)) → ℕ → Counts → List ℕ
 found_line Count config path terminator counts =
     count_line config path terminator counts.match_count
@@ -72,7 +91,8 @@ found_line Quiet config path terminator counts = []
 abbrev pub finish_text : SummaryKind → SummaryConfig → Option (Bor (List ℕ)) → ℕ → Counts
     → List ℕ
 finish_text kind config path terminator counts =
-    if has_found kind counts.match_count then found_line kind config path terminator counts else []
+    if is_written kind counts.match_count config.exclude_zero
+    then found_line kind config path terminator counts else []
 
 -- a search that a binary byte ended counts for nothing: its matches don't count, and nothing is
 -- written of it
@@ -98,14 +118,6 @@ counts_parts CountMatches = true
 counts_parts PathWithMatch = false
 counts_parts PathWithoutMatch = false
 counts_parts Quiet = false
-
--- whether the search goes on after a match: only to count the others
-abbrev pub counts_on : SummaryKind → Bool
-counts_on Count = true
-counts_on CountMatches = true
-counts_on PathWithMatch = false
-counts_on PathWithoutMatch = false
-counts_on Quiet = false
 
 -- whether it goes on after a call
 abbrev pub sums_on : SummaryKind → Call → Bool

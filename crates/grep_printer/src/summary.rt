@@ -64,7 +64,8 @@ impl SummaryFormat {
         ensures { Adds text.old text.new (finish_text self.now.config.kind self.now.config
             path.entry terminator self.now.counts) }
     {
-        if self.config.kind.has_found(self.counts.match_count) {
+        let count = self.counts.match_count;
+        if self.config.kind.is_written(count, self.config.exclude_zero) {
             push_found_line(text, &self.config, path, terminator, &self.counts);
         }
     }

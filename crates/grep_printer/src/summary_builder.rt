@@ -2,7 +2,7 @@
 ghost use Rattle.std.specs.Prelude.{◌≡◌, [], false};
 ghost use Rattle.grep_output.specs.PendingTexts.{pending_bytes};
 ghost use Rattle.grep_printer.specs.SummaryTexts.{counts_on, counts_parts, default_summary_config};
-ghost use Rattle.grep_printer.specs.SummaryTexts.{has_found};
+ghost use Rattle.grep_printer.specs.SummaryTexts.{has_found, is_written};
 
 use crate::colors::ColorSpecs;
 use crate::printer::Printer;
@@ -13,10 +13,10 @@ use std::marker::Model;
 /// What is written of a search.
 #[derive(Clone, Copy, Debug, PartialEq, Eq)]
 pub enum SummaryKind {
-    /// How many matches were reported, after the path, if any was.
+    /// How many matches were reported, after the path, if any was or a count of zero is written.
     Count,
     /// How many parts of the reported matches match, as `StandardBuilder::only_matching` has them,
-    /// after the path, if any match was reported.
+    /// after the path, if any match was reported or a count of zero is written.
     CountMatches,
     /// The path, if a match was reported.
     PathWithMatch,
@@ -35,6 +35,13 @@ impl SummaryKind {
             SummaryKind::PathWithoutMatch => count == 0,
             _ => count > 0,
         }
+    }
+
+    // Whether something is written of a search with so many matches.
+    pub(crate) fn is_written(&self, count: u64, exclude_zero: bool) -> bool
+        ensures { result ≡ is_written self.now count exclude_zero }
+    {
+        self.has_found(count) || self.counts_on() && !exclude_zero
     }
 
     // Whether the parts of reported matches are counted.
@@ -56,6 +63,7 @@ impl SummaryKind {
 #[derive(Clone, Copy, Debug)]
 pub struct SummaryConfig {
     pub(crate) kind: SummaryKind,
+    pub(crate) exclude_zero: bool,
     pub(crate) path_terminator: Option<u8>,
     pub(crate) color_specs: ColorSpecs,
 }
@@ -76,13 +84,15 @@ impl Model for SummaryBuilder {
 }
 
 impl SummaryBuilder {
-    /// The default settings: the matches that are reported are counted, and nothing is colored.
+    /// The default settings: the matches that are reported are counted, a count of zero isn't written,
+    /// and nothing is colored.
     pub fn new() -> SummaryBuilder
         ensures { result ≡ default_summary_config }
     {
         SummaryBuilder {
             config: SummaryConfig {
                 kind: SummaryKind::Count,
+                exclude_zero: true,
                 path_terminator: None,
                 color_specs: ColorSpecs::Plain,
             },
@@ -111,6 +121,15 @@ impl SummaryBuilder {
         ensures set { result.now ≡ record self.old { kind = kind } }
     {
         self.config.kind = kind;
+        self
+    }
+
+    /// Whether nothing is written where a count is zero; so by default.
+    pub fn exclude_zero(&mut self, yes: bool) -> &mut SummaryBuilder
+        ensures reference { result.ghost_name ≡ self.entry.ghost_name }
+        ensures set { result.now ≡ record self.old { exclude_zero = yes } }
+    {
+        self.config.exclude_zero = yes;
         self
     }
 
