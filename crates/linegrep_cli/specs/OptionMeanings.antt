@@ -10,8 +10,8 @@ use Rattle.linegrep_cli.specs.declared.option_id.OptionId.TheVariants.{AfterCont
 use Rattle.linegrep_cli.specs.declared.option_id.OptionId.TheVariants.{BeforeContext, Column}
 use Rattle.linegrep_cli.specs.declared.option_id.OptionId.TheVariants.{Context, Files, Json}
 use Rattle.linegrep_cli.specs.declared.option_id.OptionId.TheVariants.{LineNumber}
-use Rattle.linegrep_cli.specs.declared.option_id.OptionId.TheVariants.{NoLineNumber, Passthru}
-use Rattle.linegrep_cli.specs.declared.option_id.OptionId.TheVariants.{Pretty}
+use Rattle.linegrep_cli.specs.declared.option_id.OptionId.TheVariants.{NoColumn, NoLineNumber}
+use Rattle.linegrep_cli.specs.declared.option_id.OptionId.TheVariants.{Passthru, Pretty, Vimgrep}
 use Rattle.linegrep_cli.specs.declared.options.Options.{Options}
 
 -- the value of an option, if it applies
@@ -54,9 +54,13 @@ searches_input options = is_input (paths_of options)
     is_input (path ∷ []) = bytes_eq path.now (codes "-")
     is_input (path ∷ next ∷ later) = false
 
+-- columns are written, or a line for each part with its column
+abbrev pub shows_columns : Options → Bool
+shows_columns options = has options Column || (has options Vimgrep && not (has options NoColumn))
+
 -- lines are numbered: because an option asks for it, or for a terminal, unless standard input is
 -- all that is searched
 abbrev pub shows_numbers : Options → Bool
 shows_numbers options = not (has options NoLineNumber)
-    && (has options LineNumber || has options Pretty || has options Column || has options Json
-    || (options.streams.is_terminal && not (searches_input options)))
+    && (has options LineNumber || has options Pretty || shows_columns options || has options Json
+    || has options Vimgrep || (options.streams.is_terminal && not (searches_input options)))

@@ -11,7 +11,7 @@ use Rattle.linegrep_cli.specs.declared.option_id.OptionId.TheVariants.{CaseSensi
 use Rattle.linegrep_cli.specs.declared.option_id.OptionId.TheVariants.{Column, Context, Count}
 use Rattle.linegrep_cli.specs.declared.option_id.OptionId.TheVariants.{CountMatches, Crlf}
 use Rattle.linegrep_cli.specs.declared.option_id.OptionId.TheVariants.{Encoding, FilesWithMatches}
-use Rattle.linegrep_cli.specs.declared.option_id.OptionId.TheVariants.{FilesWithoutMatch}
+use Rattle.linegrep_cli.specs.declared.option_id.OptionId.TheVariants.{Files, FilesWithoutMatch}
 use Rattle.linegrep_cli.specs.declared.option_id.OptionId.TheVariants.{FixedStrings, Follow}
 use Rattle.linegrep_cli.specs.declared.option_id.OptionId.TheVariants.{GlobCaseInsensitive, Heading, Hidden}
 use Rattle.linegrep_cli.specs.declared.option_id.OptionId.TheVariants.{IgnoreCase, IgnoreFileCaseInsensitive}
@@ -22,25 +22,33 @@ use Rattle.linegrep_cli.specs.declared.option_id.OptionId.TheVariants.{NoIgnoreM
 use Rattle.linegrep_cli.specs.declared.option_id.OptionId.TheVariants.{InvertMatch, Json}
 use Rattle.linegrep_cli.specs.declared.option_id.OptionId.TheVariants.{LineBuffered, LineNumber}
 use Rattle.linegrep_cli.specs.declared.option_id.OptionId.TheVariants.{LineRegexp, Messages}
-use Rattle.linegrep_cli.specs.declared.option_id.OptionId.TheVariants.{Multiline, NoBinary}
+use Rattle.linegrep_cli.specs.declared.option_id.OptionId.TheVariants.{Multiline, MultilineDotall}
+use Rattle.linegrep_cli.specs.declared.option_id.OptionId.TheVariants.{NoBinary, NoMultilineDotall}
+use Rattle.linegrep_cli.specs.declared.option_id.OptionId.TheVariants.{NoPcre2Unicode, NoUnicode}
+use Rattle.linegrep_cli.specs.declared.option_id.OptionId.TheVariants.{Pcre2Unicode, Unicode}
 use Rattle.linegrep_cli.specs.declared.option_id.OptionId.TheVariants.{NoBlockBuffered}
 use Rattle.linegrep_cli.specs.declared.option_id.OptionId.TheVariants.{NoByteOffset, NoColumn}
 use Rattle.linegrep_cli.specs.declared.option_id.OptionId.TheVariants.{NoCrlf, NoEncoding}
 use Rattle.linegrep_cli.specs.declared.option_id.OptionId.TheVariants.{NoFilename, NoFixedStrings}
 use Rattle.linegrep_cli.specs.declared.option_id.OptionId.TheVariants.{NoFollow, NoHeading}
+use Rattle.linegrep_cli.specs.declared.option_id.OptionId.TheVariants.{IncludeZero, NoIncludeZero}
 use Rattle.linegrep_cli.specs.declared.option_id.OptionId.TheVariants.{NoHidden, NoInvertMatch}
 use Rattle.linegrep_cli.specs.declared.option_id.OptionId.TheVariants.{NoJson, NoLineBuffered}
 use Rattle.linegrep_cli.specs.declared.option_id.OptionId.TheVariants.{NoLineNumber, NoMessages}
-use Rattle.linegrep_cli.specs.declared.option_id.OptionId.TheVariants.{NoMultiline, NoText}
-use Rattle.linegrep_cli.specs.declared.option_id.OptionId.TheVariants.{NullData, Passthru, Pretty}
-use Rattle.linegrep_cli.specs.declared.option_id.OptionId.TheVariants.{SmartCase, StopOnNonmatch}
-use Rattle.linegrep_cli.specs.declared.option_id.OptionId.TheVariants.{Text, WithFilename}
+use Rattle.linegrep_cli.specs.declared.option_id.OptionId.TheVariants.{NoMultiline, NoOneFileSystem}
+use Rattle.linegrep_cli.specs.declared.option_id.OptionId.TheVariants.{NoSortFiles, NoText}
+use Rattle.linegrep_cli.specs.declared.option_id.OptionId.TheVariants.{NullData, OneFileSystem}
+use Rattle.linegrep_cli.specs.declared.option_id.OptionId.TheVariants.{Passthru, Pretty}
+use Rattle.linegrep_cli.specs.declared.option_id.OptionId.TheVariants.{SmartCase, Sort, SortFiles}
+use Rattle.linegrep_cli.specs.declared.option_id.OptionId.TheVariants.{Sortr, StopOnNonmatch}
+use Rattle.linegrep_cli.specs.declared.option_id.OptionId.TheVariants.{Text, TypeList, WithFilename}
 use Rattle.linegrep_cli.specs.declared.option_id.OptionId.TheVariants.{WordRegexp}
 use Rattle.linegrep_cli.specs.declared.options.Options.{Options}
 use Rattle.linegrep_cli.specs.declared.options.Uses.{Uses}
 
 -- what is written in place of lines, which letters match, how binary files are searched, when lines
--- are written, and which lines near a match are: of each the last option decides
+-- are written, whether patterns are about Unicode, and which lines near a match are written: of each
+-- the last option decides
 abbrev pub modes : List OptionId
 modes = Count ∷ CountMatches ∷ FilesWithMatches ∷ FilesWithoutMatch ∷ Json ∷ NoJson ∷ []
 
@@ -52,6 +60,9 @@ binary_modes = Text ∷ NoText ∷ Binary ∷ NoBinary ∷ []
 
 abbrev pub buffer_modes : List OptionId
 buffer_modes = LineBuffered ∷ NoLineBuffered ∷ BlockBuffered ∷ NoBlockBuffered ∷ []
+
+abbrev pub unicode_modes : List OptionId
+unicode_modes = Unicode ∷ Pcre2Unicode ∷ []
 
 abbrev pub contexts : List OptionId
 contexts = AfterContext ∷ BeforeContext ∷ Context ∷ []
@@ -79,17 +90,27 @@ contraries NullData = Crlf ∷ []
 contraries Crlf = NoCrlf ∷ NullData ∷ []
 contraries Multiline = NoMultiline ∷ StopOnNonmatch ∷ []
 contraries StopOnNonmatch = Multiline ∷ []
+contraries Sort = Sortr ∷ SortFiles ∷ NoSortFiles ∷ []
+contraries Sortr = Sort ∷ SortFiles ∷ NoSortFiles ∷ []
+contraries NoUnicode = unicode_modes
+contraries NoPcre2Unicode = unicode_modes
+contraries Files = TypeList ∷ []
+contraries TypeList = Files ∷ []
 contraries _ = []
 
 -- and those that say the opposite
 unfoldable pub own_contraries : OptionId → List OptionId
 own_contraries FixedStrings = NoFixedStrings ∷ []
 own_contraries InvertMatch = NoInvertMatch ∷ []
+own_contraries MultilineDotall = NoMultilineDotall ∷ []
+own_contraries IncludeZero = NoIncludeZero ∷ []
 own_contraries ByteOffset = NoByteOffset ∷ []
 own_contraries Column = NoColumn ∷ []
+own_contraries NoColumn = Column ∷ []
 own_contraries NoMessages = Messages ∷ []
 own_contraries Hidden = NoHidden ∷ []
 own_contraries Follow = NoFollow ∷ []
+own_contraries OneFileSystem = NoOneFileSystem ∷ []
 own_contraries NoIgnoreFiles = IgnoreFiles ∷ []
 own_contraries NoIgnoreMessages = IgnoreMessages ∷ []
 own_contraries NoRequireGit = RequireGit ∷ []

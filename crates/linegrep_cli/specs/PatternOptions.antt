@@ -13,7 +13,9 @@ use Rattle.linegrep_cli.specs.SearcherOptions.{terminator_of}
 use Rattle.linegrep_cli.specs.declared.option_id.OptionId.TheVariants.{Crlf, Files}
 use Rattle.linegrep_cli.specs.declared.option_id.OptionId.TheVariants.{FixedStrings}
 use Rattle.linegrep_cli.specs.declared.option_id.OptionId.TheVariants.{IgnoreCase, LineRegexp}
-use Rattle.linegrep_cli.specs.declared.option_id.OptionId.TheVariants.{Multiline, NullData}
+use Rattle.linegrep_cli.specs.declared.option_id.OptionId.TheVariants.{Multiline, MultilineDotall}
+use Rattle.linegrep_cli.specs.declared.option_id.OptionId.TheVariants.{NoPcre2Unicode, NoUnicode}
+use Rattle.linegrep_cli.specs.declared.option_id.OptionId.TheVariants.{NullData}
 use Rattle.linegrep_cli.specs.declared.option_id.OptionId.TheVariants.{SmartCase, WordRegexp}
 use Rattle.linegrep_cli.specs.declared.options.Options.{Options}
 
@@ -42,6 +44,10 @@ ignores_case options patterns = has options IgnoreCase || (has options SmartCase
 abbrev pub ends_in_crlf : Options → Bool
 ends_in_crlf options = not (has options NullData) && has options Crlf
 
+-- classes, case folding and words are Unicode's
+abbrev pub is_unicode : Options → Bool
+is_unicode options = not (has options NoUnicode) && not (has options NoPcre2Unicode)
+
 -- the options of the patterns: `^` and `$` match at the ends of lines, and no match has the end of a
 -- line in it, unless it may run over several lines. What no option sets is at its default
 abbrev pub searched_options : Options → List (String Global) → PatternSettings
@@ -51,6 +57,8 @@ searched_options options patterns = record default_options {
   word = has options WordRegexp;
   whole_line = has options LineRegexp;
   multi_line = true;
+  dot_matches_new_line = has options Multiline && has options MultilineDotall;
+  unicode = is_unicode options;
   crlf = ends_in_crlf options;
   line_terminator = if has options Multiline then None else Some (terminator_of options);
 }

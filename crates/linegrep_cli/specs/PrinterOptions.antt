@@ -17,21 +17,22 @@ use Rattle.grep_printer.specs.declared.summary_builder.SummaryKind.TheVariants.{
 use Rattle.grep_printer.specs.declared.summary_builder.SummaryKind.TheVariants.{PathWithMatch}
 use Rattle.grep_printer.specs.declared.summary_builder.SummaryKind.TheVariants.{PathWithoutMatch}
 use Rattle.grep_printer.specs.declared.summary_builder.SummaryKind.TheVariants.{Quiet as silent}
-use Rattle.linegrep_cli.specs.OptionMeanings.{after_lines, before_lines}
+use Rattle.grep_printer.specs.VimgrepTexts.{vimgrep_config}
+use Rattle.linegrep_cli.specs.OptionMeanings.{after_lines, before_lines, shows_columns}
 use Rattle.linegrep_cli.specs.OptionUses.{has}
 use Rattle.linegrep_cli.specs.declared.option_id.OptionId.TheVariants.{BlockBuffered, ByteOffset}
-use Rattle.linegrep_cli.specs.declared.option_id.OptionId.TheVariants.{Color, Column, Count}
+use Rattle.linegrep_cli.specs.declared.option_id.OptionId.TheVariants.{Color, Count}
 use Rattle.linegrep_cli.specs.declared.option_id.OptionId.TheVariants.{CountMatches}
 use Rattle.linegrep_cli.specs.declared.option_id.OptionId.TheVariants.{Files, FilesWithMatches}
 use Rattle.linegrep_cli.specs.declared.option_id.OptionId.TheVariants.{FilesWithoutMatch, Heading}
-use Rattle.linegrep_cli.specs.declared.option_id.OptionId.TheVariants.{InvertMatch, Json}
+use Rattle.linegrep_cli.specs.declared.option_id.OptionId.TheVariants.{IncludeZero, InvertMatch, Json}
 use Rattle.linegrep_cli.specs.declared.option_id.OptionId.TheVariants.{LineBuffered, NoFilename}
 use Rattle.linegrep_cli.specs.declared.option_id.OptionId.TheVariants.{NoHeading, Null}
 use Rattle.linegrep_cli.specs.declared.option_id.OptionId.TheVariants.{OnlyMatching, Pretty, Quiet}
-use Rattle.linegrep_cli.specs.declared.option_id.OptionId.TheVariants.{WithFilename}
+use Rattle.linegrep_cli.specs.declared.option_id.OptionId.TheVariants.{Vimgrep, WithFilename}
 use Rattle.linegrep_cli.specs.declared.options.Options.{Options}
 use Rattle.linegrep_cli.specs.declared.printers.Printer.{Printer}
-use Rattle.linegrep_cli.specs.declared.printers.Printer.TheVariants.{Lines, Summary}
+use Rattle.linegrep_cli.specs.declared.printers.Printer.TheVariants.{Lines, Parts, Summary}
 use Rattle.linegrep_cli.specs.declared.printers.Printer.TheVariants.{Json as Messages}
 
 -- lines or matches are counted
@@ -68,11 +69,12 @@ summary_kind options is_across = if has options Quiet then Some silent
 -- searched
 abbrev pub shows_paths : Options → Bool → Bool
 shows_paths options searches_several = has options Json || is_summary_of_paths options
-    || (not (has options NoFilename) && (has options WithFilename || searches_several))
+    || (not (has options NoFilename)
+    && (has options WithFilename || has options Vimgrep || searches_several))
 
 -- a path is written once, above the lines of its file
 abbrev pub shows_headings : Options → Bool
-shows_headings options = not (has options NoHeading)
+shows_headings options = not (has options NoHeading) && not (has options Vimgrep)
     && (has options Heading || has options Pretty || options.streams.is_terminal)
 
 -- each line is written at once, and not many together
@@ -115,7 +117,7 @@ known_colors (Some choice) is_terminal =
 abbrev pub line_settings : Options → ColorSpecs → Config
 line_settings options colors = record {
   heading = shows_headings options;
-  column = has options Column;
+  column = shows_columns options;
   byte_offset = has options ByteOffset;
   only_matching = has options OnlyMatching;
   max_columns = column_limit options.max_columns;
@@ -124,10 +126,18 @@ line_settings options colors = record {
   color_specs = colors;
 }
 
+-- each part that matches is written with its line, in the form of Vim's quickfix list
+abbrev pub is_vimgrep : Options → Bool
+is_vimgrep options = has options Vimgrep && not (has options OnlyMatching)
+
 -- the settings of the printer of a kind of summary
 abbrev pub summary_settings : Options → SummaryKind → ColorSpecs → SummaryConfig
-summary_settings options kind colors =
-    record { kind = kind; path_terminator = path_terminator_of options; color_specs = colors }
+summary_settings options kind colors = record {
+  kind = kind;
+  exclude_zero = not (has options IncludeZero);
+  path_terminator = path_terminator_of options;
+  color_specs = colors;
+}
 
 -- the printer has written nothing yet, writes to this writer, and at once if options ask for that
 pub record IsNew {F W : Type 0} (options : Options) (writer : W) (printer : Writer F W) : Type 0 where
@@ -141,7 +151,13 @@ pub record IsNew {F W : Type 0} (options : Options) (writer : W) (printer : Writ
 abbrev pub IsPrinterFor : {W : Type 0} → Options → Bool → W → ColorSpecs → Printer W → Type 0
 IsPrinterFor options is_across writer colors (Lines printer) =
     (summary_kind options is_across ≡ None) × (has options Json ≡ false)
+    × (is_vimgrep options ≡ false)
     × (printer.format.config ≡ line_settings options colors) × IsNew options writer printer
+IsPrinterFor options is_across writer colors (Parts printer) =
+    (summary_kind options is_across ≡ None) × (has options Json ≡ false)
+    × (is_vimgrep options ≡ true)
+    × (printer.format.lines.config ≡ vimgrep_config (line_settings options colors))
+    × IsNew options writer printer
 IsPrinterFor options is_across writer colors (Summary printer) =
     (kind : SummaryKind) × (summary_kind options is_across ≡ Some kind)
     × (printer.format.config ≡ summary_settings options kind colors) × IsNew options writer printer

@@ -2,20 +2,26 @@
 use crate::failures::Failure;
 use crate::globs::{Choice, Globs};
 use crate::ignores::{Ignores, Sources};
+use crate::limits::Limits;
 use crate::option_id::OptionId;
 use crate::options::Options;
-use std::alloc::AllocError;
+use crate::types::Types;
+use std::alloc::{AllocError, Global};
 
-/// What globs, ignore files and names say.
+/// What globs, ignore files, types and names say.
 #[derive(Drop)]
 pub struct Choices<'r> {
+    alloc: Global,
     globs: Globs,
     ignores: Ignores<'r>,
+    types: Types,
+    limits: Limits,
     shows_hidden: bool,
 }
 
 impl<'r> Choices<'r> {
-    /// What the options say. An error is that a glob isn't well formed, or that there is no memory.
+    /// What the options say. An error is that a glob, a type or a size isn't well formed, or that there
+    /// is no memory.
     pub fn read(rt: &'r HostRuntime, options: &Options<'_, '_>) -> Result<Choices<'r>, Failure> {
         let globs = Globs::read(
             rt.alloc(),
@@ -23,10 +29,15 @@ impl<'r> Choices<'r> {
             options.iglobs.unwrap_or(&[]),
             options.has(OptionId::GlobCaseInsensitive),
         )?;
+        let types = Types::read(rt.alloc(), &options.types)?;
+        let limits = Limits::read(rt.alloc(), options)?;
         match Ignores::read(rt, sources(options), options.ignore_files()) {
             Ok(ignores) => Ok(Choices {
+                alloc: rt.alloc(),
                 globs,
                 ignores,
+                types,
+                limits,
                 shows_hidden: options.shows_hidden(),
             }),
             Err(_) => Err(Failure::out_of_memory()),
@@ -43,9 +54,14 @@ impl<'r> Choices<'r> {
         self.ignores.enter(folder, below, names)
     }
 
+    /// How far the walk goes.
+    pub fn limits(&self) -> Limits {
+        self.limits
+    }
+
     /// Whether the file or the folder with a name in the folder is visited, which is at a path: globs
-    /// decide first, and then ignore files. What neither says anything about is visited unless it is
-    /// hidden, or if hidden ones are too.
+    /// decide first, then ignore files, and of files types. What none says anything about is visited
+    /// unless it is hidden, or if hidden ones are too.
     pub fn is_chosen(
         &mut self,
         path: &str,
@@ -56,15 +72,33 @@ impl<'r> Choices<'r> {
             Choice::Chosen => Ok(true),
             Choice::LeftOut => Ok(false),
             Choice::Unmatched => {
-                let decision = self.ignores.decision(name.as_bytes(), is_folder)?;
-                Ok(decision.is_kept(self.shows_hidden || !name.starts_with('.')))
+                let is_shown = self.shows_hidden || !name.starts_with('.');
+                self.is_unmatched_chosen(name.as_bytes(), is_folder, is_shown)
             }
         }
     }
 
     /// Whether a file whose name isn't UTF-8 is visited.
     pub fn is_name_chosen(&mut self, name: &[u8]) -> Result<bool, AllocError> {
-        Ok(self.ignores.decision(name, false)?.is_kept(true))
+        self.is_unmatched_chosen(name, false, true)
+    }
+
+    // Whether what no glob says anything about is visited. `is_shown` says so of what nothing does.
+    fn is_unmatched_chosen(
+        &mut self,
+        name: &[u8],
+        is_folder: bool,
+        is_shown: bool,
+    ) -> Result<bool, AllocError> {
+        let decision = self.ignores.decision(name, is_folder)?;
+        if is_folder || !decision.is_kept(true) {
+            return Ok(decision.is_kept(is_shown));
+        }
+        match self.types.choice(self.alloc, name)? {
+            Choice::Chosen => Ok(true),
+            Choice::LeftOut => Ok(false),
+            Choice::Unmatched => Ok(decision.is_kept(is_shown)),
+        }
     }
 
     /// What is wrong with ignore files that were read, as lines for standard error.

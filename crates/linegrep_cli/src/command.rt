@@ -81,6 +81,36 @@ const PATTERN_ROWS: &[Row] = &[
         letter: None,
     },
     Row {
+        id: OptionId::MultilineDotall,
+        name: "multiline-dotall",
+        letter: None,
+    },
+    Row {
+        id: OptionId::NoMultilineDotall,
+        name: "no-multiline-dotall",
+        letter: None,
+    },
+    Row {
+        id: OptionId::Unicode,
+        name: "unicode",
+        letter: None,
+    },
+    Row {
+        id: OptionId::NoUnicode,
+        name: "no-unicode",
+        letter: None,
+    },
+    Row {
+        id: OptionId::Pcre2Unicode,
+        name: "pcre2-unicode",
+        letter: None,
+    },
+    Row {
+        id: OptionId::NoPcre2Unicode,
+        name: "no-pcre2-unicode",
+        letter: None,
+    },
+    Row {
         id: OptionId::StopOnNonmatch,
         name: "stop-on-nonmatch",
         letter: None,
@@ -165,11 +195,6 @@ const FILE_ROWS: &[Row] = &[
         letter: None,
     },
     Row {
-        id: OptionId::Sort,
-        name: "sort",
-        letter: None,
-    },
-    Row {
         id: OptionId::Threads,
         name: "threads",
         letter: Some('j'),
@@ -182,6 +207,75 @@ const FILE_ROWS: &[Row] = &[
     Row {
         id: OptionId::NoMessages,
         name: "no-messages",
+        letter: None,
+    },
+];
+
+// How far folders are walked through, in which order, and which types of files are searched.
+const WALK_ROWS: &[Row] = &[
+    Row {
+        id: OptionId::MaxDepth,
+        name: "max-depth",
+        letter: Some('d'),
+    },
+    Row {
+        id: OptionId::MaxFilesize,
+        name: "max-filesize",
+        letter: None,
+    },
+    Row {
+        id: OptionId::OneFileSystem,
+        name: "one-file-system",
+        letter: None,
+    },
+    Row {
+        id: OptionId::NoOneFileSystem,
+        name: "no-one-file-system",
+        letter: None,
+    },
+    Row {
+        id: OptionId::Sort,
+        name: "sort",
+        letter: None,
+    },
+    Row {
+        id: OptionId::Sortr,
+        name: "sortr",
+        letter: None,
+    },
+    Row {
+        id: OptionId::SortFiles,
+        name: "sort-files",
+        letter: None,
+    },
+    Row {
+        id: OptionId::NoSortFiles,
+        name: "no-sort-files",
+        letter: None,
+    },
+    Row {
+        id: OptionId::Type,
+        name: "type",
+        letter: Some('t'),
+    },
+    Row {
+        id: OptionId::TypeNot,
+        name: "type-not",
+        letter: Some('T'),
+    },
+    Row {
+        id: OptionId::TypeAdd,
+        name: "type-add",
+        letter: None,
+    },
+    Row {
+        id: OptionId::TypeClear,
+        name: "type-clear",
+        letter: None,
+    },
+    Row {
+        id: OptionId::TypeList,
+        name: "type-list",
         letter: None,
     },
 ];
@@ -417,6 +511,11 @@ const OUTPUT_ROWS: &[Row] = &[
         letter: Some('p'),
     },
     Row {
+        id: OptionId::Vimgrep,
+        name: "vimgrep",
+        letter: None,
+    },
+    Row {
         id: OptionId::LineBuffered,
         name: "line-buffered",
         letter: None,
@@ -444,6 +543,16 @@ const OUTPUT_ROWS: &[Row] = &[
     Row {
         id: OptionId::CountMatches,
         name: "count-matches",
+        letter: None,
+    },
+    Row {
+        id: OptionId::IncludeZero,
+        name: "include-zero",
+        letter: None,
+    },
+    Row {
+        id: OptionId::NoIncludeZero,
+        name: "no-include-zero",
         letter: None,
     },
     Row {
@@ -487,24 +596,25 @@ const OUTPUT_ROWS: &[Row] = &[
 const NOTHING: &[&str] = &[
     "no-mmap",
     "no-config",
-    "sort-files",
-    "no-sort-files",
     "no-search-zip",
     "no-pre",
     "no-pcre2",
     "no-auto-hybrid-regex",
-    "pcre2-unicode",
-    "unicode",
-    "no-one-file-system",
-    "no-include-zero",
     "no-max-columns-preview",
     "no-stats",
     "no-trim",
 ];
 
 /// The options of the command line, in tables, since a long one is proved slowly.
-pub fn tables() -> [&'static [Row]; 5] {
-    [PATTERN_ROWS, FILE_ROWS, IGNORE_ROWS, LINE_ROWS, OUTPUT_ROWS]
+pub fn tables() -> [&'static [Row]; 6] {
+    [
+        PATTERN_ROWS,
+        FILE_ROWS,
+        WALK_ROWS,
+        IGNORE_ROWS,
+        LINE_ROWS,
+        OUTPUT_ROWS,
+    ]
 }
 
 /// The command line of the program. The only error is being out of memory.
@@ -551,25 +661,34 @@ fn nothing<'a>(alloc: Global) -> Result<Arg<'a>, AllocError> {
     arg
 }
 
-// Adds the options of a table. A `match` is proved sooner than a `?` here.
+// Adds the options of a table.
 fn add_rows<'a>(
     alloc: Global,
     mut command: Result<Command<'a>, AllocError>,
     rows: &'static [Row],
 ) -> Result<Command<'a>, AllocError> {
     for row in rows {
-        command = match command {
-            Ok(command) => command.arg(row.arg(alloc)),
-            Err(error) => return Err(error),
-        };
+        command = add_row(alloc, command, row);
     }
     command
+}
+
+// Adds an option. A `match` is proved sooner than a `?` here.
+fn add_row<'a>(
+    alloc: Global,
+    command: Result<Command<'a>, AllocError>,
+    row: &'static Row,
+) -> Result<Command<'a>, AllocError> {
+    match (command, row.arg(alloc)) {
+        (Ok(command), Ok(arg)) => command.arg(arg),
+        _ => Err(AllocError),
+    }
 }
 
 impl Row {
     // The argument. What a builder takes is said of each row, since an argument that goes through a
     // `match` is proved slowly.
-    fn arg<'a>(&self, alloc: Global) -> Arg<'a> {
+    fn arg<'a>(&self, alloc: Global) -> Result<Arg<'a>, AllocError> {
         let kind = self.id.kind();
         let arg = Arg::new(alloc, self.name)
             .long(self.name)
@@ -577,9 +696,13 @@ impl Row {
             .value_names(kind.value_names())
             .value_parser(kind.value_parser())
             .allow_hyphen_values(true);
-        match self.letter {
+        let arg = match self.letter {
             Some(letter) => arg.short(letter),
             None => arg,
+        };
+        match self.id.alias() {
+            Some(name) => arg.alias(name),
+            None => Ok(arg),
         }
     }
 }

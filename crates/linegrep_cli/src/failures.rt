@@ -1,5 +1,5 @@
 //! What the program says on standard error of what goes wrong.
-use crate::refused::{ONE_ORDER, reason};
+use crate::refused::reason;
 use crate::words::shown;
 use clap::error::ErrorKind;
 use grep_output::{Output, write_all};
@@ -79,9 +79,6 @@ pub fn usage_text(alloc: Global, error: &clap::Error) -> Result<String, AllocErr
 
 // The option that an error is about, and why it can't be used, if ripgrep has it.
 fn refused(cause: &str) -> Option<(&str, &'static str)> {
-    if cause.contains("'--sort <ORDER>'") {
-        return Some(("--sort", ONE_ORDER));
-    }
     let (_, rest) = cause.split_once("unexpected argument '")?;
     let (option, _) = rest.split_once('\'')?;
     Some((option, reason(option)?))

@@ -41,4 +41,8 @@ impl FileId {
     pub fn is(self, other: FileId) -> bool {
         self.device == other.device && self.inode == other.inode
     }
+    /// Whether both are on one file system.
+    pub fn is_beside(self, other: FileId) -> bool {
+        self.device == other.device
+    }
 }

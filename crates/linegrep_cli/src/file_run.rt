@@ -6,7 +6,7 @@ use crate::file_id::FileId;
 use crate::option_id::OptionId;
 use crate::options::Options;
 use crate::printers::Searched;
-use crate::walk::{Entry, Walk};
+use crate::walk::{Entry, Route, Walk};
 use crate::words::{NOT_UTF8, is_escaped};
 use std::fmt::Display;
 use std::fs::File;
@@ -26,7 +26,7 @@ pub struct Scope {
     searches_input: bool,
     // Whether the search of a file of a folder goes on after a NUL.
     searches_binary: bool,
-    follows_links: bool,
+    route: Route,
     // Whether nothing is said of what is wrong with ignore files.
     is_lenient: bool,
     // Whether the paths of files are written, and nothing is searched.
@@ -47,7 +47,10 @@ impl Scope {
         Scope {
             searches_input,
             searches_binary: options.searches_binary(),
-            follows_links: options.has(OptionId::Follow),
+            route: Route {
+                follows_links: options.has(OptionId::Follow),
+                order: options.order(),
+            },
             is_lenient: options.has(OptionId::NoIgnoreMessages),
             lists_files: options.has(OptionId::Files),
             shows_paths: options.shows_paths(
@@ -192,7 +195,7 @@ impl<'r, E: Engine> Run<'r, E> {
     // ask for binary files too.
     fn search_folder(&mut self, folder: &str) {
         self.engine.set_quits(!self.scope.searches_binary);
-        let mut walk = Walk::new(self.rt, self.scope.follows_links, folder);
+        let mut walk = Walk::new(self.rt, self.scope.route, folder);
         match self.choices.begin(folder) {
             Ok(()) => self.visit_all(&mut walk),
             Err(_) => self.failure = Some(io::Error::from(io::ErrorKind::OutOfMemory)),

@@ -10,8 +10,9 @@ standard input if that is a file or a pipe, and else the current folder.
 Patterns: -e PATTERN, -f FILE, -F (literals), -i, -s, -S (case), -w (words),
           -x (lines), -U (across lines)
 Lines:    -v, -m NUM, -A NUM, -B NUM, -C NUM, --passthru, --crlf, --null-data
-Files:    -g GLOB, --iglob GLOB, -. (hidden), -u (ignored), -uu (both), --files,
-          -L (follow links), -a (text), --binary, -E LABEL
+Files:    -g GLOB, --iglob GLOB, -t TYPE, -T TYPE, --type-list, -. (hidden),
+          -u (ignored), -uu (both), --files, -d NUM, --max-filesize NUM,
+          -L (follow links), --sort ORDER, -a (text), --binary, -E LABEL
 Output:   -n, -N (numbers), -H, -I (paths), -b, --column, -o, -M NUM, -0,
           --heading, --color WHEN, -p (pretty), --json
 Instead:  -c, --count-matches, -l, --files-without-match, -q
@@ -51,6 +52,8 @@ Patterns:
   -w, --word-regexp          Matches are whole words
   -x, --line-regexp          Matches are whole lines
   -U, --multiline            A match may run over several lines
+      --multiline-dotall     And the dot matches a line feed
+      --no-unicode           Classes, words and cases are those of ASCII
 
 Lines:
   -v, --invert-match         Select the lines that don't match
@@ -68,6 +71,10 @@ Files:
       --iglob GLOB           As -g, with letters in either case
       --glob-case-insensitive
                              As if each -g were --iglob
+  -t, --type TYPE            Search the files of folders that are of a type
+  -T, --type-not TYPE        Search those that aren't
+      --type-add DEFINITION  Add to a type: NAME:GLOB or NAME:include:NAME,..
+      --type-clear TYPE      Forget the globs of a type
   -., --hidden               Search hidden files and folders too
       --no-ignore            Search files that ignore files leave out
   -u, --unrestricted         As --no-ignore, -uu as with --hidden too, -uuu with --binary
@@ -82,7 +89,13 @@ Files:
       --ignore-file-case-insensitive
                              Letters in ignore files match in either case
       --no-ignore-messages   Don't say what is wrong with ignore files
+  -d, --max-depth NUM        Search so many folders below those that are named
+      --max-filesize NUM     Leave out larger files of folders; K, M or G may follow
+      --one-file-system      Leave out folders of other file systems
   -L, --follow               Follow links in folders
+      --sort ORDER           Sort the files of a folder: by path, which is also what
+                             none means, modified, accessed or created
+      --sortr ORDER          The same, the other way round
       --binary               Search all of a binary file of a folder
   -a, --text                 Search binary files as text
   -E, --encoding LABEL       The encoding of the files
@@ -97,6 +110,7 @@ Output:
       --no-heading           Write the path before each line
   -b, --byte-offset          Write the offset of each line
       --column               Write the column of the first match
+      --vimgrep              Write each match with its line, for lists of places
   -o, --only-matching        Write only the parts of lines that match
   -M, --max-columns NUM      Write a notice in place of lines of more than NUM bytes;
                              0 is no limit
@@ -109,8 +123,10 @@ Output:
 
 In place of lines:
       --files                Write the paths of the files that would be searched
+      --type-list            Write all types of files
   -c, --count                Write how many lines match, for each file
       --count-matches        Write how many single matches there are, for each file
+      --include-zero         Write counts of zero too
   -l, --files-with-matches   Write the paths of the files with a match
       --files-without-match  Write the paths of the files without one
   -q, --quiet                Write nothing, and stop at the first match
@@ -118,9 +134,8 @@ In place of lines:
   -V, --version              Write the version
 
 Of options that exclude each other the last decides, and many are taken back by
---no- before their name. As with ripgrep, -j NUM, --mmap, --no-mmap, --no-config,
---sort none and --sort path may be given: files are read one after another, in
-the order of their paths.
+--no- before their name. As with ripgrep, -j NUM, --mmap, --no-mmap and --no-config
+may be given: files are read one after another.
 
 Globs have * (any characters of a name), ? (one), ** as a whole name (any
 folders), [a-z] and [!a-z] (one of some, or of all others) and {a,b} (either).

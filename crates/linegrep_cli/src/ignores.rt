@@ -1,8 +1,9 @@
 //! The ignore files that count in a folder, and what they say of what is in it.
 use crate::failures::Failure;
+use crate::git_settings;
 use grep_ignore::{Decision, Layer, Layers, Misread, Origin, Rules};
 use std::alloc::AllocError;
-use std::{env, fs, io};
+use std::{env, fs, io, str};
 
 /// Which ignore files are read, and how.
 #[derive(Clone, Copy)]
@@ -271,7 +272,7 @@ impl<'r> Ignores<'r> {
     fn add_files(&mut self, folder: &str, marks: Marks) -> Result<(), AllocError> {
         let depth = self.depth();
         if marks.has_git && self.sources.exclude {
-            self.add_in(Origin::GitExclude, depth, folder, ".git/info/exclude")?;
+            self.add_exclude(depth, folder)?;
         }
         if marks.has_gitignore && self.sources.git {
             self.add_in(Origin::GitIgnore, depth, folder, ".gitignore")?;
@@ -303,18 +304,51 @@ impl<'r> Ignores<'r> {
         self.add_file(origin, depth, path.as_str(), false)
     }
 
-    // Adds the rules of the user's file for all repositories, if it is there.
+    // Adds the rules of the user's file for all repositories, if it is there: that which git's settings
+    // name, or else the one that git has by default.
     fn add_global(&mut self) -> Result<(), AllocError> {
-        match env::var(self.rt, "XDG_CONFIG_HOME") {
-            Ok(folder) if !folder.is_empty() => {
-                self.add_in(Origin::GitGlobal, 0, folder.as_str(), "git/ignore")
-            }
-            _ => match env::var(self.rt, "HOME") {
-                Ok(home) if !home.is_empty() => {
-                    self.add_in(Origin::GitGlobal, 0, home.as_str(), ".config/git/ignore")
-                }
-                _ => Ok(()),
+        let home = variable(self.rt, "HOME")?;
+        let config = config_folder(self.rt, home.as_str())?;
+        let home = home.as_str();
+        let config = config.as_str();
+        match self.excludes_file(home, home, ".gitconfig")? {
+            Some(path) => self.add_file(Origin::GitGlobal, 0, path.as_str(), false),
+            None => match self.excludes_file(home, config, "git/config")? {
+                Some(path) => self.add_file(Origin::GitGlobal, 0, path.as_str(), false),
+                None if config.is_empty() => Ok(()),
+                None => self.add_in(Origin::GitGlobal, 0, config, "git/ignore"),
             },
+        }
+    }
+
+    // The path of the file for all repositories that git's settings name, if they are in a folder and
+    // name one.
+    fn excludes_file(
+        &self,
+        home: &str,
+        folder: &str,
+        name: &str,
+    ) -> Result<Option<String>, AllocError> {
+        if folder.is_empty() {
+            return Ok(None);
+        }
+        let path = join(self.rt, folder, name)?;
+        let Ok(contents) = fs::read(self.rt, path.as_str()) else {
+            return Ok(None);
+        };
+        match git_settings::excludes_file(self.rt.alloc(), contents.as_slice())? {
+            Some(file) => in_home(self.rt, home, file.as_slice()),
+            None => Ok(None),
+        }
+    }
+
+    // Adds the rules of the exclude file of the repository at a folder, if it is there.
+    fn add_exclude(&mut self, depth: usize, folder: &str) -> Result<(), AllocError> {
+        match repository_folder(self.rt, folder)? {
+            Some(folder) => {
+                self.add_in(Origin::GitExclude, depth, folder.as_str(), "info/exclude")
+            }
+            None => self.add_in(Origin::GitExclude, depth, folder, ".git/info/exclude"),
         }
     }
 
@@ -391,6 +425,69 @@ fn misread_failure(rt: &HostRuntime, path: &str, line: &Misread) -> Failure {
     let number = line.number;
     let cause = line.cause;
     Failure::of_text(format!(in rt.alloc(); "linegrep: {path}: line {number}: {cause}\n"))
+}
+
+// The value of a variable of the environment, or an empty text.
+fn variable(rt: &HostRuntime, name: &str) -> Result<String, AllocError> {
+    match env::var(rt, name) {
+        Ok(value) => Ok(value),
+        Err(_) => String::from_str(rt.alloc(), ""),
+    }
+}
+
+// The folder that has the folder of git's settings, or an empty text.
+fn config_folder(rt: &HostRuntime, home: &str) -> Result<String, AllocError> {
+    let folder = variable(rt, "XDG_CONFIG_HOME")?;
+    if !folder.is_empty() || home.is_empty() {
+        return Ok(folder);
+    }
+    join(rt, home, ".config")
+}
+
+// The path that a setting names, which may begin at a folder that a tilde stands for.
+fn in_home(rt: &HostRuntime, home: &str, path: &[u8]) -> Result<Option<String>, AllocError> {
+    let Ok(path) = str::from_utf8(path) else {
+        return Ok(None);
+    };
+    Ok(Some(match path.strip_prefix("~/") {
+        Some(rest) => join(rt, home, rest)?,
+        None => String::from_str(rt.alloc(), path)?,
+    }))
+}
+
+// The path of the folder that a file in place of `.git` stands for, or if several worktrees share
+// one the path of that. There is none if `.git` is a folder itself.
+fn repository_folder(rt: &HostRuntime, folder: &str) -> Result<Option<String>, AllocError> {
+    let path = join(rt, folder, ".git")?;
+    let Some(named) = read_text(rt, path.as_str()) else {
+        return Ok(None);
+    };
+    let Some(named) = git_settings::folder_in(named.as_str()) else {
+        return Ok(None);
+    };
+    let named = resolve(rt, folder, named)?;
+    let path = join(rt, named.as_str(), "commondir")?;
+    Ok(Some(match read_text(rt, path.as_str()) {
+        Some(shared) => resolve(rt, named.as_str(), shared.as_str().trim_ascii())?,
+        None => named,
+    }))
+}
+
+// The text of the file at a path, if there is one.
+fn read_text(rt: &HostRuntime, path: &str) -> Option<String> {
+    match fs::read_to_string(rt, path) {
+        Ok(text) => Some(text),
+        Err(_) => None,
+    }
+}
+
+// A path that begins in a folder, unless it begins with a slash.
+fn resolve(rt: &HostRuntime, folder: &str, path: &str) -> Result<String, AllocError> {
+    if path.starts_with('/') {
+        String::from_str(rt.alloc(), path)
+    } else {
+        join(rt, folder, path)
+    }
 }
 
 // The path of a name in a folder.

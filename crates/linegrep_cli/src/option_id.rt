@@ -20,6 +20,12 @@ pub enum OptionId {
     NoInvertMatch,
     Multiline,
     NoMultiline,
+    MultilineDotall,
+    NoMultilineDotall,
+    Unicode,
+    NoUnicode,
+    Pcre2Unicode,
+    NoPcre2Unicode,
     StopOnNonmatch,
     LineNumber,
     NoLineNumber,
@@ -45,6 +51,15 @@ pub enum OptionId {
     NoHidden,
     Follow,
     NoFollow,
+    MaxDepth,
+    MaxFilesize,
+    OneFileSystem,
+    NoOneFileSystem,
+    Type,
+    TypeNot,
+    TypeAdd,
+    TypeClear,
+    TypeList,
     NoIgnore,
     Ignore,
     NoIgnoreDot,
@@ -71,6 +86,8 @@ pub enum OptionId {
     Files,
     Count,
     CountMatches,
+    IncludeZero,
+    NoIncludeZero,
     FilesWithMatches,
     FilesWithoutMatch,
     Json,
@@ -79,6 +96,7 @@ pub enum OptionId {
     Heading,
     NoHeading,
     Pretty,
+    Vimgrep,
     LineBuffered,
     NoLineBuffered,
     BlockBuffered,
@@ -86,6 +104,9 @@ pub enum OptionId {
     NoEncoding,
     Threads,
     Sort,
+    Sortr,
+    SortFiles,
+    NoSortFiles,
     Color,
     Regexp,
     File,
@@ -101,7 +122,7 @@ pub enum OptionId {
 }
 
 /// A number above that of each option.
-pub const COUNT: usize = 128;
+pub const COUNT: usize = 192;
 
 /// What a use of an option does, or what its value is.
 #[derive(Clone, Copy)]
@@ -109,12 +130,15 @@ pub enum Kind {
     Flag,
     Count,
     Number,
+    Size,
     Label,
     Color,
     Order,
     Pattern,
     File,
     Glob,
+    Type,
+    Definition,
 }
 
 const MODES: &[OptionId] = &[
@@ -139,6 +163,8 @@ const BINARY_MODES: &[OptionId] = &[
     OptionId::NoBinary,
 ];
 
+const UNICODE_MODES: &[OptionId] = &[OptionId::Unicode, OptionId::Pcre2Unicode];
+
 const BUFFER_MODES: &[OptionId] = &[
     OptionId::LineBuffered,
     OptionId::NoLineBuffered,
@@ -157,7 +183,10 @@ impl OptionId {
     pub fn kind(self) -> Kind {
         match self {
             OptionId::Color => Kind::Color,
-            OptionId::Sort => Kind::Order,
+            OptionId::Sort | OptionId::Sortr => Kind::Order,
+            OptionId::MaxFilesize => Kind::Size,
+            OptionId::Type | OptionId::TypeNot | OptionId::TypeClear => Kind::Type,
+            OptionId::TypeAdd => Kind::Definition,
             OptionId::Regexp => Kind::Pattern,
             OptionId::File | OptionId::IgnoreFile => Kind::File,
             OptionId::Glob | OptionId::Iglob => Kind::Glob,
@@ -165,11 +194,21 @@ impl OptionId {
             OptionId::Encoding => Kind::Label,
             OptionId::MaxCount
             | OptionId::MaxColumns
+            | OptionId::MaxDepth
             | OptionId::AfterContext
             | OptionId::BeforeContext
             | OptionId::Context
             | OptionId::Threads => Kind::Number,
             _ => Kind::Flag,
+        }
+    }
+
+    /// Another name of it, if it has one.
+    pub fn alias(self) -> Option<&'static str> {
+        match self {
+            OptionId::MaxDepth => Some("maxdepth"),
+            OptionId::Passthru => Some("passthrough"),
+            _ => None,
         }
     }
 
@@ -198,6 +237,12 @@ impl OptionId {
             OptionId::Crlf => &[OptionId::NoCrlf, OptionId::NullData],
             OptionId::Multiline => &[OptionId::NoMultiline, OptionId::StopOnNonmatch],
             OptionId::StopOnNonmatch => &[OptionId::Multiline],
+            OptionId::Sort => &[OptionId::Sortr, OptionId::SortFiles, OptionId::NoSortFiles],
+            OptionId::Sortr => &[OptionId::Sort, OptionId::SortFiles, OptionId::NoSortFiles],
+            OptionId::NoUnicode => UNICODE_MODES,
+            OptionId::NoPcre2Unicode => UNICODE_MODES,
+            OptionId::Files => &[OptionId::TypeList],
+            OptionId::TypeList => &[OptionId::Files],
             _ => &[],
         }
     }
@@ -210,11 +255,15 @@ impl OptionId {
         match self {
             OptionId::FixedStrings => &[OptionId::NoFixedStrings],
             OptionId::InvertMatch => &[OptionId::NoInvertMatch],
+            OptionId::MultilineDotall => &[OptionId::NoMultilineDotall],
+            OptionId::IncludeZero => &[OptionId::NoIncludeZero],
             OptionId::ByteOffset => &[OptionId::NoByteOffset],
             OptionId::Column => &[OptionId::NoColumn],
+            OptionId::NoColumn => &[OptionId::Column],
             OptionId::NoMessages => &[OptionId::Messages],
             OptionId::Hidden => &[OptionId::NoHidden],
             OptionId::Follow => &[OptionId::NoFollow],
+            OptionId::OneFileSystem => &[OptionId::NoOneFileSystem],
             OptionId::NoIgnoreFiles => &[OptionId::IgnoreFiles],
             OptionId::NoIgnoreMessages => &[OptionId::IgnoreMessages],
             OptionId::NoRequireGit => &[OptionId::RequireGit],
@@ -244,8 +293,10 @@ impl Kind {
         match self {
             Kind::Flag => ArgAction::SetTrue,
             Kind::Count => ArgAction::Count,
-            Kind::Pattern | Kind::File | Kind::Glob => ArgAction::Append,
-            Kind::Number | Kind::Label | Kind::Color | Kind::Order => ArgAction::Set,
+            Kind::Pattern | Kind::File | Kind::Glob | Kind::Type | Kind::Definition => {
+                ArgAction::Append
+            }
+            Kind::Number | Kind::Size | Kind::Label | Kind::Color | Kind::Order => ArgAction::Set,
         }
     }
 
@@ -253,13 +304,15 @@ impl Kind {
     pub fn value_names(self) -> &'static [&'static str] {
         match self {
             Kind::Flag | Kind::Count => &[],
-            Kind::Number => &["NUM"],
+            Kind::Number | Kind::Size => &["NUM"],
             Kind::Label => &["LABEL"],
             Kind::Color => &["WHEN"],
             Kind::Order => &["ORDER"],
             Kind::Pattern => &["PATTERN"],
             Kind::File => &["FILE"],
             Kind::Glob => &["GLOB"],
+            Kind::Type => &["TYPE"],
+            Kind::Definition => &["DEFINITION"],
         }
     }
 
@@ -270,7 +323,9 @@ impl Kind {
             Kind::Count => ValueParser::Signed(0, 255),
             Kind::Number => ValueParser::Unsigned(0, u64::MAX),
             Kind::Color => ValueParser::Names(&["auto", "always", "never", "ansi"]),
-            Kind::Order => ValueParser::Names(&["none", "path"]),
+            Kind::Order => {
+                ValueParser::Names(&["none", "path", "modified", "accessed", "created"])
+            }
             _ => ValueParser::String,
         }
     }

@@ -1,10 +1,10 @@
 //! The options of the command line.
 ghost use Rattle.std.specs.Prelude.{◌≡◌, ◌&&◌, None, if◌then◌else◌, option_map};
 ghost use Rattle.linegrep_cli.specs.OptionMeanings.{after_lines, before_lines, context_lines};
-ghost use Rattle.linegrep_cli.specs.OptionMeanings.{paths_of, searches_input, shows_numbers};
+ghost use Rattle.linegrep_cli.specs.OptionMeanings.{paths_of, searches_input, shows_columns, shows_numbers};
 ghost use Rattle.linegrep_cli.specs.OptionMeanings.{value_of};
 ghost use Rattle.linegrep_cli.specs.PrinterOptions.{color_choice, counts, counts_matches};
-ghost use Rattle.linegrep_cli.specs.PrinterOptions.{is_line_buffered, is_summary};
+ghost use Rattle.linegrep_cli.specs.PrinterOptions.{is_line_buffered, is_summary, is_vimgrep};
 ghost use Rattle.linegrep_cli.specs.PrinterOptions.{is_summary_of_paths, shows_headings};
 ghost use Rattle.linegrep_cli.specs.PrinterOptions.{shows_paths, summary_kind};
 ghost use Rattle.linegrep_cli.specs.SearcherOptions.{detection_of, is_all_searched, label_of};
@@ -14,6 +14,7 @@ ghost use Rattle.linegrep_cli.specs.OptionUses.{applies, has, is_none_after, las
 use crate::command::{Row, tables};
 use crate::file_id::FileId;
 use crate::option_id::{COUNT, Kind, OptionId};
+use crate::order::Order;
 use crate::patterns::{names_patterns, reads_patterns};
 use crate::program::Streams;
 use clap::ArgMatches;
@@ -93,6 +94,71 @@ fn is_used(matches: &ArgMatches<'_>, row: &Row) -> bool {
     }
 }
 
+/// The texts that an option is given, and the place of each among the words.
+#[derive(Clone, Copy)]
+pub struct Values<'m, 'w> {
+    texts: Option<&'m [&'w str]>,
+    places: Option<&'m [usize]>,
+}
+
+impl<'m, 'w> Values<'m, 'w> {
+    // Those of an option with a name.
+    fn read(matches: &'m ArgMatches<'w>, name: &str) -> Values<'m, 'w> {
+        Values {
+            texts: matches.get_strs(name),
+            places: matches.indices_of(name),
+        }
+    }
+
+    /// The texts.
+    pub fn texts(&self) -> &'m [&'w str] {
+        match self.texts {
+            Some(texts) => texts,
+            None => &[],
+        }
+    }
+
+    /// Their places.
+    pub fn places(&self) -> &'m [usize] {
+        match self.places {
+            Some(places) => places,
+            None => &[],
+        }
+    }
+}
+
+/// What the options say of types of files.
+#[derive(Clone, Copy)]
+pub struct TypeOptions<'m, 'w> {
+    /// The types that are searched.
+    pub asked: Values<'m, 'w>,
+    /// Those that aren't.
+    pub left_out: Values<'m, 'w>,
+    /// Definitions that are added.
+    pub added: Values<'m, 'w>,
+    /// The types whose definitions are dropped.
+    pub cleared: Values<'m, 'w>,
+}
+
+impl<'m, 'w> TypeOptions<'m, 'w> {
+    fn read(matches: &'m ArgMatches<'w>) -> TypeOptions<'m, 'w> {
+        TypeOptions {
+            asked: Values::read(matches, "type"),
+            left_out: Values::read(matches, "type-not"),
+            added: Values::read(matches, "type-add"),
+            cleared: Values::read(matches, "type-clear"),
+        }
+    }
+
+    /// Whether nothing is said.
+    pub fn are_none(&self) -> bool {
+        self.asked.texts().is_empty()
+            && self.left_out.texts().is_empty()
+            && self.added.texts().is_empty()
+            && self.cleared.texts().is_empty()
+    }
+}
+
 /// What the options ask for, but for patterns, of a run with some standard streams.
 #[derive(Clone, Copy)]
 pub struct Options<'m, 'w> {
@@ -113,6 +179,14 @@ pub struct Options<'m, 'w> {
     /// Those whose letters match in either case.
     pub iglobs: Option<&'m [&'w str]>,
     ignore_files: Option<&'m [&'w str]>,
+    /// What they say of types of files.
+    pub types: TypeOptions<'m, 'w>,
+    /// How many folders below one that is named are searched.
+    pub max_depth: Option<u64>,
+    /// How large a file of a folder is at most, as a text.
+    pub max_filesize: Option<&'w str>,
+    sort: Option<&'w str>,
+    sortr: Option<&'w str>,
     // How often `-u` is given.
     unrestricted: u8,
     operands: Option<&'m [&'w str]>,
@@ -138,6 +212,11 @@ impl<'m, 'w> Options<'m, 'w> {
             globs: matches.get_strs("glob"),
             iglobs: matches.get_strs("iglob"),
             ignore_files: matches.get_strs("ignore-file"),
+            types: TypeOptions::read(matches),
+            max_depth: matches.get_one::<u64>("max-depth"),
+            max_filesize: matches.get_str("max-filesize"),
+            sort: matches.get_str("sort"),
+            sortr: matches.get_str("sortr"),
             unrestricted: matches.get_count("unrestricted"),
             operands: matches.get_strs("operands"),
             reads_patterns: reads_patterns(matches),
@@ -170,6 +249,17 @@ impl<'m, 'w> Options<'m, 'w> {
         match self.ignore_files {
             Some(files) if !self.has(OptionId::NoIgnoreFiles) => files,
             _ => &[],
+        }
+    }
+
+    /// In which order the files of folders are searched.
+    pub fn order(&self) -> Order {
+        if self.has(OptionId::Sort) {
+            Order::read(self.sort, false)
+        } else if self.has(OptionId::Sortr) {
+            Order::read(self.sortr, true)
+        } else {
+            Order::by_path()
         }
     }
 
@@ -303,7 +393,8 @@ impl<'m, 'w> Options<'m, 'w> {
         if self.has(OptionId::Json) || self.is_summary_of_paths() {
             return true;
         }
-        !self.has(OptionId::NoFilename) && (self.has(OptionId::WithFilename) || searches_several)
+        !self.has(OptionId::NoFilename)
+            && (self.has(OptionId::WithFilename) || self.has(OptionId::Vimgrep) || searches_several)
     }
 
     /// The file that isn't searched, if there is one: that which the lines are written to. Without
@@ -327,6 +418,20 @@ impl<'m, 'w> Options<'m, 'w> {
             || self.has(OptionId::Files)
     }
 
+    /// Whether columns are written, or a line for each part with its column.
+    pub fn shows_columns(&self) -> bool
+        ensures { result ≡ shows_columns self.now }
+    {
+        self.has(OptionId::Column) || self.has(OptionId::Vimgrep) && !self.has(OptionId::NoColumn)
+    }
+
+    /// Whether each part that matches is written with its line.
+    pub fn is_vimgrep(&self) -> bool
+        ensures { result ≡ is_vimgrep self.now }
+    {
+        self.has(OptionId::Vimgrep) && !self.has(OptionId::OnlyMatching)
+    }
+
     /// Whether lines are numbered. For a terminal they are, if nothing else is asked for and not
     /// standard input alone is searched.
     pub fn shows_numbers(&self) -> bool
@@ -335,8 +440,9 @@ impl<'m, 'w> Options<'m, 'w> {
         !self.has(OptionId::NoLineNumber)
             && (self.has(OptionId::LineNumber)
                 || self.has(OptionId::Pretty)
-                || self.has(OptionId::Column)
+                || self.shows_columns()
                 || self.has(OptionId::Json)
+                || self.has(OptionId::Vimgrep)
                 || self.streams.is_terminal && !self.searches_input())
     }
 
@@ -346,6 +452,7 @@ impl<'m, 'w> Options<'m, 'w> {
         ensures { result ≡ shows_headings self.now }
     {
         !self.has(OptionId::NoHeading)
+            && !self.has(OptionId::Vimgrep)
             && (self.has(OptionId::Heading)
                 || self.has(OptionId::Pretty)
                 || self.streams.is_terminal)

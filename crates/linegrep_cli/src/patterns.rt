@@ -3,7 +3,7 @@ ghost use Rattle.std.specs.Prelude.{◌≡◌, map, string_bytes, IfOk};
 ghost use Rattle.std.specs.List.{list_any};
 ghost use Rattle.grep_regex.specs.Views.{regex_options, regex_patterns};
 ghost use Rattle.linegrep_cli.specs.OptionUses.{has};
-ghost use Rattle.linegrep_cli.specs.PatternOptions.{has_capital, ignores_case, is_escape};
+ghost use Rattle.linegrep_cli.specs.PatternOptions.{has_capital, ignores_case, is_escape, is_unicode};
 ghost use Rattle.linegrep_cli.specs.PatternOptions.{pattern_options, pattern_texts};
 ghost use Rattle.linegrep_cli.specs.PatternOptions.{searched_options};
 
@@ -202,7 +202,11 @@ fn builder(options: &Options<'_, '_>, patterns: &[String]) -> RegexMatcherBuilde
         .case_insensitive(ignores_case(options, patterns))
         .fixed_strings(options.has(OptionId::FixedStrings))
         .word(options.has(OptionId::WordRegexp))
-        .whole_line(options.has(OptionId::LineRegexp));
+        .whole_line(options.has(OptionId::LineRegexp))
+        .dot_matches_new_line(
+            options.has(OptionId::Multiline) && options.has(OptionId::MultilineDotall),
+        )
+        .unicode(is_unicode(options));
     match options.line_terminator() {
         LineTerminator::Crlf => {
             builder.crlf(true);
@@ -215,6 +219,13 @@ fn builder(options: &Options<'_, '_>, patterns: &[String]) -> RegexMatcherBuilde
         builder.line_terminator(None);
     }
     builder
+}
+
+// Whether classes, case folding and words are Unicode's.
+fn is_unicode(options: &Options<'_, '_>) -> bool
+    ensures { result ≡ is_unicode options.now }
+{
+    !options.has(OptionId::NoUnicode) && !options.has(OptionId::NoPcre2Unicode)
 }
 
 // Whether letters match in either case.

@@ -2,7 +2,7 @@
 use crate::haystacks::search;
 use crate::json_run::JsonRun;
 use grep_output::Output;
-use grep_printer::{Standard, Summary};
+use grep_printer::{Standard, Summary, Vimgrep};
 use grep_searcher::{FindAt, SearchError, Searcher, Source};
 use std::io;
 
@@ -11,6 +11,8 @@ use std::io;
 pub enum Printer<W> {
     /// Writes lines.
     Lines(Standard<W>),
+    /// Writes of each part that matches the line.
+    Parts(Vimgrep<W>),
     /// Writes a count or a path for each file, or nothing.
     Summary(Summary<W>),
     /// Writes messages in JSON.
@@ -38,6 +40,7 @@ impl<W: Output> Printer<W> {
     ) -> Searched {
         match self {
             Printer::Lines(printer) => print(printer, searcher, matcher, haystack, path),
+            Printer::Parts(printer) => print_parts(printer, searcher, matcher, haystack, path),
             Printer::Summary(printer) => sum_up(printer, searcher, matcher, haystack, path),
             Printer::Json(run) => run.search(rt, searcher, matcher, haystack, path),
         }
@@ -47,6 +50,7 @@ impl<W: Output> Printer<W> {
     pub fn has_failed(&self) -> bool {
         match self {
             Printer::Lines(printer) => printer.has_failed(),
+            Printer::Parts(printer) => printer.has_failed(),
             Printer::Summary(printer) => printer.has_failed(),
             Printer::Json(run) => run.has_failed(),
         }
@@ -68,6 +72,7 @@ impl<W: Output> Printer<W> {
     pub fn flush(&mut self) -> io::Result<()> {
         match self {
             Printer::Lines(printer) => printer.flush(),
+            Printer::Parts(printer) => printer.flush(),
             Printer::Summary(printer) => printer.flush(),
             Printer::Json(run) => run.flush(),
         }
@@ -77,6 +82,20 @@ impl<W: Output> Printer<W> {
 // Searches a haystack, and writes the lines that match.
 fn print<M: FindAt + Copy, W: Output, H: Source>(
     printer: &mut Standard<W>,
+    searcher: &mut Searcher,
+    matcher: M,
+    haystack: &mut H,
+    path: Option<&str>,
+) -> Searched {
+    let mut sink = printer.sink(matcher, path);
+    let result = search(searcher, matcher, haystack, &mut sink);
+    let has_match = sink.has_match();
+    Searched { has_match, result }
+}
+
+// Searches a haystack, and writes of each part that matches the line.
+fn print_parts<M: FindAt + Copy, W: Output, H: Source>(
+    printer: &mut Vimgrep<W>,
     searcher: &mut Searcher,
     matcher: M,
     haystack: &mut H,

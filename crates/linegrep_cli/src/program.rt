@@ -7,6 +7,7 @@ use crate::option_id::OptionId;
 use crate::options::Options;
 use crate::patterns::read_patterns;
 use crate::search::search_all;
+use crate::types::type_list;
 use crate::words::{is_escaped, words};
 use clap::ArgMatches;
 use grep_output::{Output, write_all};
@@ -119,6 +120,10 @@ fn search_parsed<R: Source, W: Output + Drop, E: Output>(
     let options = Options::read(matches, streams);
     if options.has(OptionId::Help) {
         return write_answer(rt.alloc(), HELP, output);
+    }
+    if options.has(OptionId::TypeList) {
+        let list = type_list(rt.alloc(), &options.types)?;
+        return write_answer(rt.alloc(), list.as_str(), output);
     }
     if let Some(word) = misplaced(words, options.paths()) {
         return Err(Failure::of_cause(rt.alloc(), word, &"the argument isn't UTF-8"));

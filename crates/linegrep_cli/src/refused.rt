@@ -4,11 +4,6 @@ const NO_PROGRAM: &str = "no other program is started, so files are searched as 
 
 const NO_ENGINE: &str = "there is no engine with look-around or backreferences";
 
-/// Why another order than that of paths is refused.
-pub const ONE_ORDER: &str = "files are searched in the order of their paths alone";
-
-const NO_TYPE: &str = "types of files aren't known, use -g";
-
 const NO_SEPARATOR: &str = "separators can't be chosen";
 
 /// Why an option of ripgrep can't be used, in one line, if it is one.
@@ -18,10 +13,6 @@ pub fn reason(option: &str) -> Option<&'static str> {
         "-z" | "--search-zip" | "--pre" | "--pre-glob" | "--hostname-bin" => Some(NO_PROGRAM),
         "-P" | "--pcre2" | "--engine" | "--auto-hybrid-regex" | "--pcre2-version" => {
             Some(NO_ENGINE)
-        }
-        "--sortr" => Some(ONE_ORDER),
-        "-t" | "--type" | "-T" | "--type-not" | "--type-list" | "--type-add" | "--type-clear" => {
-            Some(NO_TYPE)
         }
         _ => other_reason(option),
     }
@@ -36,8 +27,12 @@ fn other_reason(option: &str) -> Option<&'static str> {
         | "--path-separator" => Some(NO_SEPARATOR),
         "--colors" | "--hyperlink-format" => Some("colors can't be chosen, and there are no links"),
         "--regex-size-limit" | "--dfa-size-limit" => Some("the limits are fixed"),
+        "--trim" => Some("lines are written as they are"),
+        "--stats" => Some("searches are counted for --json alone"),
+        "--max-columns-preview" => Some(
+            "a notice is written in place of a long line, and nothing of it",
+        ),
         "--debug" | "--trace" | "--generate" => Some("there is nothing of the kind"),
-        "--no-unicode" | "--no-pcre2-unicode" => Some("patterns are always about Unicode"),
         _ => None,
     }
 }

@@ -61,6 +61,7 @@ fn search_with<M: FindAt, R: Source, W: Output + Drop, E: Output>(
     input: &mut R,
     errors: &mut E,
 ) -> Result<u8, Failure> {
+    options.order().check(rt)?;
     let choices = Choices::read(rt, options)?;
     let scope = Scope::new(rt, options);
     let is_across = searcher.multi_line_with_matcher(matcher);

@@ -1,6 +1,7 @@
 //! The searcher and the printer that the options ask for.
 ghost use Rattle.std.specs.Prelude.{◌≡◌, ◌⊎◌, false, true, if◌then◌else◌, IfErr, IfOk};
-ghost use Rattle.linegrep_cli.specs.OptionMeanings.{after_lines, before_lines, shows_numbers};
+ghost use Rattle.linegrep_cli.specs.OptionMeanings.{after_lines, before_lines, shows_columns};
+ghost use Rattle.linegrep_cli.specs.OptionMeanings.{shows_numbers};
 ghost use Rattle.linegrep_cli.specs.OptionUses.{has};
 ghost use Rattle.linegrep_cli.specs.PrinterOptions.{IsPrinterOf, column_limit, line_settings};
 ghost use Rattle.linegrep_cli.specs.PrinterOptions.{path_terminator_of, separator_of, shows_headings};
@@ -136,6 +137,9 @@ pub fn build_printer<W: Output>(
     } else if options.has(OptionId::Json) {
         let printer = JsonBuilder::new().build(rt.alloc(), writer);
         Printer::Json(JsonRun::new(rt, buffered(is_line_buffered, printer)))
+    } else if options.is_vimgrep() {
+        let printer = lines(options, colors).build_vimgrep(rt.alloc(), writer);
+        Printer::Parts(buffered(is_line_buffered, printer))
     } else {
         let printer = lines(options, colors).build(rt.alloc(), writer);
         Printer::Lines(buffered(is_line_buffered, printer))
@@ -163,6 +167,7 @@ fn summary(options: &Options<'_, '_>, kind: SummaryKind, colors: ColorSpecs) -> 
     let mut builder = SummaryBuilder::new();
     builder
         .kind(kind)
+        .exclude_zero(!options.has(OptionId::IncludeZero))
         .path_terminator(path_terminator(options))
         .color_specs(colors);
     builder
@@ -186,14 +191,14 @@ fn lines(options: &Options<'_, '_>, colors: ColorSpecs) -> StandardBuilder
 // Sets what is written of a line.
 fn show(builder: &mut StandardBuilder, options: &Options<'_, '_>)
     ensures { builder.new ≡ record builder.old {
-      column = has options.now OptionId.Column;
+      column = shows_columns options.now;
       byte_offset = has options.now OptionId.ByteOffset;
       only_matching = has options.now OptionId.OnlyMatching;
       max_columns = column_limit options.now.max_columns;
     } }
 {
     builder
-        .column(options.has(OptionId::Column))
+        .column(options.shows_columns())
         .byte_offset(options.has(OptionId::ByteOffset))
         .only_matching(options.has(OptionId::OnlyMatching))
         .max_columns(max_columns(options));

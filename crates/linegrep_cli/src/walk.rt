@@ -1,6 +1,8 @@
 //! The files of a folder and of the folders in it.
 use crate::choices::Choices;
 use crate::file_id::FileId;
+use crate::limits::Limits;
+use crate::order::{Dated, Order};
 use crate::words::{NOT_UTF8, escape};
 use std::alloc::AllocError;
 use std::fs::Metadata;
@@ -24,28 +26,42 @@ pub enum Entry {
     Unread(String, io::Error),
 }
 
-/// A walk through a folder and the folders in it, in the order of their names, which finds the
-/// regular files that are chosen. It ends early if it is out of memory.
+/// How a walk goes through folders.
+#[derive(Clone, Copy)]
+pub struct Route {
+    /// Whether links are followed, and not left out.
+    pub follows_links: bool,
+    /// In which order files are found.
+    pub order: Order,
+}
+
+/// A walk through a folder and the folders in it, which finds the regular files that are chosen. It
+/// ends early if it is out of memory.
 #[derive(Drop)]
 pub struct Walk<'r> {
     rt: &'r HostRuntime,
-    follows_links: bool,
+    route: Route,
     // How many bytes the path of its folder has, without a slash at the end.
     root: usize,
     // What is still to be visited, the next last.
     pending: Vec<Entry>,
+    // The files that were found, if they are sorted by a time: those to be visited once nothing else
+    // is, and then the next last.
+    dated: Vec<Dated>,
+    is_sorted: bool,
     is_out_of_memory: bool,
 }
 
 impl<'r> Walk<'r> {
-    /// A walk through the folder at a path, or through the current one if the path is empty. Links are
-    /// left out, or if `follows_links` is set followed.
-    pub fn new(rt: &'r HostRuntime, follows_links: bool, folder: &str) -> Walk<'r> {
+    /// A walk through the folder at a path, or through the current one if the path is empty.
+    pub fn new(rt: &'r HostRuntime, route: Route, folder: &str) -> Walk<'r> {
         let mut walk = Walk {
             rt,
-            follows_links,
+            route,
             root: folder.trim_end_matches('/').len(),
             pending: Vec::new(rt.alloc()),
+            dated: Vec::new(rt.alloc()),
+            is_sorted: false,
             is_out_of_memory: false,
         };
         match String::from_str(rt.alloc(), folder) {
@@ -58,9 +74,25 @@ impl<'r> Walk<'r> {
     /// The next to be visited, or `None` at the end.
     pub fn pop(&mut self) -> Option<Entry> {
         if self.is_out_of_memory {
-            None
-        } else {
-            self.pending.pop()
+            return None;
+        }
+        match self.pending.pop() {
+            Some(entry) => Some(entry),
+            None => self.pop_dated(),
+        }
+    }
+
+    // The next of the files that are sorted by a time.
+    fn pop_dated(&mut self) -> Option<Entry> {
+        if !self.is_sorted {
+            let order = self.route.order;
+            self.dated
+                .sort_unstable_by(|a, b| order.compare_times(b, a));
+            self.is_sorted = true;
+        }
+        match self.dated.pop() {
+            Some(file) => Some(Entry::File(file.path)),
+            None => None,
         }
     }
 
@@ -69,8 +101,12 @@ impl<'r> Walk<'r> {
         self.is_out_of_memory
     }
 
-    /// Adds what a folder holds and is chosen, or that the folder can't be read.
+    /// Adds what a folder holds and is chosen, or that the folder can't be read. Nothing is added of a
+    /// folder that is too deep.
     pub fn enter(&mut self, choices: &mut Choices<'_>, folder: &str) {
+        if !choices.limits().allows_depth(self.depth(folder)) {
+            return;
+        }
         let start = self.pending.len();
         match self.read_folder(choices, folder) {
             Ok(()) => {}
@@ -85,17 +121,29 @@ impl<'r> Walk<'r> {
     // Adds what a folder holds and is chosen.
     fn read_folder(&mut self, choices: &mut Choices<'_>, folder: &str) -> io::Result<()> {
         let names = self.names(folder)?;
-        let below = folder
-            .get(self.root..)
-            .unwrap_or("")
-            .trim_start_matches('/');
-        choices.enter(folder, below, names.as_slice())?;
+        choices.enter(folder, self.below(folder), names.as_slice())?;
         for name in names.split(|byte| *byte == 0) {
             if !matches!(name, b"" | b"." | b"..") {
                 self.push_bytes(choices, folder, name)?;
             }
         }
         Ok(())
+    }
+
+    // The path of a folder from the walk's own on.
+    fn below<'f>(&self, folder: &'f str) -> &'f str {
+        folder
+            .get(self.root..)
+            .unwrap_or("")
+            .trim_start_matches('/')
+    }
+
+    // How many folders below the walk's own a folder is.
+    fn depth(&self, folder: &str) -> usize {
+        self.below(folder)
+            .split('/')
+            .filter(|name| !name.is_empty())
+            .count()
     }
 
     // The names in a folder, each with a NUL at its end.
@@ -139,8 +187,9 @@ impl<'r> Walk<'r> {
 
     // Puts the last name of those that were added from a place on first.
     fn sort_from(&mut self, start: usize) {
+        let order = self.route.order;
         if let Some(found) = self.pending.as_mut_slice().get_mut(start..) {
-            found.sort_unstable_by(|a, b| b.path().cmp(a.path()));
+            found.sort_unstable_by(|a, b| order.compare_paths(b.path(), a.path()));
         }
     }
 
@@ -153,11 +202,27 @@ impl<'r> Walk<'r> {
         name: &str,
     ) -> Result<(), AllocError> {
         let path = self.join(folder, name)?;
-        match self.entry(path) {
-            Some(entry) if is_chosen(choices, &entry, name)? => self.push(entry),
+        match self.entry(path, choices.limits()) {
+            Some(entry) if is_chosen(choices, &entry, name)? => self.push_found(entry),
             _ => {}
         }
         Ok(())
+    }
+
+    // Adds what was found. A file that is sorted by a time is visited after what isn't.
+    fn push_found(&mut self, entry: Entry) {
+        match entry {
+            Entry::File(path) if self.route.order.is_by_time() => self.push_dated(path),
+            entry => self.push(entry),
+        }
+    }
+
+    fn push_dated(&mut self, path: String) {
+        let place = self.dated.len();
+        let file = self.route.order.date(self.rt, path, place);
+        if self.dated.push(file).is_err() {
+            self.is_out_of_memory = true;
+        }
     }
 
     fn push_unread(&mut self, folder: &str, error: io::Error) {
@@ -173,18 +238,34 @@ impl<'r> Walk<'r> {
         }
     }
 
-    // What is at a path, unless it is neither a file nor a folder.
-    fn entry(&self, path: String) -> Option<Entry> {
+    // What is at a path, unless it is neither a file nor a folder, or not within limits.
+    fn entry(&self, path: String, limits: Limits) -> Option<Entry> {
         match self.metadata(path.as_str()) {
-            Ok(metadata) if metadata.is_dir() => Some(self.folder(path, &metadata)),
-            Ok(metadata) if metadata.is_file() => Some(Entry::File(path)),
+            Ok(metadata) if metadata.is_dir() => {
+                if limits.allows_folder(self.rt, &metadata, self.root_of(path.as_str())) {
+                    Some(self.folder(path, &metadata))
+                } else {
+                    None
+                }
+            }
+            Ok(metadata) if metadata.is_file() && limits.allows_file(&metadata) => {
+                Some(Entry::File(path))
+            }
             Ok(_) => None,
             Err(error) => Some(Entry::Unread(path, error)),
         }
     }
 
+    // The name for the system of the walk's own folder, which a path begins with.
+    fn root_of<'f>(&self, path: &'f str) -> &'f str {
+        match path.get(..self.root) {
+            Some("") | None => if path.starts_with('/') { "/" } else { "." },
+            Some(root) => root,
+        }
+    }
+
     fn metadata(&self, path: &str) -> io::Result<Metadata> {
-        if self.follows_links {
+        if self.route.follows_links {
             fs::metadata(self.rt, path)
         } else {
             fs::symlink_metadata(self.rt, path)
@@ -203,7 +284,7 @@ impl<'r> Walk<'r> {
 
     // Whether there is a link at a path that was followed.
     fn is_link(&self, path: &str) -> bool {
-        if !self.follows_links {
+        if !self.route.follows_links {
             return false;
         }
         match fs::symlink_metadata(self.rt, path) {

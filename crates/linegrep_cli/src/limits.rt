@@ -1,0 +1,83 @@
+//! Which folders are too deep or elsewhere, and which files are too large.
+use crate::failures::Failure;
+use crate::file_id::FileId;
+use crate::option_id::OptionId;
+use crate::options::Options;
+use std::alloc::Global;
+use std::fs;
+use std::fs::Metadata;
+
+const NO_SIZE: &str = "a size is a number of bytes, or one with K, M or G after it";
+
+/// How far a walk through folders goes, and how large its files are.
+#[derive(Clone, Copy)]
+pub struct Limits {
+    max_depth: Option<u64>,
+    max_size: Option<u64>,
+    // Whether folders of other file systems are left out.
+    is_one_system: bool,
+}
+
+impl Limits {
+    /// Those of the options. The only error is that of a size that isn't well formed.
+    pub fn read(alloc: Global, options: &Options<'_, '_>) -> Result<Limits, Failure> {
+        let max_size = match options.max_filesize {
+            None => None,
+            Some(text) => match size_of(text) {
+                Some(size) => Some(size),
+                None => return Err(Failure::of_cause(alloc, text, &NO_SIZE)),
+            },
+        };
+        Ok(Limits {
+            max_depth: options.max_depth,
+            max_size,
+            is_one_system: options.has(OptionId::OneFileSystem),
+        })
+    }
+
+    /// Whether what is in a folder is visited, which is so many folders below one that is named.
+    pub fn allows_depth(&self, depth: usize) -> bool {
+        match self.max_depth {
+            Some(max) => (depth as u64) < max,
+            None => true,
+        }
+    }
+
+    /// Whether a file isn't too large.
+    pub fn allows_file(&self, file: &Metadata) -> bool {
+        match self.max_size {
+            Some(max) => file.len() <= max,
+            None => true,
+        }
+    }
+
+    /// Whether a folder is on the file system of another, which is at a path, or may be elsewhere.
+    pub fn allows_folder(&self, rt: &HostRuntime, folder: &Metadata, root: &str) -> bool {
+        if !self.is_one_system {
+            return true;
+        }
+        match fs::metadata(rt, root) {
+            Ok(root) => FileId::of_any(folder).is_beside(FileId::of_any(&root)),
+            Err(_) => true,
+        }
+    }
+}
+
+// The number of bytes that a text says: digits, and then a K, an M or a G, or nothing.
+fn size_of(text: &str) -> Option<u64> {
+    let (digits, factor) = match text.strip_suffix('K') {
+        Some(digits) => (digits, 1 << 10),
+        None => match text.strip_suffix('M') {
+            Some(digits) => (digits, 1 << 20),
+            None => match text.strip_suffix('G') {
+                Some(digits) => (digits, 1 << 30),
+                None => (text, 1),
+            },
+        },
+    };
+    let has_digits = digits.bytes().all(|byte| byte.is_ascii_digit());
+    match digits.parse::<u64>() {
+        Ok(count) if has_digits => count.checked_mul(factor),
+        _ => None,
+    }
+}

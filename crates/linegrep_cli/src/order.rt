@@ -1,0 +1,112 @@
+//! In which order files are found.
+use crate::failures::Failure;
+use std::cmp::Ordering;
+use std::time::SystemTime;
+use std::{fs, io};
+
+/// What files are sorted by.
+#[derive(Clone, Copy)]
+pub enum SortKey {
+    /// By their paths, folder by folder.
+    Path,
+    /// By when they were written last.
+    Modified,
+    /// By when they were read last.
+    Accessed,
+    /// By when they were made.
+    Created,
+}
+
+/// The order of files: by a key, or the other way round.
+#[derive(Clone, Copy)]
+pub struct Order {
+    key: SortKey,
+    is_reversed: bool,
+}
+
+/// The path of a file, and when what happened that it is sorted by.
+#[derive(Drop)]
+pub struct Dated {
+    /// The path.
+    pub path: String,
+    time: Option<SystemTime>,
+    // How many were found before it.
+    place: usize,
+}
+
+impl Order {
+    /// That of paths.
+    pub fn by_path() -> Order {
+        Order {
+            key: SortKey::Path,
+            is_reversed: false,
+        }
+    }
+
+    /// The order that the value of an option names.
+    pub fn read(name: Option<&str>, is_reversed: bool) -> Order {
+        let key = match name {
+            Some("modified") => SortKey::Modified,
+            Some("accessed") => SortKey::Accessed,
+            Some("created") => SortKey::Created,
+            Some("path") => SortKey::Path,
+            _ => return Order::by_path(),
+        };
+        Order { key, is_reversed }
+    }
+
+    /// Says why the system has no such order, if it has none.
+    pub fn check(&self, rt: &HostRuntime) -> Result<(), Failure> {
+        match self.time(rt, ".") {
+            Err(error) if self.is_by_time() => {
+                Err(Failure::of_cause(rt.alloc(), "files can't be sorted", &error))
+            }
+            _ => Ok(()),
+        }
+    }
+
+    /// Whether files are sorted by a time, for which all of them have to be found first.
+    pub fn is_by_time(&self) -> bool {
+        !matches!(self.key, SortKey::Path)
+    }
+
+    /// How two paths of one folder are sorted.
+    pub fn compare_paths(&self, one: &str, other: &str) -> Ordering {
+        if self.is_reversed && !self.is_by_time() {
+            other.cmp(one)
+        } else {
+            one.cmp(other)
+        }
+    }
+
+    /// How two files are sorted by a time. One without it comes after others.
+    pub fn compare_times(&self, one: &Dated, other: &Dated) -> Ordering {
+        let ordering = match (one.time, other.time) {
+            (Some(one), Some(other)) => one.cmp(&other),
+            (Some(_), None) => Ordering::Less,
+            (None, Some(_)) => Ordering::Greater,
+            (None, None) => Ordering::Equal,
+        };
+        let ordering = if self.is_reversed {
+            ordering.reverse()
+        } else {
+            ordering
+        };
+        ordering.then(one.place.cmp(&other.place))
+    }
+
+    /// The file at a path with the time that it is sorted by, which was found after some others.
+    pub fn date(&self, rt: &HostRuntime, path: String, place: usize) -> Dated {
+        let time = self.time(rt, path.as_str()).ok();
+        Dated { path, time, place }
+    }
+
+    fn time(&self, rt: &HostRuntime, path: &str) -> io::Result<SystemTime> {
+        let metadata = fs::metadata(rt, path)?;
+        match self.key {
+            SortKey::Accessed => metadata.accessed(),
+            SortKey::Created => metadata.created(),
+            SortKey::Path | SortKey::Modified => metadata.modified(),
+        }
+    }
+}
