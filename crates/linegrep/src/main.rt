@@ -27,7 +27,7 @@ fn grep(rt: &HostRuntime) -> io::Result<u8> {
     let stdout = rt.stdout();
     let is_terminal = stdout.is_terminal();
     let output = Writing::new(stdout);
-    let mut input = Reading::new(rt.stdin());
+    let input = Reading::new(rt.stdin());
     let mut errors = Writing::new(rt.stderr());
     let streams = Streams {
         is_terminal,
@@ -35,7 +35,7 @@ fn grep(rt: &HostRuntime) -> io::Result<u8> {
         input: FileId::at(rt, "/proc/self/fd/0"),
         output: FileId::at(rt, "/proc/self/fd/1"),
     };
-    Ok(run(rt, streams, &arguments, &mut input, output, &mut errors))
+    Ok(run(rt, rt, streams, &arguments, input, output, &mut errors).status)
 }
 
 // Whether standard input is a file, a pipe or a socket.

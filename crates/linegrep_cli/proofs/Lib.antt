@@ -1,1 +1,2 @@
 pub mod CapitalLemmas
+pub mod OperandLemmas

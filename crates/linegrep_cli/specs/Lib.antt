@@ -1,5 +1,10 @@
+pub mod EngineCalls
+pub mod EngineSteps
+pub mod Haystacks
+pub mod OperandRuns
 pub mod OptionMeanings
 pub mod OptionUses
 pub mod PatternOptions
 pub mod PrinterOptions
+pub mod RunScopes
 pub mod SearcherOptions

@@ -1,98 +1,163 @@
 //! A searcher, a matcher and a printer, which search as one.
+ghost use Rattle.std.specs.Prelude.{◌≡◌, Bool};
+ghost use Rattle.linegrep_cli.specs.EngineCalls.{EngineCall, finishes, lists, says};
+ghost use Rattle.linegrep_cli.specs.EngineCalls.{searches_file, searches_input, sets_quits};
+ghost use Rattle.linegrep_cli.specs.EngineSteps.{IsWrittenError, writer_of};
+
 use crate::failures::say;
 use crate::haystacks::Haystack;
 use crate::printers::{Printer, Searched};
 use grep_output::Output;
 use grep_searcher::{BinaryDetection, FindAt, SearchError, Searcher, Source};
-use std::fs::File;
 use std::io;
+use std::io::Read;
 
 /// What searches files and standard input, writes what is found, and says what goes wrong. A run
 /// over files is generic in it, and so is proved without what a searcher and a printer consist of.
-pub trait Engine {
+///
+/// It is given by its steps: the state before a call, the call with what it was given and returned,
+/// and the state after.
+pub trait Engine<F> {
+    /// What one call may do.
+    ghost step: { Self → EngineCall F → Self → Type 0 };
+
+    /// Whether the writer failed.
+    ghost has_failed: { Self → Bool };
+
     /// Searches a file, and writes what is found in it, with a path if there is one.
-    fn search_file(&mut self, file: &mut File, path: Option<&str>) -> Searched;
+    fn search_file(&mut self, file: F, path: Option<&str>) -> Searched
+        ensures { step self.old (searches_file path.entry file result) self.new };
 
     /// Searches standard input, and writes what is found in it, with a path if there is one.
-    fn search_input(&mut self, path: Option<&str>) -> Searched;
+    fn search_input(&mut self, path: Option<&str>) -> Searched
+        ensures { step self.old (searches_input path.entry result) self.new };
 
     /// Writes the path of a file that isn't searched, as that of one with a match.
-    fn list(&mut self, path: &str) -> Searched;
+    fn list(&mut self, path: &str) -> Searched
+        ensures { step self.old (lists path.entry result) self.new };
 
     /// Writes a text to standard error, after what was found before. An error is that of writing
     /// what was found.
-    fn say(&mut self, text: &str) -> io::Result<()>;
+    fn say(&mut self, text: &str) -> io::Result<()>
+        ensures { step self.old (says result) self.new };
 
     /// From now on the search of a binary file ends where that shows, or goes on as it did at
     /// first.
-    fn set_quits(&mut self, quits: bool);
+    fn set_quits(&mut self, quits: bool)
+        ensures { step self.old (sets_quits quits) self.new };
 
     /// Whether the writer failed.
-    fn has_failed(&self) -> bool;
+    fn has_failed(&self) -> bool
+        ensures { result ≡ has_failed self.now };
 
     /// Writes the totals of all searches, if they are asked for, and flushes the writer. An error
     /// is the writer's, or one of being out of memory.
-    fn finish(&mut self) -> io::Result<()>;
+    fn finish(&mut self) -> io::Result<()>
+        ensures { step self.old (finishes result) self.new };
 }
 
 /// The engine of a searcher, a matcher and a printer, over standard input and standard error.
 #[derive(Drop)]
-pub struct PrintingEngine<'e, M, R, W, E> {
+pub struct PrintingEngine<'e, F, M: FindAt, R, W, E> {
     rt: &'e HostRuntime,
-    searcher: &'e mut Searcher,
+    searcher: Searcher,
     matcher: M,
-    printer: &'e mut Printer<W>,
-    input: &'e mut R,
+    printer: Printer<W>,
+    // Standard input, and the file that is searched.
+    haystack: Haystack<F, R>,
     errors: &'e mut E,
     // What the searcher did at first about binary files.
     detection: BinaryDetection,
 }
 
-impl<'e, M, R, W, E> PrintingEngine<'e, M, R, W, E> {
+impl<'e, F, M: FindAt, R, W, E> PrintingEngine<'e, F, M, R, W, E> {
     /// An engine of these. The times in messages are by the clock of `rt`.
     pub fn new(
         rt: &'e HostRuntime,
-        searcher: &'e mut Searcher,
+        searcher: Searcher,
         matcher: M,
-        printer: &'e mut Printer<W>,
-        input: &'e mut R,
+        printer: Printer<W>,
+        input: R,
         errors: &'e mut E,
-    ) -> PrintingEngine<'e, M, R, W, E> {
+    ) -> PrintingEngine<'e, F, M, R, W, E> {
         let detection = *searcher.binary_detection();
         PrintingEngine {
             rt,
             searcher,
             matcher,
             printer,
-            input,
+            haystack: Haystack {
+                file: None,
+                reader: input,
+            },
             errors,
             detection,
         }
     }
+
+    /// Standard input and the writer back.
+    pub fn into_parts(self) -> (R, W)
+    where
+        F: Drop,
+        M: Drop,
+        ensures input { result.0 ≡ self.entry.haystack.reader }
+        ensures writer { result.1 ≡ writer_of self.entry.printer }
+    {
+        let PrintingEngine {
+            rt: _,
+            searcher: _,
+            matcher: _,
+            printer,
+            haystack,
+            errors: _,
+            detection: _,
+        } = self;
+        let Haystack { file: _, reader } = haystack;
+        (reader, printer.into_writer())
+    }
 }
 
-impl<'e, M: FindAt + Copy, R: Source, W: Output, E: Output> Engine
-    for PrintingEngine<'e, M, R, W, E> {
-    fn search_file(&mut self, file: &mut File, path: Option<&str>) -> Searched {
-        let mut haystack: Haystack<'_, File, R> = Haystack::File(file);
-        self.printer
-            .search(self.rt, self.searcher, self.matcher, &mut haystack, path)
+impl<'e, F: Read + Drop, M: FindAt + Copy, R: Source, W: Output, E: Output> Engine<F>
+    for PrintingEngine<'e, F, M, R, W, E> {
+    ghost use Rattle.linegrep_cli.specs.EngineSteps.{has_failed};
+
+    // What is written of a search isn't said here.
+    ghost step = { λ _ _ _. Unit {0} };
+
+    ghost has_failed = { λ engine. has_failed engine.printer };
+
+    fn search_file(&mut self, file: F, path: Option<&str>) -> Searched {
+        self.haystack.file = Some(file);
+        let searched = self.printer.search(
+            self.rt,
+            &mut self.searcher,
+            self.matcher,
+            &mut self.haystack,
+            path,
+        );
+        self.haystack.file = None;
+        searched
     }
 
     fn search_input(&mut self, path: Option<&str>) -> Searched {
-        let mut haystack: Haystack<'_, File, R> = Haystack::Reader(&mut *self.input);
-        self.printer
-            .search(self.rt, self.searcher, self.matcher, &mut haystack, path)
+        let searched = self.printer.search(
+            self.rt,
+            &mut self.searcher,
+            self.matcher,
+            &mut self.haystack,
+            path,
+        );
+        self.haystack.file = None;
+        searched
     }
 
     fn list(&mut self, path: &str) -> Searched {
         let mut line: &[u8] = b"\n";
-        let mut haystack: Haystack<'_, File, &[u8]> = Haystack::Reader(&mut line);
         self.printer.search(
             self.rt,
-            self.searcher,
+            &mut self.searcher,
             self.matcher,
-            &mut haystack,
+            &mut line,
             Some(path),
         )
     }
@@ -124,7 +189,9 @@ impl<'e, M: FindAt + Copy, R: Source, W: Output, E: Output> Engine
 }
 
 /// The writer's error in that of a search.
-pub fn written_error(error: SearchError) -> io::Error {
+pub fn written_error(error: SearchError) -> io::Error
+    ensures { IsWrittenError error result }
+{
     match error {
         SearchError::Io(error) => error,
         _ => io::Error::from(io::ErrorKind::Other),

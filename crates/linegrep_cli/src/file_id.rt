@@ -1,4 +1,6 @@
 //! Which file of the system is which.
+ghost use Rattle.std.specs.Prelude.{◌≡◌, ◌==◌, ◌&&◌};
+
 use std::fs;
 use std::fs::Metadata;
 use std::os::unix::fs::MetadataExt;
@@ -38,7 +40,9 @@ impl FileId {
     }
 
     /// Whether both are the same file.
-    pub fn is(self, other: FileId) -> bool {
+    pub fn is(self, other: FileId) -> bool
+        ensures { result ≡ ((self.device == other.device) && (self.inode == other.inode)) }
+    {
         self.device == other.device && self.inode == other.inode
     }
     /// Whether both are on one file system.

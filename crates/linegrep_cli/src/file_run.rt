@@ -1,4 +1,22 @@
 //! A run over files.
+ghost use Rattle.std.specs.Prelude.{◌≡◌, ◌≢◌, ◌⊎◌, ◌&&◌, [], true, false, not, IfErr, Some};
+ghost use Rattle.std.specs.Prelude.{◌↔◌, IsTrue, Option, Result, codes, if◌then◌else◌, is_some};
+ghost use Rattle.std.specs.IoError.{error_kind};
+ghost use Rattle.std.specs.Option.{option_or};
+ghost use Rattle.std.specs.declared.io.ErrorKind.TheVariants.{BrokenPipe};
+ghost use Rattle.linegrep_cli.specs.EngineCalls.{says};
+ghost use Rattle.std.specs.declared.io.Error.{Error};
+ghost use Rattle.linegrep_cli.specs.RunScopes.{IsScopeOf, MaySearch};
+ghost use Rattle.linegrep_cli.specs.declared.visit.Visit.{Visit};
+ghost use Rattle.std.specs.Str.{bytes_eq};
+ghost use Rattle.linegrep_cli.specs.OperandRuns.{AreAllVisited, AreEntriesVisited, AreSaid};
+ghost use Rattle.linegrep_cli.specs.OperandRuns.{IsEntryVisited, IsFailing, IsFileVisited};
+ghost use Rattle.linegrep_cli.specs.OperandRuns.{IsFolderVisited, IsHereVisited, IsInputVisited};
+ghost use Rattle.linegrep_cli.specs.OperandRuns.{IsKept, IsListed, IsNamedVisited, IsOperandVisited};
+ghost use Rattle.linegrep_cli.specs.OperandRuns.{IsPathVisited, IsReported, IsRunEnd, IsRunOver};
+ghost use Rattle.linegrep_cli.specs.OperandRuns.{IsLeftOut, IsSaid, has_found, is_input, is_over};
+ghost use Rattle.linegrep_cli.specs.OperandRuns.{EndsAs, error_of, is_same, no_visit, path_of, status_of};
+
 use crate::choices::Choices;
 use crate::engine::{Engine, written_error};
 use crate::failures::Failure;
@@ -6,11 +24,12 @@ use crate::file_id::FileId;
 use crate::option_id::OptionId;
 use crate::options::Options;
 use crate::printers::Searched;
+use crate::system::System;
+use crate::visit::Visit;
 use crate::walk::{Entry, Route, Walk};
 use crate::words::{NOT_UTF8, is_escaped};
 use std::fmt::Display;
-use std::fs::File;
-use std::{fs, io};
+use std::io;
 
 // The name of standard input.
 const STDIN: &str = "<stdin>";
@@ -42,7 +61,9 @@ pub struct Scope {
 
 impl Scope {
     /// What the options say of a run over the files at their paths.
-    pub fn new(rt: &HostRuntime, options: &Options<'_, '_>) -> Scope {
+    pub fn new<S: System>(system: &S, options: &Options<'_, '_>) -> Scope
+        ensures { IsScopeOf (S.finds system.now) options.now result }
+    {
         let searches_input = options.searches_input();
         Scope {
             searches_input,
@@ -54,7 +75,7 @@ impl Scope {
             is_lenient: options.has(OptionId::NoIgnoreMessages),
             lists_files: options.has(OptionId::Files),
             shows_paths: options.shows_paths(
-                !searches_input && searches_several(rt, options.paths()),
+                !searches_input && searches_several(system, options.paths()),
             ),
             is_silent: options.has(OptionId::NoMessages),
             is_quiet: options.has(OptionId::Quiet),
@@ -64,16 +85,10 @@ impl Scope {
         }
     }
 
-    // Whether a file isn't searched.
-    fn leaves_out(&self, file: &File) -> bool {
-        match (self.left_out, file.metadata()) {
-            (Some(_), Ok(metadata)) => is_same(self.left_out, FileId::of(&metadata)),
-            _ => false,
-        }
-    }
-
     // Whether a search found what is looked for.
-    fn has_found(&self, searched: &Searched) -> bool {
+    fn has_found(&self, searched: &Searched) -> bool
+        ensures { result ≡ has_found self.now searched.now }
+    {
         if self.seeks_unmatched {
             searched.result.is_ok() && !searched.has_match
         } else {
@@ -82,246 +97,33 @@ impl Scope {
     }
 
     // The path that is written for a haystack with a name, if paths are.
-    fn path_of<'n>(&self, name: &'n str) -> Option<&'n str> {
+    fn path_of<'n>(&self, name: &'n str) -> Option<&'n str>
+        ensures { result ≡ path_of self.now name.entry }
+    {
         if self.shows_paths { Some(name) } else { None }
     }
-}
 
-/// A run over files: what it searches with, and what came of those that it has searched.
-#[derive(Drop)]
-pub struct Run<'r, E> {
-    rt: &'r HostRuntime,
-    engine: &'r mut E,
-    choices: Choices<'r>,
-    scope: Scope,
-    // Whether a file or the input was searched, a match was found, and something couldn't be read.
-    has_searched: bool,
-    has_match: bool,
-    has_error: bool,
-    // Why the run ends early, if it does: the writer's error, or one of being out of memory.
-    failure: Option<io::Error>,
-}
-
-impl<'r, E: Engine> Run<'r, E> {
-    /// A run that has searched nothing yet.
-    pub fn new(
-        rt: &'r HostRuntime,
-        engine: &'r mut E,
-        choices: Choices<'r>,
-        scope: Scope,
-    ) -> Run<'r, E> {
-        Run {
-            rt,
-            engine,
-            choices,
-            scope,
-            has_searched: false,
-            has_match: false,
-            has_error: false,
-            failure: None,
-        }
+    // Whether an operand names standard input.
+    fn is_input(&self, path: &str) -> bool
+        ensures { result ≡ is_input self.now path.now }
+    {
+        path == "-" && !self.lists_files
     }
 
-    /// Searches the files at some paths, writes what is left, and gives the status. What can't be
-    /// read is reported, and gives the status 2.
-    pub fn complete(&mut self, paths: &[&str]) -> u8 {
-        self.search_paths(paths);
-        match self.failure.take() {
-            None => self.finish(),
-            Some(error) => self.fail(&error),
-        }
+    // Whether what is visited later makes no difference.
+    fn is_over(&self, total: &Visit) -> bool
+        ensures { result ≡ is_over self.now total.now }
+    {
+        total.failure.is_some() || self.is_quiet && total.has_match
     }
 
-    // Searches the files at some paths.
-    fn search_paths(&mut self, paths: &[&str]) {
-        if paths.is_empty() {
-            self.search_default();
-        }
-        for path in paths {
-            self.search_operand(path);
-            if self.is_over() {
-                break;
-            }
-        }
-    }
-
-    // Searches what is searched without a path: the input, or the current folder. If no file is
-    // chosen, that is said.
-    fn search_default(&mut self) {
-        if self.scope.searches_input {
-            return self.search_input();
-        }
-        self.search_folder("");
-        if !self.has_searched && !self.scope.lists_files {
-            self.has_error = true;
-            self.say(&Failure::new(self.rt.alloc(), &NO_FILE));
-        }
-    }
-
-    // Searches what an operand names: the input, a folder or a file.
-    fn search_operand(&mut self, path: &str) {
-        if path == "-" && !self.scope.lists_files {
-            self.search_input();
-        } else if is_escaped(path) {
-            self.report(path, &NOT_UTF8);
-        } else if is_folder(self.rt, path) {
-            self.search_folder(path);
-        } else if self.scope.lists_files {
-            self.list_operand(path);
-        } else {
-            self.search_path(path);
-        }
-    }
-
-    // Lists the file that an operand names, or says why there is none.
-    fn list_operand(&mut self, path: &str) {
-        match fs::metadata(self.rt, path) {
-            Ok(_) => self.list(path),
-            Err(error) => self.report(path, &error),
-        }
-    }
-
-    fn list(&mut self, path: &str) {
-        let searched = self.engine.list(path);
-        self.keep(path, searched);
-    }
-
-    // Whether what is found after this makes no difference.
-    fn is_over(&self) -> bool {
-        self.failure.is_some() || self.scope.is_quiet && self.has_match
-    }
-
-    // Searches the files of a folder. The search of one that has a NUL ends there, unless the options
-    // ask for binary files too.
-    fn search_folder(&mut self, folder: &str) {
-        self.engine.set_quits(!self.scope.searches_binary);
-        let mut walk = Walk::new(self.rt, self.scope.route, folder);
-        match self.choices.begin(folder) {
-            Ok(()) => self.visit_all(&mut walk),
-            Err(_) => self.failure = Some(io::Error::from(io::ErrorKind::OutOfMemory)),
-        }
-        self.engine.set_quits(false);
-    }
-
-    // Searches what a walk through a folder finds.
-    fn visit_all(&mut self, walk: &mut Walk<'r>) {
-        for _ in 0..u64::MAX {
-            match walk.pop() {
-                Some(entry) => self.visit(walk, &entry),
-                None => break,
-            }
-            if self.is_over() {
-                return;
-            }
-        }
-        if walk.is_out_of_memory() {
-            self.failure = Some(io::Error::from(io::ErrorKind::OutOfMemory));
-        }
-    }
-
-    // Searches a file, enters a folder, or says why something can't be read.
-    fn visit(&mut self, walk: &mut Walk<'r>, entry: &Entry) {
-        match entry {
-            Entry::File(path) if self.scope.lists_files => self.list(path.as_str()),
-            Entry::File(path) => self.search_path(path.as_str()),
-            Entry::Folder(path) => {
-                walk.enter(&mut self.choices, path.as_str());
-                self.warn();
-            }
-            Entry::Unread(path, error) => self.report(path.as_str(), error),
-        }
-    }
-
-    // Searches the file at a path, or says why it can't be opened.
-    fn search_path(&mut self, path: &str) {
-        match File::open(self.rt, path) {
-            Ok(file) if self.scope.leaves_out(&file) => self.report(path, &IS_OUTPUT),
-            Ok(mut file) => self.search_file(path, &mut file),
-            Err(error) => self.report(path, &error),
-        }
-    }
-
-    fn search_file(&mut self, path: &str, file: &mut File) {
-        let searched = self.engine.search_file(file, self.scope.path_of(path));
-        self.keep(path, searched);
-    }
-
-    // Searches standard input.
-    fn search_input(&mut self) {
-        if self.scope.leaves_out_input {
-            return self.report(STDIN, &IS_OUTPUT);
-        }
-        let searched = self.engine.search_input(self.scope.path_of(STDIN));
-        self.keep(STDIN, searched);
-    }
-
-    // Goes on after a search. An error of reading is reported; one of writing ends the run.
-    fn keep(&mut self, path: &str, searched: Searched) {
-        self.has_searched = true;
-        self.has_match = self.has_match || self.scope.has_found(&searched);
-        match searched.result {
-            Ok(()) => {}
-            Err(error) if self.engine.has_failed() => self.failure = Some(written_error(error)),
-            Err(error) => self.report(path, &error),
-        }
-    }
-
-    // Says what is wrong with ignore files.
-    fn warn(&mut self) {
-        if !self.scope.is_lenient && !self.scope.is_silent {
-            for warning in self.choices.warnings() {
-                if let Err(error) = self.engine.say(warning.text()) {
-                    self.failure = Some(error);
-                }
-            }
-        }
-        self.choices.clear_warnings();
-    }
-
-    // Says what can't be read, and why.
-    fn report<D: Display>(&mut self, path: &str, error: &D) {
-        self.has_error = true;
-        self.say(&Failure::of_cause(self.rt.alloc(), path, error));
-    }
-
-    // Says what goes wrong, unless nothing is to be said.
-    fn say(&mut self, failure: &Failure) {
-        if self.scope.is_silent {
-            return;
-        }
-        if let Err(error) = self.engine.say(failure.text()) {
-            self.failure = Some(error);
-        }
-    }
-
-    // Writes what is left, and gives the status.
-    fn finish(&mut self) -> u8 {
-        match self.engine.finish() {
-            Ok(()) => self.status(),
-            Err(error) => self.fail(&error),
-        }
-    }
-
-    // Says why the run ends early: by the writer's error, of which nothing is said if nobody reads
-    // what is written, or by one of being out of memory.
-    fn fail(&mut self, error: &io::Error) -> u8 {
-        let has_failed = self.engine.has_failed();
-        if has_failed && error.kind() == io::ErrorKind::BrokenPipe {
-            return 0;
-        }
-        let failure = if has_failed {
-            Failure::of_output(self.rt.alloc(), error)
-        } else {
-            Failure::new(self.rt.alloc(), error)
-        };
-        let _ = self.engine.say(failure.text());
-        2
-    }
-
-    fn status(&self) -> u8 {
-        if self.has_error && !self.is_over() {
+    // The status, if all was written.
+    fn status(&self, total: &Visit) -> u8
+        ensures { result ≡ status_of self.now total.now }
+    {
+        if total.has_error && !self.is_over(total) {
             2
-        } else if self.has_match {
+        } else if total.has_match {
             0
         } else {
             1
@@ -329,8 +131,390 @@ impl<'r, E: Engine> Run<'r, E> {
     }
 }
 
+/// A run over files: what it asks the system, and what the options say of it.
+#[derive(Drop)]
+pub struct Run<'r, S> {
+    rt: &'r HostRuntime,
+    system: &'r S,
+    scope: Scope,
+}
+
+impl<'r, S: System> Run<'r, S> {
+    /// A run that asks `system` about its operands.
+    pub fn new(rt: &'r HostRuntime, system: &'r S, scope: Scope) -> Run<'r, S>
+        ensures system { result.system ≡ system.entry }
+        ensures scope { result.scope ≡ scope }
+    {
+        Run { rt, system, scope }
+    }
+
+    /// Searches the files at some paths, writes what is left, and gives the status. What can't be
+    /// read is reported, and gives the status 2.
+    pub fn complete<E: Engine<S::File>>(
+        &self,
+        engine: &mut E,
+        choices: &mut Choices<'r>,
+        paths: &[&str],
+    ) -> u8
+        ensures { IsRunOver (S.finds self.now.system.now) (S.opens self.now.system.now)
+            (S.identifies self.now.system.now) E.step E.has_failed self.now.scope paths.now
+            engine.old result engine.new }
+    {
+        let total = self.visit_operands(engine, choices, paths);
+        match &total.failure {
+            None => self.finish(engine, &total),
+            Some(error) => self.fail(engine, error),
+        }
+    }
+
+    // Visits what some paths name, or what is searched without one.
+    fn visit_operands<E: Engine<S::File>>(
+        &self,
+        engine: &mut E,
+        choices: &mut Choices<'r>,
+        paths: &[&str],
+    ) -> Visit
+        ensures { AreAllVisited (S.finds self.now.system.now) (S.opens self.now.system.now)
+            (S.identifies self.now.system.now) E.step E.has_failed self.now.scope paths.now
+            engine.old result engine.new }
+    {
+        if paths.is_empty() {
+            return self.visit_default(engine, choices);
+        }
+        let mut total = Visit::none();
+        for path in paths {
+            total.add(self.visit_operand(engine, choices, path));
+            if self.scope.is_over(&total) {
+                return total;
+            }
+        }
+        total
+    }
+
+    // Visits what is searched without a path: the input, or the current folder.
+    fn visit_default<E: Engine<S::File>>(&self, engine: &mut E, choices: &mut Choices<'r>) -> Visit
+        ensures { AreAllVisited (S.finds self.now.system.now) (S.opens self.now.system.now)
+            (S.identifies self.now.system.now) E.step E.has_failed self.now.scope []
+            engine.old result engine.new }
+    {
+        if self.scope.searches_input {
+            self.visit_input(engine)
+        } else {
+            self.visit_here(engine, choices)
+        }
+    }
+
+    // Visits the current folder. If no file is chosen, that is said.
+    fn visit_here<E: Engine<S::File>>(&self, engine: &mut E, choices: &mut Choices<'r>) -> Visit
+        ensures { IsHereVisited (S.opens self.now.system.now) (S.identifies self.now.system.now)
+            E.step E.has_failed self.now.scope engine.old result engine.new }
+    {
+        let mut visit = self.visit_folder(engine, choices, "");
+        if !visit.has_searched && !self.scope.lists_files {
+            visit.has_error = true;
+            visit.failure = self.say(engine, &Failure::new(self.rt.alloc(), &NO_FILE));
+        }
+        visit
+    }
+
+    // Visits what an operand names: the input, a folder or a file.
+    fn visit_operand<E: Engine<S::File>>(
+        &self,
+        engine: &mut E,
+        choices: &mut Choices<'r>,
+        path: &str,
+    ) -> Visit
+        ensures { IsOperandVisited (S.finds self.now.system.now) (S.opens self.now.system.now)
+            (S.identifies self.now.system.now) E.step E.has_failed self.now.scope path.entry
+            engine.old result engine.new }
+    {
+        if self.scope.is_input(path) {
+            return self.visit_input(engine);
+        }
+        if is_escaped(path) {
+            return self.report(engine, path, &NOT_UTF8);
+        }
+        self.visit_named(engine, choices, path)
+    }
+
+    // Visits the folder or the file that an operand names.
+    fn visit_named<E: Engine<S::File>>(
+        &self,
+        engine: &mut E,
+        choices: &mut Choices<'r>,
+        path: &str,
+    ) -> Visit
+        ensures { IsNamedVisited (S.finds self.now.system.now) (S.opens self.now.system.now)
+            (S.identifies self.now.system.now) E.step E.has_failed self.now.scope path.entry
+            engine.old result engine.new }
+    {
+        match self.system.is_folder(path) {
+            Ok(true) => self.visit_folder(engine, choices, path),
+            Ok(false) if self.scope.lists_files => self.list(engine, path),
+            Ok(false) => self.visit_path(engine, path),
+            Err(error) if self.scope.lists_files => self.report(engine, path, &error),
+            Err(_) => self.visit_path(engine, path),
+        }
+    }
+
+    // Writes the path of a file that isn't searched.
+    fn list<E: Engine<S::File>>(&self, engine: &mut E, path: &str) -> Visit
+        ensures { IsListed E.step E.has_failed self.now.scope path.entry engine.old result
+            engine.new }
+    {
+        let searched = engine.list(path);
+        self.keep(engine, path, searched)
+    }
+
+    // Visits the files of a folder. The search of one that has a NUL ends there, unless the options
+    // ask for binary files too.
+    fn visit_folder<E: Engine<S::File>>(
+        &self,
+        engine: &mut E,
+        choices: &mut Choices<'r>,
+        folder: &str,
+    ) -> Visit
+        ensures { IsFolderVisited (S.opens self.now.system.now) (S.identifies self.now.system.now)
+            E.step E.has_failed self.now.scope engine.old result engine.new }
+    {
+        engine.set_quits(!self.scope.searches_binary);
+        let visit = self.visit_begun(engine, choices, folder);
+        engine.set_quits(false);
+        visit
+    }
+
+    // Visits what is in a folder, unless memory is out.
+    fn visit_begun<E: Engine<S::File>>(
+        &self,
+        engine: &mut E,
+        choices: &mut Choices<'r>,
+        folder: &str,
+    ) -> Visit
+        ensures { (total : Visit) × AreEntriesVisited (S.opens self.now.system.now)
+            (S.identifies self.now.system.now) E.step E.has_failed self.now.scope engine.old total
+            engine.new × EndsAs total result }
+    {
+        match choices.begin(folder) {
+            Ok(()) => self.visit_entries(engine, choices, folder),
+            Err(_) => Visit::failed(Some(io::Error::from(io::ErrorKind::OutOfMemory))),
+        }
+    }
+
+    // Visits what a walk through a folder finds.
+    fn visit_entries<E: Engine<S::File>>(
+        &self,
+        engine: &mut E,
+        choices: &mut Choices<'r>,
+        folder: &str,
+    ) -> Visit
+        ensures { (total : Visit) × AreEntriesVisited (S.opens self.now.system.now)
+            (S.identifies self.now.system.now) E.step E.has_failed self.now.scope engine.old total
+            engine.new × EndsAs total result }
+    {
+        let mut walk = Walk::new(self.rt, self.scope.route, folder);
+        let mut total = Visit::none();
+        for _ in 0..u64::MAX {
+            match walk.pop() {
+                Some(entry) => total.add(self.visit_entry(engine, choices, &mut walk, &entry)),
+                None => break,
+            }
+            if self.scope.is_over(&total) {
+                return total;
+            }
+        }
+        if walk.is_out_of_memory() {
+            total.failure = Some(io::Error::from(io::ErrorKind::OutOfMemory));
+        }
+        total
+    }
+
+    // Searches a file, enters a folder, or says why something can't be read.
+    fn visit_entry<E: Engine<S::File>>(
+        &self,
+        engine: &mut E,
+        choices: &mut Choices<'r>,
+        walk: &mut Walk<'r>,
+        entry: &Entry,
+    ) -> Visit
+        ensures { IsEntryVisited (S.opens self.now.system.now) (S.identifies self.now.system.now)
+            E.step E.has_failed self.now.scope engine.old result engine.new }
+    {
+        match entry {
+            Entry::File(path) if self.scope.lists_files => self.list(engine, path.as_str()),
+            Entry::File(path) => self.visit_path(engine, path.as_str()),
+            Entry::Folder(path) => {
+                walk.enter(choices, path.as_str());
+                self.warn(engine, choices)
+            }
+            Entry::Unread(path, error) => self.report(engine, path.as_str(), error),
+        }
+    }
+
+    // Searches the file at a path, or says why it can't be opened.
+    fn visit_path<E: Engine<S::File>>(&self, engine: &mut E, path: &str) -> Visit
+        ensures { IsPathVisited (S.opens self.now.system.now) (S.identifies self.now.system.now)
+            E.step E.has_failed self.now.scope path.entry engine.old result engine.new }
+    {
+        match self.system.open(path) {
+            Ok(file) if self.leaves_out(&file) => self.report(engine, path, &IS_OUTPUT),
+            Ok(file) => self.visit_file(engine, path, file),
+            Err(error) => self.report(engine, path, &error),
+        }
+    }
+
+    // Whether a file isn't searched.
+    fn leaves_out(&self, file: &S::File) -> bool
+        ensures { IsLeftOut (S.identifies self.now.system.now) self.now.scope file.now result }
+    {
+        match self.scope.left_out {
+            Some(_) => is_same(self.scope.left_out, self.system.id_of(file)),
+            None => false,
+        }
+    }
+
+    fn visit_file<E: Engine<S::File>>(&self, engine: &mut E, path: &str, file: S::File) -> Visit
+        ensures { IsFileVisited E.step E.has_failed self.now.scope path.entry file engine.old
+            result engine.new }
+    {
+        let searched = engine.search_file(file, self.scope.path_of(path));
+        self.keep(engine, path, searched)
+    }
+
+    // Searches standard input.
+    fn visit_input<E: Engine<S::File>>(&self, engine: &mut E) -> Visit
+        ensures { IsInputVisited E.step E.has_failed self.now.scope engine.old result engine.new }
+    {
+        if self.scope.leaves_out_input {
+            return self.report(engine, STDIN, &IS_OUTPUT);
+        }
+        let searched = engine.search_input(self.scope.path_of(STDIN));
+        self.keep(engine, STDIN, searched)
+    }
+
+    // What comes of a search. An error of reading is reported; one of writing ends the run.
+    fn keep<E: Engine<S::File>>(&self, engine: &mut E, path: &str, searched: Searched) -> Visit
+        ensures { IsKept E.step E.has_failed self.now.scope engine.old searched result engine.new }
+    {
+        let has_match = self.scope.has_found(&searched);
+        let mut visit = match searched.result {
+            Ok(()) => Visit::none(),
+            Err(error) if engine.has_failed() => Visit::failed(Some(written_error(error))),
+            Err(error) => self.report(engine, path, &error),
+        };
+        visit.has_searched = true;
+        visit.has_match = has_match;
+        visit
+    }
+
+    // Says what is wrong with ignore files.
+    fn warn<E: Engine<S::File>>(&self, engine: &mut E, choices: &mut Choices<'r>) -> Visit
+        ensures { (failure : Option Error) × AreSaid E.step self.now.scope engine.old failure
+            engine.new × (result ≡ record no_visit { failure = failure }) }
+    {
+        let failure = self.say_all(engine, choices.warnings());
+        choices.clear_warnings();
+        Visit::failed(failure)
+    }
+
+    // Says what goes wrong, unless nothing is to be said. The result is the writer's error.
+    fn say_all<E: Engine<S::File>>(&self, engine: &mut E, warnings: &[Failure]) -> Option<io::Error>
+        ensures { AreSaid E.step self.now.scope engine.old result engine.new }
+    {
+        let mut failure = None;
+        if self.scope.is_lenient || self.scope.is_silent {
+            return failure;
+        }
+        for warning in warnings {
+            failure = self.say_next(engine, warning, failure);
+        }
+        failure
+    }
+
+    // Says what goes wrong. The result is the writer's error, or an earlier one.
+    fn say_next<E: Engine<S::File>>(
+        &self,
+        engine: &mut E,
+        warning: &Failure,
+        failure: Option<io::Error>,
+    ) -> Option<io::Error>
+        ensures { (said : Result (Unit {0}) Error) × E.step engine.old (says said) engine.new
+            × (result ≡ option_or (error_of said) failure) }
+    {
+        match engine.say(warning.text()) {
+            Ok(()) => failure,
+            Err(error) => Some(error),
+        }
+    }
+
+    // Says what can't be read, and why.
+    fn report<E: Engine<S::File>, D: Display>(&self, engine: &mut E, path: &str, error: &D) -> Visit
+        ensures { IsReported E.step self.now.scope engine.old result engine.new }
+    {
+        let failure = Failure::of_cause(self.rt.alloc(), path, error);
+        Visit::unread(self.say(engine, &failure))
+    }
+
+    // Says what goes wrong, unless nothing is to be said. The result is the writer's error.
+    fn say<E: Engine<S::File>>(&self, engine: &mut E, failure: &Failure) -> Option<io::Error>
+        ensures { IsSaid E.step self.now.scope engine.old result engine.new }
+    {
+        if self.scope.is_silent {
+            return None;
+        }
+        match engine.say(failure.text()) {
+            Ok(()) => None,
+            Err(error) => Some(error),
+        }
+    }
+
+    // Writes what is left, and gives the status.
+    fn finish<E: Engine<S::File>>(&self, engine: &mut E, total: &Visit) -> u8
+        requires { total.now.failure ≡ None }
+        ensures { IsRunEnd E.step E.has_failed self.now.scope total.now engine.old result
+            engine.new }
+    {
+        match engine.finish() {
+            Ok(()) => self.scope.status(total),
+            Err(error) => self.fail(engine, &error),
+        }
+    }
+
+    // Says why the run ends early: by the writer's error, of which nothing is said if nobody reads
+    // what is written, or by one of being out of memory.
+    fn fail<E: Engine<S::File>>(&self, engine: &mut E, error: &io::Error) -> u8
+        ensures { IsFailing E.step E.has_failed self.now.scope error.now engine.old result
+            engine.new }
+    {
+        if !engine.has_failed() {
+            return self.end(engine, &Failure::new(self.rt.alloc(), error));
+        }
+        if is_closed(error) {
+            return 0;
+        }
+        self.end(engine, &Failure::of_output(self.rt.alloc(), error))
+    }
+
+    // Says why the run ends early.
+    fn end<E: Engine<S::File>>(&self, engine: &mut E, failure: &Failure) -> u8
+        ensures { (said : Result (Unit {0}) Error) × E.step engine.old (says said) engine.new
+            × (result ≡ 2) }
+    {
+        let _ = engine.say(failure.text());
+        2
+    }
+}
+
+// Whether nobody reads what is written.
+fn is_closed(error: &io::Error) -> bool
+    ensures { IsTrue result ↔ (error_kind error.now ≡ BrokenPipe) }
+{
+    error.kind() == io::ErrorKind::BrokenPipe
+}
+
 // Whether both are files, and the same one.
-fn is_same(one: Option<FileId>, other: Option<FileId>) -> bool {
+fn is_same(one: Option<FileId>, other: Option<FileId>) -> bool
+    ensures { result ≡ is_same one other }
+{
     match (one, other) {
         (Some(one), Some(other)) => one.is(other),
         _ => false,
@@ -338,17 +522,12 @@ fn is_same(one: Option<FileId>, other: Option<FileId>) -> bool {
 }
 
 // Whether several files may be searched: there isn't one path alone, or it is that of a folder.
-fn searches_several(rt: &HostRuntime, paths: &[&str]) -> bool {
+fn searches_several<S: System>(system: &S, paths: &[&str]) -> bool
+    ensures { MaySearch (S.finds system.now) paths.now result }
+{
     match paths {
-        [path] => is_folder(rt, path),
+        [] => true,
+        [path] => system.is_folder(path).unwrap_or(false),
         _ => true,
-    }
-}
-
-// Whether there is a folder at a path.
-fn is_folder(rt: &HostRuntime, path: &str) -> bool {
-    match fs::metadata(rt, path) {
-        Ok(metadata) => metadata.is_dir(),
-        Err(_) => false,
     }
 }

@@ -1,37 +1,39 @@
 //! What is searched.
-ghost use Rattle.std.specs.Prelude.{⊤};
-
 use grep_searcher::{Matcher, SearchError, Searcher, Sink, Source};
 use std::io;
 use std::io::Read;
 
-/// What is searched: an open file, or what a reader gives. It is one type, so that the program has
-/// one search of each printer, and it says nothing of its bytes, of which the program knows nothing.
+/// What is searched: a file, if one is open, or else what a reader gives. It is one type, so that
+/// the program has one search of each printer.
 #[derive(Drop)]
-pub enum Haystack<'h, F, R> {
-    /// A file.
-    File(&'h mut F),
-    /// A reader.
-    Reader(&'h mut R),
+pub struct Haystack<F, R> {
+    /// The file.
+    pub file: Option<F>,
+    /// The reader.
+    pub reader: R,
 }
 
-impl<'h, F: Read, R: Source> Source for Haystack<'h, F, R> {
-    ghost step = { λ _ _ _. ⊤ };
+impl<F: Read, R: Source> Source for Haystack<F, R> {
+    ghost use Rattle.linegrep_cli.specs.Haystacks.{IsPulled, pulled-gives, pulled-keeps};
+    ghost use Rattle.linegrep_cli.specs.Haystacks.{remaining_of};
 
-    ghost gives = { λ s t bytes h. tt };
+    ghost remaining = { remaining_of F.remaining R.remaining };
 
-    ghost keeps = { λ s t e h. tt };
+    ghost step = { IsPulled F.remaining R.remaining R.step };
+
+    ghost gives = { pulled-gives F.remaining R.remaining R.step R.gives };
+
+    ghost keeps = { pulled-keeps F.remaining R.remaining R.step R.keeps };
 
     fn pull(&mut self, buffer: &mut [u8]) -> io::Result<usize> {
-        match self {
-            Haystack::File(file) => file.read(buffer),
-            Haystack::Reader(reader) => reader.pull(buffer),
+        match &mut self.file {
+            Some(file) => file.read(buffer),
+            None => self.reader.pull(buffer),
         }
     }
 }
 
-/// Searches what a source gives. The contract of a searcher's call isn't passed on: the program
-/// needs none of it, and is proved sooner without it.
+/// Searches what a source gives. The contract of a searcher's call isn't passed on.
 pub fn search<M: Matcher + Copy, H: Source, S: Sink<Error = SearchError>>(
     searcher: &mut Searcher,
     matcher: M,

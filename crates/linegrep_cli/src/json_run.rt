@@ -1,5 +1,6 @@
 //! Searches of which the reports are written as JSON.
-ghost use Rattle.std.specs.Prelude.{◌≡◌};
+ghost use Rattle.std.specs.Prelude.{◌≡◌, MatchResult};
+ghost use Rattle.grep_printer.specs.StatsSums.{stats_sum};
 
 use crate::haystacks::search;
 use crate::printers::Searched;
@@ -16,6 +17,20 @@ pub struct JsonRun<W> {
     printer: Json<W>,
     stats: Stats,
     start: Option<Instant>,
+}
+
+impl<W> JsonRun<W> {
+    /// The writer back, without what isn't written yet.
+    pub fn into_writer(self) -> W
+        ensures { result ≡ self.printer.writer }
+    {
+        let JsonRun {
+            printer,
+            stats: _,
+            start: _,
+        } = self;
+        printer.into_parts().0
+    }
 }
 
 impl<W: Output> JsonRun<W> {
@@ -59,12 +74,20 @@ impl<W: Output> JsonRun<W> {
     }
 
     /// Whether the writer failed.
-    pub fn has_failed(&self) -> bool {
+    pub fn has_failed(&self) -> bool
+        ensures { result ≡ self.now.printer.has_failed }
+    {
         self.printer.has_failed()
     }
 
     // Adds the counts of a search, unless it failed.
-    fn keep(&mut self, has_match: bool, ended: Result<Stats, SearchError>) -> Searched {
+    fn keep(&mut self, has_match: bool, ended: Result<Stats, SearchError>) -> Searched
+        ensures printer { self.new.printer ≡ self.old.printer }
+        ensures has_match { result.has_match ≡ has_match }
+        ensures stats { MatchResult ended
+            (λ stats. (result.result ≡ Ok tt) × (self.new.stats ≡ stats_sum self.old.stats stats))
+            (λ e. (result.result ≡ Err e) × (self.new.stats ≡ self.old.stats)) }
+    {
         let result = match ended {
             Ok(stats) => {
                 self.stats.add(&stats);

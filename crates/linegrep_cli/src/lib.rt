@@ -28,11 +28,15 @@ mod program;
 mod refused;
 mod search;
 mod settings;
+mod system;
 mod type_list;
 mod types;
+mod visit;
 mod walk;
 mod wildcards;
 mod words;
 
 pub use file_id::FileId;
 pub use program::{Streams, run};
+pub use search::Ended;
+pub use system::System;

@@ -9,6 +9,7 @@ ghost use Rattle.linegrep_cli.specs.PrinterOptions.{is_summary_of_paths, shows_h
 ghost use Rattle.linegrep_cli.specs.PrinterOptions.{shows_paths, summary_kind};
 ghost use Rattle.linegrep_cli.specs.SearcherOptions.{detection_of, is_all_searched, label_of};
 ghost use Rattle.linegrep_cli.specs.SearcherOptions.{terminator_of};
+ghost use Rattle.linegrep_cli.specs.RunScopes.{searches_binary};
 ghost use Rattle.linegrep_cli.specs.OptionUses.{applies, has, is_none_after, last_use};
 
 use crate::command::{Row, tables};
@@ -271,7 +272,9 @@ impl<'m, 'w> Options<'m, 'w> {
     }
 
     /// Whether the search of a file of a folder goes on after a NUL, though it isn't searched as text.
-    pub fn searches_binary(&self) -> bool {
+    pub fn searches_binary(&self) -> bool
+        ensures { result ≡ searches_binary self.now }
+    {
         self.has(OptionId::Binary) || self.is_all_searched()
     }
 

@@ -1,8 +1,11 @@
 //! What writes what is found.
+ghost use Rattle.std.specs.Prelude.{◌≡◌};
+ghost use Rattle.linegrep_cli.specs.EngineSteps.{has_failed, writer_of};
+
 use crate::haystacks::search;
 use crate::json_run::JsonRun;
 use grep_output::Output;
-use grep_printer::{Standard, Summary, Vimgrep};
+use grep_printer::{Format, Standard, Summary, Vimgrep};
 use grep_searcher::{FindAt, SearchError, Searcher, Source};
 use std::io;
 
@@ -28,6 +31,20 @@ pub struct Searched {
     pub result: Result<(), SearchError>,
 }
 
+impl<W> Printer<W> {
+    /// The writer back, without what isn't written yet: nothing right after a `flush`.
+    pub fn into_writer(self) -> W
+        ensures { result ≡ writer_of self }
+    {
+        match self {
+            Printer::Lines(printer) => printer.into_parts().0,
+            Printer::Parts(printer) => printer.into_parts().0,
+            Printer::Summary(printer) => printer.into_parts().0,
+            Printer::Json(run) => run.into_writer(),
+        }
+    }
+}
+
 impl<W: Output> Printer<W> {
     /// Searches a haystack, and writes what is found in it, with a path if there is one.
     pub fn search<M: FindAt + Copy, H: Source>(
@@ -40,14 +57,16 @@ impl<W: Output> Printer<W> {
     ) -> Searched {
         match self {
             Printer::Lines(printer) => print(printer, searcher, matcher, haystack, path),
-            Printer::Parts(printer) => print_parts(printer, searcher, matcher, haystack, path),
-            Printer::Summary(printer) => sum_up(printer, searcher, matcher, haystack, path),
+            Printer::Parts(printer) => print(printer, searcher, matcher, haystack, path),
+            Printer::Summary(printer) => print(printer, searcher, matcher, haystack, path),
             Printer::Json(run) => run.search(rt, searcher, matcher, haystack, path),
         }
     }
 
     /// Whether the writer failed.
-    pub fn has_failed(&self) -> bool {
+    pub fn has_failed(&self) -> bool
+        ensures { result ≡ has_failed self.now }
+    {
         match self {
             Printer::Lines(printer) => printer.has_failed(),
             Printer::Parts(printer) => printer.has_failed(),
@@ -79,37 +98,9 @@ impl<W: Output> Printer<W> {
     }
 }
 
-// Searches a haystack, and writes the lines that match.
-fn print<M: FindAt + Copy, W: Output, H: Source>(
-    printer: &mut Standard<W>,
-    searcher: &mut Searcher,
-    matcher: M,
-    haystack: &mut H,
-    path: Option<&str>,
-) -> Searched {
-    let mut sink = printer.sink(matcher, path);
-    let result = search(searcher, matcher, haystack, &mut sink);
-    let has_match = sink.has_match();
-    Searched { has_match, result }
-}
-
-// Searches a haystack, and writes of each part that matches the line.
-fn print_parts<M: FindAt + Copy, W: Output, H: Source>(
-    printer: &mut Vimgrep<W>,
-    searcher: &mut Searcher,
-    matcher: M,
-    haystack: &mut H,
-    path: Option<&str>,
-) -> Searched {
-    let mut sink = printer.sink(matcher, path);
-    let result = search(searcher, matcher, haystack, &mut sink);
-    let has_match = sink.has_match();
-    Searched { has_match, result }
-}
-
-// Searches a haystack, and writes a summary.
-fn sum_up<M: FindAt + Copy, W: Output, H: Source>(
-    printer: &mut Summary<W>,
+// Searches a haystack, and writes what the format of a printer makes of it.
+fn print<F: Format, M: FindAt + Copy, W: Output, H: Source>(
+    printer: &mut grep_printer::Printer<F, W>,
     searcher: &mut Searcher,
     matcher: M,
     haystack: &mut H,

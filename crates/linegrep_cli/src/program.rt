@@ -1,12 +1,15 @@
 //! The program, by its arguments.
+ghost use Rattle.grep_output.specs.PendingTexts.{Flushes};
+
 use crate::command::command;
-use crate::failures::{Failure, say, usage_text};
+use crate::failures::{Failure, usage_text};
 use crate::file_id::FileId;
 use crate::help::HELP;
 use crate::option_id::OptionId;
 use crate::options::Options;
 use crate::patterns::read_patterns;
-use crate::search::search_all;
+use crate::search::{Ended, search_all};
+use crate::system::System;
 use crate::types::type_list;
 use crate::words::{is_escaped, words};
 use clap::ArgMatches;
@@ -32,44 +35,32 @@ pub struct Streams {
 /// Does what the arguments ask for, which are without the program's name and as the system has
 /// them, whether they are UTF-8 or not: searches the files at their paths and in their folders or,
 /// if there are none, what `input` gives or the files of the current folder, writes to `output` what
-/// is found, and says on `errors` what goes wrong.
+/// is found, and says on `errors` what goes wrong. `system` is asked about the paths.
 ///
-/// The result is the status that the program exits with: 0 if a line matches, or help or the
+/// The result has the status that the program exits with: 0 if a line matches, or help or the
 /// version is written; 1 if none does; and 2 if something can't be read or written, or the
 /// arguments are wrong. With `-q` it is 0 once a line matches, and it is 0 if nobody reads the
-/// output any more.
-pub fn run<R: Source, W: Output + Drop, E: Output>(
+/// output any more. It has the streams too.
+pub fn run<S: System, R: Source + Drop, W: Output + Drop, E: Output>(
     rt: &HostRuntime,
+    system: &S,
     streams: Streams,
     arguments: &[Vec<u8>],
-    input: &mut R,
+    input: R,
     output: W,
     errors: &mut E,
-) -> u8 {
-    match run_arguments(rt, streams, arguments, input, output, errors) {
-        Ok(status) => status,
-        Err(failure) => {
-            say(errors, failure.text());
-            2
-        }
-    }
-}
-
-// Does what the arguments ask for. An error is why nothing is searched.
-fn run_arguments<R: Source, W: Output + Drop, E: Output>(
-    rt: &HostRuntime,
-    streams: Streams,
-    arguments: &[Vec<u8>],
-    input: &mut R,
-    output: W,
-    errors: &mut E,
-) -> Result<u8, Failure> {
+) -> Ended<R, W> {
     let Ok(words) = words(rt.alloc(), arguments) else {
-        return Err(Failure::out_of_memory());
+        return Ended::refused(errors, &Failure::out_of_memory(), input, output);
     };
     match parse(rt.alloc(), &words) {
-        Ok(matches) => search_parsed(rt, streams, &words, &matches, input, output, errors),
-        Err(error) => answer(rt.alloc(), &error, output),
+        Ok(matches) => {
+            let options = Options::read(&matches, streams);
+            run_options(
+                rt, system, &words, &matches, &options, input, output, errors,
+            )
+        }
+        Err(error) => answer(rt.alloc(), &error, input, output, errors),
     }
 }
 
@@ -81,59 +72,93 @@ fn parse<'w>(alloc: Global, words: &'w [String]) -> Result<ArgMatches<'w>, clap:
     }
 }
 
-// Writes help or the version, if that is what was asked for. Otherwise the failure is what is wrong
-// with the arguments.
-fn answer<W: Output + Drop>(alloc: Global, error: &clap::Error, output: W) -> Result<u8, Failure> {
+// Writes help or the version, if that is what was asked for. Otherwise it says what is wrong with
+// the arguments.
+fn answer<R, W: Output, E: Output>(
+    alloc: Global,
+    error: &clap::Error,
+    input: R,
+    output: W,
+    errors: &mut E,
+) -> Ended<R, W> {
     let Ok(text) = usage_text(alloc, error) else {
-        return Err(Failure::out_of_memory());
+        return Ended::refused(errors, &Failure::out_of_memory(), input, output);
     };
     if error.use_stderr() {
-        return Err(Failure::of_text(Ok(text)));
+        return Ended::refused(errors, &Failure::of_text(Ok(text)), input, output);
     }
-    write_answer(alloc, text.as_str(), output)
+    write_answer(alloc, text.as_str(), input, output, errors)
 }
 
-fn write_answer<W: Output + Drop>(alloc: Global, text: &str, mut output: W) -> Result<u8, Failure> {
+fn write_answer<R, W: Output, E: Output>(
+    alloc: Global,
+    text: &str,
+    input: R,
+    mut output: W,
+    errors: &mut E,
+) -> Ended<R, W> {
     match write_whole(&mut output, text) {
         Err(error) if error.kind() != io::ErrorKind::BrokenPipe => {
-            Err(Failure::of_output(alloc, &error))
+            Ended::refused(errors, &Failure::of_output(alloc, &error), input, output)
         }
-        _ => Ok(0),
+        _ => Ended {
+            status: 0,
+            input,
+            output,
+        },
     }
 }
 
-fn write_whole<W: Output>(output: &mut W, text: &str) -> io::Result<()> {
+fn write_whole<W: Output>(output: &mut W, text: &str) -> io::Result<()>
+    ensures { Flushes W.step output.old text.now result output.new }
+{
     write_all(output, text.as_bytes())?;
     output.flush()
 }
 
 // Searches what parsed arguments name.
-fn search_parsed<R: Source, W: Output + Drop, E: Output>(
+fn run_options<S: System, R: Source + Drop, W: Output + Drop, E: Output>(
     rt: &HostRuntime,
-    streams: Streams,
+    system: &S,
     words: &[String],
     matches: &ArgMatches<'_>,
-    input: &mut R,
+    options: &Options<'_, '_>,
+    mut input: R,
     output: W,
     errors: &mut E,
-) -> Result<u8, Failure> {
-    let options = Options::read(matches, streams);
+) -> Ended<R, W> {
     if options.has(OptionId::Help) {
-        return write_answer(rt.alloc(), HELP, output);
+        return write_answer(rt.alloc(), HELP, input, output, errors);
     }
     if options.has(OptionId::TypeList) {
-        let list = type_list(rt.alloc(), &options.types)?;
-        return write_answer(rt.alloc(), list.as_str(), output);
+        return match type_list(rt.alloc(), &options.types) {
+            Ok(list) => write_answer(rt.alloc(), list.as_str(), input, output, errors),
+            Err(failure) => Ended::refused(errors, &failure, input, output),
+        };
     }
+    match patterns_of(rt, words, matches, options, &mut input) {
+        Ok(patterns) => search_all(rt, system, options, &patterns, input, output, errors),
+        Err(failure) => Ended::refused(errors, &failure, input, output),
+    }
+}
+
+// The patterns of parsed arguments. An error is that a word other than a path isn't UTF-8, that there
+// is no pattern or that it can't be read, or that there is no memory.
+fn patterns_of<R: Source>(
+    rt: &HostRuntime,
+    words: &[String],
+    matches: &ArgMatches<'_>,
+    options: &Options<'_, '_>,
+    input: &mut R,
+) -> Result<Vec<String>, Failure> {
     if let Some(word) = misplaced(words, options.paths()) {
         return Err(Failure::of_cause(rt.alloc(), word, &"the argument isn't UTF-8"));
     }
-    let patterns = if options.has(OptionId::Files) {
-        Vec::new(rt.alloc())
+    if options.has(OptionId::Files) {
+        Ok(Vec::new(rt.alloc()))
     } else {
-        read_patterns(rt, matches, input)?
-    };
-    search_all(rt, &options, &patterns, input, output, errors)
+        read_patterns(rt, matches, input)
+    }
 }
 
 // A word that isn't UTF-8, if one of these isn't a path. What else a word is has to be a text.

@@ -1,71 +1,158 @@
 //! The search of all that the arguments name.
+ghost use Rattle.std.specs.Prelude.{◌≡◌};
 ghost use Rattle.grep_regex.specs.Views.{IsNamed};
 
 use crate::choices::Choices;
 use crate::engine::PrintingEngine;
-use crate::failures::Failure;
+use crate::failures::{Failure, say};
 use crate::file_run::{Run, Scope};
 use crate::options::Options;
 use crate::patterns::compile;
 use crate::settings::{build_printer, build_searcher};
+use crate::system::System;
 use grep_output::Output;
 use grep_regex::{Naming, Regex};
 use grep_searcher::{FindAt, Searcher, Source};
 use std::marker::Brand;
 
-/// Searches the files at the paths of the options, one after another, and writes to `output` what
-/// is found. If there is no path, it searches what `input` gives, or the current folder if the input
-/// is a terminal or another device. The status is 0 if there is a match, 1 if there is none, and 2 if a file can't be
-/// read, which standard error says unless `--no-messages` is given. If nothing is to be written, the first
-/// match ends it with 0. An error is that of a setting, of a pattern that can't be compiled, of a
-/// glob that isn't well formed, or of being out of memory.
-pub fn search_all<R: Source, W: Output + Drop, E: Output>(
-    rt: &HostRuntime,
+/// What comes of a run: the status that the program exits with, and its streams.
+#[derive(Drop)]
+pub struct Ended<R, W> {
+    /// The status.
+    pub status: u8,
+    /// Standard input.
+    pub input: R,
+    /// What was written to.
+    pub output: W,
+}
+
+impl<R, W> Ended<R, W> {
+    /// A run that is refused, which is said.
+    pub fn refused<E: Output>(errors: &mut E, failure: &Failure, input: R, output: W) -> Ended<R, W>
+        ensures status { result.status ≡ 2 }
+        ensures input { result.input ≡ input }
+        ensures output { result.output ≡ output }
+    {
+        say(errors, failure.text());
+        Ended {
+            status: 2,
+            input,
+            output,
+        }
+    }
+}
+
+// What a search is made with.
+#[derive(Drop)]
+struct Prepared<'r> {
+    searcher: Searcher,
+    regex: Regex,
+    choices: Choices<'r>,
+}
+
+// What the options ask a search to be made with. An error is that of a setting, of a pattern that
+// can't be compiled, of a glob that isn't well formed, or of being out of memory.
+fn prepare<'r>(
+    rt: &'r HostRuntime,
     options: &Options<'_, '_>,
     patterns: &[String],
-    input: &mut R,
+) -> Result<Prepared<'r>, Failure> {
+    let searcher = build_searcher(rt.alloc(), options)?;
+    let regex = compile(rt.alloc(), options, patterns)?;
+    options.order().check(rt)?;
+    let choices = Choices::read(rt, options)?;
+    Ok(Prepared {
+        searcher,
+        regex,
+        choices,
+    })
+}
+
+/// Searches the files at the paths of the options, one after another, and writes to `output` what
+/// is found. If there is no path, it searches what `input` gives, or the current folder if the input
+/// is a terminal or another device. The status is 0 if there is a match, 1 if there is none, and 2 if
+/// a file can't be read, which standard error says unless `--no-messages` is given. If nothing is to
+/// be written, the first match ends it with 0. It is 2 too, and nothing is read or written, for a
+/// setting, a pattern or a glob that isn't well formed, or without memory.
+pub fn search_all<S: System, R: Source + Drop, W: Output + Drop, E: Output>(
+    rt: &HostRuntime,
+    system: &S,
+    options: &Options<'_, '_>,
+    patterns: &[String],
+    input: R,
     output: W,
     errors: &mut E,
-) -> Result<u8, Failure> {
-    let mut searcher = build_searcher(rt.alloc(), options)?;
-    let regex = compile(rt.alloc(), options, patterns)?;
-    search_named::<Brand, R, W, E>(rt, options, &regex, &mut searcher, output, input, errors)
+) -> Ended<R, W> {
+    match prepare(rt, options, patterns) {
+        Ok(prepared) => {
+            let Prepared {
+                searcher,
+                regex,
+                mut choices,
+            } = prepared;
+            search_named::<Brand, S, R, W, E>(
+                rt,
+                system,
+                options,
+                &regex,
+                searcher,
+                &mut choices,
+                input,
+                output,
+                errors,
+            )
+        }
+        Err(failure) => Ended::refused(errors, &failure, input, output),
+    }
 }
 
 // Searches for a compiled expression, which `N` names: no call of its matcher compares texts.
-fn search_named<N: Naming, R: Source, W: Output + Drop, E: Output>(
-    rt: &HostRuntime,
+fn search_named<'r, N: Naming, S: System, R: Source + Drop, W: Output + Drop, E: Output>(
+    rt: &'r HostRuntime,
+    system: &'r S,
     options: &Options<'_, '_>,
     regex: &Regex,
-    searcher: &mut Searcher,
+    searcher: Searcher,
+    choices: &mut Choices<'r>,
+    input: R,
     output: W,
-    input: &mut R,
     errors: &mut E,
-) -> Result<u8, Failure>
+) -> Ended<R, W>
 where
     requires { IsNamed N.options N.patterns regex.now }
 {
     match regex.named_matcher::<N>(rt.alloc()) {
-        Ok(matcher) => search_with(rt, options, &matcher, searcher, output, input, errors),
-        Err(_) => Err(Failure::out_of_memory()),
+        Ok(matcher) => search_with(
+            rt, system, options, &matcher, searcher, choices, input, output, errors,
+        ),
+        Err(_) => Ended::refused(errors, &Failure::out_of_memory(), input, output),
     }
 }
 
 // Searches with a matcher what the options choose.
-fn search_with<M: FindAt, R: Source, W: Output + Drop, E: Output>(
-    rt: &HostRuntime,
+fn search_with<'r, M: FindAt + Copy, S: System, R: Source + Drop, W: Output + Drop, E: Output>(
+    rt: &'r HostRuntime,
+    system: &'r S,
     options: &Options<'_, '_>,
-    matcher: &M,
-    searcher: &mut Searcher,
+    matcher: M,
+    searcher: Searcher,
+    choices: &mut Choices<'r>,
+    input: R,
     output: W,
-    input: &mut R,
     errors: &mut E,
-) -> Result<u8, Failure> {
-    options.order().check(rt)?;
-    let choices = Choices::read(rt, options)?;
-    let scope = Scope::new(rt, options);
+) -> Ended<R, W> {
+    let scope = Scope::new(system, options);
     let is_across = searcher.multi_line_with_matcher(matcher);
-    let mut printer = build_printer(rt, options, is_across, output);
-    let mut engine = PrintingEngine::new(rt, searcher, matcher, &mut printer, input, errors);
-    Ok(Run::new(rt, &mut engine, choices, scope).complete(options.paths()))
+    let printer = build_printer(rt, options, is_across, output);
+    let mut engine: PrintingEngine<'_, S::File, M, R, W, E> = PrintingEngine::new(
+        rt, searcher, matcher, printer, input, errors,
+    );
+    let run = Run::new(rt, system, scope);
+    let status = run.complete(&mut engine, choices, options.paths());
+    let (input, output) = engine.into_parts();
+    Ended {
+        status,
+        input,
+        output,
+    }
 }

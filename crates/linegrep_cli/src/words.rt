@@ -1,4 +1,7 @@
 //! Arguments and names of files as texts.
+ghost use Rattle.std.specs.Prelude.{◌≡◌};
+ghost use Rattle.linegrep_cli.specs.OperandRuns.{is_escaped};
+
 use std::alloc::{AllocError, Global};
 use std::str;
 
@@ -40,8 +43,10 @@ fn push_byte(word: &mut String, byte: u8) -> Result<(), AllocError> {
 }
 
 /// Whether a word stands for bytes that aren't UTF-8.
-pub fn is_escaped(word: &str) -> bool {
-    word.contains('\0')
+pub fn is_escaped(word: &str) -> bool
+    ensures { result ≡ is_escaped word.now }
+{
+    word.bytes().any(|byte| byte == 0)
 }
 
 /// The text of a word, with `\x` and two digits for each byte that isn't ASCII if it stands for

@@ -66,17 +66,19 @@ impl Row {
 
     /// Runs it, and gives the status.
     pub fn run(&mut self, rt: &HostRuntime) -> u8 {
-        let mut input = Reading::new(&mut self.input);
+        let input = Reading::new(&mut self.input);
         let output = Writing::new(&mut self.output);
         let mut errors = Writing::new(&mut self.errors);
-        run(
+        let ended = run(
+            rt,
             rt,
             self.streams,
             &self.arguments,
-            &mut input,
+            input,
             output,
             &mut errors,
-        )
+        );
+        ended.status
     }
 
     /// What it has written to standard output.

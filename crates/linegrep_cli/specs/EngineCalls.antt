@@ -1,0 +1,16 @@
+-- What an engine is asked to do.
+use Rattle.std.specs.Prelude.{ℕ, Bool, List, Option, Result}
+use Rattle.std.specs.Borrow.{Bor}
+use Rattle.std.specs.declared.io.Error.{Error}
+use Rattle.linegrep_cli.specs.declared.printers.Searched.{Searched}
+
+-- a call, with what it was given and what it returned: a search of a file, or of standard input, with
+-- a path if there is one; the path of a file that isn't searched; a text on standard error; whether
+-- the search of a binary file ends where that shows; and the end of all
+pub data EngineCall (F : Type 0) : Type 0 where
+  searches_file : Option (Bor (List ℕ)) → F → Searched → EngineCall F
+  searches_input : Option (Bor (List ℕ)) → Searched → EngineCall F
+  lists : Bor (List ℕ) → Searched → EngineCall F
+  says : Result (Unit {0}) Error → EngineCall F
+  sets_quits : Bool → EngineCall F
+  finishes : Result (Unit {0}) Error → EngineCall F

@@ -1,0 +1,29 @@
+-- The writer of an engine's printer, and its error.
+use Rattle.std.specs.Prelude.{◌≡◌, Bool}
+use Rattle.std.specs.Global.{Global}
+use Rattle.std.specs.IoError.{error_kind}
+use Rattle.std.specs.declared.io.Error.{Error}
+use Rattle.std.specs.declared.io.ErrorKind.TheVariants.{Other}
+use Rattle.grep_searcher.specs.declared.SearchError.{SearchError}
+use Rattle.grep_searcher.specs.declared.SearchError.TheVariants.{Io}
+use Rattle.linegrep_cli.specs.declared.printers.Printer.{Printer}
+use Rattle.linegrep_cli.specs.declared.printers.Printer.TheVariants.{Json, Lines, Parts, Summary}
+
+-- the writer of a printer
+abbrev pub writer_of : {W : Type 0} → Printer W → W
+writer_of (Lines printer) = printer.writer
+writer_of (Parts printer) = printer.writer
+writer_of (Summary printer) = printer.writer
+writer_of (Json run) = run.printer.writer
+
+-- it failed
+abbrev pub has_failed : {W : Type 0} → Printer W → Bool
+has_failed (Lines printer) = printer.has_failed
+has_failed (Parts printer) = printer.has_failed
+has_failed (Summary printer) = printer.has_failed
+has_failed (Json run) = run.printer.has_failed
+
+-- the writer's error in that of a search
+abbrev pub IsWrittenError : SearchError Global → Error → Type 0
+IsWrittenError (Io cause) error = error ≡ cause
+IsWrittenError e error = error_kind error ≡ Other

@@ -1,0 +1,260 @@
+-- What a run over operands visits, in which order, what comes of it, and the status.
+use Rattle.std.specs.Prelude.{◌≡◌, ◌≢◌, ◌⊎◌, ℕ, Bool, true, false, not, ◌&&◌, ◌||◌, ◌==◌, if◌then◌else◌}
+use Rattle.std.specs.Prelude.{codes, List, [], ◌∷◌, ◌++◌, Option, None, Some, is_some, is_ok}
+use Rattle.std.specs.Prelude.{MatchBool, Result, Ok, Err}
+use Rattle.std.specs.List.{list_any}
+use Rattle.std.specs.Borrow.{Bor}
+use Rattle.std.specs.Global.{Global}
+use Rattle.std.specs.IoError.{error_kind}
+use Rattle.std.specs.Option.{option_or}
+use Rattle.std.specs.Str.{bytes_eq}
+use Rattle.std.specs.declared.io.Error.{Error}
+use Rattle.std.specs.declared.io.ErrorKind.TheVariants.{BrokenPipe, OutOfMemory}
+use Rattle.grep_searcher.specs.declared.SearchError.{SearchError}
+use Rattle.linegrep_cli.specs.EngineCalls.{EngineCall, finishes, lists, says, searches_file}
+use Rattle.linegrep_cli.specs.EngineCalls.{searches_input, sets_quits}
+use Rattle.linegrep_cli.specs.EngineSteps.{IsWrittenError}
+use Rattle.linegrep_cli.specs.declared.file_id.FileId.{FileId}
+use Rattle.linegrep_cli.specs.declared.file_run.Scope.{Scope}
+use Rattle.linegrep_cli.specs.declared.visit.Visit.{Visit}
+use Rattle.linegrep_cli.specs.declared.printers.Searched.{Searched}
+
+-- nothing was visited
+abbrev pub no_visit : Visit
+no_visit = record { has_searched = false; has_match = false; has_error = false; failure = None }
+
+-- what came of all that was visited, with what was visited next
+abbrev pub visited_then : Visit → Visit → Visit
+visited_then total next = record {
+  has_searched = total.has_searched || next.has_searched;
+  has_match = total.has_match || next.has_match;
+  has_error = total.has_error || next.has_error;
+  failure = next.failure;
+}
+
+-- both are files, and the same one
+abbrev pub is_same : Option FileId → Option FileId → Bool
+is_same (Some one) (Some other) = (one.device == other.device) && (one.inode == other.inode)
+is_same _ _ = false
+
+-- a file that was opened isn't searched: it is the one that is left out, if one is
+abbrev pub IsLeftOut : {F : Type 0} → (F → Option FileId → Type 0) → Scope → F → Bool → Type 0
+IsLeftOut identifies scope file is_left_out =
+    MatchBool (is_some scope.left_out)
+    ((id : Option FileId) × identifies file id × (is_left_out ≡ is_same scope.left_out id))
+    (is_left_out ≡ false)
+
+-- a search found what is looked for: a match, or if files without one are sought none
+abbrev pub has_found : Scope → Searched → Bool
+has_found scope searched =
+    if scope.seeks_unmatched then is_ok searched.result && not searched.has_match
+    else searched.has_match
+
+-- the path that is written of what has a name
+abbrev pub path_of : Scope → Bor (List ℕ) → Option (Bor (List ℕ))
+path_of scope name = if scope.shows_paths then Some name else None
+
+-- what is visited after this makes no difference: the run failed, or nothing is written and there is
+-- a match
+abbrev pub is_over : Scope → Visit → Bool
+is_over scope total = is_some total.failure || (scope.is_quiet && total.has_match)
+
+-- the status if all was written
+abbrev pub status_of : Scope → Visit → ℕ
+status_of scope total = if total.has_error && not (is_over scope total) then 2
+    else if total.has_match then 0 else 1
+
+-- a word stands for bytes that aren't UTF-8: it has a NUL
+abbrev pub is_escaped : List ℕ → Bool
+is_escaped word = list_any (λ letter. letter == 0) word
+
+-- an operand names standard input, unless files are listed
+abbrev pub is_input : Scope → List ℕ → Bool
+is_input scope path = bytes_eq path (codes "-") && not scope.lists_files
+
+-- the error, if it is one
+abbrev pub error_of : Result (Unit {0}) Error → Option Error
+error_of (Ok u) = None
+error_of (Err error) = Some error
+
+-- a visit ends as it is, or memory is out
+abbrev pub EndsAs : Visit → Visit → Type 0
+EndsAs total visit = (visit ≡ total) ⊎ ((error : Error) × (error_kind error ≡ OutOfMemory)
+    × (visit ≡ record total { failure = Some error }))
+
+module _ {E F : Type 0} (step : E → EngineCall F → E → Type 0) (scope : Scope) where
+  -- a text is written to standard error, unless nothing is to be said; then writing what was found
+  -- before may fail
+  abbrev pub IsSaid : E → Option Error → E → Type 0
+  IsSaid old failure new =
+      MatchBool scope.is_silent ((failure ≡ None) × (new ≡ old))
+      ((said : Result (Unit {0}) Error) × step old (says said) new × (failure ≡ error_of said))
+
+  -- it is said what can't be read
+  abbrev pub IsReported : E → Visit → E → Type 0
+  IsReported old visit new = (failure : Option Error) × IsSaid old failure new
+      × (visit ≡ record no_visit { has_error = true; failure = failure })
+
+  -- some texts are written to standard error
+  pub data AreSaid (old : E) : Option Error → E → Type 0 where
+    no_text : AreSaid old None old
+    next_text : (failure : Option Error) {mid new : E} (said : Result (Unit {0}) Error)
+        → AreSaid old failure mid → step mid (says said) new
+        → AreSaid old (option_or (error_of said) failure) new
+
+module _ {E F : Type 0} (step : E → EngineCall F → E → Type 0) (has_failed : E → Bool)
+    (scope : Scope) where
+  -- after a search that ended in `Ok`, one in which the writer failed, which ends the run, and one
+  -- in which reading did, which is said
+  abbrev pub IsEnded : E → Result (Unit {0}) (SearchError Global) → Visit → E → Type 0
+  IsEnded old (Ok u) visit new = (visit.has_error ≡ false) × (visit.failure ≡ None) × (new ≡ old)
+  IsEnded old (Err e) visit new = MatchBool (has_failed old)
+      ((visit.has_error ≡ false) × (new ≡ old)
+      × ((error : Error) × (visit.failure ≡ Some error) × IsWrittenError e error))
+      ((visit.has_error ≡ true) × IsSaid step scope old visit.failure new)
+
+  -- what comes of a search
+  pub record IsKept (old : E) (searched : Searched) (visit : Visit) (new : E) : Type 0 where
+    pub is_searched : visit.has_searched ≡ true
+    pub matched : visit.has_match ≡ has_found scope searched
+    pub ended : IsEnded old searched.result visit new
+
+  -- standard input is searched, or it is the output
+  abbrev pub IsInputVisited : E → Visit → E → Type 0
+  IsInputVisited old visit new =
+      MatchBool scope.leaves_out_input (IsReported step scope old visit new)
+      ((name : Bor (List ℕ)) × (name.now ≡ codes "<stdin>") × (searched : Searched) × (mid : E)
+      × step old (searches_input (path_of scope name) searched) mid
+      × IsKept mid searched visit new)
+
+  -- the path of a file is written, which isn't searched
+  abbrev pub IsListed : Bor (List ℕ) → E → Visit → E → Type 0
+  IsListed path old visit new = (searched : Searched) × (mid : E)
+      × step old (lists path searched) mid × IsKept mid searched visit new
+
+  -- a file is searched
+  abbrev pub IsFileVisited : Bor (List ℕ) → F → E → Visit → E → Type 0
+  IsFileVisited path file old visit new = (searched : Searched) × (mid : E)
+      × step old (searches_file (path_of scope path) file searched) mid
+      × IsKept mid searched visit new
+
+  -- the run fails: it says why, unless nobody reads what is written
+  pub data IsFailing (error : Error) (old : E) : ℕ → E → Type 0 where
+    of_closed : has_failed old ≡ true → error_kind error ≡ BrokenPipe → IsFailing error old 0 old
+    of_other : {new : E} (said : Result (Unit {0}) Error) → step old (says said) new
+        → (has_failed old ≡ true → error_kind error ≢ BrokenPipe) → IsFailing error old 2 new
+
+  -- how a run ends after what was visited, by its status
+  pub data IsRunEnd (total : Visit) (old : E) : ℕ → E → Type 0 where
+    of_failure : {status : ℕ} {new : E} (error : Error) → total.failure ≡ Some error
+        → IsFailing error old status new → IsRunEnd total old status new
+    of_end : {new : E} → total.failure ≡ None → step old (finishes (Ok tt)) new
+        → IsRunEnd total old (status_of scope total) new
+    of_unwritten : {status : ℕ} {mid new : E} (error : Error) → total.failure ≡ None
+        → step old (finishes (Err error)) mid → IsFailing error mid status new
+        → IsRunEnd total old status new
+
+module _ {E F : Type 0} (opens : List ℕ → Result F Error → Type 0)
+    (identifies : F → Option FileId → Type 0) (step : E → EngineCall F → E → Type 0)
+    (has_failed : E → Bool) (scope : Scope) where
+  -- the file at a path is opened and searched, unless it is the output; or it is said why it can't
+  -- be opened
+  pub data IsPathVisited (path : Bor (List ℕ)) (old : E) (visit : Visit) (new : E) : Type 0 where
+    of_unopened : (error : Error) → opens path.now (Err error)
+        → IsReported step scope old visit new → IsPathVisited path old visit new
+    of_output : (file : F) → opens path.now (Ok file) → IsLeftOut identifies scope file true
+        → IsReported step scope old visit new → IsPathVisited path old visit new
+    of_file : (file : F) → opens path.now (Ok file) → IsLeftOut identifies scope file false
+        → IsFileVisited step has_failed scope path file old visit new
+        → IsPathVisited path old visit new
+
+  -- what is found in a folder: files of it, each by its path, what can't be read, and lines on
+  -- standard error about ignore files
+  pub data IsEntryVisited (old : E) (visit : Visit) (new : E) : Type 0 where
+    of_path : (path : Bor (List ℕ)) → scope.lists_files ≡ false → IsPathVisited path old visit new
+        → IsEntryVisited old visit new
+    of_listed : (path : Bor (List ℕ)) → scope.lists_files ≡ true
+        → IsListed step has_failed scope path old visit new → IsEntryVisited old visit new
+    of_unread : IsReported step scope old visit new → IsEntryVisited old visit new
+    of_warnings : (failure : Option Error) → AreSaid step scope old failure new
+        → visit ≡ record no_visit { failure = failure } → IsEntryVisited old visit new
+
+  -- such are visited one after another, none of which ended the run but the last
+  pub data AreEntriesVisited (old : E) : Visit → E → Type 0 where
+    no_entry : AreEntriesVisited old no_visit old
+    next_entry : (total next : Visit) {mid new : E} → AreEntriesVisited old total mid
+        → is_over scope total ≡ false → IsEntryVisited mid next new
+        → AreEntriesVisited old (visited_then total next) new
+
+  -- a folder is visited, in which the search of a binary file may end where that shows. That ends
+  -- the run if memory is out
+  pub record IsFolderVisited (old : E) (visit : Visit) (new : E) : Type 0 where
+    pub first : E
+    pub last : E
+    pub total : Visit
+    pub begins : step old (sets_quits (not scope.searches_binary)) first
+    pub entries : AreEntriesVisited first total last
+    pub ends : step last (sets_quits false) new
+    pub visit_is : EndsAs total visit
+
+  -- without an operand the current folder is visited; if no file is searched there, that is said
+  pub record IsHereVisited (old : E) (visit : Visit) (new : E) : Type 0 where
+    pub mid : E
+    pub folder : Visit
+    pub visited : IsFolderVisited old folder mid
+    pub said : MatchBool (not folder.has_searched && not scope.lists_files)
+        ((failure : Option Error) × IsSaid step scope mid failure new
+        × (visit ≡ record folder { has_error = true; failure = failure }))
+        ((visit ≡ folder) × (new ≡ mid))
+
+module _ {E F : Type 0} (finds : List ℕ → Result Bool Error → Type 0)
+    (opens : List ℕ → Result F Error → Type 0) (identifies : F → Option FileId → Type 0)
+    (step : E → EngineCall F → E → Type 0) (has_failed : E → Bool) (scope : Scope) where
+  -- what an operand names that is neither standard input nor a word for bytes that aren't UTF-8
+  pub data IsNamedVisited (path : Bor (List ℕ)) (old : E) (visit : Visit) (new : E) : Type 0 where
+    of_folder : finds path.now (Ok true)
+        → IsFolderVisited opens identifies step has_failed scope old visit new
+        → IsNamedVisited path old visit new
+    of_file_at : finds path.now (Ok false) → scope.lists_files ≡ false
+        → IsPathVisited opens identifies step has_failed scope path old visit new
+        → IsNamedVisited path old visit new
+    of_unfound : (error : Error) → finds path.now (Err error) → scope.lists_files ≡ false
+        → IsPathVisited opens identifies step has_failed scope path old visit new
+        → IsNamedVisited path old visit new
+    of_listing : finds path.now (Ok false) → scope.lists_files ≡ true
+        → IsListed step has_failed scope path old visit new → IsNamedVisited path old visit new
+    of_missing : (error : Error) → finds path.now (Err error) → scope.lists_files ≡ true
+        → IsReported step scope old visit new → IsNamedVisited path old visit new
+
+  -- what an operand names
+  abbrev pub IsOperandVisited : Bor (List ℕ) → E → Visit → E → Type 0
+  IsOperandVisited path old visit new =
+      MatchBool (is_input scope path.now) (IsInputVisited step has_failed scope old visit new)
+      (MatchBool (is_escaped path.now) (IsReported step scope old visit new)
+      (IsNamedVisited path old visit new))
+
+  -- operands are visited in order, each once, none of which ended the run but the last
+  pub data AreVisited (old : E) : List (Bor (List ℕ)) → Visit → E → Type 0 where
+    no_operand : AreVisited old [] no_visit old
+    next_operand : (paths : List (Bor (List ℕ))) (total next : Visit) {mid new : E}
+        (path : Bor (List ℕ)) → AreVisited old paths total mid → is_over scope total ≡ false
+        → IsOperandVisited path mid next new
+        → AreVisited old (paths ++ path ∷ []) (visited_then total next) new
+
+  -- all that is visited: the operands, up to one that ended the run
+  abbrev pub AreAllVisited : List (Bor (List ℕ)) → E → Visit → E → Type 0
+  AreAllVisited [] old total new =
+      MatchBool scope.searches_input (IsInputVisited step has_failed scope old total new)
+      (IsHereVisited opens identifies step has_failed scope old total new)
+  AreAllVisited (path ∷ later) old total new =
+      (done : List (Bor (List ℕ))) × (rest : List (Bor (List ℕ)))
+      × (path ∷ later ≡ done ++ rest) × AreVisited old done total new
+      × ((rest ≡ []) ⊎ (is_over scope total ≡ true))
+
+  -- a run over operands
+  pub record IsRunOver (paths : List (Bor (List ℕ))) (old : E) (status : ℕ) (new : E) : Type 0
+    where
+      pub total : Visit
+      pub mid : E
+      pub visited : AreAllVisited paths old total mid
+      pub ended : IsRunEnd step has_failed scope total mid status new

@@ -1,0 +1,61 @@
+-- What options say of a run.
+use Rattle.std.specs.Prelude.{◌≡◌, ℕ, Bool, true, false, not, ◌&&◌, ◌||◌, if◌then◌else◌, List, []}
+use Rattle.std.specs.Prelude.{◌∷◌, Option, None, Result, Ok, Err}
+use Rattle.std.specs.Borrow.{Bor}
+use Rattle.std.specs.declared.io.Error.{Error}
+use Rattle.linegrep_cli.specs.OperandRuns.{is_same}
+use Rattle.linegrep_cli.specs.OptionMeanings.{paths_of, searches_input}
+use Rattle.linegrep_cli.specs.OptionUses.{has}
+use Rattle.linegrep_cli.specs.PrinterOptions.{is_summary, shows_paths}
+use Rattle.linegrep_cli.specs.SearcherOptions.{is_all_searched}
+use Rattle.linegrep_cli.specs.declared.file_id.FileId.{FileId}
+use Rattle.linegrep_cli.specs.declared.file_run.Scope.{Scope}
+use Rattle.linegrep_cli.specs.declared.option_id.OptionId.TheVariants.{Binary, Files}
+use Rattle.linegrep_cli.specs.declared.option_id.OptionId.TheVariants.{FilesWithoutMatch, Follow}
+use Rattle.linegrep_cli.specs.declared.option_id.OptionId.TheVariants.{NoIgnoreMessages}
+use Rattle.linegrep_cli.specs.declared.option_id.OptionId.TheVariants.{NoMessages, Quiet}
+use Rattle.linegrep_cli.specs.declared.options.Options.{Options}
+use Rattle.linegrep_cli.specs.declared.walk.Route.{Route}
+
+-- the search of a file of a folder goes on after a NUL, though it isn't searched as text
+abbrev pub searches_binary : Options → Bool
+searches_binary options = has options Binary || is_all_searched options
+
+-- the file that isn't searched: the one that lines are written to
+abbrev pub left_out_of : Options → Option FileId
+left_out_of options = if is_summary options then None else options.streams.output
+
+-- what options say of a run, by how it goes through folders and whether several files may be
+-- searched
+abbrev pub scope_of : Options → Route → Bool → Scope
+scope_of options route several = record {
+  searches_input = searches_input options;
+  searches_binary = searches_binary options;
+  route = route;
+  is_lenient = has options NoIgnoreMessages;
+  lists_files = has options Files;
+  shows_paths = shows_paths options (not (searches_input options) && several);
+  is_silent = has options NoMessages;
+  is_quiet = has options Quiet;
+  seeks_unmatched = has options FilesWithoutMatch && has options Quiet;
+  left_out = left_out_of options;
+  leaves_out_input = is_same (left_out_of options) options.streams.input;
+}
+
+-- a folder was found
+abbrev pub is_folder : Result Bool Error → Bool
+is_folder (Ok found) = found
+is_folder (Err error) = false
+
+-- several files may be searched: there isn't one path alone, or it is that of a folder
+abbrev pub MaySearch : (List ℕ → Result Bool Error → Type 0) → List (Bor (List ℕ)) → Bool → Type 0
+MaySearch finds (path ∷ []) several =
+    (found : Result Bool Error) × finds path.now found × (several ≡ is_folder found)
+MaySearch finds [] several = several ≡ true
+MaySearch finds (path ∷ next ∷ later) several = several ≡ true
+
+abbrev pub IsScopeOf : (List ℕ → Result Bool Error → Type 0) → Options → Scope → Type 0
+IsScopeOf finds options scope = (several : Bool) × (route : Route)
+    × (searches_input options ≡ false → MaySearch finds (paths_of options) several)
+    × (route.follows_links ≡ has options Follow)
+    × (scope ≡ scope_of options route several)

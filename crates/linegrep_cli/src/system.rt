@@ -1,0 +1,48 @@
+//! What a run asks of the system about its operands.
+ghost use Rattle.std.specs.Prelude.{ℕ, Bool, List, Option, Result};
+ghost use Rattle.std.specs.declared.io.Error.{Error};
+ghost use Rattle.linegrep_cli.specs.declared.file_id.FileId.{FileId};
+
+use crate::file_id::FileId;
+use grep_searcher::Open;
+use std::fs::OpenFile;
+use std::rt::Files;
+use std::{fs, io};
+
+/// What opens files by their paths, and knows folders and files. It is given by what it may return.
+pub trait System: Open {
+    /// What looking for a folder at a path may return.
+    ghost finds: { Self → List ℕ → Result Bool Error → Type 0 };
+
+    /// Which file one that was opened may be.
+    ghost identifies: { Self → Self.File → Option FileId → Type 0 };
+
+    /// Whether there is a folder at a path, or something else. An error is the system's own.
+    fn is_folder(&self, path: &str) -> io::Result<bool>
+        ensures { finds self.now path.now result };
+
+    /// Which file of the system one is that was opened, if it is a regular one.
+    fn id_of(&self, file: &Self::File) -> Option<FileId>
+        ensures { identifies self.now file.now result };
+}
+
+/// The system. What it may return isn't known.
+impl<R: Files> System for R {
+    ghost finds = { λ _ _ _. Unit {0} };
+
+    ghost identifies = { λ _ _ _. Unit {0} };
+
+    fn is_folder(&self, path: &str) -> io::Result<bool> {
+        match fs::metadata(self, path) {
+            Ok(metadata) => Ok(metadata.is_dir()),
+            Err(error) => Err(error),
+        }
+    }
+
+    fn id_of(&self, file: &R::File) -> Option<FileId> {
+        match file.metadata() {
+            Ok(metadata) => FileId::of(&metadata),
+            Err(_) => None,
+        }
+    }
+}
