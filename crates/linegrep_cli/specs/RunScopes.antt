@@ -55,7 +55,7 @@ MaySearch finds [] several = several ≡ true
 MaySearch finds (path ∷ next ∷ later) several = several ≡ true
 
 abbrev pub IsScopeOf : (List ℕ → Result Bool Error → Type 0) → Options → Scope → Type 0
-IsScopeOf finds options scope = (several : Bool) × (route : Route)
+IsScopeOf finds options scope = (several : Bool)
     × (searches_input options ≡ false → MaySearch finds (paths_of options) several)
-    × (route.follows_links ≡ has options Follow)
-    × (scope ≡ scope_of options route several)
+    × (scope.route.follows_links ≡ has options Follow)
+    × (scope ≡ scope_of options scope.route several)
