@@ -144,7 +144,7 @@ impl<'c, A: Allocator + Copy, T> Search<'c, A, T> {
             if let Some(lines) = self.sink_chosen_lines::<M, C>(
                 matcher, further, window, start, walk, &ahead, sink,
             )? {
-                *walk = self.config.after_chosen(walk, &window[start..lines.end]);
+                *walk = self.config.after_chosen(walk, start, &lines);
                 start = lines.end;
                 ahead = lines.ahead;
                 further = questions;

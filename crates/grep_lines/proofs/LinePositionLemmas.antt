@@ -3,15 +3,14 @@
 use Rattle.std.proofs.Common.{◌≡◌, ◌≢◌, ℕ, zero, suc, ◌+◌, ◌-◌, ◌<◌, ◌≤◌, ◌==◌, List, ◌++◌, length}
 use Rattle.std.proofs.Common.{take, drop, slice_index, sym, ◌∙◌, ap, arith, ⊎_elim, subst, take_all}
 use Rattle.std.proofs.Common.{length-drop}
-use Rattle.std.proofs.lemmas.Bool.{cases_lt, lt-ltb, le-ltb, eqb-true, eq-eqb, ne_eqb}
+use Rattle.std.proofs.lemmas.Bool.{cases_eq, cases_lt, lt-ltb, le-ltb, eq-eqb, ne_eqb}
 use Rattle.std.proofs.lemmas.List.{take_at, take-append-drop, get_or-drop, get_or-take}
 use Rattle.std.proofs.lemmas.List.{length-take-le}
 use Rattle.std.proofs.lemmas.List.Sums.{count_by_more_yes, count_by_more_no}
 use Rattle.std.specs.List.{concat}
-use Rattle.memchr.specs.Find.{NoneBefore, Nowhere, Passes, is_byte}
 use Rattle.grep_matcher.specs.Lines.{lines, line_start}
 use Rattle.grep_lines.specs.Blocks.{block_start, block_end}
-use Rattle.grep_lines.specs.FirstLine.{IsLastStart}
+use Rattle.grep_lines.specs.FirstLine.{IsFirstLine, IsLastStart}
 use Rattle.grep_lines.specs.Positions.{IsLineStart}
 use Rattle.grep_matcher.proofs.LineLemmas.{count, IsClosed, lines-append, lines-closed, lines-few}
 use Rattle.grep_matcher.proofs.LineLemmas.{lines-joined}
@@ -78,7 +77,7 @@ module _ (t : ℕ) (bytes : List ℕ) where
       (one ∙ ap (λ n. n + 1) (count-bare position at low (omega arith) bare))
 
   -- the end of that line, if it has no terminator
-  end-last : (position : ℕ) → position ≤ length bytes → IsBare position (length bytes)
+  pub end-last : (position : ℕ) → position ≤ length bytes → IsBare position (length bytes)
       → length bytes ≡ line_start t bytes (count t (take position bytes) + 1)
   end-last position within bare =
       let all : count t bytes ≡ count t (take position bytes) = ap (count t)
@@ -89,28 +88,40 @@ module _ (t : ℕ) (bytes : List ℕ) where
       sym (ap (λ ls. length (concat ls)) (take_all (count t (take position bytes) + 1)
       (lines t bytes) few) ∙ ap length (lines-joined t bytes))
 
-  -- the same by a search for the terminator from the position on
-  pub end-found : (position at : ℕ) → position ≤ length bytes
-      → NoneBefore (Passes (is_byte t) (drop position bytes)) 0 (length (drop position bytes)) at
-      → Passes (is_byte t) (drop position bytes) at → position + at + 1
-      ≡ line_start t bytes (count t (take position bytes) + 1)
-  end-found position at within near passes =
-      end-count position (position + at) (omega arith) (omega (arith, length-drop position bytes))
-      (sym (get_or-drop position bytes at 0) ∙ eqb-true _ _ passes) (λ i low high same.
-      let sum : position + (i - position) ≡ i = omega arith in
-      near.before (i - position) (omega arith) (omega arith)
-      (eq-eqb _ _ (get_or-drop position bytes (i - position) 0
-      ∙ (ap (slice_index bytes) sum ∙ same))))
+  -- the same by the length of the first line of the bytes from the position on
+  pub end-first : (position e : ℕ) → position ≤ length bytes
+      → IsFirstLine t (drop position bytes) e
+      → position + e ≡ line_start t bytes (count t (take position bytes) + 1)
+  end-first position e within first = ⊎_elim ended unended
+      (cases_eq (slice_index bytes (position + (e - 1))) t)
+    where
+      bare : IsBare position (position + (e - 1))
+      bare i low high same =
+          let sum : position + (i - position) ≡ i = omega arith in
+          first.inner (i - position) (omega (arith, low, high))
+          (get_or-drop position bytes (i - position) 0 ∙ (ap (slice_index bytes) sum ∙ same))
 
-  -- and if it finds none
-  pub end-none : (position : ℕ) → position ≤ length bytes
-      → Nowhere (Passes (is_byte t) (drop position bytes)) 0 (length (drop position bytes))
-      → length bytes ≡ line_start t bytes (count t (take position bytes) + 1)
-  end-none position within none = end-last position within (λ i low high same.
-      let sum : position + (i - position) ≡ i = omega arith in
-      none (i - position) (omega arith) (omega (arith, length-drop position bytes))
-      (eq-eqb _ _ (get_or-drop position bytes (i - position) 0
-      ∙ (ap (slice_index bytes) sum ∙ same))))
+      size : length (drop position bytes) ≡ length bytes - position
+      size = length-drop position bytes
+
+      ended : slice_index bytes (position + (e - 1)) ≡ t
+          → position + e ≡ line_start t bytes (count t (take position bytes) + 1)
+      ended same =
+          let sum : position + e ≡ (position + (e - 1)) + 1 = omega (arith, first.above) in
+          sum ∙ end-count position (position + (e - 1)) (omega arith)
+          (omega (arith, first.above, first.within, size)) same bare
+
+      unended : slice_index bytes (position + (e - 1)) ≢ t
+          → position + e ≡ line_start t bytes (count t (take position bytes) + 1)
+      unended other =
+          let last : length (drop position bytes) ≤ e = ⊎_elim
+          (λ less. absurd (other (sym (get_or-drop position bytes (e - 1) 0) ∙ first.closed less)))
+          (λ over. over) (cases_lt e (length (drop position bytes))) in
+          let all : position + e ≡ length bytes = omega (arith, last, first.within, size, within) in
+          all ∙ end-last position within (λ i low high same. ⊎_elim
+          (λ less. bare i low less same)
+          (λ over. other (ap (slice_index bytes) (omega (arith, over, high, all)) ∙ same))
+          (cases_lt i (position + (e - 1))))
 
   -- of two last line starts up to a position none is above the other
   last_start-below : (position a b : ℕ) → IsLastStart t bytes position a

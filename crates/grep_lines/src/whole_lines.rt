@@ -4,6 +4,7 @@ ghost use Rattle.grep_matcher.specs.Lines.{line_start};
 ghost use Rattle.grep_lines.specs.Blocks.{block_start, block_end, lines_before};
 ghost use Rattle.grep_lines.specs.FirstLine.{IsLastStart};
 
+use crate::line_step::first_line_length;
 use crate::marks::{WIDTH, bits_below, highest, marks};
 use grep_matcher::Match;
 use memchr::{memchr, memrchr};
@@ -14,6 +15,7 @@ use memchr::{memchr, memrchr};
 /// They start right after the last terminator before the match, or at 0. They end at the match's
 /// end if the match isn't empty and its last byte is the terminator; otherwise right after the
 /// first terminator at the match's end or later, or at the end of the bytes.
+#[inline]
 pub fn locate(bytes: &[u8], terminator: u8, found: Match) -> Match
     requires { found.1 ≤ length bytes.now }
     ensures value { result
@@ -94,8 +96,8 @@ fn line_end(bytes: &[u8], position: usize, terminator: u8) -> usize
     ensures end { result
         ≡ line_start terminator bytes.now (lines_before terminator bytes.now position + 1) }
 {
-    match memchr(terminator, &bytes[position..]) {
-        Some(at) => position + at + 1,
-        None => bytes.len(),
+    if position == bytes.len() {
+        return position;
     }
+    position + first_line_length(terminator, &bytes[position..])
 }

@@ -134,7 +134,7 @@ module _ {S E : Type 0} (step : Steps S E) (k : Settings) (meaning : Meaning)
       → IsLineStart t window q (i + n) → q ≤ length window → AllHit k meaning window p q
       → (outcome : Outcome E) (new : S) → AreMade step k now
       (calls_of_lines (number_of k from) index w.offset (lines t (slice_range window p q))) outcome new
-      → LinesCome (Searched q (after_chosen k w (slice_range window p q))) outcome new
+      → LinesCome (Searched q (after_chosen k w (q - p) n)) outcome new
   lines-come zero w p q i from index now so_far alone least at begins ends within hit outcome new
       made =
       let plain : i ≡ i + zero = omega arith in
@@ -144,10 +144,9 @@ module _ {S E : Type 0} (step : Steps S E) (k : Settings) (meaning : Meaning)
       let ended : (outcome ≡ all_true) × (new ≡ now) = subst (λ ls. AreMade step k now
       (calls_of_lines (number_of k from) index w.offset (lines t ls)) outcome new) empty made in
       let last : IsAfterMatch w = ⊎_elim (λ is. is) (λ some. absurd (omega arith)) least in
-      let stays : w ≡ after_chosen k w (slice_range window p q) =
-      grind (arith, empty, last.close, last.after) in
-      subst (λ o. LinesCome (Searched q (after_chosen k w (slice_range window p q))) o new)
-      (sym ended.0) (subst (Searched q (after_chosen k w (slice_range window p q))) (sym ended.1)
+      let stays : w ≡ after_chosen k w (q - p) 0 = grind (arith, none, last.close, last.after) in
+      subst (λ o. LinesCome (Searched q (after_chosen k w (q - p) 0)) o new)
+      (sym ended.0) (subst (Searched q (after_chosen k w (q - p) 0)) (sym ended.1)
       (subst (λ v. Searched q v now) stays (subst (λ a. Searched a w now) same so_far)))
   lines-come (suc n) w p q i from index now so_far alone least at begins ends within hit outcome new
       made = go (λ mid so_far. lines-come n next end q (i + 1) from (suc index) mid so_far
@@ -187,17 +186,13 @@ module _ {S E : Type 0} (step : Steps S E) (k : Settings) (meaning : Meaning)
       next : Walk
       next = after_line k w here true
 
-      both : after_chosen k next (slice_range window end q)
-          ≡ after_chosen k w (slice_range window p q)
+      both : after_chosen k next (q - end) n ≡ after_chosen k w (q - p) (suc n)
       both = grind (
         arith,
-        ap length split,
-        length-take (q - p) (drop p window),
-        length-take (q - end) (drop end window),
         length-take (end - p) (drop p window),
         length-drop p window,
-        length-drop end window,
         low,
+        within,
         line.above,
       )
 
@@ -207,11 +202,11 @@ module _ {S E : Type 0} (step : Steps S E) (k : Settings) (meaning : Meaning)
       go : ((mid : S) → Searched end next mid → (outcome : Outcome E) (new : S)
           → AreMade step k mid (calls_of_lines (number_of k from) (suc index) next.offset
           (lines t (slice_range window end q))) outcome new
-          → LinesCome (Searched q (after_chosen k next (slice_range window end q))) outcome new)
+          → LinesCome (Searched q (after_chosen k next (q - end) n)) outcome new)
           → (outcome : Outcome E) → AreMade step k now
           (calls_of_lines (number_of k from) index w.offset (here ∷ lines t (slice_range window end q)))
           outcome new
-          → LinesCome (Searched q (after_chosen k w (slice_range window p q))) outcome new
+          → LinesCome (Searched q (after_chosen k w (q - p) (suc n))) outcome new
       go later outcome (inl (mid, goes, made)) = subst (λ v. LinesCome (Searched q v) outcome new) both
           (later mid ((comes all_true mid (inl (
             mid,
@@ -221,14 +216,14 @@ module _ {S E : Type 0} (step : Steps S E) (k : Settings) (meaning : Meaning)
           ))).1 refl)
           outcome new made)
       go later outcome (inr (inl (is, stops))) =
-          subst (λ o. LinesCome (Searched q (after_chosen k w (slice_range window p q))) o new)
+          subst (λ o. LinesCome (Searched q (after_chosen k w (q - p) (suc n))) o new)
           (sym is) (comes (stopped (counted (line_end w here))) new (inr (inl (
             refl,
             subst (λ number.
                 step now k (matches number w.offset here) (Ok false) new) named stops,
           ))) refl)
       go later outcome (inr (inr (e, is, fails))) =
-          subst (λ o. LinesCome (Searched q (after_chosen k w (slice_range window p q))) o new)
+          subst (λ o. LinesCome (Searched q (after_chosen k w (q - p) (suc n))) o new)
           (sym is) (comes (failed e) new (inr (inr (
             e,
             refl,
@@ -237,16 +232,12 @@ module _ {S E : Type 0} (step : Steps S E) (k : Settings) (meaning : Meaning)
           ))))
 
   -- the lines that are chosen at once
-  pub chosen-come : (w : Walk) (p : ℕ) (found : ChosenLines) (now : S) → Searched p w now
-      → AreHits k meaning window p found → p < found.end → found.end ≤ length window
-      → chooses_alone k w ≡ true → (outcome : Outcome E) (new : S)
+  pub chosen-come : (w : Walk) (p i : ℕ) (found : ChosenLines) (now : S) → Searched p w now
+      → IsLineStart t window p i → AreHits k meaning window p i found → p < found.end
+      → found.end ≤ length window → chooses_alone k w ≡ true → (outcome : Outcome E) (new : S)
       → AreMade step k now (chosen_calls k window p found.end w) outcome new
-      → LinesCome (Searched found.end (after_chosen k w (slice_range window p found.end))) outcome new
-  chosen-come w p found now so_far hits some within is outcome new made =
-      let begins = so_far.walked.inside.line.begins in
-      let i = so_far.line - length (lines t gone) in
+      → LinesCome (Searched found.end (after_chosen k w (found.end - p) found.count)) outcome new
+  chosen-come w p i found now so_far begins hits some within is outcome new made =
       let before = comes-before hits.at i (omega (arith, begins.begins, some)) in
-      let sum : i + (hits.index - i) ≡ hits.index = omega (arith, before) in
-      lines-come (hits.index - i) w p found.end i w.line 0 now so_far (is_alone k w is)
-      (inr (omega (arith, before))) (omega arith) begins
-      (subst (IsLineStart t window found.end) (sym sum) hits.at) within hits.all outcome new made
+      lines-come found.count w p found.end i w.line 0 now so_far (is_alone k w is)
+      (inr (omega (arith, before))) (omega arith) begins hits.at within hits.all outcome new made

@@ -1,7 +1,7 @@
 -- A walk over lines one after another that are chosen, where none of them makes another call than
 -- that of its match. No contract of grep_searcher cites these definitions.
-use Rattle.std.specs.Prelude.{◌≡◌, ◌+◌, ◌<◌, ◌≤◌, ◌&&◌, ◌||◌, ◌==◌, Bool, true, List, ℕ, is_none}
-use Rattle.std.specs.Prelude.{length, slice_range}
+use Rattle.std.specs.Prelude.{◌≡◌, ◌+◌, ◌-◌, ◌<◌, ◌≤◌, ◌⊎◌, ◌&&◌, ◌||◌, ◌==◌, Bool, true, List, ℕ}
+use Rattle.std.specs.Prelude.{is_none, length, slice_range}
 use Rattle.grep_definitions.specs.LineCalls.{matches_line}
 use Rattle.grep_definitions.specs.MatchedLines.{calls_of_lines}
 use Rattle.grep_definitions.specs.Plans.{IsLawful, Planned, Settings, hits_if}
@@ -28,35 +28,37 @@ AllHit settings meaning window start end =
     (i p q : ℕ) → IsLine (byte_of settings.line_terminator) window i p q → start ≤ p → p < end
     → hits_if settings (matches_line settings meaning (slice_range window p q)) ≡ true
 
--- so do these from a position on; another line starts where they end, and this is known of it
-pub record AreHits (settings : Settings) (meaning : Meaning) (window : List ℕ) (start : ℕ)
+-- so do these from a position on, where the line with this index begins; another line starts where
+-- they end, and this is known of it
+pub record AreHits (settings : Settings) (meaning : Meaning) (window : List ℕ) (start index : ℕ)
     (lines : ChosenLines) : Type 0 where
   pub all : AllHit settings meaning window start lines.end
-  pub index : ℕ
-  pub at : IsLineStart (byte_of settings.line_terminator) window lines.end index
+  pub at : IsLineStart (byte_of settings.line_terminator) window lines.end (index + lines.count)
   pub known : IsKnown settings meaning window lines.end lines.ahead
 
 -- lines of a window are chosen from a position on, by what is known there, and each makes no call
--- but its match's
+-- but its match's. They are 16 KiB at most, or the line that is known to match
 pub record AreChosen {E : Type 0} (settings : Settings) (facts : MatcherFacts E) (window : List ℕ)
     (start : ℕ) (ahead : Ahead) (w : Walk) (lines : ChosenLines) : Type 0 where
   pub some : start < lines.end
   pub within : lines.end ≤ length window
+  pub few : (lines.end ≤ start + 16384) ⊎ (lines.end ≡ ahead.match_end)
+  pub counted : lines.count ≤ lines.end - start
   pub bounded : IsBounded window lines.ahead
   pub alone : chooses_alone settings w ≡ true
   pub hits : IsLawful facts settings
       → (i : ℕ) → IsLineStart (byte_of settings.line_terminator) window start i
       → IsKnown settings facts.meaning window start ahead
-      → AreHits settings facts.meaning window start lines
+      → AreHits settings facts.meaning window start i lines
 
--- the walk after such lines
-abbrev pub after_chosen : Settings → Walk → List ℕ → Walk
-after_chosen settings w passed = record w {
-  offset = w.offset + length passed;
-  line = w.line + length (lines (byte_of settings.line_terminator) passed);
-  next_unreported = w.line + length (lines (byte_of settings.line_terminator) passed);
+-- the walk after so many bytes of such lines, which are so many
+abbrev pub after_chosen : Settings → Walk → ℕ → ℕ → Walk
+after_chosen settings w bytes count = record w {
+  offset = w.offset + bytes;
+  line = w.line + count;
+  next_unreported = w.line + count;
   after_context_left = settings.after_context;
-  match_count = w.match_count + length (lines (byte_of settings.line_terminator) passed);
+  match_count = w.match_count + count;
 }
 
 -- the calls that report them

@@ -1,5 +1,5 @@
 //! Lines one after another that are chosen, of which no call is made but that of each match.
-ghost use Rattle.std.specs.Prelude.{◌≡◌, ◌≤◌, ◌<◌, ◌+◌, ◌^◌, ℕ, true, false, length, Some};
+ghost use Rattle.std.specs.Prelude.{◌≡◌, ◌⊎◌, ◌≤◌, ◌<◌, ◌+◌, ◌-◌, ◌^◌, ℕ, true, false, length, Some};
 ghost use Rattle.std.specs.Prelude.{IfSome};
 ghost use Rattle.grep_definitions.specs.Plans.{AsksAhead, IsLawful};
 ghost use Rattle.grep_lines.specs.Positions.{IsLineStart};
@@ -24,6 +24,8 @@ const ROOM: usize = 16 * 1024;
 pub struct ChosenLines {
     /// Where they end.
     pub end: usize,
+    /// How many they are.
+    pub count: u64,
     /// What is known of the lines from there on.
     pub ahead: Ahead,
 }
@@ -63,6 +65,7 @@ impl Config {
         match questions {
             Questions::OneLine => Some(ChosenLines {
                 end: ahead.match_end,
+                count: 1,
                 ahead: *ahead,
             }),
             Questions::ManyLines => Some(self.matching_lines(matcher, window, start, ahead)),
@@ -90,27 +93,44 @@ impl Config {
         requires inverted { self.now.invert_match ≡ true }
         ensures some { IfSome result (λ lines. start < lines.end) }
         ensures within { IfSome result (λ lines. lines.end ≤ length window.now) }
+        ensures few { IfSome result (λ lines. lines.end ≤ start + 16384) }
+        ensures counted { IfSome result (λ lines. lines.count ≤ lines.end - start) }
         ensures bounded { IfSome result (λ lines. IsBounded window.now lines.ahead) }
         ensures hits { IfSome result (λ lines. (meaning : Meaning) (i : ℕ)
             → IsLineStart (byte_of self.now.line_terminator) window.now start i
             → IsKnown self.now meaning window.now start ahead.now
-            → AreHits self.now meaning window.now start lines) }
+            → AreHits self.now meaning window.now start i lines) }
     {
-        if ahead.candidate - start <= ROOM {
-            return Some(ChosenLines {
-                end: ahead.candidate,
-                ahead: *ahead,
-            });
-        }
-        let terminator = self.line_terminator.as_byte();
-        let last = line_of(&window[start..], terminator, ROOM).start();
-        if last == 0 {
+        let end = self.last_start_in_room(window, start, ahead.candidate);
+        if end == start {
             return None;
         }
         Some(ChosenLines {
-            end: start + last,
+            end,
+            count: line_count(&window[start..end], self.line_terminator.as_byte()),
             ahead: *ahead,
         })
+    }
+
+    // Where the last line starts, from `start` up to a candidate, before which there are 16 KiB at
+    // most. A line starts at both.
+    fn last_start_in_room(&self, window: &[u8], start: usize, candidate: usize) -> usize
+        requires ordered { start ≤ candidate }
+        requires within { candidate ≤ length window.now }
+        ensures low { start ≤ result }
+        ensures high { result ≤ candidate }
+        ensures few { result ≤ start + 16384 }
+        ensures line { (i j : ℕ)
+            → IsLineStart (byte_of self.now.line_terminator) window.now start i
+            → IsLineStart (byte_of self.now.line_terminator) window.now candidate j
+            → (index : ℕ)
+            × IsLineStart (byte_of self.now.line_terminator) window.now result index }
+    {
+        if candidate - start <= ROOM {
+            return candidate;
+        }
+        let terminator = self.line_terminator.as_byte();
+        start + line_of(&window[start..], terminator, ROOM).start()
     }
 
     // The lines from `start` on that match, the first of which is known to. The matcher is asked
@@ -129,14 +149,17 @@ impl Config {
         requires plain { self.now.invert_match ≡ false }
         ensures some { start < result.end }
         ensures within { result.end ≤ length window.now }
+        ensures few { (result.end ≤ start + 16384) ⊎ (result.end ≡ ahead.now.match_end) }
+        ensures counted { result.count ≤ result.end - start }
         ensures bounded { IsBounded window.now result.ahead }
         ensures hits { IsLawful (M.facts matcher.now) self.now
             → (i : ℕ) → IsLineStart (byte_of self.now.line_terminator) window.now start i
             → IsKnown self.now (M.facts matcher.now).meaning window.now start ahead.now
-            → AreHits self.now (M.facts matcher.now).meaning window.now start result }
+            → AreHits self.now (M.facts matcher.now).meaning window.now start i result }
     {
         let mut lines = ChosenLines {
             end: ahead.match_end,
+            count: 1,
             ahead: *ahead,
         };
         'lines: loop {
@@ -154,23 +177,27 @@ impl Config {
                 return lines;
             }
             lines.end = lines.ahead.match_end;
+            lines.count += 1;
         }
     }
 
-    /// The walk after such lines. The caller ensures that the offset of their end is below 2^64.
-    pub fn after_chosen(&self, walk: &Walk, lines: &[u8]) -> Walk
-        requires fits { walk.now.offset + length lines.now < 2 ^ 64 }
+    /// The walk after lines that are chosen from `start` on. The caller ensures that each has a byte,
+    /// and that the offset of their end is below 2^64.
+    pub fn after_chosen(&self, walk: &Walk, start: usize, lines: &ChosenLines) -> Walk
+        requires some { start ≤ lines.now.end }
+        requires counted { lines.now.count ≤ lines.now.end - start }
+        requires fits { walk.now.offset + (lines.now.end - start) < 2 ^ 64 }
         requires ordered { IsOrdered walk.now }
-        ensures walk { result ≡ after_chosen self.now walk.now lines.now }
+        ensures walk { result
+            ≡ after_chosen self.now walk.now (lines.now.end - start) lines.now.count }
         ensures ordered { IsOrdered result }
     {
-        let count = line_count(lines, self.line_terminator.as_byte());
         Walk {
-            offset: walk.offset + lines.len() as u64,
-            line: walk.line + count,
-            next_unreported: walk.line + count,
+            offset: walk.offset + (lines.end - start) as u64,
+            line: walk.line + lines.count,
+            next_unreported: walk.line + lines.count,
             after_context_left: self.after_context,
-            match_count: walk.match_count + count,
+            match_count: walk.match_count + lines.count,
         }
     }
 }

@@ -104,13 +104,13 @@ chosen : (g : Over) (c : After-sink_chosen_lines g)
     c.requires.configured.bare (HasSearched g.C.Calls.step c.args.self.now.config
     (g.M.Matcher.facts c.args.matcher.now).meaning gone c.args.window.now input first lines.end
     (after_chosen c.args.self.now.config c.skip_unmatched-start.new.walk
-    (slice_range c.args.window.now c.skip_unmatched-start.result lines.end))) outcome new
+    (lines.end - c.skip_unmatched-start.result) lines.count)) outcome new
 chosen g c lawful gone input first so_far lines are outcome new made =
     let at = here g c lawful gone input first so_far in
+    let begins = at.0.walked.inside.line.begins in
     chosen-come _ _ _ gone _ input first c.requires.configured.bare
-    c.skip_unmatched-start.new.walk c.skip_unmatched-start.result lines c.lines.sink at.0
-    (are.hits lawful _ at.0.walked.inside.line.begins at.1) are.some are.within are.alone
-    outcome new made
+    c.skip_unmatched-start.new.walk c.skip_unmatched-start.result _ lines c.lines.sink at.0 begins
+    (are.hits lawful _ begins at.1) are.some are.within are.alone outcome new made
 
 pub lines-init : goal.lines-init
 lines-init g c = record {

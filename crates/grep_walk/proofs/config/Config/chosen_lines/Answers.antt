@@ -1,21 +1,41 @@
-use Rattle.std.proofs.Common.{rules, None, Option, Some}
+use Rattle.std.proofs.Common.{◌≡◌, rules, None, Option, Some, arith, false, inl, inr, refl, true}
 use Rattle.std.specs.Prelude.{IfSome}
+use Rattle.grep_walk.specs.LookAheads.{known_at}
+use Rattle.grep_walk.proofs.HitLemmas.{first-hits, is_matched}
 use Rattle.grep_walk.proofs.config.Config.chosen_lines.Goals as goal
 
 -- what is so of each
-each : {X : Type 0} {A B C D G : X → Type 0} (o : Option X) → IfSome o A → IfSome o B
-    → IfSome o C → IfSome o D → ((x : X) → A x → B x → C x → D x → G x) → IfSome o G
-each None a b c d gives = tt
-each (Some x) a b c d gives = gives x a b c d
+each : {X : Type 0} {A B C D E F G : X → Type 0} (o : Option X) → IfSome o A → IfSome o B
+    → IfSome o C → IfSome o D → IfSome o E → IfSome o F
+    → ((x : X) → A x → B x → C x → D x → E x → F x → G x) → IfSome o G
+each None a b c d e f gives = tt
+each (Some x) a b c d e f gives = gives x a b c d e f
 
 pub returns-then-not-matches : goal.returns-then-not-matches
 returns-then-not-matches g c =
     let found = c.lines_up_to_candidate.ensures in
-    each c.lines_up_to_candidate.result found.some found.within found.bounded found.hits
-    (λ lines some within bounded hits. record {
+    each c.lines_up_to_candidate.result found.some found.within found.few found.counted
+    found.bounded found.hits (λ lines some within few counted bounded hits. record {
       some = some;
       within = within;
+      few = inl few;
+      counted = counted;
       bounded = bounded;
       alone = search rules;
       hits = λ lawful i here known. hits (g.M.Matcher.facts c.args.matcher.now).meaning i here known;
     })
+
+pub returns-in-OneLine : goal.returns-in-OneLine
+returns-in-OneLine g c =
+    let matches : known_at c.args.ahead.now c.args.start ≡ Some true = search rules in
+    let plain : c.args.self.now.invert_match ≡ false = search rules in
+    let first = is_matched c.args.ahead.now c.args.start matches in record {
+      some = first.high;
+      within = c.requires.bounded.within;
+      few = inr refl;
+      counted = omega (arith, first.high);
+      bounded = c.requires.bounded;
+      alone = search rules;
+      hits = λ lawful i here known. first-hits c.args.self.now _ _ plain c.args.start i
+          c.args.ahead.now matches known here;
+    }

@@ -1,34 +1,29 @@
-use Rattle.std.proofs.Common.{◌+◌, ◌-◌, drop, refl, sym, ◌∙◌, ap, subst, arith, take_all, length}
-use Rattle.std.proofs.Common.{length-drop}
+use Rattle.std.proofs.Common.{◌-◌, ◌∙◌, ap, arith, drop, length, length-drop, length-take, refl}
+use Rattle.std.specs.Prelude.{slice_range}
 use Rattle.grep_definitions.specs.Plans.{Settings}
-use Rattle.grep_lines.specs.Blocks.{lines_before}
-use Rattle.grep_lines.specs.Positions.{IsLineStart}
-use Rattle.grep_matcher.specs.Lines.{byte_of}
+use Rattle.grep_lines.proofs.LineStepLemmas.{lines-at-most}
+use Rattle.grep_matcher.specs.Lines.{byte_of, lines}
 use Rattle.grep_walk.proofs.HitLemmas.{unmatched-hit}
-use Rattle.grep_walk.proofs.LookAheadLemmas.{IsLocated, IsLocated-empty, later-located}
 use Rattle.grep_walk.proofs.config.Config.lines_up_to_candidate.Goals as goal
+
+pub returns-clause-counted : goal.returns-clause-counted
+returns-clause-counted c =
+    let passed = slice_range c.args.window.now c.args.start c.last_start_in_room-end.result in
+    omega (
+      arith,
+      c.line_count.ensures,
+      lines-at-most c.as_byte.result passed,
+      length-take (c.last_start_in_room-end.result - c.args.start) (drop c.args.start c.args.window.now),
+    )
 
 pub returns-clause-hits : goal.returns-clause-hits
 returns-clause-hits c = λ meaning i here known.
-    let settings = c.args.self.now in
-    let rest = drop c.args.start c.args.window.now in
-    let located : IsLocated (byte_of settings.line_terminator) rest 16384 c.line_of.result =
-    IsLocated-empty _ _ _ rest _ _ _
-    (c.as_byte-terminator.ensures
-    ∙ ap (λ (s : Settings). byte_of s.line_terminator) c.self.view_is)
-    (take_all (length c.args.window.now - c.args.start) rest
-    (omega (arith, length-drop c.args.start c.args.window.now)))
-    refl c.line_of.ensures.value c.line_of.ensures.starts c.line_of.ensures.ends in
-    let line = i + lines_before (byte_of settings.line_terminator) rest 16384 in
-    unmatched-hit settings meaning c.args.window.now c.args.start line c.args.ahead.now _
-    c.requires.inverted known refl (omega arith)
-    (omega (
-      arith,
-      c.start-last.ensures.value,
-      c.line_of.ensures.starts,
-      c.if-ahead-start-le-ROOM.false,
-    ))
-    (subst (λ p. IsLineStart (byte_of settings.line_terminator) c.args.window.now
-    (c.args.start + p) line) (sym c.start-last.ensures.value)
-    (later-located (byte_of settings.line_terminator) c.args.window.now c.args.start i
-    here 16384 c.line_of.result located))
+    let last = c.last_start_in_room-end.ensures in
+    let there = last.line i known.index here known.at in
+    let terminator = c.as_byte.ensures
+    ∙ ap (λ (s : Settings). byte_of s.line_terminator) c.self.view_is in
+    unmatched-hit c.args.self.now meaning c.args.window.now c.args.start i there.0 c.args.ahead.now _
+    c.requires.inverted known refl (omega (arith, last.low, c.if-end-start.false)) last.high
+    (omega (arith, last.high, c.requires.bounded.ordered, c.requires.bounded.within)) here there.1
+    (c.line_count.ensures ∙ ap (λ t. length (lines t (slice_range c.args.window.now c.args.start
+    c.last_start_in_room-end.result))) terminator)

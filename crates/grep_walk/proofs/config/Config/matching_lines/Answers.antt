@@ -1,11 +1,12 @@
-use Rattle.std.proofs.Common.{◌-◌, ℕ, arith, drop, length, length-drop, rules, subst, take_all}
+use Rattle.std.proofs.Common.{◌-◌, ℕ, arith, drop, inl, inr, length, length-drop, refl, rules}
+use Rattle.std.proofs.Common.{subst, take_all}
 use Rattle.grep_matcher.specs.Lawful.{IsLawfulResult}
 use Rattle.grep_definitions.specs.Plans.{IsLawful}
 use Rattle.grep_lines.specs.Positions.{IsLineStart}
 use Rattle.grep_matcher.specs.Lines.{byte_of}
 use Rattle.grep_walk.specs.ChosenLines.{AreHits}
 use Rattle.grep_walk.specs.LookAheads.{IsKnown}
-use Rattle.grep_walk.proofs.HitLemmas.{is_matched, next-hits}
+use Rattle.grep_walk.proofs.HitLemmas.{first-hits, is_matched, next-hits}
 use Rattle.grep_walk.proofs.config.Config.matching_lines.Given.{Over}
 use Rattle.grep_walk.proofs.config.Config.matching_lines.Goals as goal
 use Rattle.grep_walk.proofs.config.Config.matching_lines.Goals.{After-ahead_of-lines}
@@ -32,14 +33,17 @@ kept : (g : Over) (c : After-ahead_of-lines g) → IsLawful (g.M.Matcher.facts c
     → IsKnown c.args.self.now (g.M.Matcher.facts c.args.matcher.now).meaning c.args.window.now
     c.args.start c.args.ahead.now
     → AreHits c.args.self.now (g.M.Matcher.facts c.args.matcher.now).meaning c.args.window.now
-    c.args.start (record { end = c.lines.lines.end; ahead = c.ahead_of-lines.result })
+    c.args.start i (record {
+      end = c.lines.lines.end;
+      count = c.lines.lines.count;
+      ahead = c.ahead_of-lines.result;
+    })
 kept g c lawful i here known =
     let hits = c.lines.invariant.hits lawful i here known in
     record {
       all = hits.all;
-      index = hits.index;
       at = hits.at;
-      known = learnt g c lawful hits.index hits.at;
+      known = learnt g c lawful _ hits.at;
     }
 
 pub returns-in_default-known_at-clause-hits : goal.returns-in_default-known_at-clause-hits
@@ -54,17 +58,28 @@ pub returns-then-lines-start-gt-ROOM-clause-hits : goal.returns-then-lines-start
 returns-then-lines-start-gt-ROOM-clause-hits g c =
     kept g (goal.at.returns-then-lines-start-gt-ROOM-clause-hits g c).After-ahead_of-lines
 
+pub lines-init : goal.lines-init
+lines-init g c =
+    let first = is_matched c.args.ahead.now c.args.start c.requires.matched in record {
+      some = first.high;
+      within = c.requires.bounded.within;
+      few = inr refl;
+      counted = omega (arith, first.high);
+      bounded = c.requires.bounded;
+      hits = λ lawful i here known. first-hits c.args.self.now _ _ c.requires.plain c.args.start i
+          c.args.ahead.now c.requires.matched known here;
+    }
+
 pub lines-preserved : goal.lines-preserved
-lines-preserved g c = record {
-  some = omega (
-    arith,
-    c.lines.invariant.some,
-    (is_matched c.ahead_of-lines.result c.lines.lines.end (search rules)).high,
-  );
-  within = c.ahead_of-lines.ensures.bounded.within;
-  bounded = c.ahead_of-lines.ensures.bounded;
-  hits = λ lawful i here known.
-      let hits = c.lines.invariant.hits lawful i here known in
-      next-hits _ _ _ c.requires.plain _ c.lines.lines.end _ _ (search rules) hits
-      (learnt g (goal.at.lines-preserved g c).After-ahead_of-lines lawful hits.index hits.at);
-}
+lines-preserved g c =
+    let next = is_matched c.ahead_of-lines.result c.lines.lines.end (search rules) in record {
+      some = omega (arith, c.lines.invariant.some, next.high);
+      within = c.ahead_of-lines.ensures.bounded.within;
+      few = inl (omega (arith, c.if-lines-start-gt-ROOM.false));
+      counted = omega (arith, c.lines.invariant.some, c.lines.invariant.counted, next.high);
+      bounded = c.ahead_of-lines.ensures.bounded;
+      hits = λ lawful i here known.
+          let hits = c.lines.invariant.hits lawful i here known in
+          next-hits _ _ _ c.requires.plain _ i c.lines.lines.end _ _ _ (search rules) hits
+          (learnt g (goal.at.lines-preserved g c).After-ahead_of-lines lawful _ hits.at);
+    }
