@@ -1,20 +1,28 @@
 -- Lines that are written as they are.
-use Rattle.std.proofs.Common.{◌≡◌, ◌∙◌, ℕ, ◌<◌, List, [], ◌∷◌, ◌++◌, ap, arith, length}
-use Rattle.std.proofs.Common.{⊎_elim, refl, sym}
-use Rattle.std.proofs.lemmas.Bool.{and_parts, cases_eq, eq-eqb}
+use Rattle.std.proofs.Common.{◌≡◌, ◌∙◌, ℕ, ◌+◌, ◌<◌, List, [], ◌∷◌, ◌++◌, ap, arith, length}
+use Rattle.std.proofs.Common.{⊎_elim, append_assoc, refl, sym}
+use Rattle.std.proofs.lemmas.Bool.{and_parts, cases_eq, eq-eqb, not-true}
 use Rattle.std.proofs.lemmas.List.{append-nil}
 use Rattle.std.specs.List.{flat_map}
 use Rattle.std.specs.Borrow.{Bor}
 use Rattle.std.specs.Option.{is_none, unwrap_or}
-use Rattle.std.specs.Prelude.{Bool, false, true, ◌&&◌, ◌||◌, if◌then◌else◌, not, Option, None, Some}
+use Rattle.std.specs.Prelude.{Bool, false, true, ◌&&◌, ◌||◌, ◌==◌, if◌then◌else◌, not, Option, None, Some}
 use Rattle.grep_matcher.proofs.LineLemmas.{lines-end, lines-inner}
 use Rattle.grep_matcher.specs.Lines.{lines, onto_first}
-use Rattle.grep_printer.specs.ColoredTexts.{matched_color, path_color}
+use Rattle.grep_printer.specs.ColoredTexts.{line_color, matched_color, path_color}
 use Rattle.grep_printer.specs.LineTexts.{end_byte, is_plain, line_text, lines_text, mark_of, missing_end}
-use Rattle.grep_printer.specs.LineTexts.{next_number, path_field, place_after}
+use Rattle.grep_printer.specs.LineTexts.{next_number, number_field, path_field, place_after, plain_line, plain_lines}
+use Rattle.grep_printer.specs.Reports.{report_place, reporting_call}
+use Rattle.grep_printer.specs.StandardTexts.{report_text}
+use Rattle.grep_printer.specs.PartTexts.{column_of}
+use Rattle.grep_printer.specs.declared.config.Config.{Config}
 use Rattle.grep_printer.specs.declared.fields.Layout.{Layout}
 use Rattle.grep_printer.specs.declared.fields.LineKind.{LineKind}
+use Rattle.grep_printer.specs.declared.fields.LineKind.TheVariants.{Match as match_line, Context as context_line}
 use Rattle.grep_printer.specs.declared.fields.Place.{Place}
+use Rattle.grep_printer.specs.declared.report.Report.{Report}
+use Rattle.grep_searcher.specs.declared.SinkContextKind.{SinkContextKind}
+use Rattle.grep_printer.specs.declared.report.ReportKind.TheVariants.{Match, Context}
 use native.Mathlib.Numerals.{unary_clauses}
 
 module _ (t : ℕ) where
@@ -76,6 +84,33 @@ module _ (t : ℕ) where
   pub lines-ended : (b : ℕ) (bytes : List ℕ) → flat_map ended (lines t (b ∷ bytes)) ≡ ended (b ∷ bytes)
   lines-ended b bytes = let all = all-ended b bytes in ap (flat_map ended) all.is ∙ all.whole
 
+-- lines without numbers
+lines-unnumbered : (t mark : ℕ) (ls : List (List ℕ)) → plain_lines t mark None ls ≡ flat_map (ended t) ls
+lines-unnumbered t mark [] = refl
+lines-unnumbered t mark (line ∷ later) =
+    ap (λ (rest : List ℕ). ended t line ++ rest) (lines-unnumbered t mark later)
+
+-- lines without numbers are their bytes, with the terminator at the end
+pub lines-as-one : (t mark : ℕ) (bytes : List ℕ) → 0 < length bytes
+    → plain_lines t mark None (lines t bytes) ≡ plain_line t mark None bytes
+lines-as-one t mark [] some = absurd (omega (arith, some))
+lines-as-one t mark (b ∷ bytes) some =
+    lines-unnumbered t mark (lines t (b ∷ bytes)) ∙ lines-ended t b bytes
+
+module _ (t mark : ℕ) (whole : List ℕ) where
+  -- some lines are pushed, and these are left
+  pub record ArePushed (text : List ℕ) (number : Option ℕ) (left : List (List ℕ)) : Type 0 where
+    pub pushed : text ++ plain_lines t mark number left ≡ whole
+
+  -- the next one is pushed
+  pub pushed-line : (text : List ℕ) (number : Option ℕ) (left : List (List ℕ)) (line : List ℕ)
+      (later : List (List ℕ)) → ArePushed text number left → left ≡ line ∷ later
+      → ArePushed (text ++ plain_line t mark number line) (next_number number) later
+  pushed-line text number left line later are is = record {
+    pushed = append_assoc text (plain_line t mark number line) (plain_lines t mark (next_number number) later)
+        ∙ (ap (λ ls. text ++ plain_lines t mark number ls) (sym is) ∙ are.pushed);
+  }
+
 none-is : {X : Type 0} → (o : Option X) → is_none o ≡ true → o ≡ None
 none-is None none = refl
 none-is (Some x) none = absurd cc
@@ -91,57 +126,75 @@ offset-none : (is_written : Bool) (offset : ℕ) → not is_written ≡ true
 offset-none true offset none = absurd cc
 offset-none false offset none = refl
 
-module _ (layout : Layout) (kind : LineKind) where
-  plain-line : (place : Place) (parts : List (ℕ × ℕ)) (line : List ℕ) → is_plain layout place ≡ true
-      → line_text layout kind place parts line ≡ ended (end_byte layout) line
-  plain-line place parts line plain =
-      let limits = and_parts (((((layout.config.heading || is_none layout.path) && is_none place.number)
-      && is_none place.column) && not layout.config.byte_offset) && is_none layout.config.max_columns)
-      (is_none (matched_color layout.config.color_specs)) plain in
-      let offsets = and_parts ((((layout.config.heading || is_none layout.path) && is_none place.number)
-      && is_none place.column) && not layout.config.byte_offset) (is_none layout.config.max_columns) limits.0 in
-      let columns = and_parts (((layout.config.heading || is_none layout.path) && is_none place.number)
-      && is_none place.column) (not layout.config.byte_offset) offsets.0 in
-      let numbers = and_parts ((layout.config.heading || is_none layout.path) && is_none place.number)
-      (is_none place.column) columns.0 in
-      let paths = and_parts (layout.config.heading || is_none layout.path) (is_none place.number) numbers.0 in
-      let color = none-is (matched_color layout.config.color_specs) limits.1 in
-      let most = none-is layout.config.max_columns offsets.1 in
-      let column = none-is place.column numbers.1 in
-      let number = none-is place.number paths.1 in
+-- settings by which lines are written as they are
+record ArePlain (config : Config) (path : Option (Bor (List ℕ))) : Type 0 where
+  paths : (config.heading || is_none path) ≡ true
+  columns : not config.column ≡ true
+  offsets : not config.byte_offset ≡ true
+  whole : not config.only_matching ≡ true
+  limits : is_none config.max_columns ≡ true
+  numbers : is_none (line_color config.color_specs) ≡ true
+  matched : is_none (matched_color config.color_specs) ≡ true
+
+are_plain : (config : Config) (path : Option (Bor (List ℕ))) → is_plain config path ≡ true → ArePlain config path
+are_plain config path plain =
+    let a = and_parts _ (is_none (matched_color config.color_specs)) plain in
+    let b = and_parts _ (is_none (line_color config.color_specs)) a.0 in
+    let c = and_parts _ (is_none config.max_columns) b.0 in
+    let d = and_parts _ (not config.only_matching) c.0 in
+    let e = and_parts _ (not config.byte_offset) d.0 in
+    let f = and_parts (config.heading || is_none path) (not config.column) e.0 in
+    record { paths = f.0; columns = f.1; offsets = e.1; whole = d.1; limits = c.1; numbers = b.1; matched = a.1 }
+
+column-none : (layout : Layout) (parts : List (ℕ × ℕ)) → not layout.config.column ≡ true → column_of layout parts ≡ None
+column-none layout [] none = refl
+column-none layout (part ∷ later) none = offset-none layout.config.column (part.0 + 1) none
+
+module _ (layout : Layout) (kind : LineKind) (plain : is_plain layout.config layout.path ≡ true) where
+  -- a line that is written as it is
+  line-plain : (place : Place) (parts : List (ℕ × ℕ)) (line : List ℕ) → place.column ≡ None
+      → line_text layout kind place parts line ≡ plain_line (end_byte layout) (mark_of kind) place.number line
+  line-plain place parts line column =
+      let are = are_plain layout.config layout.path plain in
+      let matched = none-is (matched_color layout.config.color_specs) are.matched in
+      let color = none-is (line_color layout.config.color_specs) are.numbers in
+      let most = none-is layout.config.max_columns are.limits in
       let no_path = path-none layout.config.heading (path_color layout.config.color_specs)
-      (unwrap_or layout.config.path_terminator (mark_of kind)) layout.path paths.0 in
-      let no_offset = offset-none layout.config.byte_offset place.offset columns.1 in
-      simp (no_path, number, column, no_offset, most, color) refl
+      (unwrap_or layout.config.path_terminator (mark_of kind)) layout.path are.paths in
+      let no_offset = offset-none layout.config.byte_offset place.offset are.offsets in
+      simp (no_path, column, no_offset, most, color, matched, append-nil (number_field None (mark_of kind) place.number))
+      refl
 
-  plain-next : (place : Place) (line : List ℕ) → is_plain layout place ≡ true
-      → is_plain layout (place_after place line) ≡ true
-  plain-next place line plain = next place.number plain
-    where
-      next : (number : Option ℕ)
-          → ((((((layout.config.heading || is_none layout.path) && is_none number) && is_none place.column)
-          && not layout.config.byte_offset) && is_none layout.config.max_columns)
-          && is_none (matched_color layout.config.color_specs)) ≡ true
-          → ((((((layout.config.heading || is_none layout.path) && is_none (next_number number)) && is_none place.column)
-          && not layout.config.byte_offset) && is_none layout.config.max_columns)
-          && is_none (matched_color layout.config.color_specs)) ≡ true
-      next None is = is
-      next (Some n) is = is
-
-  plain-lines : (place : Place) (parts : List (ℕ × ℕ)) (ls : List (List ℕ)) → is_plain layout place ≡ true
-      → lines_text layout kind place parts ls ≡ flat_map (ended (end_byte layout)) ls
-  plain-lines place parts [] plain = refl
-  plain-lines place parts (line ∷ later) plain =
+  -- such lines
+  lines-plain : (place : Place) (parts : List (ℕ × ℕ)) (ls : List (List ℕ)) → place.column ≡ None
+      → lines_text layout kind place parts ls ≡ plain_lines (end_byte layout) (mark_of kind) place.number ls
+  lines-plain place parts [] column = refl
+  lines-plain place parts (line ∷ later) column =
       ap (λ (t : List ℕ). t ++ lines_text layout kind (place_after place line) parts later)
-      (plain-line place parts line plain)
-      ∙ ap (λ (t : List ℕ). ended (end_byte layout) line ++ t)
-      (plain-lines (place_after place line) parts later (plain-next place line plain))
+      (line-plain place parts line column)
+      ∙ ap (λ (t : List ℕ). plain_line (end_byte layout) (mark_of kind) place.number line ++ t)
+      (lines-plain (place_after place line) parts later column)
 
-  -- lines that are written as they are make the bytes of a report, with the terminator at the end
-  pub plain-text : (place : Place) (parts : List (ℕ × ℕ)) (bytes : List ℕ) → is_plain layout place ≡ true
-      → 0 < length bytes → lines_text layout kind place parts (lines (end_byte layout) bytes)
-      ≡ bytes ++ missing_end (end_byte layout) bytes
-  plain-text place parts [] plain some = absurd (omega (arith, some))
-  plain-text place parts (b ∷ bytes) plain some =
-      plain-lines place parts (lines (end_byte layout) (b ∷ bytes)) plain
-      ∙ lines-ended (end_byte layout) b bytes
+-- a report that is written so
+module _ (layout : Layout) (report : Report) (parts : List (ℕ × ℕ)) (plain : is_plain layout.config layout.path ≡ true)
+  where
+    abbrev instead : List ℕ → List ℕ → Bool → List ℕ
+    instead in_parts in_lines only = if only && not (length parts == 0) then in_parts else in_lines
+
+    whole : layout.config.only_matching ≡ false
+    whole = not-true layout.config.only_matching (are_plain layout.config layout.path plain).whole
+
+    column : column_of layout parts ≡ None
+    column = column-none layout parts (are_plain layout.config layout.path plain).columns
+
+    pub match-plain : report_text layout (reporting_call Match report.number report.offset report.bytes.now) parts
+        ≡ plain_lines (end_byte layout) 58 report.number (lines (end_byte layout) report.bytes.now)
+    match-plain = ap (instead _ _) whole
+        ∙ lines-plain layout match_line plain (report_place layout report parts) parts
+        (lines (end_byte layout) report.bytes.now) column
+
+    pub context-plain : (kind : SinkContextKind)
+        → report_text layout (reporting_call (Context kind) report.number report.offset report.bytes.now) parts
+        ≡ plain_line (end_byte layout) 45 report.number report.bytes.now
+    context-plain kind = ap (instead _ _) whole
+        ∙ line-plain layout context_line plain (report_place layout report parts) parts report.bytes.now column

@@ -63,6 +63,17 @@ pushed-last old now new Is last all pushed adds same = (
       (first.0, before.1 ∙ (ap (λ (t : List ℕ). t ++ last) first.1 ∙ same)),
 )
 
+-- two pushes in turn
+pub adds-two : (old between new : PendingText) (first second : List ℕ) → Adds old between first
+    → Adds between new second → Adds old new (first ++ second)
+adds-two old between new first second one two = (
+  two.0 ∙ one.0,
+  λ made.
+      let last = two.1 made in
+      let before = one.1 last.0 in
+      (before.0, last.1 ∙ (ap (λ (t : List ℕ). t ++ second) before.1 ∙ append_assoc old.text first second)),
+)
+
 -- two pushes of tokens in turn
 pub tokens-two : (old between new : JsonText) (first second : List Token)
     → AddsTokens old between first → AddsTokens between new second → AddsTokens old new (first ++ second)

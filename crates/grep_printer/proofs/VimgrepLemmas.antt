@@ -1,6 +1,5 @@
 -- The lines in which the parts of a report start, pushed one after another.
-use Rattle.std.proofs.Common.{◌≡◌, ℕ, ◌+◌, ◌-◌, ◌≤◌, List, [], ◌∷◌, ◌++◌, Option, None, Some, length, arith, ap, sym}
-use Rattle.std.proofs.Common.{◌∙◌, append_assoc, subst, take, drop, refl}
+use Rattle.std.proofs.Common.{◌≡◌, ℕ, ◌+◌, ◌-◌, ◌≤◌, List, [], ◌∷◌, ◌++◌, length, arith, ap, sym, ◌∙◌, subst, take, drop, Option}
 use Rattle.std.proofs.lemmas.List.{drop-take, take-take}
 use Rattle.std.proofs.lemmas.List.Sums.{sum_by-take-drop}
 use Rattle.std.specs.Prelude.{◌<◌, ◌==◌, cond, count_by, false, slice_range}
@@ -8,6 +7,7 @@ use Rattle.grep_lines.specs.Blocks.{lines_before}
 use Rattle.grep_output.specs.PendingTexts.{Adds, PendingText}
 use Rattle.grep_printer.proofs.FoundPartLemmas.{ordered-from}
 use Rattle.grep_printer.proofs.PartTextLemmas.{IsWriting, writing-more}
+use Rattle.grep_printer.proofs.PushLemmas.{adds-two}
 use Rattle.grep_printer.specs.Formats.{Scene}
 use Rattle.grep_printer.specs.LineTexts.{end_byte}
 use Rattle.grep_printer.specs.MatchedParts.{AreInOrder}
@@ -21,19 +21,8 @@ use Rattle.grep_printer.specs.declared.report.ReportKind.{ReportKind}
 use Rattle.grep_printer.specs.declared.report.ReportKind.TheVariants.{Match, Context}
 use Rattle.grep_printer.specs.declared.standard.Progress.{Progress}
 
--- one push after another
-adds-two : (old mid new : PendingText) (first later : List ℕ) → Adds old mid first → Adds mid new later
-    → Adds old new (first ++ later)
-adds-two old mid new first later one two = (
-  two.0 ∙ one.0,
-  λ made.
-      let last = two.1 made in
-      let before = one.1 last.0 in
-      (before.0, last.1 ∙ (ap (λ (t : List ℕ). t ++ later) before.1 ∙ append_assoc old.text first later)),
-)
-
 -- the lines before a position, and those between it and a later one
-lines-passed : (t : ℕ) (bytes : List ℕ) (from to : ℕ) → from ≤ to
+pub lines-passed : (t : ℕ) (bytes : List ℕ) (from to : ℕ) → from ≤ to
     → lines_before t bytes from + count_by (λ b. b == t) (slice_range bytes from to) ≡ lines_before t bytes to
 lines-passed t bytes from to less =
     let sum : from + (to - from) ≡ to = omega (arith, less) in
@@ -42,40 +31,32 @@ lines-passed t bytes from to less =
     let later = ap count (ap (λ n. drop from (take n bytes)) (sym sum) ∙ drop-take from (to - from) bytes) in
     omega (arith, first, later, sum_by-take-drop (λ b. cond (b == t) 1 0) (take to bytes) from)
 
--- so many lines and so many more
-number-more : (number : Option ℕ) (a b : ℕ) → number_after (number_after number a) b ≡ number_after number (a + b)
-number-more None a b = refl
-number-more (Some n) a b = ap Some (omega arith)
-
 module _ (layout : Layout) (report : Report) (start : List ℕ) (all : List (ℕ × ℕ)) where
-  -- the line of a part of the report
-  abbrev line_of_part : ℕ × ℕ → List ℕ
-  line_of_part part = part_line layout (line_kind report.kind) report.offset report.bytes.now
-      (number_after report.number (lines_before (end_byte layout) report.bytes.now part.0)) part
+  -- the line of a part of the report, before which there are so many
+  abbrev line_after : ℕ → ℕ × ℕ → List ℕ
+  line_after passed part = part_line layout (line_kind report.kind) report.offset report.bytes.now
+      (number_after report.number passed) part
 
-  -- of some parts it is pushed, the number is that of the line of a position, and these parts are left, which start
-  -- there or later
-  pub record IsListing (text : List ℕ) (number : Option ℕ) (position : ℕ) (rest : List (ℕ × ℕ)) : Type 0 where
-    pub writing : IsWriting line_of_part (length report.bytes.now) start all text rest
-    pub numbered : (more : ℕ) → number_after number more
-        ≡ number_after report.number (lines_before (end_byte layout) report.bytes.now position + more)
+  -- of some parts it is pushed, so many lines are before a position, and these parts are left, which start there or later
+  pub record IsListing (text : List ℕ) (passed position : ℕ) (rest : List (ℕ × ℕ)) : Type 0 where
+    pub writing : IsWriting (λ part. line_after (lines_before (end_byte layout) report.bytes.now part.0) part)
+        (length report.bytes.now) start all text rest
+    pub counted : passed ≡ lines_before (end_byte layout) report.bytes.now position
     pub ordered : AreInOrder position (length report.bytes.now) rest
 
   -- the line of the next part is pushed
-  pub listing-more : (text : List ℕ) (number : Option ℕ) (position : ℕ) (rest : List (ℕ × ℕ)) (part : ℕ × ℕ)
-      (later : List (ℕ × ℕ)) (next : Option ℕ) → IsListing text number position rest → rest ≡ part ∷ later
-      → next ≡ number_after number
-      (count_by (λ b. b == end_byte layout) (slice_range report.bytes.now position part.0))
-      → IsListing (text ++ part_line layout (line_kind report.kind) report.offset report.bytes.now next part) next part.0
-      later
-  listing-more text number position rest part later next listing is counted =
+  pub listing-more : (text : List ℕ) (passed position : ℕ) (rest : List (ℕ × ℕ)) (part : ℕ × ℕ) (later : List (ℕ × ℕ))
+      (next : ℕ) → IsListing text passed position rest → rest ≡ part ∷ later → next ≡ passed
+      + count_by (λ b. b == end_byte layout) (slice_range report.bytes.now position part.0)
+      → IsListing (text ++ line_after next part) next part.0 later
+  listing-more text passed position rest part later next listing is counted =
       let ordered = subst (AreInOrder position (length report.bytes.now)) is listing.ordered in
-      let here : next ≡ number_after report.number (lines_before (end_byte layout) report.bytes.now part.0) =
-      counted ∙ (listing.numbered _ ∙ ap (number_after report.number)
-      (lines-passed (end_byte layout) report.bytes.now position part.0 ordered.0)) in record {
-        writing = writing-more line_of_part (length report.bytes.now) start all text rest part later _ listing.writing is
-            (ap (λ n. text ++ part_line layout (line_kind report.kind) report.offset report.bytes.now n part) here);
-        numbered = λ more. ap (λ n. number_after n more) here ∙ number-more report.number _ more;
+      let here : next ≡ lines_before (end_byte layout) report.bytes.now part.0 =
+      omega (arith, counted, listing.counted, lines-passed (end_byte layout) report.bytes.now position part.0 ordered.0) in
+      record {
+        writing = writing-more _ (length report.bytes.now) start all text rest part later _ listing.writing is
+            (ap (λ n. text ++ line_after n part) here);
+        counted = here;
         ordered = ordered-from later part.1 part.0 (length report.bytes.now) ordered.1 ordered.3;
       }
 

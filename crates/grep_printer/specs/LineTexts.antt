@@ -11,6 +11,7 @@ use Rattle.grep_matcher.specs.Lines.{byte_of}
 use Rattle.grep_searcher.specs.Lines.{strip}
 use Rattle.grep_printer.specs.ColoredTexts.{colored, column_color, line_color, matched_color}
 use Rattle.grep_printer.specs.ColoredTexts.{painted, path_color}
+use Rattle.grep_printer.specs.declared.config.Config.{Config}
 use Rattle.grep_printer.specs.declared.config.SearchSeparator.{SearchSeparator}
 use Rattle.grep_printer.specs.declared.config.SearchSeparator.TheVariants.{Nothing, Blank, Dashes}
 use Rattle.grep_printer.specs.declared.fields.Layout.{Layout}
@@ -46,6 +47,26 @@ place_after place line = record {
   offset = place.offset + length line;
   start = place.start + length line;
 }
+
+-- whether lines are written as they are, each after its number alone: whole, and without other
+-- fields, limit and colors
+abbrev pub is_plain : Config → Option (Bor (List ℕ)) → Bool
+is_plain config path =
+    (config.heading || is_none path) && not config.column && not config.byte_offset
+    && not config.only_matching && is_none config.max_columns
+    && is_none (line_color config.color_specs) && is_none (matched_color config.color_specs)
+
+-- a line as it is, after its number and a mark, if it has one
+abbrev pub plain_line : ℕ → ℕ → Option ℕ → List ℕ → List ℕ
+plain_line terminator mark number line =
+    number_field None mark number ++ (line ++ missing_end terminator line)
+
+-- such lines, each with its own number
+abbrev pub plain_lines : ℕ → ℕ → Option ℕ → List (List ℕ) → List ℕ
+plain_lines terminator mark number [] = []
+plain_lines terminator mark number (line ∷ later) =
+    plain_line terminator mark number line
+    ++ plain_lines terminator mark (next_number number) later
 
 -- what is written between two searches
 abbrev pub separator_text : SearchSeparator → ℕ → List ℕ
@@ -95,14 +116,6 @@ module _ (layout : Layout) where
       ++ (number_field (column_color layout.config.color_specs) mark place.column
       ++ number_field (column_color layout.config.color_specs) mark
       (if layout.config.byte_offset then Some place.offset else None)))
-
-  -- whether lines are written as they are: without fields, limit and colors
-  abbrev pub is_plain : Place → Bool
-  is_plain place =
-      (layout.config.heading || is_none layout.path) && is_none place.number
-      && is_none place.column && not layout.config.byte_offset
-      && is_none layout.config.max_columns
-      && is_none (matched_color layout.config.color_specs)
 
   -- a line that begins at a position of its report, with the bytes in some parts colored, but for
   -- the terminator

@@ -5,7 +5,7 @@ ghost use Rattle.grep_matcher.specs.Lines.{byte_of};
 ghost use Rattle.grep_searcher.specs.Lines.{lines};
 ghost use Rattle.grep_printer.specs.ColoredTexts.{color_of, colored};
 ghost use Rattle.grep_printer.specs.LineTexts.{counted_notice, counted_parts, fields};
-ghost use Rattle.grep_printer.specs.LineTexts.{is_long, is_plain, is_touching, line_text};
+ghost use Rattle.grep_printer.specs.LineTexts.{is_long, is_touching, line_text};
 ghost use Rattle.grep_printer.specs.LineTexts.{lines_text, mark_of, missing_end, notice};
 ghost use Rattle.grep_printer.specs.LineTexts.{next_number, number_field, opening_text};
 ghost use Rattle.grep_printer.specs.LineTexts.{painted_line, path_field, place_after};
@@ -42,7 +42,7 @@ pub(crate) enum LineKind {
 
 impl LineKind {
     // The byte after each field of a line.
-    fn mark(&self) -> u8
+    pub(crate) fn mark(&self) -> u8
         ensures { result ≡ mark_of self.now }
     {
         match self {
@@ -78,45 +78,8 @@ impl<'p> Layout<'p> {
         push_path(text, self.config.color_specs.path(), self.path, mark)
     }
 
-    // Pushes the lines of a match, the first of which is at a place, with its parts in color. Lines
-    // that are written as they are aren't looked for.
+    // Pushes the lines of a match, the first of which is at a place, with its parts in color.
     pub(crate) fn push_lines(
-        &self,
-        text: &mut Pending,
-        kind: LineKind,
-        place: Place,
-        parts: &[Match],
-        bytes: &[u8],
-    )
-        requires fits { place.offset + length bytes.now < 2 ^ 64 }
-        requires starts { place.start ≤ place.offset }
-        requires ordered { AreInOrder 0 (2 ^ 64) parts.now }
-        ensures { Adds text.old text.new (lines_text self.now kind place parts.now
-            (lines (byte_of self.now.terminator) bytes.now)) }
-    {
-        if bytes.is_empty() || !self.is_plain(&place) {
-            self.push_each_line(text, kind, place, parts, bytes);
-            return;
-        }
-        text.push(bytes);
-        push_missing_end(text, self.terminator.as_byte(), bytes)
-    }
-
-    // Whether lines are written as they are: without fields, limit and colors.
-    fn is_plain(&self, place: &Place) -> bool
-        ensures { result ≡ is_plain self.now place.now }
-    {
-        let config = &self.config;
-        (config.heading || self.path.is_none())
-            && place.number.is_none()
-            && place.column.is_none()
-            && !config.byte_offset
-            && config.max_columns.is_none()
-            && config.color_specs.matched().is_none()
-    }
-
-    // Pushes lines one after another, each after its fields.
-    fn push_each_line(
         &self,
         text: &mut Pending,
         kind: LineKind,
@@ -211,7 +174,8 @@ impl<'p> Layout<'p> {
 }
 
 // Pushes a number, in a color if there is one, and a mark, if there is a number.
-fn push_number(text: &mut Pending, color: Option<&str>, number: Option<u64>, mark: u8)
+#[inline]
+pub(crate) fn push_number(text: &mut Pending, color: Option<&str>, number: Option<u64>, mark: u8)
     ensures { Adds text.old text.new (number_field (color_of color.entry) mark number) }
 {
     let Some(number) = number else {
@@ -248,7 +212,8 @@ pub(crate) fn push_path(text: &mut Pending, color: Option<&str>, path: Option<&s
 }
 
 // Pushes the terminator of a line, if it isn't at its end.
-fn push_missing_end(text: &mut Pending, terminator: u8, line: &[u8])
+#[inline(always)]
+pub(crate) fn push_missing_end(text: &mut Pending, terminator: u8, line: &[u8])
     ensures { Adds text.old text.new (missing_end terminator line.now) }
 {
     if line.ends_with(&[terminator]) {
@@ -320,6 +285,7 @@ fn place_after(place: &Place, line: &[u8]) -> Place
 }
 
 // The number of the next line.
+#[inline]
 pub(crate) fn next_number(number: Option<u64>) -> Option<u64>
     ensures { result ≡ next_number number }
 {

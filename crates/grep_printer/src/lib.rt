@@ -17,6 +17,7 @@ mod json_text;
 pub mod laws;
 mod messages;
 mod parts;
+mod plain;
 mod printer;
 mod report;
 mod reports;

@@ -1,5 +1,5 @@
 //! Reports: their lines, or the parts of them that match, each in a line of its own.
-ghost use Rattle.std.specs.Prelude.{◌≡◌, ◌+◌, ◌<◌, ◌≤◌, ◌^◌, length};
+ghost use Rattle.std.specs.Prelude.{◌≡◌, ◌+◌, ◌<◌, ◌≤◌, ◌^◌, ◌++◌, length};
 ghost use Rattle.std.specs.List.{flat_map};
 ghost use Rattle.grep_matcher.specs.Lines.{byte_of};
 ghost use Rattle.grep_searcher.specs.Lines.{lines};
@@ -61,8 +61,26 @@ impl<'p> Layout<'p> {
         }
     }
 
+    // Pushes a report with its fields, after the opening if nothing was reported yet.
+    #[inline(never)]
+    pub(crate) fn push_laid_out(
+        self,
+        text: &mut Pending,
+        progress: &Progress,
+        report: Report<'_>,
+        parts: &[Match],
+    )
+        requires fits { report.offset + length report.bytes.now < 2 ^ 64 }
+        requires ordered { AreInOrder 0 (length report.bytes.now) parts.now }
+        ensures { Adds text.old text.new (text_before self.entry progress.now
+            ++ report_text self.entry (call_of report.entry) parts.now) }
+    {
+        self.push_before(text, progress);
+        self.push_report(text, &report, parts)
+    }
+
     // Pushes a report: its parts, or all of it.
-    pub(crate) fn push_report(&self, text: &mut Pending, report: &Report<'_>, parts: &[Match])
+    fn push_report(&self, text: &mut Pending, report: &Report<'_>, parts: &[Match])
         requires fits { report.now.offset + length report.now.bytes.now < 2 ^ 64 }
         requires ordered { AreInOrder 0 (length report.now.bytes.now) parts.now }
         ensures { Adds text.old text.new (report_text self.now (call_of report.now) parts.now) }

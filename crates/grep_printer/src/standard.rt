@@ -1,11 +1,11 @@
 //! The printer of lines.
-ghost use Rattle.std.specs.Prelude.{◌≡◌, ◌+◌, ◌<◌, ◌^◌, ◌&&◌, None, is_some, length};
+ghost use Rattle.std.specs.Prelude.{◌≡◌, ◌+◌, ◌<◌, ◌^◌, ◌&&◌, ◌++◌, None, is_some, length};
 ghost use Rattle.std.specs.Prelude.{if◌then◌else◌, not};
 ghost use Rattle.grep_printer.specs.MatchedParts.{AreInOrder};
 ghost use Rattle.grep_output.specs.PendingTexts.{Adds};
 ghost use Rattle.grep_printer.specs.Reports.{call_of};
 ghost use Rattle.grep_printer.specs.StandardTexts.{call_text, is_hidden, layout_of, new_progress};
-ghost use Rattle.grep_printer.specs.StandardTexts.{progress_after};
+ghost use Rattle.grep_printer.specs.StandardTexts.{progress_after, report_text, text_before};
 
 use crate::binary_messages::push_binary_message;
 use crate::config::Config;
@@ -100,8 +100,36 @@ impl StandardFormat {
         }
     }
 
+    // Pushes a report that is shown, after the opening if it is the first.
+    #[inline(always)]
+    fn push_shown<A: Allocator + Copy>(
+        &self,
+        text: &mut Pending,
+        searcher: &Searcher<A>,
+        path: Option<&str>,
+        report: &Report<'_>,
+        parts: &[Match],
+    )
+        requires fits { report.now.offset + length report.now.bytes.now < 2 ^ 64 }
+        requires ordered { AreInOrder 0 (length report.now.bytes.now) parts.now }
+        ensures { Adds text.old text.new
+            (text_before (layout_of self.now.config
+            (record { path = path.entry; settings = searcher.now.settings })) self.now.progress
+            ++ report_text (layout_of self.now.config
+            (record { path = path.entry; settings = searcher.now.settings }))
+            (call_of report.now) parts.now) }
+    {
+        let (config, terminator) = (&self.config, searcher.line_terminator());
+        if self.progress.is_open && config.push_plain(text, path, terminator, report, parts) {
+            return;
+        }
+        self.layout(searcher, path)
+            .push_laid_out(text, &self.progress, *report, parts)
+    }
+
     // Pushes a report, after the opening if it is the first, unless it is hidden. Returns whether
     // it isn't.
+    #[inline(always)]
     fn push_report<A: Allocator + Copy>(
         &mut self,
         text: &mut Pending,
@@ -123,9 +151,7 @@ impl StandardFormat {
     {
         let is_hidden = self.progress.is_hidden(searcher.binary_detection());
         if !is_hidden {
-            let layout = self.layout(searcher, path);
-            layout.push_before(text, &self.progress);
-            layout.push_report(text, report, parts);
+            self.push_shown(text, searcher, path, report, parts);
         }
         self.progress.add(report);
         !is_hidden

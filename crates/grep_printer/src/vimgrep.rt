@@ -103,12 +103,13 @@ fn push_part_lines(layout: &Layout<'_>, text: &mut Pending, report: &Report<'_>,
     ensures { Adds text.old text.new (part_lines layout.now (line_kind report.now.kind)
         report.now.offset report.now.bytes.now report.now.number parts.now) }
 {
-    let mut number = report.number;
+    let terminator = layout.terminator.as_byte();
+    let mut passed = 0;
     let mut position = 0;
     let mut rest = parts;
     while let Some((part, later)) = rest.split_first() {
-        let passed = &report.bytes[position..part.start()];
-        number = number_after(number, count(passed, layout.terminator.as_byte()));
+        passed += count(&report.bytes[position..part.start()], terminator);
+        let number = number_after(report.number, passed);
         push_part_line(layout, text, report, number, part);
         position = part.start();
         rest = later;

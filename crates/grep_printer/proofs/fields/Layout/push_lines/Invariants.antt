@@ -4,7 +4,7 @@ use Rattle.grep_searcher.specs.Lines.{lines}
 use Rattle.grep_printer.proofs.TextLemmas.{IsPushing}
 use Rattle.grep_printer.proofs.PushLemmas.{HasPushed}
 use Rattle.grep_printer.specs.LineTexts.{lines_text}
-use Rattle.grep_printer.proofs.fields.Layout.push_each_line.Given as goal
+use Rattle.grep_printer.proofs.fields.Layout.push_lines.Given as goal
 
 abbrev pub invariant-loop-line : goal.invariant-loop-line
 invariant-loop-line l =
