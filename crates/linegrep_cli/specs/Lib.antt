@@ -1,10 +1,14 @@
 pub mod EngineCalls
 pub mod EngineSteps
 pub mod Haystacks
+pub mod JsonRuns
 pub mod OperandRuns
 pub mod OptionMeanings
 pub mod OptionUses
 pub mod PatternOptions
+pub mod PrintedSearches
 pub mod PrinterOptions
+pub mod PrinterSearches
+pub mod PrintingEngines
 pub mod RunScopes
 pub mod SearcherOptions

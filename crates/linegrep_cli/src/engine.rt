@@ -1,8 +1,9 @@
 //! A searcher, a matcher and a printer, which search as one.
-ghost use Rattle.std.specs.Prelude.{◌≡◌, Bool};
+ghost use Rattle.std.specs.Prelude.{◌≡◌, Bool, None};
 ghost use Rattle.linegrep_cli.specs.EngineCalls.{EngineCall, finishes, lists, says};
 ghost use Rattle.linegrep_cli.specs.EngineCalls.{searches_file, searches_input, sets_quits};
 ghost use Rattle.linegrep_cli.specs.EngineSteps.{IsWrittenError, writer_of};
+ghost use Rattle.linegrep_cli.specs.PrintingEngines.{IsSearched, detection_with};
 
 use crate::failures::say;
 use crate::haystacks::Haystack;
@@ -58,7 +59,7 @@ pub trait Engine<F> {
 
 /// The engine of a searcher, a matcher and a printer, over standard input and standard error.
 #[derive(Drop)]
-pub struct PrintingEngine<'e, F, M: FindAt, R, W, E> {
+pub struct PrintingEngine<'e, F, M, R, W, E> {
     rt: &'e HostRuntime,
     searcher: Searcher,
     matcher: M,
@@ -70,7 +71,7 @@ pub struct PrintingEngine<'e, F, M: FindAt, R, W, E> {
     detection: BinaryDetection,
 }
 
-impl<'e, F, M: FindAt, R, W, E> PrintingEngine<'e, F, M, R, W, E> {
+impl<'e, F, M, R, W, E> PrintingEngine<'e, F, M, R, W, E> {
     /// An engine of these. The times in messages are by the clock of `rt`.
     pub fn new(
         rt: &'e HostRuntime,
@@ -79,7 +80,14 @@ impl<'e, F, M: FindAt, R, W, E> PrintingEngine<'e, F, M, R, W, E> {
         printer: Printer<W>,
         input: R,
         errors: &'e mut E,
-    ) -> PrintingEngine<'e, F, M, R, W, E> {
+    ) -> PrintingEngine<'e, F, M, R, W, E>
+        ensures searcher { result.searcher ≡ searcher }
+        ensures matcher { result.matcher ≡ matcher }
+        ensures printer { result.printer ≡ printer }
+        ensures haystack { result.haystack ≡ record { file = None; reader = input } }
+        ensures errors { result.errors ≡ errors.entry }
+        ensures detection { result.detection ≡ searcher.settings.binary_detection }
+    {
         let detection = *searcher.binary_detection();
         PrintingEngine {
             rt,
@@ -117,17 +125,20 @@ impl<'e, F, M: FindAt, R, W, E> PrintingEngine<'e, F, M, R, W, E> {
     }
 }
 
-impl<'e, F: Read + Drop, M: FindAt + Copy, R: Source, W: Output, E: Output> Engine<F>
-    for PrintingEngine<'e, F, M, R, W, E> {
-    ghost use Rattle.linegrep_cli.specs.EngineSteps.{has_failed};
-
-    // What is written of a search isn't said here.
-    ghost step = { λ _ _ _. Unit {0} };
-
-    ghost has_failed = { λ engine. has_failed engine.printer };
-
-    fn search_file(&mut self, file: F, path: Option<&str>) -> Searched {
-        self.haystack.file = Some(file);
+impl<'e, F: Read + Drop, M: FindAt + Copy, R: Source, W: Output, E: Output> PrintingEngine<
+    'e,
+    F,
+    M,
+    R,
+    W,
+    E,
+> {
+    // Searches a file, or else standard input, and writes what is found in it.
+    fn search(&mut self, file: Option<F>, path: Option<&str>) -> Searched
+        ensures { IsSearched M.Error.output M.facts M.first_at W.step F.remaining R.remaining R.step
+            file path.entry self.old result self.new }
+    {
+        self.haystack.file = file;
         let searched = self.printer.search(
             self.rt,
             &mut self.searcher,
@@ -138,17 +149,24 @@ impl<'e, F: Read + Drop, M: FindAt + Copy, R: Source, W: Output, E: Output> Engi
         self.haystack.file = None;
         searched
     }
+}
+
+impl<'e, F: Read + Drop, M: FindAt + Copy, R: Source, W: Output, E: Output> Engine<F>
+    for PrintingEngine<'e, F, M, R, W, E> {
+    ghost use Rattle.linegrep_cli.specs.EngineSteps.{has_failed};
+    ghost use Rattle.linegrep_cli.specs.PrintingEngines.{IsEngineStep};
+
+    ghost step = { IsEngineStep M.Error.output M.facts M.first_at W.step F.remaining R.remaining
+        R.step };
+
+    ghost has_failed = { λ engine. has_failed engine.printer };
+
+    fn search_file(&mut self, file: F, path: Option<&str>) -> Searched {
+        self.search(Some(file), path)
+    }
 
     fn search_input(&mut self, path: Option<&str>) -> Searched {
-        let searched = self.printer.search(
-            self.rt,
-            &mut self.searcher,
-            self.matcher,
-            &mut self.haystack,
-            path,
-        );
-        self.haystack.file = None;
-        searched
+        self.search(None, path)
     }
 
     fn list(&mut self, path: &str) -> Searched {
@@ -169,11 +187,8 @@ impl<'e, F: Read + Drop, M: FindAt + Copy, R: Source, W: Output, E: Output> Engi
     }
 
     fn set_quits(&mut self, quits: bool) {
-        let detection = match self.detection {
-            BinaryDetection::Convert(byte) if quits => BinaryDetection::quit(byte),
-            other => other,
-        };
-        self.searcher.set_binary_detection(detection);
+        self.searcher
+            .set_binary_detection(detection(self.detection, quits));
     }
 
     fn has_failed(&self) -> bool {
@@ -185,6 +200,16 @@ impl<'e, F: Read + Drop, M: FindAt + Copy, R: Source, W: Output, E: Output> Engi
             Ok(()) => Ok(()),
             Err(error) => Err(written_error(error)),
         }
+    }
+}
+
+// What is done about a binary file, if its search may end where that shows.
+fn detection(first: BinaryDetection, quits: bool) -> BinaryDetection
+    ensures { result ≡ detection_with quits first }
+{
+    match first {
+        BinaryDetection::Convert(byte) if quits => BinaryDetection::quit(byte),
+        other => other,
     }
 }
 

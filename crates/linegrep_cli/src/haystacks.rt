@@ -1,5 +1,12 @@
 //! What is searched.
-use grep_searcher::{Matcher, SearchError, Searcher, Sink, Source};
+ghost use Rattle.std.specs.Prelude.{◌≡◌};
+ghost use Rattle.linegrep_cli.specs.PrintedSearches.{IsSearchPrinted};
+
+use grep_output::Output;
+use grep_printer::{Format, PrinterSink};
+use grep_searcher::laws::inputs_are_searched;
+use grep_searcher::{FindAt, SearchError, Searcher, Source};
+use std::alloc::Global;
 use std::io;
 use std::io::Read;
 
@@ -33,15 +40,27 @@ impl<F: Read, R: Source> Source for Haystack<F, R> {
     }
 }
 
-/// Searches what a source gives. The contract of a searcher's call isn't passed on.
-pub fn search<M: Matcher + Copy, H: Source, S: Sink<Error = SearchError>>(
+/// Searches what a source gives with the matcher of a printer's sink, to which it reports.
+pub fn search<F: Format, M: FindAt + Copy, H: Source, W: Output>(
     searcher: &mut Searcher,
     matcher: M,
     haystack: &mut H,
-    sink: &mut S,
+    sink: &mut PrinterSink<'_, F, M, W>,
 ) -> Result<(), SearchError>
-where
-    requires { S.may_call sink.old }
+    requires { sink.old.matcher ≡ matcher }
+    ensures settings { searcher.new.settings ≡ searcher.old.settings }
+    ensures printer { sink.new.printer.ghost_name ≡ sink.old.printer.ghost_name }
+    ensures printed { IsSearchPrinted F.rules M.Error.output M.facts M.first_at W.step H.remaining
+        H.step searcher.old haystack.old sink.old result haystack.new sink.new }
 {
+    inputs_are_searched::<Global, M, H, PrinterSink<'_, F, M, W>>(sink);
     searcher.search_reader(matcher, haystack, sink)
+}
+
+/// Ends a sink, and says whether its search found what it is for.
+pub fn end<F: Format, M: FindAt + Copy, W: Output>(sink: PrinterSink<'_, F, M, W>) -> bool
+    ensures left { sink.exit.0.now ≡ sink.entry.printer.now }
+    ensures has_match { result ≡ F.rules.has_match sink.entry.format }
+{
+    sink.has_match()
 }

@@ -1,8 +1,9 @@
 //! Searches of which the reports are written as JSON.
-ghost use Rattle.std.specs.Prelude.{◌≡◌, MatchResult};
-ghost use Rattle.grep_printer.specs.StatsSums.{stats_sum};
+ghost use Rattle.std.specs.Prelude.{◌≡◌, ℕ};
+ghost use Rattle.linegrep_cli.specs.JsonRuns.{AreCounted, AreTotalsPut, IsEndPut, IsJsonWritten};
+ghost use Rattle.linegrep_cli.specs.PrinterSearches.{IsWriterFlushed};
 
-use crate::haystacks::search;
+use crate::haystacks::{end, search};
 use crate::printers::Searched;
 use grep_output::Output;
 use grep_printer::{Json, JsonSink, Stats};
@@ -53,23 +54,34 @@ impl<W: Output> JsonRun<W> {
         matcher: M,
         haystack: &mut H,
         path: Option<&str>,
-    ) -> Searched {
+    ) -> Searched
+        ensures settings { searcher.new.settings ≡ searcher.old.settings }
+        ensures written { IsJsonWritten M.Error.output M.facts M.first_at W.step H.remaining H.step
+            searcher.old matcher path.entry haystack.old self.old result haystack.new self.new }
+    {
         let start = Instant::now(rt).ok();
         let mut sink = self.printer.sink(matcher, path);
         let result = search(searcher, matcher, haystack, &mut sink);
-        let has_match = sink.has_match();
-        let ended = end(rt, &mut sink, start, result);
+        let ended = write_end(rt, &mut sink, start, result);
+        let has_match = end(sink);
         self.keep(has_match, ended)
     }
 
     /// Writes the totals of all searches. An error is the writer's, or one of being out of memory.
-    pub fn write_totals(&mut self, rt: &HostRuntime) -> Result<(), SearchError> {
+    pub fn write_totals(&mut self, rt: &HostRuntime) -> Result<(), SearchError>
+        ensures totals { (elapsed : ℕ) × AreTotalsPut W.step self.old.printer self.old.stats elapsed
+            result self.new.printer }
+        ensures rest { self.new ≡ record self.old { printer = self.new.printer } }
+    {
         self.printer
             .write_summary(&self.stats, elapsed(rt, self.start))
     }
 
     /// Writes what isn't written yet, and flushes the writer. An error is the writer's.
-    pub fn flush(&mut self) -> io::Result<()> {
+    pub fn flush(&mut self) -> io::Result<()>
+        ensures flushed { IsWriterFlushed W.step self.old.printer result self.new.printer }
+        ensures rest { self.new ≡ record self.old { printer = self.new.printer } }
+    {
         self.printer.flush()
     }
 
@@ -84,9 +96,8 @@ impl<W: Output> JsonRun<W> {
     fn keep(&mut self, has_match: bool, ended: Result<Stats, SearchError>) -> Searched
         ensures printer { self.new.printer ≡ self.old.printer }
         ensures has_match { result.has_match ≡ has_match }
-        ensures stats { MatchResult ended
-            (λ stats. (result.result ≡ Ok tt) × (self.new.stats ≡ stats_sum self.old.stats stats))
-            (λ e. (result.result ≡ Err e) × (self.new.stats ≡ self.old.stats)) }
+        ensures stats { AreCounted self.old.stats ended result.result self.new.stats }
+        ensures start { self.new.start ≡ self.old.start }
     {
         let result = match ended {
             Ok(stats) => {
@@ -100,12 +111,17 @@ impl<W: Output> JsonRun<W> {
 }
 
 // Writes that a search has ended, unless it failed, and gives its counts.
-fn end<M: FindAt, W: Output>(
+fn write_end<M: FindAt, W: Output>(
     rt: &HostRuntime,
     sink: &mut JsonSink<'_, M, W>,
     start: Option<Instant>,
     searched: Result<(), SearchError>,
-) -> Result<Stats, SearchError> {
+) -> Result<Stats, SearchError>
+    ensures printer { sink.new.printer.ghost_name ≡ sink.old.printer.ghost_name }
+    ensures format { sink.new.format ≡ sink.old.format }
+    ensures end { (elapsed : ℕ)
+        × IsEndPut W.step sink.old searched elapsed result sink.new.printer.now }
+{
     match searched {
         Ok(()) => sink.write_end(elapsed(rt, start)),
         Err(error) => Err(error),

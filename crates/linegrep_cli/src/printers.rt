@@ -1,8 +1,10 @@
 //! What writes what is found.
 ghost use Rattle.std.specs.Prelude.{◌≡◌};
 ghost use Rattle.linegrep_cli.specs.EngineSteps.{has_failed, writer_of};
+ghost use Rattle.linegrep_cli.specs.PrintedSearches.{IsPrintedBy};
+ghost use Rattle.linegrep_cli.specs.PrinterSearches.{HasTotals, IsFinished, IsFlushed, IsSearchWritten};
 
-use crate::haystacks::search;
+use crate::haystacks::{end, search};
 use crate::json_run::JsonRun;
 use grep_output::Output;
 use grep_printer::{Format, Standard, Summary, Vimgrep};
@@ -54,7 +56,11 @@ impl<W: Output> Printer<W> {
         matcher: M,
         haystack: &mut H,
         path: Option<&str>,
-    ) -> Searched {
+    ) -> Searched
+        ensures settings { searcher.new.settings ≡ searcher.old.settings }
+        ensures written { IsSearchWritten M.Error.output M.facts M.first_at W.step H.remaining H.step
+            searcher.old matcher path.entry haystack.old self.old result haystack.new self.new }
+    {
         match self {
             Printer::Lines(printer) => print(printer, searcher, matcher, haystack, path),
             Printer::Parts(printer) => print(printer, searcher, matcher, haystack, path),
@@ -77,9 +83,12 @@ impl<W: Output> Printer<W> {
 
     /// Writes the totals of all searches, if they are asked for, and flushes the writer. An error
     /// is the writer's, or one of being out of memory.
-    pub fn finish(&mut self, rt: &HostRuntime) -> Result<(), SearchError> {
-        if let Printer::Json(run) = self {
-            run.write_totals(rt)?;
+    pub fn finish(&mut self, rt: &HostRuntime) -> Result<(), SearchError>
+        ensures { IsFinished W.step self.old result self.new }
+    {
+        match self.write_totals(rt) {
+            Ok(()) => {}
+            Err(error) => return Err(error),
         }
         match self.flush() {
             Ok(()) => Ok(()),
@@ -87,8 +96,20 @@ impl<W: Output> Printer<W> {
         }
     }
 
+    // Writes the totals of all searches, if they are asked for.
+    fn write_totals(&mut self, rt: &HostRuntime) -> Result<(), SearchError>
+        ensures { HasTotals W.step self.old result self.new }
+    {
+        match self {
+            Printer::Json(run) => run.write_totals(rt),
+            Printer::Lines(_) | Printer::Parts(_) | Printer::Summary(_) => Ok(()),
+        }
+    }
+
     /// Writes what isn't written yet, and flushes the writer. An error is the writer's.
-    pub fn flush(&mut self) -> io::Result<()> {
+    pub fn flush(&mut self) -> io::Result<()>
+        ensures { IsFlushed W.step self.old result self.new }
+    {
         match self {
             Printer::Lines(printer) => printer.flush(),
             Printer::Parts(printer) => printer.flush(),
@@ -105,9 +126,13 @@ fn print<F: Format, M: FindAt + Copy, W: Output, H: Source>(
     matcher: M,
     haystack: &mut H,
     path: Option<&str>,
-) -> Searched {
+) -> Searched
+    ensures settings { searcher.new.settings ≡ searcher.old.settings }
+    ensures printed { IsPrintedBy F.rules M.Error.output M.facts M.first_at W.step H.remaining H.step
+        searcher.old matcher path.entry haystack.old printer.old result haystack.new printer.new }
+{
     let mut sink = printer.sink(matcher, path);
     let result = search(searcher, matcher, haystack, &mut sink);
-    let has_match = sink.has_match();
+    let has_match = end(sink);
     Searched { has_match, result }
 }

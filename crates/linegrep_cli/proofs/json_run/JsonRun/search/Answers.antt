@@ -1,0 +1,26 @@
+use Rattle.std.proofs.Common.{◌≡◌, ◌∙◌, ap, rules}
+use Rattle.grep_printer.specs.declared.json_printer.JsonFormat.{JsonFormat}
+use Rattle.linegrep_cli.proofs.json_run.JsonRun.search.Goals as goal
+
+pub returns-clause-written : goal.returns-clause-written
+returns-clause-written g c = record {
+  begun = c.sink-sink.result;
+  ended = c.search-result.new.sink;
+  result = c.search-result.result;
+  elapsed = c.write_end-ended.ensures.end.0;
+  counts = c.write_end-ended.result;
+  begins = record {
+    is_of = c.sink-sink.ensures.now;
+    asks = c.sink-sink.ensures.matcher;
+    names = c.sink-sink.ensures.path;
+    format = c.sink-sink.ensures.format;
+  };
+  searches = c.search-result.ensures.printed;
+  has_match = c.keep.ensures.has_match ∙ (c.end-has_match.ensures.has_match
+      ∙ ap (λ (format : JsonFormat). format.progress.has_match) c.write_end-ended.ensures.format);
+  ends =
+      let printer : c.keep.new.self.printer ≡ c.write_end-ended.new.sink.printer.now = search rules in
+      rw printer c.write_end-ended.ensures.end.1;
+  totals = c.keep.ensures.stats;
+  start = c.keep.ensures.start;
+}

@@ -1,0 +1,66 @@
+-- What a run writes whose searches are written as messages in JSON.
+use Rattle.std.specs.Prelude.{◌≡◌, ℕ, List, MatchResult, Option, Result, Ok, Err}
+use Rattle.std.specs.Borrow.{Bor}
+use Rattle.std.specs.Global.{Global}
+use Rattle.grep_output.specs.Outputs.{OutputCall}
+use Rattle.grep_searcher.specs.Meanings.{MatcherFacts}
+use Rattle.grep_searcher.specs.Plans.{SearcherState}
+use Rattle.grep_searcher.specs.Source.{ReadResult}
+use Rattle.grep_searcher.specs.declared.SearchError.{SearchError}
+use Rattle.grep_printer.specs.JsonEnds.{FailsToPutText, PutsText}
+use Rattle.grep_printer.specs.JsonMessages.{json_line, summary_json}
+use Rattle.grep_printer.specs.JsonTexts.{end_text, json_rules, stats_of}
+use Rattle.grep_printer.specs.StatsSums.{stats_sum}
+use Rattle.grep_printer.specs.declared.json_printer.JsonFormat.{JsonFormat}
+use Rattle.grep_printer.specs.declared.printer.Printer.{Printer}
+use Rattle.grep_printer.specs.declared.printer.PrinterSink.{PrinterSink}
+use Rattle.grep_printer.specs.declared.stats.Stats.{Stats}
+use Rattle.linegrep_cli.specs.PrintedSearches.{IsSearchPrinted, IsSinkFor}
+use Rattle.linegrep_cli.specs.declared.json_run.JsonRun.{JsonRun}
+use Rattle.linegrep_cli.specs.declared.printers.Searched.{Searched}
+
+-- what a search counts is added to the totals, if it ended in `Ok`
+abbrev pub AreCounted : Stats → Result Stats (SearchError Global)
+    → Result (Unit {0}) (SearchError Global) → Stats → Type 0
+AreCounted totals (Ok stats) result new = (result ≡ Ok tt) × (new ≡ stats_sum totals stats)
+AreCounted totals (Err e) result new = (result ≡ Err e) × (new ≡ totals)
+
+module _ {W : Type 0} (write_step : W → OutputCall → W → Type 0) where
+  -- after a search that ended in `Ok` comes the message about its end, if it reported something,
+  -- with how long it took; and it gives what it counts
+  abbrev pub IsEndPut : {M : Type 0} → PrinterSink JsonFormat M W
+      → Result (Unit {0}) (SearchError Global) → ℕ → Result Stats (SearchError Global)
+      → Printer JsonFormat W → Type 0
+  IsEndPut sink (Ok u) elapsed counts new = MatchResult counts
+      (λ stats. (stats ≡ stats_of sink.format.progress elapsed)
+      × PutsText write_step sink.printer.now (end_text sink.path sink.format.progress elapsed) new)
+      (λ e. FailsToPutText write_step sink.printer.now
+      (end_text sink.path sink.format.progress elapsed) e new)
+  IsEndPut sink (Err e) elapsed counts new = (counts ≡ Err e) × (new ≡ sink.printer.now)
+
+  -- the message about all searches comes, or fails to
+  abbrev pub AreTotalsPut : Printer JsonFormat W → Stats → ℕ
+      → Result (Unit {0}) (SearchError Global) → Printer JsonFormat W → Type 0
+  AreTotalsPut old totals elapsed result new = MatchResult result
+      (λ _. PutsText write_step old (json_line (summary_json totals elapsed)) new)
+      (λ e. FailsToPutText write_step old (json_line (summary_json totals elapsed)) e new)
+
+module _ {M W E : Type 0} (output : E → Option (List ℕ)) (facts : M → MatcherFacts E)
+    (first_at : M → List ℕ → ℕ → Option (ℕ × ℕ)) (write_step : W → OutputCall → W → Type 0)
+    {R : Type 0} (remaining : R → Option (List ℕ)) (read_step : R → ReadResult → R → Type 0)
+    (state : SearcherState) (matcher : M) (path : Option (Bor (List ℕ))) where
+  -- a search is written as messages
+  pub record IsJsonWritten (reader : R) (old : JsonRun W) (searched : Searched) (reader' : R)
+      (new : JsonRun W) : Type 0 where
+    pub begun : PrinterSink JsonFormat M W
+    pub ended : PrinterSink JsonFormat M W
+    pub result : Result (Unit {0}) (SearchError Global)
+    pub elapsed : ℕ
+    pub counts : Result Stats (SearchError Global)
+    pub begins : IsSinkFor json_rules old.printer matcher path begun
+    pub searches : IsSearchPrinted json_rules output facts first_at write_step remaining read_step
+        state reader begun result reader' ended
+    pub has_match : searched.has_match ≡ json_rules.has_match ended.format
+    pub ends : IsEndPut write_step ended result elapsed counts new.printer
+    pub totals : AreCounted old.stats counts searched.result new.stats
+    pub start : new.start ≡ old.start

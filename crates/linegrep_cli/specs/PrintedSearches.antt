@@ -1,0 +1,138 @@
+-- What a search of a source writes, by a printer of any format.
+use Rattle.std.specs.Prelude.{◌≡◌, ℕ, Bool, true, false, MatchBool, List, length, Option, None, Result}
+use Rattle.std.specs.Prelude.{Ok, Err}
+use Rattle.std.specs.Borrow.{Bor}
+use Rattle.std.specs.Global.{Global}
+use Rattle.std.specs.declared.io.Error.{Error}
+use Rattle.grep_output.specs.Outputs.{OutputCall}
+use Rattle.grep_searcher.specs.ErrorMakers.{ErrorMakers, makers_of}
+use Rattle.grep_searcher.specs.Meanings.{MatcherFacts}
+use Rattle.grep_searcher.specs.Plans.{IsAskedWith, Plan, Planned, SearcherState, Settings}
+use Rattle.grep_searcher.specs.Plans.{refusal_of, search_plan}
+use Rattle.grep_searcher.specs.SearchErrors.{IsMessageOf}
+use Rattle.grep_searcher.specs.Searches.{BinaryPoint, IsInputOf, IsPoint, IsUnlessRefusedBy}
+use Rattle.grep_searcher.specs.Searches.{IsCut, Look, Points, Taken, calls_with, look_of}
+use Rattle.grep_searcher.specs.Searches.{plan_with, quits, view_in, viewed_plan}
+use Rattle.grep_searcher.specs.Source.{ReadResult}
+use Rattle.grep_searcher.specs.declared.SearchError.{SearchError}
+use Rattle.grep_searcher.specs.declared.SearchError.TheVariants.{Config, Io}
+use Rattle.grep_printer.specs.CallParts.{Anything}
+use Rattle.grep_printer.specs.Formats.{AllGoOn, AreAlong, PrintedCall, Rules}
+use Rattle.grep_printer.specs.PrinterSteps.{FailsAlongPlan, HasFound, PrintsAll, scene_of}
+use Rattle.grep_printer.specs.declared.printer.Printer.{Printer}
+use Rattle.grep_printer.specs.declared.printer.PrinterSink.{PrinterSink}
+use Rattle.linegrep_cli.specs.declared.printers.Searched.{Searched}
+
+-- how the errors of a search are made
+abbrev pub search_errors : {E : Type 0} → (E → Option (List ℕ)) → ErrorMakers E (SearchError Global)
+search_errors output = makers_of output (record {
+  is_message = IsMessageOf;
+  is_io = λ error e. e ≡ Io error;
+  is_config = λ error e. e ≡ Config error;
+})
+
+-- the sink that a printer gives for a search with a matcher, and a path if there is one
+pub record IsSinkFor {F M W : Type 0} (rules : Rules F) (printer : Printer F W) (matcher : M)
+    (path : Option (Bor (List ℕ))) (sink : PrinterSink F M W) : Type 0 where
+  pub is_of : sink.printer.now ≡ printer
+  pub asks : sink.matcher ≡ matcher
+  pub names : sink.path ≡ path
+  pub format : sink.format ≡ rules.begun printer.format printer.has_written
+
+module _ {F M W E : Type 0} (rules : Rules F) (output : E → Option (List ℕ))
+    (facts : M → MatcherFacts E) (first_at : M → List ℕ → ℕ → Option (ℕ × ℕ))
+    (write_step : W → OutputCall → W → Type 0) where
+  -- the texts of some calls of a plan come after what is pending
+  abbrev pub PrintsCalls : PrinterSink F M W → Settings → List Planned → PrinterSink F M W → Type 0
+  PrintsCalls old settings calls new = (printed : List PrintedCall)
+      × AllGoOn rules (scene_of old settings)
+      (HasFound rules Anything facts first_at old settings) old.format calls printed
+      × PrintsAll rules output facts first_at write_step old settings printed new
+
+  -- so do those of all calls along a plan, or a call fails after some of them
+  abbrev pub PrintsPlan : PrinterSink F M W → Settings → Plan
+      → Result (Unit {0}) (SearchError Global) → PrinterSink F M W → Type 0
+  PrintsPlan old settings plan (Ok u) new = (printed : List PrintedCall)
+      × AreAlong rules (scene_of old settings)
+      (HasFound rules Anything facts first_at old settings) old.format plan.calls plan.finish printed
+      × PrintsAll rules output facts first_at write_step old settings printed new
+  PrintsPlan old settings plan (Err e) new =
+      FailsAlongPlan rules output facts first_at write_step old settings plan e new
+
+  -- some first calls of a search, which goes on after them, with `binary_data` if it comes
+  abbrev pub PrintsFirst : PrinterSink F M W → Settings → Points → List Planned
+      → PrinterSink F M W → Type 0
+  PrintsFirst old settings IsAt calls new = (point : Option BinaryPoint) × IsAt calls point
+      × (quits settings.binary_detection ≡ true → point ≡ None)
+      × PrintsCalls old settings (calls_with point calls) new
+
+  -- what a search of some bytes printed, of which so many were seen: the calls of its plan, up to one
+  -- that failed, or those before a question at which the matcher did
+  pub data IsInputPrinted (settings : Settings) (look : Look) (bytes : List ℕ) (count : ℕ)
+      (old : PrinterSink F M W)
+      : Result (Unit {0}) (SearchError Global) → PrinterSink F M W → Type 0 where
+    of_plan : {result : Result (Unit {0}) (SearchError Global)} {new : PrinterSink F M W}
+        (point : Option BinaryPoint)
+        → IsPoint settings (facts old.matcher).meaning bytes look count
+        (viewed_plan settings (facts old.matcher).meaning look bytes).calls point
+        → PrintsPlan old settings (plan_with settings.binary_detection point
+        (viewed_plan settings (facts old.matcher).meaning look bytes)) result new
+        → IsInputPrinted settings look bytes count old result new
+    of_matcher : {e : SearchError Global} {new : PrinterSink F M W} (haystack : List ℕ)
+        (error : E) (calls : List Planned)
+        → IsAskedWith settings (facts old.matcher).meaning (view_in settings look bytes) haystack
+        calls
+        → (facts old.matcher).fails haystack error → (search_errors output).is_message error e
+        → PrintsFirst old settings
+        (IsPoint settings (facts old.matcher).meaning bytes look count) calls new
+        → IsInputPrinted settings look bytes count old (Err e) new
+
+  module _ {R : Type 0} (remaining : R → Option (List ℕ)) (read_step : R → ReadResult → R → Type 0)
+      (state : SearcherState) where
+    -- where the search looks for binary bytes
+    abbrev pub look : PrinterSink F M W → Look
+    look old = look_of state.settings (facts old.matcher).meaning false
+
+    -- where `binary_data` comes, whichever input begins with what was taken
+    abbrev pub IsPointOfAll : {reader mid : R} → Taken remaining read_step reader mid
+        → PrinterSink F M W → ℕ → Points
+    IsPointOfAll taken old count calls point =
+        (bytes : List ℕ) → IsInputOf remaining read_step taken state.settings bytes
+        → IsPoint state.settings (facts old.matcher).meaning bytes (look old) count calls point
+
+    -- what a search of a source printed: the calls for its bytes, whatever follows what was taken of
+    -- them; or, as not all could be read, those for the lines that were seen
+    pub data IsSourcePrinted (reader : R) (old : PrinterSink F M W)
+        : Result (Unit {0}) (SearchError Global) → R → PrinterSink F M W → Type 0 where
+      of_input : {result : Result (Unit {0}) (SearchError Global)} {reader' : R}
+          {new : PrinterSink F M W} (taken : Taken remaining read_step reader reader') (count : ℕ)
+          → ((bytes : List ℕ) → IsInputOf remaining read_step taken state.settings bytes
+          → IsInputPrinted state.settings (look old) bytes count old result new)
+          → IsSourcePrinted reader old result reader' new
+      of_reading : {mid reader' : R} {new : PrinterSink F M W}
+          (taken : Taken remaining read_step reader mid) (begun : Bool) (seen : List ℕ)
+          (error : Error)
+          → IsCut remaining read_step state (facts old.matcher).meaning reader mid reader' taken seen
+          begun error
+          → MatchBool begun (PrintsFirst old state.settings (IsPointOfAll taken old (length seen))
+          (search_plan state.settings (facts old.matcher).meaning seen).calls new) (new ≡ old)
+          → IsSourcePrinted reader old (Err (Io error)) reader' new
+
+    -- a search that isn't refused printed that, if the matcher can be trusted
+    abbrev pub IsSearchPrinted : R → PrinterSink F M W → Result (Unit {0}) (SearchError Global) → R
+        → PrinterSink F M W → Type 0
+    IsSearchPrinted reader old result reader' new =
+        IsUnlessRefusedBy (search_errors output) (facts old.matcher) state.settings old result new
+        (reader' ≡ reader) (IsSourcePrinted reader old result reader' new)
+        (refusal_of state.settings (facts old.matcher).meaning)
+
+    -- so a printer printed what a search of a source reports to its sink, and it is known whether
+    -- that found what it is for
+    pub record IsPrintedBy (matcher : M) (path : Option (Bor (List ℕ))) (reader : R)
+        (old : Printer F W) (searched : Searched) (reader' : R) (new : Printer F W) : Type 0 where
+      pub begun : PrinterSink F M W
+      pub ended : PrinterSink F M W
+      pub begins : IsSinkFor rules old matcher path begun
+      pub searches : IsSearchPrinted reader begun searched.result reader' ended
+      pub has_match : searched.has_match ≡ rules.has_match ended.format
+      pub ends : ended.printer.now ≡ new

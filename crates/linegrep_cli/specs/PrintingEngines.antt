@@ -1,0 +1,99 @@
+-- What the engine of a searcher, a matcher and a printer does in each call, and writes.
+use Rattle.std.specs.Prelude.{◌≡◌, ◌∷◌, ◌++◌, MatchResult, ℕ, Bool, if◌then◌else◌, List, [], Option, None, Some}
+use Rattle.std.specs.Prelude.{Result, Ok, Err}
+use Rattle.std.specs.Borrow.{Bor}
+use Rattle.std.specs.Global.{Global}
+use Rattle.std.specs.declared.io.Error.{Error}
+use Rattle.grep_output.specs.Outputs.{OutputCall}
+use Rattle.grep_searcher.specs.Meanings.{MatcherFacts}
+use Rattle.grep_searcher.specs.Source.{ReadResult}
+use Rattle.grep_searcher.specs.declared.BinaryDetection.{BinaryDetection}
+use Rattle.grep_searcher.specs.declared.BinaryDetection.TheVariants.{Convert, Quit}
+use Rattle.grep_searcher.specs.declared.SearchError.{SearchError}
+use Rattle.linegrep_cli.specs.EngineCalls.{EngineCall, finishes, lists, says, searches_file}
+use Rattle.linegrep_cli.specs.EngineCalls.{searches_input, sets_quits}
+use Rattle.linegrep_cli.specs.EngineSteps.{IsWrittenError}
+use Rattle.linegrep_cli.specs.Haystacks.{IsPulled, remaining_of}
+use Rattle.linegrep_cli.specs.PrinterSearches.{IsFinished, IsFlushed, IsSearchWritten}
+use Rattle.linegrep_cli.specs.declared.engine.PrintingEngine.{PrintingEngine}
+use Rattle.linegrep_cli.specs.declared.haystacks.Haystack.{Haystack}
+use Rattle.linegrep_cli.specs.declared.printers.Searched.{Searched}
+
+-- what is done about a binary file, if its search may end where that shows
+abbrev pub detection_with : Bool → BinaryDetection → BinaryDetection
+detection_with quits (Convert byte) = if quits then Quit byte else Convert byte
+detection_with quits detection = detection
+
+-- what a read of a text gives
+abbrev pub IsLineRead : Bor (List ℕ) → ReadResult → Bor (List ℕ) → Type 0
+IsLineRead old result new = MatchResult result (λ bytes. old.now ≡ bytes ++ new.now) (λ e. ⊥)
+
+-- the writer's error in that of a search, if it is one
+abbrev pub IsWrittenResult : Result (Unit {0}) (SearchError Global) → Result (Unit {0}) Error
+    → Type 0
+IsWrittenResult (Ok u) result = result ≡ Ok tt
+IsWrittenResult (Err e) result = (error : Error) × (result ≡ Err error) × IsWrittenError e error
+
+module _ {F M R W X E : Type 0} (output : E → Option (List ℕ)) (facts : M → MatcherFacts E)
+    (first_at : M → List ℕ → ℕ → Option (ℕ × ℕ)) (write_step : W → OutputCall → W → Type 0)
+    (file_remaining : F → Option (List ℕ)) (remaining : R → Option (List ℕ))
+    (read_step : R → ReadResult → R → Type 0) where
+  -- a file is searched, or else standard input: with the engine's settings and matcher, and what its
+  -- printer makes of it is written
+  pub record IsSearched (file : Option F) (path : Option (Bor (List ℕ)))
+      (old : PrintingEngine F M R W X) (searched : Searched) (new : PrintingEngine F M R W X)
+      : Type 0 where
+    pub left : Haystack F R
+    pub written : IsSearchWritten output facts first_at write_step
+        (remaining_of file_remaining remaining) (IsPulled file_remaining remaining read_step)
+        old.searcher old.matcher path (record { file = file; reader = old.haystack.reader })
+        old.printer searched left new.printer
+    pub settings : new.searcher.settings ≡ old.searcher.settings
+    pub others : new ≡ record old {
+      searcher = new.searcher;
+      printer = new.printer;
+      haystack = record { file = None; reader = left.reader };
+    }
+
+  -- a path is written as that of a file with a match: a line that is empty is searched for it
+  pub record IsPathWritten (path : Bor (List ℕ)) (old : PrintingEngine F M R W X)
+      (searched : Searched) (new : PrintingEngine F M R W X) : Type 0 where
+    pub line : Bor (List ℕ)
+    pub left : Bor (List ℕ)
+    pub is_line : line.now ≡ 10 ∷ []
+    pub written : IsSearchWritten output facts first_at write_step (λ s. Some s.now)
+        IsLineRead old.searcher old.matcher (Some path) line
+        old.printer searched left new.printer
+    pub settings : new.searcher.settings ≡ old.searcher.settings
+    pub others : new ≡ record old { searcher = new.searcher; printer = new.printer }
+
+  -- what was found before a text on standard error is written first
+  pub record IsSaidAfter (old : PrintingEngine F M R W X) (result : Result (Unit {0}) Error)
+      (new : PrintingEngine F M R W X) : Type 0 where
+    pub flushed : IsFlushed write_step old.printer result new.printer
+    pub others : new ≡ record old { printer = new.printer; errors = new.errors }
+
+  -- all is written in the end
+  pub record IsAllWritten (old : PrintingEngine F M R W X) (result : Result (Unit {0}) Error)
+      (new : PrintingEngine F M R W X) : Type 0 where
+    pub ended : Result (Unit {0}) (SearchError Global)
+    pub finished : IsFinished write_step old.printer ended new.printer
+    pub is_result : IsWrittenResult ended result
+    pub others : new ≡ record old { printer = new.printer }
+
+  -- what one call does
+  abbrev pub IsEngineStep : PrintingEngine F M R W X → EngineCall F → PrintingEngine F M R W X
+      → Type 0
+  IsEngineStep old (searches_file path file searched) new =
+      IsSearched (Some file) path old searched new
+  IsEngineStep old (searches_input path searched) new = IsSearched None path old searched new
+  IsEngineStep old (lists path searched) new = IsPathWritten path old searched new
+  IsEngineStep old (says result) new = IsSaidAfter old result new
+  IsEngineStep old (sets_quits quits) new = new ≡ record old {
+    searcher = record old.searcher {
+      settings = record old.searcher.settings {
+        binary_detection = detection_with quits old.detection;
+      };
+    };
+  }
+  IsEngineStep old (finishes result) new = IsAllWritten old result new
