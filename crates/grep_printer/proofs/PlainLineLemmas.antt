@@ -1,20 +1,24 @@
 -- Lines that are written as they are.
 use Rattle.std.proofs.Common.{◌≡◌, ◌∙◌, ℕ, ◌+◌, ◌<◌, List, [], ◌∷◌, ◌++◌, ap, arith, length}
-use Rattle.std.proofs.Common.{⊎_elim, append_assoc, refl, sym}
-use Rattle.std.proofs.lemmas.Bool.{and_parts, cases_eq, eq-eqb, not-true}
+use Rattle.std.proofs.Common.{⊎_elim, ◌≤◌, ap₂, append_assoc, refl, sym}
+use Rattle.std.proofs.lemmas.Bool.{and_parts, cases_eq, eq-eqb}
+use Rattle.std.proofs.lemmas.Bool.Decides.{nat_tests}
 use Rattle.std.proofs.lemmas.List.{append-nil}
-use Rattle.std.specs.List.{flat_map}
+use Rattle.std.proofs.lemmas.List.Sums.{sum_by-cons}
+use Rattle.std.specs.List.{concat, count_by, flat_map}
 use Rattle.std.specs.Borrow.{Bor}
 use Rattle.std.specs.Option.{is_none, unwrap_or}
-use Rattle.std.specs.Prelude.{Bool, false, true, ◌&&◌, ◌||◌, ◌==◌, if◌then◌else◌, not, Option, None, Some}
-use Rattle.grep_matcher.proofs.LineLemmas.{lines-end, lines-inner}
+use Rattle.std.specs.Prelude.{Bool, false, true, ◌&&◌, ◌||◌, ◌==◌, if◌then◌else◌, cond, max, min, nat_lt, not, Option, None, Some, slice_range}
+use Rattle.grep_matcher.proofs.LineLemmas.{lines-end, lines-inner, lines-joined}
 use Rattle.grep_matcher.specs.Lines.{lines, onto_first}
+use Rattle.grep_searcher.specs.Lines.{strip}
+use Rattle.grep_printer.specs.MatchedParts.{AreInOrder, ends_after}
 use Rattle.grep_printer.specs.ColoredTexts.{line_color, matched_color, path_color}
 use Rattle.grep_printer.specs.LineTexts.{end_byte, is_plain, line_text, lines_text, mark_of, missing_end}
-use Rattle.grep_printer.specs.LineTexts.{next_number, number_field, path_field, place_after, plain_line, plain_lines}
-use Rattle.grep_printer.specs.Reports.{report_place, reporting_call}
+use Rattle.grep_printer.specs.LineTexts.{next_number, number_field, path_field, place_after, plain_line, plain_lines, plain_part}
+use Rattle.grep_printer.specs.Reports.{HasPlainParts, call_of, report_place, reporting_call}
 use Rattle.grep_printer.specs.StandardTexts.{report_text}
-use Rattle.grep_printer.specs.PartTexts.{column_of}
+use Rattle.grep_printer.specs.PartTexts.{across_text, clipped_text, column_of, is_in_span, line_span, part_place, writes_parts}
 use Rattle.grep_printer.specs.declared.config.Config.{Config}
 use Rattle.grep_printer.specs.declared.fields.Layout.{Layout}
 use Rattle.grep_printer.specs.declared.fields.LineKind.{LineKind}
@@ -131,7 +135,6 @@ record ArePlain (config : Config) (path : Option (Bor (List ℕ))) : Type 0 wher
   paths : (config.heading || is_none path) ≡ true
   columns : not config.column ≡ true
   offsets : not config.byte_offset ≡ true
-  whole : not config.only_matching ≡ true
   limits : is_none config.max_columns ≡ true
   numbers : is_none (line_color config.color_specs) ≡ true
   matched : is_none (matched_color config.color_specs) ≡ true
@@ -141,10 +144,9 @@ are_plain config path plain =
     let a = and_parts _ (is_none (matched_color config.color_specs)) plain in
     let b = and_parts _ (is_none (line_color config.color_specs)) a.0 in
     let c = and_parts _ (is_none config.max_columns) b.0 in
-    let d = and_parts _ (not config.only_matching) c.0 in
-    let e = and_parts _ (not config.byte_offset) d.0 in
+    let e = and_parts _ (not config.byte_offset) c.0 in
     let f = and_parts (config.heading || is_none path) (not config.column) e.0 in
-    record { paths = f.0; columns = f.1; offsets = e.1; whole = d.1; limits = c.1; numbers = b.1; matched = a.1 }
+    record { paths = f.0; columns = f.1; offsets = e.1; limits = c.1; numbers = b.1; matched = a.1 }
 
 column-none : (layout : Layout) (parts : List (ℕ × ℕ)) → not layout.config.column ≡ true → column_of layout parts ≡ None
 column-none layout [] none = refl
@@ -179,22 +181,93 @@ module _ (layout : Layout) (kind : LineKind) (plain : is_plain layout.config lay
 module _ (layout : Layout) (report : Report) (parts : List (ℕ × ℕ)) (plain : is_plain layout.config layout.path ≡ true)
   where
     abbrev instead : List ℕ → List ℕ → Bool → List ℕ
-    instead in_parts in_lines only = if only && not (length parts == 0) then in_parts else in_lines
-
-    whole : layout.config.only_matching ≡ false
-    whole = not-true layout.config.only_matching (are_plain layout.config layout.path plain).whole
+    instead in_parts in_lines by_parts = if by_parts then in_parts else in_lines
 
     column : column_of layout parts ≡ None
     column = column-none layout parts (are_plain layout.config layout.path plain).columns
 
-    pub match-plain : report_text layout (reporting_call Match report.number report.offset report.bytes.now) parts
+    -- a match of which no parts are written
+    pub match-plain : writes_parts layout parts ≡ false
+        → report_text layout (reporting_call Match report.number report.offset report.bytes.now) parts
         ≡ plain_lines (end_byte layout) 58 report.number (lines (end_byte layout) report.bytes.now)
-    match-plain = ap (instead _ _) whole
+    match-plain whole = ap (instead _ _) whole
         ∙ lines-plain layout match_line plain (report_place layout report parts) parts
         (lines (end_byte layout) report.bytes.now) column
 
-    pub context-plain : (kind : SinkContextKind)
+    -- a line that isn't a match, so too
+    pub context-plain : writes_parts layout parts ≡ false → (kind : SinkContextKind)
         → report_text layout (reporting_call (Context kind) report.number report.offset report.bytes.now) parts
         ≡ plain_line (end_byte layout) 45 report.number report.bytes.now
-    context-plain kind = ap (instead _ _) whole
+    context-plain whole kind = ap (instead _ _) whole
         ∙ line-plain layout context_line plain (report_place layout report parts) parts report.bytes.now column
+
+    -- a part of a line that has its terminator, if it doesn't reach into that
+    part-plain : (part : ℕ × ℕ) → part.0 ≤ part.1 → part.1 ≤ length (strip layout.terminator report.bytes.now)
+        → length (strip layout.terminator report.bytes.now) < length report.bytes.now
+        → clipped_text layout match_line report.offset report.bytes.now report.number
+        (line_span layout.terminator 0 report.bytes.now) part
+        ≡ plain_part (end_byte layout) 58 report.number report.bytes.now part
+    part-plain part ordered within ended =
+        let span = line_span layout.terminator 0 report.bytes.now in
+        let start : max part.0 0 ≡ part.0 = omega arith in
+        let end : max (max part.0 0) (min part.1 span.end) ≡ part.1 = omega (arith, ordered, within) in
+        let inside : is_in_span span part ≡ true = grind (arith, nat_tests, ordered, within, ended) in
+        let no_column = offset-none layout.config.column (part.0 + 1)
+        (are_plain layout.config layout.path plain).columns in
+        ap (λ holds. if holds then line_text layout match_line
+        (record (part_place layout match_line report.offset report.bytes.now report.number part) {
+          start = max part.0 span.start;
+        }) (part ∷ []) (slice_range report.bytes.now (max part.0 span.start)
+        (max (max part.0 span.start) (min part.1 span.end))) else []) inside
+        ∙ (line-plain layout match_line plain _ (part ∷ [])
+        (slice_range report.bytes.now (max part.0 0) (max (max part.0 0) (min part.1 span.end))) no_column
+        ∙ ap₂ (λ a b. plain_line (end_byte layout) 58 report.number (slice_range report.bytes.now a b)) start end)
+
+    -- such parts
+    parts-plain : (low : ℕ) (some : List (ℕ × ℕ))
+        → AreInOrder low (length (strip layout.terminator report.bytes.now)) some
+        → length (strip layout.terminator report.bytes.now) < length report.bytes.now
+        → flat_map (clipped_text layout match_line report.offset report.bytes.now report.number
+        (line_span layout.terminator 0 report.bytes.now)) some
+        ≡ flat_map (plain_part (end_byte layout) 58 report.number report.bytes.now) some
+    parts-plain low [] ordered ended = refl
+    parts-plain low (part ∷ later) ordered ended = ap₂ (λ (xs : List ℕ) ys. xs ++ ys)
+        (part-plain part ordered.1 ordered.2 ended) (parts-plain part.1 later ordered.3 ended)
+
+    -- a match of which such parts are written
+    pub match-parts-plain : writes_parts layout parts ≡ true → HasPlainParts layout.terminator report parts
+        → report_text layout (call_of report) parts
+        ≡ flat_map (plain_part (end_byte layout) 58 report.number report.bytes.now) parts
+    match-parts-plain writes has =
+        ap (λ kind. report_text layout (reporting_call kind report.number report.offset report.bytes.now) parts)
+        has.is_match
+        ∙ (ap (instead _ _) writes
+        ∙ (ap (λ ls. across_text layout match_line report.offset report.bytes.now report.number 0 ls parts) has.line
+        ∙ (append-nil _ ∙ parts-plain 0 parts has.within has.ended)))
+
+-- parts in order of which none ends after a position
+pub ordered-by : (limit : ℕ) (parts : List (ℕ × ℕ)) (low high : ℕ) → AreInOrder low high parts
+    → count_by (ends_after limit) parts ≡ 0 → AreInOrder low limit parts
+ordered-by limit [] low high ordered none = tt
+ordered-by limit (part ∷ later) low high ordered none =
+    go (nat_lt limit part.1) refl (ordered-by limit later part.1 high ordered.3)
+  where
+    split : count_by (ends_after limit) (part ∷ later)
+        ≡ cond (nat_lt limit part.1) 1 0 + count_by (ends_after limit) later
+    split = sum_by-cons (λ p. cond (ends_after limit p) 1 0) part later
+
+    go : (b : Bool) → nat_lt limit part.1 ≡ b
+        → (count_by (ends_after limit) later ≡ 0 → AreInOrder part.1 limit later)
+        → AreInOrder low limit (part ∷ later)
+    go true over rest = absurd (omega (arith, none, split ∙ ap (λ b. cond b 1 0 + count_by (ends_after limit) later) over))
+    go false within rest = (
+      ordered.0,
+      ordered.1,
+      grind (arith, nat_tests, within),
+      rest (omega (arith, none, split ∙ ap (λ b. cond b 1 0 + count_by (ends_after limit) later) within)),
+    )
+
+-- one line is all of the bytes
+pub one-line : (t : ℕ) (bytes line : List ℕ) → lines t bytes ≡ line ∷ [] → lines t bytes ≡ bytes ∷ []
+one-line t bytes line is =
+    is ∙ ap (λ l. l ∷ []) (sym (append-nil line) ∙ (ap concat (sym is) ∙ lines-joined t bytes))

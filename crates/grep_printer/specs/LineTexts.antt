@@ -3,7 +3,7 @@
 use Rattle.std.specs.Prelude.{ℕ, ◌+◌, ◌-◌, ◌^◌, min, nat_eq, nat_le, Bool, if◌then◌else◌, List, []}
 use Rattle.std.specs.Prelude.{◌∷◌}
 use Rattle.std.specs.Prelude.{◌++◌, ◌==◌, ◌&&◌, ◌||◌, false, not, nat_lt, length, codes, decimal}
-use Rattle.std.specs.Prelude.{Option, Some, None}
+use Rattle.std.specs.Prelude.{Option, Some, None, slice_range}
 use Rattle.std.specs.Borrow.{Bor}
 use Rattle.std.specs.List.{count_by, ends_with}
 use Rattle.std.specs.Option.{is_none, unwrap_or}
@@ -48,13 +48,13 @@ place_after place line = record {
   start = place.start + length line;
 }
 
--- whether lines are written as they are, each after its number alone: whole, and without other
--- fields, limit and colors
+-- whether lines, or parts in their place, are written as they are, each after its number alone:
+-- without other fields, limit and colors
 abbrev pub is_plain : Config → Option (Bor (List ℕ)) → Bool
 is_plain config path =
     (config.heading || is_none path) && not config.column && not config.byte_offset
-    && not config.only_matching && is_none config.max_columns
-    && is_none (line_color config.color_specs) && is_none (matched_color config.color_specs)
+    && is_none config.max_columns && is_none (line_color config.color_specs)
+    && is_none (matched_color config.color_specs)
 
 -- a line as it is, after its number and a mark, if it has one
 abbrev pub plain_line : ℕ → ℕ → Option ℕ → List ℕ → List ℕ
@@ -67,6 +67,11 @@ plain_lines terminator mark number [] = []
 plain_lines terminator mark number (line ∷ later) =
     plain_line terminator mark number line
     ++ plain_lines terminator mark (next_number number) later
+
+-- a part of some bytes as a line
+abbrev pub plain_part : ℕ → ℕ → Option ℕ → List ℕ → ℕ × ℕ → List ℕ
+plain_part terminator mark number bytes part =
+    plain_line terminator mark number (slice_range bytes part.0 part.1)
 
 -- what is written between two searches
 abbrev pub separator_text : SearchSeparator → ℕ → List ℕ

@@ -13,6 +13,10 @@ AreInOrder low high [] = Unit {0}
 AreInOrder low high (part ∷ later) =
     (low ≤ part.0) × (part.0 ≤ part.1) × (part.1 ≤ high) × AreInOrder part.1 high later
 
+-- whether a part ends after a position
+abbrev pub ends_after : ℕ → ℕ × ℕ → Bool
+ends_after position part = nat_lt position part.1
+
 -- the parts without the first ones that start before a position and end by it
 abbrev pub parts_after : ℕ → List (ℕ × ℕ) → List (ℕ × ℕ)
 parts_after position [] = []

@@ -1,11 +1,14 @@
 -- A report as a printer has it, and the call that it is.
-use Rattle.std.specs.Prelude.{◌≡◌, ℕ, ◌+◌, ◌<◌, ◌≤◌, ◌^◌, Bool, false, not, List}
+use Rattle.std.specs.Prelude.{◌≡◌, ℕ, ◌+◌, ◌<◌, ◌≤◌, ◌^◌, Bool, false, not, List, [], ◌∷◌}
 use Rattle.std.specs.Prelude.{codes, drop, length, Option, slice_range, take}
-use Rattle.grep_searcher.specs.Lines.{lines}
+use Rattle.grep_matcher.specs.Lines.{byte_of}
+use Rattle.grep_matcher.specs.declared.line_terminator.LineTerminator.{LineTerminator}
+use Rattle.grep_searcher.specs.Lines.{lines, strip}
 use Rattle.grep_searcher.specs.Plans.{Call, begins, matches, context, breaks}
 use Rattle.grep_searcher.specs.Plans.{binary_data, finishes}
 use Rattle.grep_printer.specs.CallParts.{Surroundings}
 use Rattle.grep_printer.specs.LineTexts.{end_byte, line_text, lines_text}
+use Rattle.grep_printer.specs.MatchedParts.{AreInOrder}
 use Rattle.grep_printer.specs.PartTexts.{column_of}
 use Rattle.grep_printer.specs.declared.format.Event.{Event}
 use Rattle.grep_printer.specs.declared.format.Event.TheVariants.{Begin, Break, BinaryData, Finish}
@@ -104,3 +107,11 @@ module _ (layout : Layout) (report : Report) (parts : List (ℕ × ℕ)) where
       (lines (end_byte layout) report.bytes.now)
   whole_text (Context kind) =
       line_text layout context_line report_place parts report.bytes.now
+
+-- a report is a match of one line that has its terminator, into which no part reaches
+pub record HasPlainParts (terminator : LineTerminator) (report : Report) (parts : List (ℕ × ℕ))
+    : Type 0 where
+  pub is_match : report.kind ≡ Match
+  pub line : lines (byte_of terminator) report.bytes.now ≡ report.bytes.now ∷ []
+  pub ended : length (strip terminator report.bytes.now) < length report.bytes.now
+  pub within : AreInOrder 0 (length (strip terminator report.bytes.now)) parts

@@ -1,14 +1,17 @@
 //! Reports of which the lines are written as they are, each after its number alone.
-ghost use Rattle.std.specs.Prelude.{◌≡◌, ◌<◌, MatchBool, length};
-ghost use Rattle.grep_matcher.specs.Lines.{lines};
-ghost use Rattle.grep_printer.specs.LineTexts.{is_plain, plain_line, plain_lines};
-ghost use Rattle.grep_printer.specs.Reports.{call_of};
+ghost use Rattle.std.specs.Prelude.{◌≡◌, ◌<◌, ◌∷◌, [], MatchBool, length, true};
+ghost use Rattle.std.specs.List.{count_by, flat_map};
+ghost use Rattle.grep_matcher.specs.Lines.{byte_of, lines};
+ghost use Rattle.grep_printer.specs.LineTexts.{is_plain, plain_line, plain_lines, plain_part};
+ghost use Rattle.grep_printer.specs.MatchedParts.{AreInOrder, ends_after};
+ghost use Rattle.grep_printer.specs.Reports.{HasPlainParts, call_of};
 ghost use Rattle.grep_printer.specs.StandardTexts.{report_text};
 ghost use Rattle.grep_output.specs.PendingTexts.{Adds};
 
 use crate::config::Config;
 use crate::fields::{next_number, push_missing_end, push_number};
 use crate::report::{Report, ReportKind};
+use grep_lines::without_terminator;
 use grep_output::Pending;
 use grep_searcher::{LineIter, LineTerminator, Match};
 
@@ -24,6 +27,7 @@ impl Config {
         report: &Report<'_>,
         parts: &[Match],
     ) -> bool
+        requires { AreInOrder 0 (length report.now.bytes.now) parts.now }
         ensures { MatchBool result
             (Adds text.old text.new (report_text
             (record { config = self.now; path = path.entry; terminator = terminator })
@@ -34,6 +38,9 @@ impl Config {
         if bytes.is_empty() || !self.is_plain(path) {
             return false;
         }
+        if self.only_matching && !parts.is_empty() {
+            return push_plain_parts(text, terminator, report, parts);
+        }
         let terminator = terminator.as_byte();
         match report.kind {
             ReportKind::Match => push_lines(text, b':', number, terminator, bytes),
@@ -42,8 +49,8 @@ impl Config {
         true
     }
 
-    // Whether lines are written as they are, each after its number alone: whole, and without other
-    // fields, limit and colors.
+    // Whether lines, or parts in their place, are written as they are, each after its number alone:
+    // without other fields, limit and colors.
     #[inline(always)]
     fn is_plain(&self, path: Option<&str>) -> bool
         ensures { result ≡ is_plain self.now path.entry }
@@ -51,10 +58,101 @@ impl Config {
         (self.heading || path.is_none())
             && !self.column
             && !self.byte_offset
-            && !self.only_matching
             && self.max_columns.is_none()
             && self.color_specs.line().is_none()
             && self.color_specs.matched().is_none()
+    }
+}
+
+// Pushes each part of a match in a line of its own, if the match is one line that has its
+// terminator, into which no part reaches. Returns whether it did.
+#[inline(never)]
+fn push_plain_parts(
+    text: &mut Pending,
+    terminator: LineTerminator,
+    report: &Report<'_>,
+    parts: &[Match],
+) -> bool
+    requires { AreInOrder 0 (length report.now.bytes.now) parts.now }
+    ensures plain { result ≡ true → HasPlainParts terminator report.now parts.now }
+    ensures text { MatchBool result
+        (Adds text.old text.new (flat_map
+        (plain_part (byte_of terminator) 58 report.now.number report.now.bytes.now) parts.now))
+        (text.new ≡ text.old) }
+{
+    if !has_plain_parts(terminator, report, parts) {
+        return false;
+    }
+    push_parts(
+        text,
+        report.number,
+        terminator.as_byte(),
+        report.bytes,
+        parts,
+    );
+    true
+}
+
+// Whether a report is a match of one line that has its terminator, into which no part reaches.
+fn has_plain_parts(terminator: LineTerminator, report: &Report<'_>, parts: &[Match]) -> bool
+    requires { AreInOrder 0 (length report.now.bytes.now) parts.now }
+    ensures { result ≡ true → HasPlainParts terminator report.now parts.now }
+{
+    let ReportKind::Match = report.kind else {
+        return false;
+    };
+    let length = without_terminator(report.bytes, terminator).len();
+    if length >= report.bytes.len() || count_after(parts, length) > 0 {
+        return false;
+    }
+    is_one_line(terminator.as_byte(), report.bytes)
+}
+
+// How many parts end after a position.
+fn count_after(parts: &[Match], position: usize) -> usize
+    ensures { result ≡ count_by (ends_after position) parts.now }
+{
+    parts
+        .iter()
+        .filter(|part| ends_after(part, position))
+        .count()
+}
+
+// Whether a part ends after a position.
+fn ends_after(part: &Match, position: usize) -> bool
+    ensures { result ≡ ends_after position part.now }
+{
+    part.end() > position
+}
+
+// Whether some bytes are one line.
+fn is_one_line(terminator: u8, bytes: &[u8]) -> bool
+    ensures { result ≡ true → lines terminator bytes.now ≡ bytes.now ∷ [] }
+{
+    let mut lines = LineIter::new(terminator, bytes);
+    match lines.next() {
+        Some(_) => lines.next().is_none(),
+        None => false,
+    }
+}
+
+// Pushes parts of some bytes, each in a line of its own.
+fn push_parts(
+    text: &mut Pending,
+    number: Option<u64>,
+    terminator: u8,
+    bytes: &[u8],
+    parts: &[Match],
+)
+    requires { AreInOrder 0 (length bytes.now) parts.now }
+    ensures { Adds text.old text.new
+        (flat_map (plain_part terminator 58 number bytes.now) parts.now) }
+{
+    let mut rest = parts;
+    while let Some((part, later)) = rest.split_first() {
+        let bytes = &bytes[part.start()..part.end()];
+        push_line(text, b':', number, terminator, bytes);
+        rest = later;
     }
 }
 
