@@ -12,3 +12,4 @@ pub mod PrinterSearches
 pub mod PrintingEngines
 pub mod RunScopes
 pub mod SearcherOptions
+pub mod WholeRuns

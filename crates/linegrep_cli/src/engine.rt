@@ -85,7 +85,7 @@ impl<'e, F, M, R, W, E> PrintingEngine<'e, F, M, R, W, E> {
         ensures matcher { result.matcher ≡ matcher }
         ensures printer { result.printer ≡ printer }
         ensures haystack { result.haystack ≡ record { file = None; reader = input } }
-        ensures errors { result.errors ≡ errors.entry }
+        ensures errors { result.errors.now ≡ errors.old }
         ensures detection { result.detection ≡ searcher.settings.binary_detection }
     {
         let detection = *searcher.binary_detection();

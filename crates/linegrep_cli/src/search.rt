@@ -1,6 +1,9 @@
 //! The search of all that the arguments name.
-ghost use Rattle.std.specs.Prelude.{◌≡◌};
-ghost use Rattle.grep_regex.specs.Views.{IsNamed};
+ghost use Rattle.std.specs.Prelude.{◌≡◌, ◌⊎◌, IfOk};
+ghost use Rattle.grep_regex.specs.Views.{IsNamed, regex_options, regex_patterns};
+ghost use Rattle.linegrep_cli.specs.PatternOptions.{pattern_options, pattern_texts};
+ghost use Rattle.linegrep_cli.specs.SearcherOptions.{searcher_settings};
+ghost use Rattle.linegrep_cli.specs.WholeRuns.{IsRefused, IsRunFor, IsRunWith};
 
 use crate::choices::Choices;
 use crate::engine::PrintingEngine;
@@ -11,8 +14,10 @@ use crate::patterns::compile;
 use crate::settings::{build_printer, build_searcher};
 use crate::system::System;
 use grep_output::Output;
-use grep_regex::{Naming, Regex};
-use grep_searcher::{FindAt, Searcher, Source};
+use grep_regex::{NamedMatcher, Naming, Regex};
+use grep_searcher::{FindAt, Matcher, Searcher, Source};
+use std::alloc::AllocError;
+use std::fmt::Display;
 use std::marker::Brand;
 
 /// What comes of a run: the status that the program exits with, and its streams.
@@ -56,7 +61,14 @@ fn prepare<'r>(
     rt: &'r HostRuntime,
     options: &Options<'_, '_>,
     patterns: &[String],
-) -> Result<Prepared<'r>, Failure> {
+) -> Result<Prepared<'r>, Failure>
+    ensures settings { IfOk result (λ prepared.
+        prepared.searcher.settings ≡ searcher_settings options.now) }
+    ensures options { IfOk result (λ prepared.
+        regex_options prepared.regex ≡ pattern_options options.now patterns.now) }
+    ensures patterns { IfOk result (λ prepared.
+        regex_patterns prepared.regex ≡ pattern_texts options.now patterns.now) }
+{
     let searcher = build_searcher(rt.alloc(), options)?;
     let regex = compile(rt.alloc(), options, patterns)?;
     options.order().check(rt)?;
@@ -119,7 +131,13 @@ fn search_named<'r, N: Naming, S: System, R: Source + Drop, W: Output + Drop, E:
     errors: &mut E,
 ) -> Ended<R, W>
 where
-    requires { IsNamed N.options N.patterns regex.now }
+    requires named { IsNamed N.options N.patterns regex.now }
+    requires settings { searcher.settings ≡ searcher_settings options.now }
+    ensures { IsRefused input output result.status result.input result.output
+        ⊎ IsRunFor ⟦<AllocError as Display>⟧.output ⟦<&'static NamedMatcher<'static, N> as Matcher>⟧.facts
+        ⟦<&'static NamedMatcher<'static, N> as FindAt>⟧.first_at W.step S.File.remaining R.remaining R.step
+        (S.finds system.now) (S.opens system.now) (S.identifies system.now) options.now regex.now
+        input output errors.old result.status result.input result.output }
 {
     match regex.named_matcher::<N>(rt.alloc()) {
         Ok(matcher) => search_with(
@@ -140,7 +158,12 @@ fn search_with<'r, M: FindAt + Copy, S: System, R: Source + Drop, W: Output + Dr
     input: R,
     output: W,
     errors: &mut E,
-) -> Ended<R, W> {
+) -> Ended<R, W>
+    requires { searcher.settings ≡ searcher_settings options.now }
+    ensures { IsRunWith M.Error.output M.facts M.first_at W.step S.File.remaining R.remaining R.step
+        (S.finds system.now) (S.opens system.now) (S.identifies system.now) options.now matcher input
+        output errors.old result.status result.input result.output }
+{
     let scope = Scope::new(system, options);
     let is_across = searcher.multi_line_with_matcher(matcher);
     let printer = build_printer(rt, options, is_across, output);
