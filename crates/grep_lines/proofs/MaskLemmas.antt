@@ -1,10 +1,16 @@
--- What a mask of the bytes from a position on says of the last start of a line.
+-- What a mask of the bytes from a position on says of them, and of the last start of a line.
 use Rattle.std.proofs.Common.{◌≡◌, ◌≢◌, ◌↔◌, ◌<◌, ◌≤◌, ◌+◌, ◌-◌, ◌%◌, ◌^◌, ℕ, List, slice_index}
-use Rattle.std.proofs.Common.{sym, ap, ◌∙◌, arith, ⊎_elim}
-use Rattle.std.proofs.lemmas.Bool.{cases_lt}
+use Rattle.std.proofs.Common.{sym, ap, ◌∙◌, arith, ⊎_elim, Bool, true, false, cond, eqb}
+use Rattle.std.proofs.lemmas.Bool.{cases_lt, eqb-true, eq-eqb, false≢true}
 use Rattle.std.proofs.Math.Nat.{zero-div}
 use Rattle.std.specs.Int.{bit_at}
 use Rattle.grep_lines.specs.FirstLine.{IsLastStart}
+
+-- a bit is set if two numbers are equal
+pub is-set : (x t bit : ℕ) (same : Bool) → eqb x t ≡ same → bit ≡ cond same 1 0 → (bit ≡ 1) ↔ (x ≡ t)
+is-set x t bit true equal is = (λ _. eqb-true x t equal, λ _. is)
+is-set x t bit false other is =
+    (λ set. absurd (omega (arith, is)), λ same. absurd (false≢true (sym other ∙ eq-eqb x t same)))
 
 module _ (t : ℕ) (bytes : List ℕ) (position from mask near : ℕ) (low : from ≤ position)
     (near_by : position < from + 64)

@@ -5,7 +5,7 @@ ghost use Rattle.grep_matcher.specs.Lines.{lines};
 ghost use Rattle.grep_lines.specs.Positions.{IsLineStart, IsLine};
 ghost use Rattle.grep_lines.specs.FirstLine.{IsFirstLine};
 
-use crate::marks::{WIDTH, lowest, marks};
+use crate::marks::{HALF, WIDTH, half_marks, lowest, marks};
 use memchr::memchr;
 use std::marker::Model;
 
@@ -86,13 +86,36 @@ pub(crate) fn first_line_length(terminator: u8, bytes: &[u8]) -> usize
     ensures { IsFirstLine terminator bytes.now result }
 {
     if bytes.len() < WIDTH {
-        return far_length(terminator, bytes);
+        return short_length(terminator, bytes);
     }
     let near = marks(bytes, 0, terminator);
     if near == 0 {
         return far_length(terminator, bytes);
     }
     lowest(near) + 1
+}
+
+// The length of the first line of few bytes: by two vectors that overlap, if there are enough for
+// one.
+#[inline]
+fn short_length(terminator: u8, bytes: &[u8]) -> usize
+    requires some { 0 < length bytes.now }
+    requires few { length bytes.now < WIDTH }
+    ensures { IsFirstLine terminator bytes.now result }
+{
+    if bytes.len() < HALF {
+        return far_length(terminator, bytes);
+    }
+    let front = half_marks(bytes, 0, terminator);
+    if front != 0 {
+        return lowest(front) + 1;
+    }
+    let from = bytes.len() - HALF;
+    let back = half_marks(bytes, from, terminator);
+    if back != 0 {
+        return from + lowest(back) + 1;
+    }
+    bytes.len()
 }
 
 // The length of the first line, by a search of the bytes.

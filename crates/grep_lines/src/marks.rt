@@ -7,6 +7,9 @@ use std::simd::prelude::*;
 // How many bytes are compared at once.
 pub(crate) const WIDTH: usize = 64;
 
+// How many bytes of a short line are compared at once.
+pub(crate) const HALF: usize = 32;
+
 // Which of the bytes from a position on are this byte: the bits of these are set.
 #[inline(always)]
 pub(crate) fn marks(bytes: &[u8], from: usize, byte: u8) -> u64
@@ -16,6 +19,19 @@ pub(crate) fn marks(bytes: &[u8], from: usize, byte: u8) -> u64
 {
     u8x64::from_slice(&bytes[from..])
         .simd_eq(u8x64::splat(byte))
+        .to_bitmask()
+}
+
+// The same of half as many bytes.
+#[inline(always)]
+pub(crate) fn half_marks(bytes: &[u8], from: usize, byte: u8) -> u64
+    requires { from + HALF ≤ length bytes.now }
+    ensures marked { (k : ℕ) → k < HALF
+        → (bit_at result k ≡ 1) ↔ (slice_index bytes.now (from + k) ≡ byte) }
+    ensures few { (k : ℕ) → bit_at result k ≡ 1 → k < HALF }
+{
+    u8x32::from_slice(&bytes[from..])
+        .simd_eq(u8x32::splat(byte))
         .to_bitmask()
 }
 

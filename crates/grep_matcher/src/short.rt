@@ -25,21 +25,32 @@ pub(crate) fn find_from(finder: &Finder<'_>, haystack: &[u8], start: usize) -> O
     let bytes = ThreeBytes::new(haystack, literal, 0, len / 2, len - 1);
     let last = haystack.len() - len - (WIDTH - 1);
     let mut from = start;
-    'windows: loop {
-        let position = from.min(last);
-        let marks = marks_from(&bytes, position, from);
+    'windows: while from < last {
+        let marks = marks_from(&bytes, from, from);
         if marks != 0 {
-            let at = (from + marks.trailing_zeros() as usize).min(position + WIDTH);
-            if haystack[at..].starts_with(literal) {
-                return Some(at);
-            }
-            return find_rest(finder, haystack, at);
-        }
-        if from >= last {
-            return None;
+            let at = from + (marks.trailing_zeros() as usize).min(WIDTH);
+            return find_marked(finder, haystack, at);
         }
         from += WIDTH;
     }
+    let left = marks_from(&bytes, last, from);
+    if left == 0 {
+        return None;
+    }
+    let at = (from + left.trailing_zeros() as usize).min(last + WIDTH);
+    find_marked(finder, haystack, at)
+}
+
+// The position of the first occurrence from one on where it may be.
+#[inline(always)]
+fn find_marked(finder: &Finder<'_>, haystack: &[u8], at: usize) -> Option<usize>
+    requires { at ≤ length haystack.now }
+    ensures { FindsNeedle haystack.now finder.now at result }
+{
+    if haystack[at..].starts_with(finder.needle()) {
+        return Some(at);
+    }
+    find_rest(finder, haystack, at)
 }
 
 // Bit k is set if the bytes are where the literal would have them at `from + k`: of the positions

@@ -82,7 +82,7 @@ impl Pending {
 
     /// Pushes some bytes. It fails only where there was no room for them, so that memory was asked
     /// for.
-    #[inline]
+    #[inline(always)]
     pub fn push(&mut self, bytes: &[u8])
         ensures adds { Adds self.old self.new bytes.now }
         ensures fails { self.old.has_failed ≡ false → self.new.has_failed ≡ true
