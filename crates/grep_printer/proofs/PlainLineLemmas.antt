@@ -1,7 +1,7 @@
 -- Lines that are written as they are.
 use Rattle.std.proofs.Common.{◌≡◌, ◌∙◌, ℕ, ◌+◌, ◌<◌, List, [], ◌∷◌, ◌++◌, ap, arith, length}
 use Rattle.std.proofs.Common.{⊎_elim, ◌≤◌, ap₂, append_assoc, refl, sym}
-use Rattle.std.proofs.lemmas.Bool.{and_parts, cases_eq, eq-eqb}
+use Rattle.std.proofs.lemmas.Bool.{and_parts, cases_eq, eq-eqb, not-true}
 use Rattle.std.proofs.lemmas.Bool.Decides.{nat_tests}
 use Rattle.std.proofs.lemmas.List.{append-nil}
 use Rattle.std.proofs.lemmas.List.Sums.{sum_by-cons}
@@ -16,6 +16,7 @@ use Rattle.grep_printer.specs.MatchedParts.{AreInOrder, ends_after}
 use Rattle.grep_printer.specs.ColoredTexts.{line_color, matched_color, path_color}
 use Rattle.grep_printer.specs.LineTexts.{end_byte, is_plain, line_text, lines_text, mark_of, missing_end}
 use Rattle.grep_printer.specs.LineTexts.{next_number, number_field, path_field, place_after, plain_line, plain_lines, plain_part}
+use Rattle.grep_printer.specs.LineTexts.{shown_line}
 use Rattle.grep_printer.specs.Reports.{HasPlainParts, call_of, report_place, reporting_call}
 use Rattle.grep_printer.specs.StandardTexts.{report_text}
 use Rattle.grep_printer.specs.PartTexts.{across_text, clipped_text, column_of, is_in_span, line_span, part_place, writes_parts}
@@ -138,15 +139,25 @@ record ArePlain (config : Config) (path : Option (Bor (List ℕ))) : Type 0 wher
   limits : is_none config.max_columns ≡ true
   numbers : is_none (line_color config.color_specs) ≡ true
   matched : is_none (matched_color config.color_specs) ≡ true
+  indented : not config.trim_ascii ≡ true
 
 are_plain : (config : Config) (path : Option (Bor (List ℕ))) → is_plain config path ≡ true → ArePlain config path
 are_plain config path plain =
-    let a = and_parts _ (is_none (matched_color config.color_specs)) plain in
+    let z = and_parts _ (not config.trim_ascii) plain in
+    let a = and_parts _ (is_none (matched_color config.color_specs)) z.0 in
     let b = and_parts _ (is_none (line_color config.color_specs)) a.0 in
     let c = and_parts _ (is_none config.max_columns) b.0 in
     let e = and_parts _ (not config.byte_offset) c.0 in
     let f = and_parts (config.heading || is_none path) (not config.column) e.0 in
-    record { paths = f.0; columns = f.1; offsets = e.1; limits = c.1; numbers = b.1; matched = a.1 }
+    record {
+      paths = f.0;
+      columns = f.1;
+      offsets = e.1;
+      limits = c.1;
+      numbers = b.1;
+      matched = a.1;
+      indented = z.1;
+    }
 
 column-none : (layout : Layout) (parts : List (ℕ × ℕ)) → not layout.config.column ≡ true → column_of layout parts ≡ None
 column-none layout [] none = refl
@@ -156,15 +167,17 @@ module _ (layout : Layout) (kind : LineKind) (plain : is_plain layout.config lay
   -- a line that is written as it is
   line-plain : (place : Place) (parts : List (ℕ × ℕ)) (line : List ℕ) → place.column ≡ None
       → line_text layout kind place parts line ≡ plain_line (end_byte layout) (mark_of kind) place.number line
+  unfolding shown_line
   line-plain place parts line column =
       let are = are_plain layout.config layout.path plain in
       let matched = none-is (matched_color layout.config.color_specs) are.matched in
       let color = none-is (line_color layout.config.color_specs) are.numbers in
       let most = none-is layout.config.max_columns are.limits in
+      let indented = not-true layout.config.trim_ascii are.indented in
       let no_path = path-none layout.config.heading (path_color layout.config.color_specs)
       (unwrap_or layout.config.path_terminator (mark_of kind)) layout.path are.paths in
       let no_offset = offset-none layout.config.byte_offset place.offset are.offsets in
-      simp (no_path, column, no_offset, most, color, matched, append-nil (number_field None (mark_of kind) place.number))
+      simp (no_path, column, no_offset, most, color, matched, indented, append-nil (number_field None (mark_of kind) place.number))
       refl
 
   -- such lines

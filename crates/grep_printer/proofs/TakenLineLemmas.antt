@@ -16,7 +16,8 @@ use Rattle.grep_searcher.specs.SinkArguments.{match_call}
 use Rattle.grep_searcher.specs.MatchedLines.{calls_of_lines}
 use Rattle.grep_printer.specs.ColoredTexts.{is_matched, matched_color, painted}
 use Rattle.grep_printer.specs.Formats.{AreTexts, Scene}
-use Rattle.grep_printer.specs.LineTexts.{counted_parts, end_byte, fields, is_long, line_text}
+use Rattle.grep_printer.specs.LineTexts.{counted_parts, end_byte, fields, indentation, is_long}
+use Rattle.grep_printer.specs.LineTexts.{line_text, shown_line, trimmed}
 use Rattle.grep_printer.specs.LineTexts.{lines_text, missing_end, next_number, notice, place_after}
 use Rattle.grep_printer.specs.PartTexts.{match_text, writes_parts}
 use Rattle.grep_printer.specs.StandardTexts.{asks_for_parts, call_text, is_hidden, layout_of}
@@ -91,13 +92,16 @@ module _ (layout : Layout) where
   -- the text of a line without parts doesn't depend on where its report begins
   line-anywhere : (place : Place) (line : List ℕ) → line_text layout Match place [] line
       ≡ line_text layout Match (record place { start = 0 }) [] line
+  unfolding shown_line
   line-anywhere place line = ap₂ (λ count text. fields layout 58 place
-      ++ (if is_long layout.config.max_columns line
+      ++ (if is_long layout.config.max_columns (trimmed layout line)
       then notice Match count ++ end_byte layout ∷ []
-      else text ++ missing_end (end_byte layout) line))
+      else text ++ missing_end (end_byte layout) (trimmed layout line)))
       (none-counted place.start line ∙ sym (none-counted 0 line))
-      (painted-plain (matched_color layout.config.color_specs) _ place.start line
-      ∙ sym (painted-plain (matched_color layout.config.color_specs) _ 0 line))
+      (painted-plain (matched_color layout.config.color_specs) _ (place.start + indentation layout line)
+      (trimmed layout line)
+      ∙ sym (painted-plain (matched_color layout.config.color_specs) _ (0 + indentation layout line)
+      (trimmed layout line)))
 
   writes-none : writes_parts layout [] ≡ false
   writes-none = grind arith

@@ -13,8 +13,9 @@ use Rattle.grep_matcher.specs.Lines.{byte_of}
 use Rattle.grep_printer.proofs.ColorLemmas.{painted-after}
 use Rattle.grep_printer.proofs.PartTextLemmas.{ordered-after}
 use Rattle.grep_printer.specs.ColoredTexts.{matched_color}
-use Rattle.grep_printer.specs.LineTexts.{counted_parts, end_byte, fields, is_long, is_touching, line_text, lines_text}
-use Rattle.grep_printer.specs.LineTexts.{mark_of, missing_end, notice, painted_line, place_after}
+use Rattle.grep_printer.specs.LineTexts.{counted_parts, end_byte, fields, indentation, is_long, is_touching}
+use Rattle.grep_printer.specs.LineTexts.{line_text, lines_text, mark_of, missing_end, notice, painted_line}
+use Rattle.grep_printer.specs.LineTexts.{place_after, shown_line, trimmed}
 use Rattle.grep_printer.specs.MatchedParts.{AreInOrder, parts_after}
 use Rattle.grep_printer.specs.declared.fields.Layout.{Layout}
 use Rattle.grep_printer.specs.declared.fields.LineKind.{LineKind}
@@ -48,17 +49,20 @@ module _ (layout : Layout) (kind : LineKind) where
   -- the parts that end by a position don't count in a line from there on
   line-after : (place : Place) (position : ℕ) (parts : List (ℕ × ℕ)) (line : List ℕ) → position ≤ place.start
       → line_text layout kind place (parts_after position parts) line ≡ line_text layout kind place parts line
+  unfolding shown_line
   line-after place position parts line less =
+      let start = place.start + indentation layout line in
+      let shown = trimmed layout line in
       ap (λ (t : List ℕ). fields layout (mark_of kind) place
-      ++ (if is_long layout.config.max_columns line
+      ++ (if is_long layout.config.max_columns shown
       then notice kind (counted_parts layout (parts_after position parts) place.start line) ++ end_byte layout ∷ []
-      else t ++ missing_end (end_byte layout) line))
+      else t ++ missing_end (end_byte layout) shown))
       (painted-after (matched_color layout.config.color_specs) position
-      (place.start + length (strip layout.terminator line)) place.start parts line less)
+      (start + length (strip layout.terminator shown)) start parts shown (omega (arith, less)))
       ∙ ap (λ n. fields layout (mark_of kind) place
-      ++ (if is_long layout.config.max_columns line
+      ++ (if is_long layout.config.max_columns shown
       then notice kind (if layout.config.only_matching then 0 else n) ++ end_byte layout ∷ []
-      else painted_line layout parts place.start line ++ missing_end (end_byte layout) line))
+      else painted_line layout parts start shown ++ missing_end (end_byte layout) shown))
       (counted-after position place.start (place.start + length line) parts less)
 
   -- nor in the lines from there on

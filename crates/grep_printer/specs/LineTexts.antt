@@ -3,9 +3,10 @@
 use Rattle.std.specs.Prelude.{ℕ, ◌+◌, ◌-◌, ◌^◌, min, nat_eq, nat_le, Bool, if◌then◌else◌, List, []}
 use Rattle.std.specs.Prelude.{◌∷◌}
 use Rattle.std.specs.Prelude.{◌++◌, ◌==◌, ◌&&◌, ◌||◌, false, not, nat_lt, length, codes, decimal}
+use Rattle.std.specs.Prelude.{drop}
 use Rattle.std.specs.Prelude.{Option, Some, None, slice_range}
 use Rattle.std.specs.Borrow.{Bor}
-use Rattle.std.specs.List.{count_by, ends_with}
+use Rattle.std.specs.List.{count_by, ends_with, prefix_len}
 use Rattle.std.specs.Option.{is_none, unwrap_or}
 use Rattle.grep_matcher.specs.Lines.{byte_of}
 use Rattle.grep_searcher.specs.Lines.{strip}
@@ -54,7 +55,7 @@ abbrev pub is_plain : Config → Option (Bor (List ℕ)) → Bool
 is_plain config path =
     (config.heading || is_none path) && not config.column && not config.byte_offset
     && is_none config.max_columns && is_none (line_color config.color_specs)
-    && is_none (matched_color config.color_specs)
+    && is_none (matched_color config.color_specs) && not config.trim_ascii
 
 -- a line as it is, after its number and a mark, if it has one
 abbrev pub plain_line : ℕ → ℕ → Option ℕ → List ℕ → List ℕ
@@ -88,6 +89,10 @@ mark_of Context = 45
 abbrev pub is_long : Option ℕ → List ℕ → Bool
 is_long None line = false
 is_long (Some most) line = nat_lt most (length line)
+
+-- white space of ASCII
+abbrev pub is_space : ℕ → Bool
+is_space byte = byte == 32 || (nat_le 9 byte && nat_le byte 13)
 
 -- how many parts are in a line that is too long
 abbrev pub counted_notice : ℕ → List ℕ
@@ -137,12 +142,22 @@ module _ (layout : Layout) where
       then 0
       else count_by (is_touching start (start + length line)) parts
 
-  -- a line, or a notice if it is too long, with the terminator at its end
-  abbrev pub shown_line : LineKind → Place → List (ℕ × ℕ) → List ℕ → List ℕ
+  -- how many bytes at the start of a line are left out: its white space, if lines are trimmed
+  abbrev pub indentation : List ℕ → ℕ
+  indentation line =
+      if layout.config.trim_ascii then prefix_len is_space (strip layout.terminator line) else 0
+
+  -- what is shown of a line
+  abbrev pub trimmed : List ℕ → List ℕ
+  trimmed line = drop (indentation line) line
+
+  -- what is shown of a line, or a notice if that is too long, with the terminator at its end
+  unfoldable pub shown_line : LineKind → Place → List (ℕ × ℕ) → List ℕ → List ℕ
   shown_line kind place parts line =
-      if is_long layout.config.max_columns line
+      if is_long layout.config.max_columns (trimmed line)
       then notice kind (counted_parts parts place.start line) ++ end_byte layout ∷ []
-      else painted_line parts place.start line ++ missing_end (end_byte layout) line
+      else painted_line parts (place.start + indentation line) (trimmed line)
+      ++ missing_end (end_byte layout) (trimmed line)
 
   -- a line after its fields
   abbrev pub line_text : LineKind → Place → List (ℕ × ℕ) → List ℕ → List ℕ

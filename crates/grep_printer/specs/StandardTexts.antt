@@ -31,6 +31,7 @@ default_config = record {
   path_terminator = None;
   separator = Nothing;
   color_specs = Plain;
+  trim_ascii = false;
 }
 
 -- nothing was reported yet; whether the printer has written anything before

@@ -31,6 +31,7 @@ pub struct Config {
     pub(crate) path_terminator: Option<u8>,
     pub(crate) separator: SearchSeparator,
     pub(crate) color_specs: ColorSpecs,
+    pub(crate) trim_ascii: bool,
 }
 
 impl Config {
@@ -74,6 +75,7 @@ impl StandardBuilder {
                 path_terminator: None,
                 separator: SearchSeparator::Nothing,
                 color_specs: ColorSpecs::Plain,
+                trim_ascii: false,
             },
         }
     }
@@ -173,6 +175,17 @@ impl StandardBuilder {
         ensures set { result.now ≡ record self.old { color_specs = specs } }
     {
         self.config.color_specs = specs;
+        self
+    }
+
+    /// Whether the white space of ASCII at the start of a line is left out, or of a part that is
+    /// written in its place, but not its terminator; not by default. Numbers, columns and offsets are
+    /// those of the whole line.
+    pub fn trim_ascii(&mut self, yes: bool) -> &mut StandardBuilder
+        ensures reference { result.ghost_name ≡ self.entry.ghost_name }
+        ensures set { result.now ≡ record self.old { trim_ascii = yes } }
+    {
+        self.config.trim_ascii = yes;
         self
     }
 }

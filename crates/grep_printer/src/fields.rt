@@ -1,11 +1,13 @@
 //! Lines, and the fields before them.
 ghost use Rattle.std.specs.Prelude.{◌≡◌, ◌+◌, ◌<◌, ◌≤◌, ◌^◌, ◌∷◌, ◌++◌, [], decimal, length};
+ghost use Rattle.std.specs.List.{prefix_len};
 ghost use Rattle.std.specs.Option.{unwrap_or};
 ghost use Rattle.grep_matcher.specs.Lines.{byte_of};
 ghost use Rattle.grep_searcher.specs.Lines.{lines};
 ghost use Rattle.grep_printer.specs.ColoredTexts.{color_of, colored};
 ghost use Rattle.grep_printer.specs.LineTexts.{counted_notice, counted_parts, fields};
-ghost use Rattle.grep_printer.specs.LineTexts.{is_long, is_touching, line_text};
+ghost use Rattle.grep_printer.specs.LineTexts.{indentation, is_long, is_space, is_touching};
+ghost use Rattle.grep_printer.specs.LineTexts.{line_text};
 ghost use Rattle.grep_printer.specs.LineTexts.{lines_text, mark_of, missing_end, notice};
 ghost use Rattle.grep_printer.specs.LineTexts.{next_number, number_field, opening_text};
 ghost use Rattle.grep_printer.specs.LineTexts.{painted_line, path_field, place_after};
@@ -103,6 +105,7 @@ impl<'p> Layout<'p> {
     }
 
     // Pushes a line after its fields, or a notice if it is too long.
+    #[tactic(auto, unfolding(crate::specs::LineTexts::shown_line))]
     pub(crate) fn push_line(
         &self,
         text: &mut Pending,
@@ -116,13 +119,26 @@ impl<'p> Layout<'p> {
         ensures { Adds text.old text.new (line_text self.now kind place.now parts.now line.now) }
     {
         self.push_fields(text, kind.mark(), place);
-        if is_long(self.config.max_columns, line) {
+        let indentation = self.indentation(line);
+        let shown = &line[indentation..];
+        if is_long(self.config.max_columns, shown) {
             push_notice(text, kind, self.count_parts(parts, place.start, line));
             text.push(&[self.terminator.as_byte()]);
             return;
         }
-        self.push_bytes(text, place.start, parts, line);
-        push_missing_end(text, self.terminator.as_byte(), line)
+        self.push_bytes(text, place.start + indentation, parts, shown);
+        push_missing_end(text, self.terminator.as_byte(), shown)
+    }
+
+    // How many bytes at the start of a line are left out.
+    fn indentation(&self, line: &[u8]) -> usize
+        ensures value { result ≡ indentation self.now line.now }
+        ensures within { result ≤ length line.now }
+    {
+        if !self.config.trim_ascii {
+            return 0;
+        }
+        space_len(without_terminator(line, self.terminator))
     }
 
     // How many parts are in a line that begins at a position of its report; where parts are written
@@ -220,6 +236,21 @@ pub(crate) fn push_missing_end(text: &mut Pending, terminator: u8, line: &[u8])
         return;
     }
     text.push(&[terminator])
+}
+
+// How many bytes of white space come first.
+fn space_len(bytes: &[u8]) -> usize
+    ensures value { result ≡ prefix_len is_space bytes.now }
+    ensures within { result ≤ length bytes.now }
+{
+    bytes.iter().take_while(|byte| is_space(**byte)).count()
+}
+
+// Whether a byte is white space of ASCII.
+fn is_space(byte: u8) -> bool
+    ensures { result ≡ is_space byte }
+{
+    byte == b' ' || b'\t' <= byte && byte <= b'\r'
 }
 
 // Whether a line has more bytes than are written.

@@ -61,6 +61,7 @@ impl Config {
             && self.max_columns.is_none()
             && self.color_specs.line().is_none()
             && self.color_specs.matched().is_none()
+            && !self.trim_ascii
     }
 }
 

@@ -36,12 +36,12 @@ use Rattle.linegrep_cli.specs.declared.option_id.OptionId.TheVariants.{NoHidden,
 use Rattle.linegrep_cli.specs.declared.option_id.OptionId.TheVariants.{NoJson, NoLineBuffered}
 use Rattle.linegrep_cli.specs.declared.option_id.OptionId.TheVariants.{NoLineNumber, NoMessages}
 use Rattle.linegrep_cli.specs.declared.option_id.OptionId.TheVariants.{NoMultiline, NoOneFileSystem}
-use Rattle.linegrep_cli.specs.declared.option_id.OptionId.TheVariants.{NoSortFiles, NoText}
+use Rattle.linegrep_cli.specs.declared.option_id.OptionId.TheVariants.{NoSortFiles, NoText, NoTrim}
 use Rattle.linegrep_cli.specs.declared.option_id.OptionId.TheVariants.{NullData, OneFileSystem}
 use Rattle.linegrep_cli.specs.declared.option_id.OptionId.TheVariants.{Passthru, Pretty}
 use Rattle.linegrep_cli.specs.declared.option_id.OptionId.TheVariants.{SmartCase, Sort, SortFiles}
 use Rattle.linegrep_cli.specs.declared.option_id.OptionId.TheVariants.{Sortr, StopOnNonmatch}
-use Rattle.linegrep_cli.specs.declared.option_id.OptionId.TheVariants.{Text, TypeList, WithFilename}
+use Rattle.linegrep_cli.specs.declared.option_id.OptionId.TheVariants.{Text, Trim, TypeList, WithFilename}
 use Rattle.linegrep_cli.specs.declared.option_id.OptionId.TheVariants.{WordRegexp}
 use Rattle.linegrep_cli.specs.declared.options.Options.{Options}
 use Rattle.linegrep_cli.specs.declared.options.Uses.{Uses}
@@ -107,6 +107,7 @@ own_contraries IncludeZero = NoIncludeZero ∷ []
 own_contraries ByteOffset = NoByteOffset ∷ []
 own_contraries Column = NoColumn ∷ []
 own_contraries NoColumn = Column ∷ []
+own_contraries Trim = NoTrim ∷ []
 own_contraries NoMessages = Messages ∷ []
 own_contraries Hidden = NoHidden ∷ []
 own_contraries Follow = NoFollow ∷ []

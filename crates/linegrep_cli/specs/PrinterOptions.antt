@@ -29,7 +29,7 @@ use Rattle.linegrep_cli.specs.declared.option_id.OptionId.TheVariants.{IncludeZe
 use Rattle.linegrep_cli.specs.declared.option_id.OptionId.TheVariants.{LineBuffered, NoFilename}
 use Rattle.linegrep_cli.specs.declared.option_id.OptionId.TheVariants.{NoHeading, Null}
 use Rattle.linegrep_cli.specs.declared.option_id.OptionId.TheVariants.{OnlyMatching, Pretty, Quiet}
-use Rattle.linegrep_cli.specs.declared.option_id.OptionId.TheVariants.{Vimgrep, WithFilename}
+use Rattle.linegrep_cli.specs.declared.option_id.OptionId.TheVariants.{Trim, Vimgrep, WithFilename}
 use Rattle.linegrep_cli.specs.declared.options.Options.{Options}
 use Rattle.linegrep_cli.specs.declared.printers.Printer.{Printer}
 use Rattle.linegrep_cli.specs.declared.printers.Printer.TheVariants.{Lines, Parts, Summary}
@@ -124,6 +124,7 @@ line_settings options colors = record {
   path_terminator = path_terminator_of options;
   separator = separator_of options;
   color_specs = colors;
+  trim_ascii = has options Trim;
 }
 
 -- each part that matches is written with its line, in the form of Vim's quickfix list

@@ -462,6 +462,16 @@ const LINE_ROWS: &[Row] = &[
         letter: Some('M'),
     },
     Row {
+        id: OptionId::Trim,
+        name: "trim",
+        letter: None,
+    },
+    Row {
+        id: OptionId::NoTrim,
+        name: "no-trim",
+        letter: None,
+    },
+    Row {
         id: OptionId::Null,
         name: "null",
         letter: Some('0'),
@@ -602,7 +612,6 @@ const NOTHING: &[&str] = &[
     "no-auto-hybrid-regex",
     "no-max-columns-preview",
     "no-stats",
-    "no-trim",
 ];
 
 /// The options of the command line, in tables, since a long one is proved slowly.

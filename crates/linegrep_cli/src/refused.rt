@@ -27,7 +27,6 @@ fn other_reason(option: &str) -> Option<&'static str> {
         | "--path-separator" => Some(NO_SEPARATOR),
         "--colors" | "--hyperlink-format" => Some("colors can't be chosen, and there are no links"),
         "--regex-size-limit" | "--dfa-size-limit" => Some("the limits are fixed"),
-        "--trim" => Some("lines are written as they are"),
         "--stats" => Some("searches are counted for --json alone"),
         "--max-columns-preview" => Some(
             "a notice is written in place of a long line, and nothing of it",

@@ -195,13 +195,15 @@ fn show(builder: &mut StandardBuilder, options: &Options<'_, '_>)
       byte_offset = has options.now OptionId.ByteOffset;
       only_matching = has options.now OptionId.OnlyMatching;
       max_columns = column_limit options.now.max_columns;
+      trim_ascii = has options.now OptionId.Trim;
     } }
 {
     builder
         .column(options.shows_columns())
         .byte_offset(options.has(OptionId::ByteOffset))
         .only_matching(options.has(OptionId::OnlyMatching))
-        .max_columns(max_columns(options));
+        .max_columns(max_columns(options))
+        .trim_ascii(options.has(OptionId::Trim));
 }
 
 // How many bytes a line has at most that is written. 0 is no limit.
