@@ -1,8 +1,15 @@
 -- What a run does from its options on, and what it writes.
-use Rattle.std.specs.Prelude.{◌≡◌, ℕ, Bool, List, Option, None, Result}
+use Rattle.std.specs.Prelude.{◌≡◌, ℕ, Bool, List, Option, None, Result, String}
+use Rattle.std.specs.Borrow.{Bor}
+use Rattle.std.specs.Global.{Global}
+use Rattle.std.specs.declared.alloc.AllocError.{AllocError}
 use Rattle.std.specs.declared.io.Error.{Error}
+use Rattle.std.specs.declared.marker.Brand.{Brand}
 use Rattle.grep_output.specs.Outputs.{OutputCall}
-use Rattle.grep_regex.specs.Views.{regex_first_at, regex_meaning}
+use Rattle.grep_regex.specs.NamedViews.{named_regex}
+use Rattle.grep_regex.specs.Views.{regex_first_at, regex_meaning, regex_options, regex_patterns}
+use Rattle.grep_regex.specs.declared.named.NamedMatcher.{NamedMatcher}
+use Rattle.grep_regex.specs.declared.named.Naming.{Ghosts}
 use Rattle.grep_regex.specs.declared.regex.Regex.{Regex}
 use Rattle.grep_searcher.specs.Meanings.{MatcherFacts}
 use Rattle.grep_searcher.specs.Plans.{is_across}
@@ -11,6 +18,7 @@ use Rattle.grep_searcher.specs.declared.LineTerminator.{LineTerminator}
 use Rattle.linegrep_cli.specs.EngineSteps.{has_failed, writer_of}
 use Rattle.linegrep_cli.specs.OperandRuns.{IsRunOver}
 use Rattle.linegrep_cli.specs.OptionMeanings.{paths_of}
+use Rattle.linegrep_cli.specs.PatternOptions.{pattern_options, pattern_texts}
 use Rattle.linegrep_cli.specs.PrinterOptions.{IsPrinterOf}
 use Rattle.linegrep_cli.specs.PrintingEngines.{IsEngineStep}
 use Rattle.linegrep_cli.specs.RunScopes.{IsScopeOf}
@@ -57,7 +65,7 @@ module _ {F M R W X E : Type 0} (output : E → Option (List ℕ)) (facts : M �
     pub input_after : input' ≡ last.haystack.reader
     pub writer_after : writer' ≡ writer_of last.printer
 
-  -- so does a run for a regular expression, with a matcher of it
+  -- a run for a regular expression is one with a matcher of it
   pub record IsRunFor (options : Options) (regex : Regex) (input : R) (writer : W)
       (errors : X) (status : ℕ) (input' : R) (writer' : W) : Type 0 where
     pub matcher : M
@@ -70,3 +78,38 @@ pub record IsRefused {R W : Type 0} (input : R) (writer : W) (status : ℕ) (inp
   pub status_is : status ≡ 2
   pub unread : input' ≡ input
   pub unwritten : writer' ≡ writer
+
+-- the name of a regular expression: its options, and the texts of its patterns
+abbrev pub naming_of : Regex → Ghosts Brand
+naming_of regex = record { options = regex_options regex; patterns = regex_patterns regex }
+
+-- a matcher that has a name
+abbrev pub Named : Ghosts Brand → Type 0
+Named naming = Bor (NamedMatcher Brand naming)
+
+-- what it finds, from a place on; it may fail at any question, and can be trusted
+abbrev pub named_facts : {naming : Ghosts Brand} → Named naming → MatcherFacts AllocError
+named_facts matcher = record {
+  meaning = regex_meaning (named_regex matcher.now);
+  fails = λ haystack error. Unit {0};
+  is_lawful = λ terminator. Unit {0};
+}
+
+abbrev pub named_first_at : {naming : Ghosts Brand} → Named naming → List ℕ → ℕ → Option (ℕ × ℕ)
+named_first_at matcher = regex_first_at (named_regex matcher.now)
+
+-- a whole run, by its options and patterns: they are compiled as the options say, and the run is one
+-- for what they give
+pub record IsWholeRun {F R W X : Type 0} (output : AllocError → Option (List ℕ))
+    (write_step : W → OutputCall → W → Type 0) (file_remaining : F → Option (List ℕ))
+    (remaining : R → Option (List ℕ)) (read_step : R → ReadResult → R → Type 0)
+    (finds : List ℕ → Result Bool Error → Type 0) (opens : List ℕ → Result F Error → Type 0)
+    (identifies : F → Option FileId → Type 0) (options : Options)
+    (patterns : List (String Global)) (input : R) (writer : W) (errors : X) (status : ℕ)
+    (input' : R) (writer' : W) : Type 0 where
+  pub regex : Regex
+  pub has_options : regex_options regex ≡ pattern_options options patterns
+  pub has_patterns : regex_patterns regex ≡ pattern_texts options patterns
+  pub run : IsRunFor {M = Named (naming_of regex)} output named_facts named_first_at write_step
+      file_remaining remaining read_step finds opens identifies options regex input writer errors
+      status input' writer'

@@ -3,7 +3,7 @@ ghost use Rattle.std.specs.Prelude.{◌≡◌, ◌⊎◌, IfOk};
 ghost use Rattle.grep_regex.specs.Views.{IsNamed, regex_options, regex_patterns};
 ghost use Rattle.linegrep_cli.specs.PatternOptions.{pattern_options, pattern_texts};
 ghost use Rattle.linegrep_cli.specs.SearcherOptions.{searcher_settings};
-ghost use Rattle.linegrep_cli.specs.WholeRuns.{IsRefused, IsRunFor, IsRunWith};
+ghost use Rattle.linegrep_cli.specs.WholeRuns.{IsRefused, IsRunFor, IsRunWith, IsWholeRun};
 
 use crate::choices::Choices;
 use crate::engine::PrintingEngine;
@@ -94,7 +94,12 @@ pub fn search_all<S: System, R: Source + Drop, W: Output + Drop, E: Output>(
     input: R,
     output: W,
     errors: &mut E,
-) -> Ended<R, W> {
+) -> Ended<R, W>
+    ensures { IsRefused input output result.status result.input result.output
+        ⊎ IsWholeRun ⟦<AllocError as Display>⟧.output W.step S.File.remaining R.remaining R.step
+        (S.finds system.now) (S.opens system.now) (S.identifies system.now) options.now patterns.now
+        input output errors.old result.status result.input result.output }
+{
     match prepare(rt, options, patterns) {
         Ok(prepared) => {
             let Prepared {
