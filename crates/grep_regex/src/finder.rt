@@ -65,7 +65,8 @@ fn find_by<F: Finder>(
 }
 
 // The same in a haystack of which all is seen, by what is in the cell if that is for this
-// expression, and otherwise by a new engine.
+// expression, and otherwise by a new engine. It isn't inlined: engines take much of the stack.
+#[inline(never)]
 fn find_in<F: Finder>(
     alloc: Global,
     regex: &Regex,
