@@ -7,6 +7,7 @@ pub mod PartTextLemmas
 pub mod PlainLineLemmas
 pub mod PlanCountLemmas
 pub mod PlanWordLemmas
+mod PreviewLemmas
 pub mod PushLemmas
 pub mod ReadBackLemmas
 pub mod ReportLemmas

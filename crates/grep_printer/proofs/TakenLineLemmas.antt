@@ -16,9 +16,9 @@ use Rattle.grep_searcher.specs.SinkArguments.{match_call}
 use Rattle.grep_searcher.specs.MatchedLines.{calls_of_lines}
 use Rattle.grep_printer.specs.ColoredTexts.{is_matched, matched_color, painted}
 use Rattle.grep_printer.specs.Formats.{AreTexts, Scene}
-use Rattle.grep_printer.specs.LineTexts.{counted_parts, end_byte, fields, indentation, is_long}
-use Rattle.grep_printer.specs.LineTexts.{line_text, shown_line, trimmed}
-use Rattle.grep_printer.specs.LineTexts.{lines_text, missing_end, next_number, notice, place_after}
+use Rattle.grep_printer.specs.LineTexts.{counted_parts, end_byte, fields, indentation, is_long, line_text}
+use Rattle.grep_printer.specs.LineTexts.{lines_text, long_text, missing_end, more_notice, next_number, notice}
+use Rattle.grep_printer.specs.LineTexts.{painted_line, place_after, preview_text, previewed, shown_line, trimmed}
 use Rattle.grep_printer.specs.PartTexts.{match_text, writes_parts}
 use Rattle.grep_printer.specs.StandardTexts.{asks_for_parts, call_text, is_hidden, layout_of}
 use Rattle.grep_printer.specs.StandardTexts.{progress_after, standard_rules, text_before}
@@ -89,19 +89,35 @@ module _ (layout : Layout) where
   none-counted : (start : ℕ) (line : List ℕ) → counted_parts layout [] start line ≡ 0
   none-counted start line = grind arith
 
+  painted-anywhere : (start : ℕ) (line : List ℕ) → painted_line layout [] start line ≡ line
+  painted-anywhere start line = painted-plain (matched_color layout.config.color_specs) _ start line
+
+  preview-anywhere : (start : ℕ) (line : List ℕ) → preview_text layout [] start line
+      ≡ previewed layout line ++ more_notice 0 0
+  unfolding preview_text
+  preview-anywhere start line =
+      ap (λ (t : List ℕ). t ++ more_notice 0 0) (painted-anywhere start (previewed layout line))
+
   -- the text of a line without parts doesn't depend on where its report begins
+  long-anywhere : (place : Place) (line : List ℕ) → long_text layout Match place [] line
+      ≡ long_text layout Match (record place { start = 0 }) [] line
+  unfolding long_text
+  long-anywhere place line =
+      ap₂ (λ (t : List ℕ) count. if layout.config.max_columns_preview then t else notice Match count)
+      (preview-anywhere (place.start + indentation layout line) (trimmed layout line)
+      ∙ sym (preview-anywhere (0 + indentation layout line) (trimmed layout line)))
+      (none-counted place.start line ∙ sym (none-counted 0 line))
+
   line-anywhere : (place : Place) (line : List ℕ) → line_text layout Match place [] line
       ≡ line_text layout Match (record place { start = 0 }) [] line
   unfolding shown_line
-  line-anywhere place line = ap₂ (λ count text. fields layout 58 place
+  line-anywhere place line = ap₂ (λ (long text : List ℕ). fields layout 58 place
       ++ (if is_long layout.config.max_columns (trimmed layout line)
-      then notice Match count ++ end_byte layout ∷ []
+      then long ++ end_byte layout ∷ []
       else text ++ missing_end (end_byte layout) (trimmed layout line)))
-      (none-counted place.start line ∙ sym (none-counted 0 line))
-      (painted-plain (matched_color layout.config.color_specs) _ (place.start + indentation layout line)
-      (trimmed layout line)
-      ∙ sym (painted-plain (matched_color layout.config.color_specs) _ (0 + indentation layout line)
-      (trimmed layout line)))
+      (long-anywhere place line)
+      (painted-anywhere (place.start + indentation layout line) (trimmed layout line)
+      ∙ sym (painted-anywhere (0 + indentation layout line) (trimmed layout line)))
 
   writes-none : writes_parts layout [] ≡ false
   writes-none = grind arith

@@ -1,6 +1,6 @@
 -- Texts that are put together line after line.
 use Rattle.std.proofs.Common.{◌≡◌, ℕ, ◌+◌, ◌<◌, ◌≤◌, ◌^◌, List, [], ◌∷◌, ◌++◌, length, refl, sym, ap, ◌∙◌, arith}
-use Rattle.std.proofs.Common.{append_assoc, subst}
+use Rattle.std.proofs.Common.{ap₂, append_assoc, subst}
 use Rattle.std.proofs.lemmas.List.{length-append}
 use Rattle.std.proofs.lemmas.Bool.{and_parts}
 use Rattle.std.proofs.lemmas.List.Sums.{sum_by-cons}
@@ -13,9 +13,9 @@ use Rattle.grep_matcher.specs.Lines.{byte_of}
 use Rattle.grep_printer.proofs.ColorLemmas.{painted-after}
 use Rattle.grep_printer.proofs.PartTextLemmas.{ordered-after}
 use Rattle.grep_printer.specs.ColoredTexts.{matched_color}
-use Rattle.grep_printer.specs.LineTexts.{counted_parts, end_byte, fields, indentation, is_long, is_touching}
-use Rattle.grep_printer.specs.LineTexts.{line_text, lines_text, mark_of, missing_end, notice, painted_line}
-use Rattle.grep_printer.specs.LineTexts.{place_after, shown_line, trimmed}
+use Rattle.grep_printer.specs.LineTexts.{begins_after, end_byte, fields, indentation, is_long, is_touching}
+use Rattle.grep_printer.specs.LineTexts.{line_text, lines_text, long_text, mark_of, missing_end, more_notice, notice}
+use Rattle.grep_printer.specs.LineTexts.{painted_line, place_after, preview_text, previewed, shown_line, trimmed}
 use Rattle.grep_printer.specs.MatchedParts.{AreInOrder, parts_after}
 use Rattle.grep_printer.specs.declared.fields.Layout.{Layout}
 use Rattle.grep_printer.specs.declared.fields.LineKind.{LineKind}
@@ -24,46 +24,81 @@ use Rattle.grep_printer.specs.declared.fields.Place.{Place}
 abbrev one_if : Bool → ℕ
 one_if b = cond b 1 0
 
--- the parts that end by a position aren't in a line from there on
-counted-after : (position start end : ℕ) (parts : List (ℕ × ℕ)) → position ≤ start
-    → count_by (is_touching start end) (parts_after position parts) ≡ count_by (is_touching start end) parts
-counted-after position start end [] less = refl
-counted-after position start end (part ∷ later) less =
-    go (nat_lt part.0 position && nat_le part.1 position) refl (counted-after position start end later less)
+-- a test that fails for each part that starts before a position and ends by it
+record IsLater (position : ℕ) (test : ℕ × ℕ → Bool) : Type 0 where
+  fails : (part : ℕ × ℕ) → nat_lt part.0 position ≡ true → nat_le part.1 position ≡ true → test part ≡ false
+
+-- the parts that end by a position don't count under such a test
+counted-after : (position : ℕ) (test : ℕ × ℕ → Bool) (parts : List (ℕ × ℕ)) → IsLater position test
+    → count_by test (parts_after position parts) ≡ count_by test parts
+counted-after position test [] later = refl
+counted-after position test (part ∷ parts) later =
+    go (nat_lt part.0 position && nat_le part.1 position) refl (counted-after position test parts later)
   where
     go : (passed : Bool) → (nat_lt part.0 position && nat_le part.1 position) ≡ passed
-        → count_by (is_touching start end) (parts_after position later) ≡ count_by (is_touching start end) later
-        → count_by (is_touching start end) (if passed then parts_after position later else part ∷ later)
-        ≡ count_by (is_touching start end) (part ∷ later)
+        → count_by test (parts_after position parts) ≡ count_by test parts
+        → count_by test (if passed then parts_after position parts else part ∷ parts) ≡ count_by test (part ∷ parts)
     go true passed others =
         let both = and_parts (nat_lt part.0 position) (nat_le part.1 position) passed in
-        let apart : is_touching start end part ≡ false = grind (arith, nat_tests, both, less) in
-        let cons : count_by (is_touching start end) (part ∷ later)
-        ≡ one_if (is_touching start end part) + count_by (is_touching start end) later =
-        sum_by-cons (λ p. one_if (is_touching start end p)) part later in
+        let apart : test part ≡ false = later.fails part both.0 both.1 in
+        let cons : count_by test (part ∷ parts) ≡ one_if (test part) + count_by test parts =
+        sum_by-cons (λ p. one_if (test p)) part parts in
         let none = ap one_if apart in
         others ∙ omega (arith, cons, none)
     go false kept others = refl
 
+-- such are whether a part is in a line from there on, and whether it begins there
+touching-later : (position start end : ℕ) → position ≤ start → IsLater position (is_touching start end)
+touching-later position start end less =
+    record { fails = λ part starts ends. grind (arith, nat_tests, starts, ends, less) }
+
+beginning-later : (position start end : ℕ) → position ≤ start → IsLater position (begins_after start end)
+beginning-later position start end less =
+    record { fails = λ part starts ends. grind (arith, nat_tests, starts, ends, less) }
+
 module _ (layout : Layout) (kind : LineKind) where
-  -- the parts that end by a position don't count in a line from there on
+  -- the parts that end by a position don't show in a line from there on
+  painted-later : (position start : ℕ) (parts : List (ℕ × ℕ)) (line : List ℕ) → position ≤ start
+      → painted_line layout (parts_after position parts) start line ≡ painted_line layout parts start line
+  painted-later position start parts line less = painted-after (matched_color layout.config.color_specs) position
+      (start + length (strip layout.terminator line)) start parts line less
+
+  preview-later : (position start : ℕ) (parts : List (ℕ × ℕ)) (line : List ℕ) → position ≤ start
+      → preview_text layout (parts_after position parts) start line ≡ preview_text layout parts start line
+  unfolding preview_text
+  preview-later position start parts line less =
+      let first = previewed layout line in
+      let end = start + length line in
+      let next = start + length first in
+      ap (λ (t : List ℕ). t ++ more_notice (count_by (is_touching start end) (parts_after position parts))
+      (count_by (begins_after next end) (parts_after position parts)))
+      (painted-later position start parts first less)
+      ∙ ap₂ (λ all later. painted_line layout parts start first ++ more_notice all later)
+      (counted-after position (is_touching start end) parts (touching-later position start end less))
+      (counted-after position (begins_after next end) parts
+      (beginning-later position next end (omega (arith, less))))
+
+  long-later : (place : Place) (position : ℕ) (parts : List (ℕ × ℕ)) (line : List ℕ) → position ≤ place.start
+      → long_text layout kind place (parts_after position parts) line ≡ long_text layout kind place parts line
+  unfolding long_text
+  long-later place position parts line less =
+      ap₂ (λ (t : List ℕ) n. if layout.config.max_columns_preview then t
+      else notice kind (if layout.config.only_matching then 0 else n))
+      (preview-later position (place.start + indentation layout line) parts (trimmed layout line)
+      (omega (arith, less)))
+      (counted-after position (is_touching place.start (place.start + length line)) parts
+      (touching-later position place.start (place.start + length line) less))
+
   line-after : (place : Place) (position : ℕ) (parts : List (ℕ × ℕ)) (line : List ℕ) → position ≤ place.start
       → line_text layout kind place (parts_after position parts) line ≡ line_text layout kind place parts line
   unfolding shown_line
   line-after place position parts line less =
-      let start = place.start + indentation layout line in
       let shown = trimmed layout line in
-      ap (λ (t : List ℕ). fields layout (mark_of kind) place
-      ++ (if is_long layout.config.max_columns shown
-      then notice kind (counted_parts layout (parts_after position parts) place.start line) ++ end_byte layout ∷ []
+      ap₂ (λ (long t : List ℕ). fields layout (mark_of kind) place
+      ++ (if is_long layout.config.max_columns shown then long ++ end_byte layout ∷ []
       else t ++ missing_end (end_byte layout) shown))
-      (painted-after (matched_color layout.config.color_specs) position
-      (start + length (strip layout.terminator shown)) start parts shown (omega (arith, less)))
-      ∙ ap (λ n. fields layout (mark_of kind) place
-      ++ (if is_long layout.config.max_columns shown
-      then notice kind (if layout.config.only_matching then 0 else n) ++ end_byte layout ∷ []
-      else painted_line layout parts start shown ++ missing_end (end_byte layout) shown))
-      (counted-after position place.start (place.start + length line) parts less)
+      (long-later place position parts line less)
+      (painted-later position (place.start + indentation layout line) parts shown (omega (arith, less)))
 
   -- nor in the lines from there on
   lines-after : (place : Place) (position : ℕ) (parts : List (ℕ × ℕ)) (left : List (List ℕ)) → position ≤ place.start

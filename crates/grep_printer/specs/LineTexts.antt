@@ -3,11 +3,12 @@
 use Rattle.std.specs.Prelude.{ℕ, ◌+◌, ◌-◌, ◌^◌, min, nat_eq, nat_le, Bool, if◌then◌else◌, List, []}
 use Rattle.std.specs.Prelude.{◌∷◌}
 use Rattle.std.specs.Prelude.{◌++◌, ◌==◌, ◌&&◌, ◌||◌, false, not, nat_lt, length, codes, decimal}
-use Rattle.std.specs.Prelude.{drop}
+use Rattle.std.specs.Prelude.{drop, take}
 use Rattle.std.specs.Prelude.{Option, Some, None, slice_range}
 use Rattle.std.specs.Borrow.{Bor}
 use Rattle.std.specs.List.{count_by, ends_with, prefix_len}
 use Rattle.std.specs.Option.{is_none, unwrap_or}
+use Rattle.bstr.specs.Unicode.{Span, grapheme_spans}
 use Rattle.grep_matcher.specs.Lines.{byte_of}
 use Rattle.grep_searcher.specs.Lines.{strip}
 use Rattle.grep_printer.specs.ColoredTexts.{colored, column_color, line_color, matched_color}
@@ -110,6 +111,30 @@ abbrev pub is_touching : ℕ → ℕ → ℕ × ℕ → Bool
 is_touching start end part =
     nat_lt part.0 end && (nat_lt start part.1 || nat_le start part.0)
 
+-- whether a part begins at a position of a line or after it, before the line's end
+abbrev pub begins_after : ℕ → ℕ → ℕ × ℕ → Bool
+begins_after start end part = nat_le start part.0 && nat_lt part.0 end
+
+-- where the last of some spans ends, or a position if there is none
+abbrev pub end_of : ℕ → List Span → ℕ
+end_of from [] = from
+end_of from (span ∷ later) = end_of span.1 later
+
+-- how many bytes the first so many characters have, as a reader sees characters
+abbrev pub preview_len : ℕ → List ℕ → ℕ
+preview_len most bytes = end_of 0 (take most (grapheme_spans bytes))
+
+-- what is written after so many parts that the first bytes of a line don't begin
+abbrev pub counted_more : ℕ → List ℕ
+counted_more count = codes " [... "
+    ++ (decimal count ++ (if count == 1 then codes " more match]" else codes " more matches]"))
+
+-- what is written after the first bytes of a line that is too long, by how many parts are in it, and
+-- how many begin after those bytes
+abbrev pub more_notice : ℕ → ℕ → List ℕ
+more_notice all later =
+    if all == 0 then codes " [... omitted end of long line]" else counted_more later
+
 -- the byte at the end of each line
 abbrev pub end_byte : Layout → ℕ
 end_byte layout = byte_of layout.terminator
@@ -151,11 +176,30 @@ module _ (layout : Layout) where
   abbrev pub trimmed : List ℕ → List ℕ
   trimmed line = drop (indentation line) line
 
-  -- what is shown of a line, or a notice if that is too long, with the terminator at its end
+  -- the first bytes of a line that is too long
+  abbrev pub previewed : List ℕ → List ℕ
+  previewed line =
+      take (preview_len (unwrap_or layout.config.max_columns 0) (strip layout.terminator line)) line
+
+  -- those, and after them a notice, of a line that begins at a position of its report
+  unfoldable pub preview_text : List (ℕ × ℕ) → ℕ → List ℕ → List ℕ
+  preview_text parts start line =
+      painted_line parts start (previewed line)
+      ++ more_notice (count_by (is_touching start (start + length line)) parts)
+      (count_by (begins_after (start + length (previewed line)) (start + length line)) parts)
+
+  -- what is written of a line that is too long
+  unfoldable pub long_text : LineKind → Place → List (ℕ × ℕ) → List ℕ → List ℕ
+  long_text kind place parts line =
+      if layout.config.max_columns_preview
+      then preview_text parts (place.start + indentation line) (trimmed line)
+      else notice kind (counted_parts parts place.start line)
+
+  -- what is shown of a line, less if that is too long, with the terminator at its end
   unfoldable pub shown_line : LineKind → Place → List (ℕ × ℕ) → List ℕ → List ℕ
   shown_line kind place parts line =
       if is_long layout.config.max_columns (trimmed line)
-      then notice kind (counted_parts parts place.start line) ++ end_byte layout ∷ []
+      then long_text kind place parts line ++ end_byte layout ∷ []
       else painted_line parts (place.start + indentation line) (trimmed line)
       ++ missing_end (end_byte layout) (trimmed line)
 

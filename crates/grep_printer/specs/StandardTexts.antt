@@ -28,6 +28,7 @@ default_config = record {
   byte_offset = false;
   only_matching = false;
   max_columns = None;
+  max_columns_preview = false;
   path_terminator = None;
   separator = Nothing;
   color_specs = Plain;

@@ -28,6 +28,7 @@ pub struct Config {
     pub(crate) byte_offset: bool,
     pub(crate) only_matching: bool,
     pub(crate) max_columns: Option<u64>,
+    pub(crate) max_columns_preview: bool,
     pub(crate) path_terminator: Option<u8>,
     pub(crate) separator: SearchSeparator,
     pub(crate) color_specs: ColorSpecs,
@@ -72,6 +73,7 @@ impl StandardBuilder {
                 byte_offset: false,
                 only_matching: false,
                 max_columns: None,
+                max_columns_preview: false,
                 path_terminator: None,
                 separator: SearchSeparator::Nothing,
                 color_specs: ColorSpecs::Plain,
@@ -146,6 +148,17 @@ impl StandardBuilder {
         ensures set { result.now ≡ record self.old { max_columns = most } }
     {
         self.config.max_columns = most;
+        self
+    }
+
+    /// Whether the first characters of a line with more than `max_columns` bytes are written, as many
+    /// as bytes may be written, and only after them a notice; not by default. A character is what a
+    /// reader takes for one (a grapheme cluster).
+    pub fn max_columns_preview(&mut self, yes: bool) -> &mut StandardBuilder
+        ensures reference { result.ghost_name ≡ self.entry.ghost_name }
+        ensures set { result.now ≡ record self.old { max_columns_preview = yes } }
+    {
+        self.config.max_columns_preview = yes;
         self
     }
 

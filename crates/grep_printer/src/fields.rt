@@ -1,11 +1,14 @@
 //! Lines, and the fields before them.
 ghost use Rattle.std.specs.Prelude.{◌≡◌, ◌+◌, ◌<◌, ◌≤◌, ◌^◌, ◌∷◌, ◌++◌, [], decimal, length};
-ghost use Rattle.std.specs.List.{prefix_len};
+ghost use Rattle.std.specs.Prelude.{take};
+ghost use Rattle.std.specs.List.{count_by, prefix_len};
 ghost use Rattle.std.specs.Option.{unwrap_or};
 ghost use Rattle.grep_matcher.specs.Lines.{byte_of};
 ghost use Rattle.grep_searcher.specs.Lines.{lines};
 ghost use Rattle.grep_printer.specs.ColoredTexts.{color_of, colored};
-ghost use Rattle.grep_printer.specs.LineTexts.{counted_notice, counted_parts, fields};
+ghost use Rattle.grep_printer.specs.LineTexts.{begins_after, counted_notice, counted_parts};
+ghost use Rattle.grep_printer.specs.LineTexts.{fields, long_text, more_notice};
+ghost use Rattle.grep_printer.specs.LineTexts.{preview_len, preview_text, previewed};
 ghost use Rattle.grep_printer.specs.LineTexts.{indentation, is_long, is_space, is_touching};
 ghost use Rattle.grep_printer.specs.LineTexts.{line_text};
 ghost use Rattle.grep_printer.specs.LineTexts.{lines_text, mark_of, missing_end, notice};
@@ -18,6 +21,7 @@ ghost use Rattle.grep_output.specs.PendingTexts.{Adds};
 use crate::colors::{push_colored, push_painted};
 use crate::config::{Config, SearchSeparator};
 use crate::parts::parts_after;
+use bstr::ByteSlice;
 use grep_lines::without_terminator;
 use grep_output::Pending;
 use grep_searcher::{LineIter, LineTerminator, Match};
@@ -122,12 +126,59 @@ impl<'p> Layout<'p> {
         let indentation = self.indentation(line);
         let shown = &line[indentation..];
         if is_long(self.config.max_columns, shown) {
-            push_notice(text, kind, self.count_parts(parts, place.start, line));
+            self.push_long(text, kind, place, parts, line);
             text.push(&[self.terminator.as_byte()]);
             return;
         }
         self.push_bytes(text, place.start + indentation, parts, shown);
         push_missing_end(text, self.terminator.as_byte(), shown)
+    }
+
+    // Pushes what is written of a line that is too long.
+    #[tactic(auto, unfolding(crate::specs::LineTexts::long_text))]
+    fn push_long(
+        &self,
+        text: &mut Pending,
+        kind: LineKind,
+        place: &Place,
+        parts: &[Match],
+        line: &[u8],
+    )
+        requires fits { place.now.start + length line.now < 2 ^ 64 }
+        requires ordered { AreInOrder 0 (2 ^ 64) parts.now }
+        ensures { Adds text.old text.new (long_text self.now kind place.now parts.now line.now) }
+    {
+        if !self.config.max_columns_preview {
+            push_notice(text, kind, self.count_parts(parts, place.start, line));
+            return;
+        }
+        let indentation = self.indentation(line);
+        self.push_preview(text, place.start + indentation, parts, &line[indentation..])
+    }
+
+    // Pushes the first bytes of a line that begins at a position of its report, and a notice.
+    #[tactic(auto, unfolding(crate::specs::LineTexts::preview_text))]
+    fn push_preview(&self, text: &mut Pending, start: usize, parts: &[Match], line: &[u8])
+        requires fits { start + length line.now < 2 ^ 64 }
+        requires ordered { AreInOrder 0 (2 ^ 64) parts.now }
+        ensures { Adds text.old text.new (preview_text self.now parts.now start line.now) }
+    {
+        let shown = self.previewed(line);
+        self.push_bytes(text, start, parts, shown);
+        let end = start + line.len();
+        let all = count_touching(parts, start, end);
+        let later = count_beginning(parts, start + shown.len(), end);
+        push_more(text, all, later)
+    }
+
+    // The first bytes of a line that is too long.
+    fn previewed<'l>(&self, line: &'l [u8]) -> &'l [u8]
+        ensures value { result.now ≡ previewed self.now line.now }
+        ensures within { length result.now ≤ length line.now }
+    {
+        let most = self.config.max_columns.unwrap_or(0);
+        let end = preview_len(without_terminator(line, self.terminator), most);
+        &line[..end]
     }
 
     // How many bytes at the start of a line are left out.
@@ -150,11 +201,7 @@ impl<'p> Layout<'p> {
         if self.config.only_matching {
             return 0;
         }
-        let end = start + line.len();
-        parts
-            .iter()
-            .filter(|part| is_touching(part, start, end))
-            .count()
+        count_touching(parts, start, start + line.len())
     }
 
     // Pushes the bytes of a line, the first of which is at a position of the report.
@@ -281,13 +328,77 @@ fn is_touching(part: &Match, start: usize, end: usize) -> bool
     part.start() < end && (start < part.end() || start <= part.start())
 }
 
+// How many parts are in a line from a position to another.
+fn count_touching(parts: &[Match], start: usize, end: usize) -> usize
+    ensures { result ≡ count_by (is_touching start end) parts.now }
+{
+    parts
+        .iter()
+        .filter(|part| is_touching(part, start, end))
+        .count()
+}
+
+// How many parts begin at a position or after it, and before another.
+fn count_beginning(parts: &[Match], start: usize, end: usize) -> usize
+    ensures { result ≡ count_by (begins_after start end) parts.now }
+{
+    parts
+        .iter()
+        .filter(|part| begins_after(part, start, end))
+        .count()
+}
+
+// Whether a part begins at a position or after it, and before another.
+fn begins_after(part: &Match, start: usize, end: usize) -> bool
+    ensures { result ≡ begins_after start end part.now }
+{
+    start <= part.start() && part.start() < end
+}
+
+// How many bytes the first so many characters have, as a reader sees characters.
+fn preview_len(bytes: &[u8], most: u64) -> usize
+    ensures value { result ≡ preview_len most bytes.now }
+    ensures within { result ≤ length bytes.now }
+{
+    let mut clusters = bytes.grapheme_indices();
+    let mut left = most;
+    let mut end = 0;
+    while left > 0 {
+        let Some((_, next, _)) = clusters.next() else {
+            return end;
+        };
+        end = next;
+        left -= 1;
+    }
+    end
+}
+
+// Pushes what is written after the first bytes of a line that is too long, by how many parts are in
+// it, and how many begin after those bytes.
+fn push_more(text: &mut Pending, all: usize, later: usize)
+    ensures { Adds text.old text.new (more_notice all later) }
+{
+    match (all, later) {
+        (0, _) => text.push(b" [... omitted end of long line]"),
+        (_, 1) => push_counted(text, b" [... ", later, b"more match]"),
+        _ => push_counted(text, b" [... ", later, b"more matches]"),
+    }
+}
+
 // Pushes how many parts are in a line that is too long.
 fn push_count(text: &mut Pending, count: usize)
     ensures { Adds text.old text.new (counted_notice count) }
 {
-    text.push(b"[Omitted long line with ");
+    push_counted(text, b"[Omitted long line with ", count, b"matches]")
+}
+
+// Pushes a text, a number, a space and another text.
+fn push_counted(text: &mut Pending, before: &[u8], count: usize, after: &[u8])
+    ensures { Adds text.old text.new (before.now ++ (decimal count ++ 32 ∷ after.now)) }
+{
+    text.push(before);
     text.push_number(count as u64, b' ');
-    text.push(b"matches]")
+    text.push(after)
 }
 
 // Pushes what is written between two searches.

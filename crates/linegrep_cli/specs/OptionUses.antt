@@ -21,7 +21,8 @@ use Rattle.linegrep_cli.specs.declared.option_id.OptionId.TheVariants.{NoIgnoreF
 use Rattle.linegrep_cli.specs.declared.option_id.OptionId.TheVariants.{NoIgnoreMessages, NoRequireGit, RequireGit}
 use Rattle.linegrep_cli.specs.declared.option_id.OptionId.TheVariants.{InvertMatch, Json}
 use Rattle.linegrep_cli.specs.declared.option_id.OptionId.TheVariants.{LineBuffered, LineNumber}
-use Rattle.linegrep_cli.specs.declared.option_id.OptionId.TheVariants.{LineRegexp, Messages}
+use Rattle.linegrep_cli.specs.declared.option_id.OptionId.TheVariants.{LineRegexp, MaxColumnsPreview}
+use Rattle.linegrep_cli.specs.declared.option_id.OptionId.TheVariants.{Messages, NoMaxColumnsPreview}
 use Rattle.linegrep_cli.specs.declared.option_id.OptionId.TheVariants.{Multiline, MultilineDotall}
 use Rattle.linegrep_cli.specs.declared.option_id.OptionId.TheVariants.{NoBinary, NoMultilineDotall}
 use Rattle.linegrep_cli.specs.declared.option_id.OptionId.TheVariants.{NoPcre2Unicode, NoUnicode}
@@ -108,6 +109,7 @@ own_contraries ByteOffset = NoByteOffset ∷ []
 own_contraries Column = NoColumn ∷ []
 own_contraries NoColumn = Column ∷ []
 own_contraries Trim = NoTrim ∷ []
+own_contraries MaxColumnsPreview = NoMaxColumnsPreview ∷ []
 own_contraries NoMessages = Messages ∷ []
 own_contraries Hidden = NoHidden ∷ []
 own_contraries Follow = NoFollow ∷ []

@@ -26,7 +26,8 @@ use Rattle.linegrep_cli.specs.declared.option_id.OptionId.TheVariants.{CountMatc
 use Rattle.linegrep_cli.specs.declared.option_id.OptionId.TheVariants.{Files, FilesWithMatches}
 use Rattle.linegrep_cli.specs.declared.option_id.OptionId.TheVariants.{FilesWithoutMatch, Heading}
 use Rattle.linegrep_cli.specs.declared.option_id.OptionId.TheVariants.{IncludeZero, InvertMatch, Json}
-use Rattle.linegrep_cli.specs.declared.option_id.OptionId.TheVariants.{LineBuffered, NoFilename}
+use Rattle.linegrep_cli.specs.declared.option_id.OptionId.TheVariants.{LineBuffered, MaxColumnsPreview}
+use Rattle.linegrep_cli.specs.declared.option_id.OptionId.TheVariants.{NoFilename}
 use Rattle.linegrep_cli.specs.declared.option_id.OptionId.TheVariants.{NoHeading, Null}
 use Rattle.linegrep_cli.specs.declared.option_id.OptionId.TheVariants.{OnlyMatching, Pretty, Quiet}
 use Rattle.linegrep_cli.specs.declared.option_id.OptionId.TheVariants.{Trim, Vimgrep, WithFilename}
@@ -121,6 +122,7 @@ line_settings options colors = record {
   byte_offset = has options ByteOffset;
   only_matching = has options OnlyMatching;
   max_columns = column_limit options.max_columns;
+  max_columns_preview = has options MaxColumnsPreview;
   path_terminator = path_terminator_of options;
   separator = separator_of options;
   color_specs = colors;

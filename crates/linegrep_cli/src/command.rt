@@ -462,6 +462,16 @@ const LINE_ROWS: &[Row] = &[
         letter: Some('M'),
     },
     Row {
+        id: OptionId::MaxColumnsPreview,
+        name: "max-columns-preview",
+        letter: None,
+    },
+    Row {
+        id: OptionId::NoMaxColumnsPreview,
+        name: "no-max-columns-preview",
+        letter: None,
+    },
+    Row {
         id: OptionId::Trim,
         name: "trim",
         letter: None,
@@ -610,7 +620,6 @@ const NOTHING: &[&str] = &[
     "no-pre",
     "no-pcre2",
     "no-auto-hybrid-regex",
-    "no-max-columns-preview",
     "no-stats",
 ];
 

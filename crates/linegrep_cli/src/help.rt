@@ -114,6 +114,7 @@ Output:
   -o, --only-matching        Write only the parts of lines that match
   -M, --max-columns NUM      Write a notice in place of lines of more than NUM bytes;
                              0 is no limit
+      --max-columns-preview  Write the first characters of such lines before it
       --trim                 Leave out white space at the start of lines
   -0, --null                 Write a NUL after each path
       --color WHEN           Write colors: always, never, or auto, for a terminal

@@ -28,9 +28,6 @@ fn other_reason(option: &str) -> Option<&'static str> {
         "--colors" | "--hyperlink-format" => Some("colors can't be chosen, and there are no links"),
         "--regex-size-limit" | "--dfa-size-limit" => Some("the limits are fixed"),
         "--stats" => Some("searches are counted for --json alone"),
-        "--max-columns-preview" => Some(
-            "a notice is written in place of a long line, and nothing of it",
-        ),
         "--debug" | "--trace" | "--generate" => Some("there is nothing of the kind"),
         _ => None,
     }

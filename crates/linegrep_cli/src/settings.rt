@@ -195,6 +195,7 @@ fn show(builder: &mut StandardBuilder, options: &Options<'_, '_>)
       byte_offset = has options.now OptionId.ByteOffset;
       only_matching = has options.now OptionId.OnlyMatching;
       max_columns = column_limit options.now.max_columns;
+      max_columns_preview = has options.now OptionId.MaxColumnsPreview;
       trim_ascii = has options.now OptionId.Trim;
     } }
 {
@@ -203,6 +204,7 @@ fn show(builder: &mut StandardBuilder, options: &Options<'_, '_>)
         .byte_offset(options.has(OptionId::ByteOffset))
         .only_matching(options.has(OptionId::OnlyMatching))
         .max_columns(max_columns(options))
+        .max_columns_preview(options.has(OptionId::MaxColumnsPreview))
         .trim_ascii(options.has(OptionId::Trim));
 }
 
