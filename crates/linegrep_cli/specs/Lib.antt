@@ -10,6 +10,7 @@ pub mod PrintedSearches
 pub mod PrinterOptions
 pub mod PrinterSearches
 pub mod PrintingEngines
+pub mod ProgramRuns
 pub mod RunScopes
 pub mod SearcherOptions
 pub mod WholeRuns

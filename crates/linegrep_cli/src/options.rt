@@ -199,7 +199,9 @@ pub struct Options<'m, 'w> {
 
 impl<'m, 'w> Options<'m, 'w> {
     /// The options of parsed arguments, with the standard streams.
-    pub fn read(matches: &'m ArgMatches<'w>, streams: Streams) -> Options<'m, 'w> {
+    pub fn read(matches: &'m ArgMatches<'w>, streams: Streams) -> Options<'m, 'w>
+        ensures { result.streams ≡ streams }
+    {
         Options {
             streams,
             uses: Uses::read(matches),

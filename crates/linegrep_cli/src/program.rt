@@ -1,5 +1,8 @@
 //! The program, by its arguments.
+ghost use Rattle.std.specs.Prelude.{◌≡◌, ◌⊎◌, ℕ, List};
 ghost use Rattle.grep_output.specs.PendingTexts.{Flushes};
+ghost use Rattle.linegrep_cli.specs.ProgramRuns.{IsAnswered, IsProgramRun};
+ghost use Rattle.linegrep_cli.specs.WholeRuns.{IsRefused};
 
 use crate::command::command;
 use crate::failures::{Failure, usage_text};
@@ -15,7 +18,8 @@ use crate::words::{is_escaped, words};
 use clap::ArgMatches;
 use grep_output::{Output, write_all};
 use grep_searcher::Source;
-use std::alloc::Global;
+use std::alloc::{AllocError, Global};
+use std::fmt::Display;
 use std::io;
 
 /// What a run knows of its standard streams besides their bytes.
@@ -49,7 +53,11 @@ pub fn run<S: System, R: Source + Drop, W: Output + Drop, E: Output>(
     input: R,
     output: W,
     errors: &mut E,
-) -> Ended<R, W> {
+) -> Ended<R, W>
+    ensures { IsProgramRun ⟦<AllocError as Display>⟧.output W.step S.File.remaining R.remaining
+        R.step (S.finds system.now) (S.opens system.now) (S.identifies system.now) streams input
+        output errors.old result.status result.input result.output }
+{
     let Ok(words) = words(rt.alloc(), arguments) else {
         return Ended::refused(errors, &Failure::out_of_memory(), input, output);
     };
@@ -80,7 +88,11 @@ fn answer<R, W: Output, E: Output>(
     input: R,
     output: W,
     errors: &mut E,
-) -> Ended<R, W> {
+) -> Ended<R, W>
+    ensures { IsRefused input output result.status result.input result.output
+        ⊎ ((text : List ℕ) × (result.input ≡ input)
+        × IsAnswered W.step text output result.status result.output) }
+{
     let Ok(text) = usage_text(alloc, error) else {
         return Ended::refused(errors, &Failure::out_of_memory(), input, output);
     };
@@ -96,7 +108,10 @@ fn write_answer<R, W: Output, E: Output>(
     input: R,
     mut output: W,
     errors: &mut E,
-) -> Ended<R, W> {
+) -> Ended<R, W>
+    ensures input { result.input ≡ input }
+    ensures answered { IsAnswered W.step text.now output result.status result.output }
+{
     match write_whole(&mut output, text) {
         Err(error) if error.kind() != io::ErrorKind::BrokenPipe => {
             Ended::refused(errors, &Failure::of_output(alloc, &error), input, output)
@@ -126,7 +141,11 @@ fn run_options<S: System, R: Source + Drop, W: Output + Drop, E: Output>(
     mut input: R,
     output: W,
     errors: &mut E,
-) -> Ended<R, W> {
+) -> Ended<R, W>
+    ensures { IsProgramRun ⟦<AllocError as Display>⟧.output W.step S.File.remaining R.remaining
+        R.step (S.finds system.now) (S.opens system.now) (S.identifies system.now) options.now.streams input
+        output errors.old result.status result.input result.output }
+{
     if options.has(OptionId::Help) {
         return write_answer(rt.alloc(), HELP, input, output, errors);
     }
