@@ -7,14 +7,14 @@ use Rattle.std.proofs.lemmas.List.{append-nil}
 use Rattle.std.proofs.lemmas.List.Sums.{sum_by-cons}
 use Rattle.std.specs.List.{concat, count_by, flat_map}
 use Rattle.std.specs.Borrow.{Bor}
-use Rattle.std.specs.Option.{is_none, unwrap_or}
+use Rattle.std.specs.Option.{is_none}
 use Rattle.std.specs.Prelude.{Bool, false, true, ◌&&◌, ◌||◌, ◌==◌, if◌then◌else◌, cond, max, min, nat_lt, not, Option, None, Some, slice_range}
 use Rattle.grep_matcher.proofs.LineLemmas.{lines-end, lines-inner, lines-joined}
 use Rattle.grep_matcher.specs.Lines.{lines, onto_first}
 use Rattle.grep_searcher.specs.Lines.{strip}
 use Rattle.grep_printer.specs.MatchedParts.{AreInOrder, ends_after}
 use Rattle.grep_printer.specs.ColoredTexts.{line_color, matched_color, path_color}
-use Rattle.grep_printer.specs.LineTexts.{end_byte, is_plain, line_text, lines_text, mark_of, missing_end}
+use Rattle.grep_printer.specs.LineTexts.{end_byte, is_plain, line_text, lines_text, mark_after, mark_byte, mark_of, missing_end}
 use Rattle.grep_printer.specs.LineTexts.{next_number, number_field, path_field, place_after, plain_line, plain_lines, plain_part}
 use Rattle.grep_printer.specs.LineTexts.{shown_line}
 use Rattle.grep_printer.specs.Reports.{HasPlainParts, call_of, report_place, reporting_call}
@@ -120,7 +120,7 @@ none-is : {X : Type 0} → (o : Option X) → is_none o ≡ true → o ≡ None
 none-is None none = refl
 none-is (Some x) none = absurd cc
 
-path-none : (heading : Bool) (color : Option (List ℕ)) (mark : ℕ) (path : Option (Bor (List ℕ)))
+path-none : (heading : Bool) (color : Option (List ℕ)) (mark : List ℕ) (path : Option (Bor (List ℕ)))
     → (heading || is_none path) ≡ true → (if heading then [] else path_field color mark path) ≡ []
 path-none true color mark path none = refl
 path-none false color mark None none = refl
@@ -140,10 +140,12 @@ record ArePlain (config : Config) (path : Option (Bor (List ℕ))) : Type 0 wher
   numbers : is_none (line_color config.color_specs) ≡ true
   matched : is_none (matched_color config.color_specs) ≡ true
   indented : not config.trim_ascii ≡ true
+  apart : is_none config.separators ≡ true
 
 are_plain : (config : Config) (path : Option (Bor (List ℕ))) → is_plain config path ≡ true → ArePlain config path
 are_plain config path plain =
-    let z = and_parts _ (not config.trim_ascii) plain in
+    let y = and_parts _ (is_none config.separators) plain in
+    let z = and_parts _ (not config.trim_ascii) y.0 in
     let a = and_parts _ (is_none (matched_color config.color_specs)) z.0 in
     let b = and_parts _ (is_none (line_color config.color_specs)) a.0 in
     let c = and_parts _ (is_none config.max_columns) b.0 in
@@ -157,6 +159,7 @@ are_plain config path plain =
       numbers = b.1;
       matched = a.1;
       indented = z.1;
+      apart = y.1;
     }
 
 column-none : (layout : Layout) (parts : List (ℕ × ℕ)) → not layout.config.column ≡ true → column_of layout parts ≡ None
@@ -166,7 +169,7 @@ column-none layout (part ∷ later) none = offset-none layout.config.column (par
 module _ (layout : Layout) (kind : LineKind) (plain : is_plain layout.config layout.path ≡ true) where
   -- a line that is written as it is
   line-plain : (place : Place) (parts : List (ℕ × ℕ)) (line : List ℕ) → place.column ≡ None
-      → line_text layout kind place parts line ≡ plain_line (end_byte layout) (mark_of kind) place.number line
+      → line_text layout kind place parts line ≡ plain_line (end_byte layout) (mark_byte kind) place.number line
   unfolding shown_line
   line-plain place parts line column =
       let are = are_plain layout.config layout.path plain in
@@ -175,19 +178,29 @@ module _ (layout : Layout) (kind : LineKind) (plain : is_plain layout.config lay
       let most = none-is layout.config.max_columns are.limits in
       let indented = not-true layout.config.trim_ascii are.indented in
       let no_path = path-none layout.config.heading (path_color layout.config.color_specs)
-      (unwrap_or layout.config.path_terminator (mark_of kind)) layout.path are.paths in
+      (mark_after layout.config.path_terminator (mark_byte kind ∷ [])) layout.path are.paths in
       let no_offset = offset-none layout.config.byte_offset place.offset are.offsets in
-      simp (no_path, column, no_offset, most, color, matched, indented, append-nil (number_field None (mark_of kind) place.number))
-      refl
+      let apart = none-is layout.config.separators are.apart in
+      simp (
+        apart,
+        no_path,
+        column,
+        no_offset,
+        most,
+        color,
+        matched,
+        indented,
+        append-nil (number_field None (mark_byte kind ∷ []) place.number),
+      ) refl
 
   -- such lines
   lines-plain : (place : Place) (parts : List (ℕ × ℕ)) (ls : List (List ℕ)) → place.column ≡ None
-      → lines_text layout kind place parts ls ≡ plain_lines (end_byte layout) (mark_of kind) place.number ls
+      → lines_text layout kind place parts ls ≡ plain_lines (end_byte layout) (mark_byte kind) place.number ls
   lines-plain place parts [] column = refl
   lines-plain place parts (line ∷ later) column =
       ap (λ (t : List ℕ). t ++ lines_text layout kind (place_after place line) parts later)
       (line-plain place parts line column)
-      ∙ ap (λ (t : List ℕ). plain_line (end_byte layout) (mark_of kind) place.number line ++ t)
+      ∙ ap (λ (t : List ℕ). plain_line (end_byte layout) (mark_byte kind) place.number line ++ t)
       (lines-plain (place_after place line) parts later column)
 
 -- a report that is written so

@@ -111,7 +111,7 @@ module _ (layout : Layout) where
   line-anywhere : (place : Place) (line : List ℕ) → line_text layout Match place [] line
       ≡ line_text layout Match (record place { start = 0 }) [] line
   unfolding shown_line
-  line-anywhere place line = ap₂ (λ (long text : List ℕ). fields layout 58 place
+  line-anywhere place line = ap₂ (λ (long text : List ℕ). fields layout Match place
       ++ (if is_long layout.config.max_columns (trimmed layout line)
       then long ++ end_byte layout ∷ []
       else text ++ missing_end (end_byte layout) (trimmed layout line)))

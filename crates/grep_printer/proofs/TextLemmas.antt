@@ -14,7 +14,7 @@ use Rattle.grep_printer.proofs.ColorLemmas.{painted-after}
 use Rattle.grep_printer.proofs.PartTextLemmas.{ordered-after}
 use Rattle.grep_printer.specs.ColoredTexts.{matched_color}
 use Rattle.grep_printer.specs.LineTexts.{begins_after, end_byte, fields, indentation, is_long, is_touching}
-use Rattle.grep_printer.specs.LineTexts.{line_text, lines_text, long_text, mark_of, missing_end, more_notice, notice}
+use Rattle.grep_printer.specs.LineTexts.{line_text, lines_text, long_text, missing_end, more_notice, notice}
 use Rattle.grep_printer.specs.LineTexts.{painted_line, place_after, preview_text, previewed, shown_line, trimmed}
 use Rattle.grep_printer.specs.MatchedParts.{AreInOrder, parts_after}
 use Rattle.grep_printer.specs.declared.fields.Layout.{Layout}
@@ -94,7 +94,7 @@ module _ (layout : Layout) (kind : LineKind) where
   unfolding shown_line
   line-after place position parts line less =
       let shown = trimmed layout line in
-      ap₂ (λ (long t : List ℕ). fields layout (mark_of kind) place
+      ap₂ (λ (long t : List ℕ). fields layout kind place
       ++ (if is_long layout.config.max_columns shown then long ++ end_byte layout ∷ []
       else t ++ missing_end (end_byte layout) shown))
       (long-later place position parts line less)

@@ -3,9 +3,10 @@
 use Rattle.std.specs.Prelude.{ℕ, ◌+◌, ◌-◌, ◌^◌, min, nat_eq, nat_le, Bool, if◌then◌else◌, List, []}
 use Rattle.std.specs.Prelude.{◌∷◌}
 use Rattle.std.specs.Prelude.{◌++◌, ◌==◌, ◌&&◌, ◌||◌, false, not, nat_lt, length, codes, decimal}
-use Rattle.std.specs.Prelude.{drop, take}
+use Rattle.std.specs.Prelude.{drop, take, Vec}
 use Rattle.std.specs.Prelude.{Option, Some, None, slice_range}
 use Rattle.std.specs.Borrow.{Bor}
+use Rattle.std.specs.Global.{Global}
 use Rattle.std.specs.List.{count_by, ends_with, prefix_len}
 use Rattle.std.specs.Option.{is_none, unwrap_or}
 use Rattle.bstr.specs.Unicode.{Span, grapheme_spans}
@@ -15,21 +16,27 @@ use Rattle.grep_printer.specs.ColoredTexts.{colored, column_color, line_color, m
 use Rattle.grep_printer.specs.ColoredTexts.{painted, path_color}
 use Rattle.grep_printer.specs.declared.config.Config.{Config}
 use Rattle.grep_printer.specs.declared.config.SearchSeparator.{SearchSeparator}
-use Rattle.grep_printer.specs.declared.config.SearchSeparator.TheVariants.{Nothing, Blank, Dashes}
+use Rattle.grep_printer.specs.declared.config.SearchSeparator.TheVariants.{Nothing, Blank, Groups}
 use Rattle.grep_printer.specs.declared.fields.Layout.{Layout}
 use Rattle.grep_printer.specs.declared.fields.LineKind.{LineKind}
 use Rattle.grep_printer.specs.declared.fields.LineKind.TheVariants.{Match, Context}
 use Rattle.grep_printer.specs.declared.fields.Place.{Place}
+use Rattle.grep_printer.specs.declared.separators.Separators.{Separators}
 
 -- a number, in a color if there is one, and a mark, if there is a number
-abbrev pub number_field : Option (List ℕ) → ℕ → Option ℕ → List ℕ
+abbrev pub number_field : Option (List ℕ) → List ℕ → Option ℕ → List ℕ
 number_field color mark None = []
-number_field color mark (Some number) = colored color (decimal number) ++ mark ∷ []
+number_field color mark (Some number) = colored color (decimal number) ++ mark
 
--- a path, in a color if there is one, and a byte, if there is a path
-abbrev pub path_field : Option (List ℕ) → ℕ → Option (Bor (List ℕ)) → List ℕ
+-- a path, in a color if there is one, and a mark, if there is a path
+abbrev pub path_field : Option (List ℕ) → List ℕ → Option (Bor (List ℕ)) → List ℕ
 path_field color mark None = []
-path_field color mark (Some path) = colored color path.now ++ mark ∷ []
+path_field color mark (Some path) = colored color path.now ++ mark
+
+-- the mark after the path before a line, unless a byte comes in its place
+abbrev pub mark_after : Option ℕ → List ℕ → List ℕ
+mark_after None mark = mark
+mark_after (Some end) mark = end ∷ []
 
 -- the terminator of a line, if it isn't at its end
 abbrev pub missing_end : ℕ → List ℕ → List ℕ
@@ -57,11 +64,12 @@ is_plain config path =
     (config.heading || is_none path) && not config.column && not config.byte_offset
     && is_none config.max_columns && is_none (line_color config.color_specs)
     && is_none (matched_color config.color_specs) && not config.trim_ascii
+    && is_none config.separators
 
 -- a line as it is, after its number and a mark, if it has one
 abbrev pub plain_line : ℕ → ℕ → Option ℕ → List ℕ → List ℕ
 plain_line terminator mark number line =
-    number_field None mark number ++ (line ++ missing_end terminator line)
+    number_field None (mark ∷ []) number ++ (line ++ missing_end terminator line)
 
 -- such lines, each with its own number
 abbrev pub plain_lines : ℕ → ℕ → Option ℕ → List (List ℕ) → List ℕ
@@ -75,16 +83,36 @@ abbrev pub plain_part : ℕ → ℕ → Option ℕ → List ℕ → ℕ × ℕ �
 plain_part terminator mark number bytes part =
     plain_line terminator mark number (slice_range bytes part.0 part.1)
 
+-- a text in a line of its own, if there is one
+abbrev pub context_line : Option (Vec ℕ Global) → ℕ → List ℕ
+context_line None terminator = []
+context_line (Some text) terminator = text.items ++ terminator ∷ []
+
+-- what is written between two groups of lines: two dashes, unless separators are set
+abbrev pub break_text : Option (Bor Separators) → ℕ → List ℕ
+break_text None terminator = 45 ∷ 45 ∷ terminator ∷ []
+break_text (Some separators) terminator = context_line separators.now.context terminator
+
 -- what is written between two searches
-abbrev pub separator_text : SearchSeparator → ℕ → List ℕ
-separator_text Nothing terminator = []
-separator_text Blank terminator = terminator ∷ []
-separator_text Dashes terminator = 45 ∷ 45 ∷ terminator ∷ []
+abbrev pub separator_text : SearchSeparator → Option (Bor Separators) → ℕ → List ℕ
+separator_text Nothing separators terminator = []
+separator_text Blank separators terminator = terminator ∷ []
+separator_text Groups separators terminator = break_text separators terminator
 
 -- the byte after each field of a line: a colon in a match, and a dash in any other line
-abbrev pub mark_of : LineKind → ℕ
-mark_of Match = 58
-mark_of Context = 45
+abbrev pub mark_byte : LineKind → ℕ
+mark_byte Match = 58
+mark_byte Context = 45
+
+-- the separator in its place
+abbrev pub field_mark : Separators → LineKind → List ℕ
+field_mark separators Match = separators.field_match.items
+field_mark separators Context = separators.field_context.items
+
+-- the mark after each field of a line: that byte, unless separators are set
+abbrev pub mark_of : Option (Bor Separators) → LineKind → List ℕ
+mark_of None kind = mark_byte kind ∷ []
+mark_of (Some separators) kind = field_mark separators.now kind
 
 -- whether a line has more bytes than are written
 abbrev pub is_long : Option ℕ → List ℕ → Bool
@@ -142,11 +170,12 @@ end_byte layout = byte_of layout.terminator
 module _ (layout : Layout) where
   -- the fields before a line, each with a mark after it: the path, the number, the column and the
   -- offset. A path that is written as a heading isn't among them
-  abbrev pub fields : ℕ → Place → List ℕ
-  fields mark place =
+  abbrev pub fields : LineKind → Place → List ℕ
+  fields kind place =
+      let mark = mark_of layout.config.separators kind in
       (if layout.config.heading then []
       else path_field (path_color layout.config.color_specs)
-      (unwrap_or layout.config.path_terminator mark) layout.path)
+      (mark_after layout.config.path_terminator mark) layout.path)
       ++ (number_field (line_color layout.config.color_specs) mark place.number
       ++ (number_field (column_color layout.config.color_specs) mark place.column
       ++ number_field (column_color layout.config.color_specs) mark
@@ -206,7 +235,7 @@ module _ (layout : Layout) where
   -- a line after its fields
   abbrev pub line_text : LineKind → Place → List (ℕ × ℕ) → List ℕ → List ℕ
   line_text kind place parts line =
-      fields (mark_of kind) place ++ shown_line kind place parts line
+      fields kind place ++ shown_line kind place parts line
 
   -- the lines of a match, each with its own number and its own offset, and with the column of the
   -- first match in all of them
@@ -220,11 +249,13 @@ module _ (layout : Layout) where
   heading_text =
       if layout.config.heading
       then path_field (path_color layout.config.color_specs)
-      (unwrap_or layout.config.path_terminator (end_byte layout)) layout.path
+      (unwrap_or layout.config.path_terminator (end_byte layout) ∷ []) layout.path
       else []
 
   -- what is written before the first report of a search, by whether anything was written before it
   abbrev pub opening_text : Bool → List ℕ
   opening_text has_written =
-      (if has_written then separator_text layout.config.separator (end_byte layout) else [])
+      (if has_written
+      then separator_text layout.config.separator layout.config.separators (end_byte layout)
+      else [])
       ++ heading_text

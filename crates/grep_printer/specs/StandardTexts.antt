@@ -11,7 +11,7 @@ use Rattle.grep_searcher.specs.declared.BinaryDetection.TheVariants.{None as no_
 use Rattle.grep_searcher.specs.declared.BinaryDetection.TheVariants.{Convert}
 use Rattle.grep_printer.specs.ColoredTexts.{colored, matched_color, path_color}
 use Rattle.grep_printer.specs.Formats.{Rules, Scene}
-use Rattle.grep_printer.specs.LineTexts.{end_byte, opening_text}
+use Rattle.grep_printer.specs.LineTexts.{break_text, end_byte, opening_text}
 use Rattle.grep_printer.specs.PartTexts.{context_text, match_text}
 use Rattle.grep_printer.specs.declared.colors.ColorSpecs.TheVariants.{Plain}
 use Rattle.grep_printer.specs.declared.config.Config.{Config}
@@ -33,6 +33,7 @@ default_config = record {
   separator = Nothing;
   color_specs = Plain;
   trim_ascii = false;
+  separators = None;
 }
 
 -- nothing was reported yet; whether the printer has written anything before
@@ -79,13 +80,13 @@ abbrev pub asks_for_parts : Config → Bool
 asks_for_parts config =
     config.only_matching || config.column || is_some (matched_color config.color_specs)
 
--- the text of a report with its parts, or of a break between two groups of lines, as two dashes
+-- the text of a report with its parts, or of a break between two groups of lines
 abbrev pub report_text : Layout → Call → List (ℕ × ℕ) → List ℕ
 report_text layout begins parts = []
 report_text layout (matches number offset bytes) parts = match_text layout number offset bytes parts
 report_text layout (context kind number offset line) parts =
     context_text layout number offset line parts
-report_text layout breaks parts = 45 ∷ 45 ∷ end_byte layout ∷ []
+report_text layout breaks parts = break_text layout.config.separators (end_byte layout)
 report_text layout (binary_data offset) parts = []
 report_text layout (finishes count binary) parts = []
 

@@ -47,13 +47,13 @@ with_matches counts count parts = record {
 -- a count in a line of its own, after the path if there is one
 abbrev pub count_line : SummaryConfig → Option (Bor (List ℕ)) → ℕ → ℕ → List ℕ
 count_line config path terminator count =
-    path_field (path_color config.color_specs) (unwrap_or config.path_terminator 58) path
+    path_field (path_color config.color_specs) (unwrap_or config.path_terminator 58 ∷ []) path
     ++ (decimal count ++ terminator ∷ [])
 
 -- a path in a line of its own, if there is one
 abbrev pub path_line : SummaryConfig → Option (Bor (List ℕ)) → ℕ → List ℕ
 path_line config path terminator =
-    path_field (path_color config.color_specs) (unwrap_or config.path_terminator terminator) path
+    path_field (path_color config.color_specs) (unwrap_or config.path_terminator terminator ∷ []) path
 
 -- whether a search found what it is for, by how many matches were reported
 abbrev pub has_found : SummaryKind → ℕ → Bool

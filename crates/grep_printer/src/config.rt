@@ -5,6 +5,7 @@ ghost use Rattle.grep_printer.specs.StandardTexts.{asks_for_parts, default_confi
 
 use crate::colors::ColorSpecs;
 use crate::printer::Printer;
+use crate::separators::Separators;
 use crate::standard::{Progress, Standard, StandardFormat};
 use std::alloc::Global;
 use std::marker::Model;
@@ -16,13 +17,13 @@ pub enum SearchSeparator {
     Nothing,
     /// An empty line, as between the matches of two files below their headings.
     Blank,
-    /// A line with two dashes, as between two groups of lines of one file.
-    Dashes,
+    /// What is between two groups of lines of one file, as a line with two dashes.
+    Groups,
 }
 
 /// How reports are written.
 #[derive(Clone, Copy, Debug)]
-pub struct Config {
+pub struct Config<'c> {
     pub(crate) heading: bool,
     pub(crate) column: bool,
     pub(crate) byte_offset: bool,
@@ -33,9 +34,10 @@ pub struct Config {
     pub(crate) separator: SearchSeparator,
     pub(crate) color_specs: ColorSpecs,
     pub(crate) trim_ascii: bool,
+    pub(crate) separators: Option<&'c Separators>,
 }
 
-impl Config {
+impl<'c> Config<'c> {
     // Whether the parts of reports that match are asked for: to write them, their columns, or their
     // colors.
     pub(crate) fn asks_for_parts(&self) -> bool
@@ -48,11 +50,11 @@ impl Config {
 /// How a standard printer writes reports. Each setter changes its own setting alone, and returns
 /// the builder.
 #[derive(Debug, Drop)]
-pub struct StandardBuilder {
-    pub(crate) config: Config,
+pub struct StandardBuilder<'c> {
+    pub(crate) config: Config<'c>,
 }
 
-impl Model for StandardBuilder {
+impl<'c> Model for StandardBuilder<'c> {
     ghost use Rattle.grep_printer.specs.declared.config.Config.{Config};
 
     ghost Value = { Config };
@@ -60,10 +62,10 @@ impl Model for StandardBuilder {
     ghost view = { λ b. b.config };
 }
 
-impl StandardBuilder {
+impl<'c> StandardBuilder<'c> {
     /// The default settings: whole lines are written, a path before each, and neither columns nor
     /// byte offsets; nothing is written between two searches, and nothing is colored.
-    pub fn new() -> StandardBuilder
+    pub fn new() -> StandardBuilder<'c>
         ensures { result ≡ default_config }
     {
         StandardBuilder {
@@ -78,13 +80,14 @@ impl StandardBuilder {
                 separator: SearchSeparator::Nothing,
                 color_specs: ColorSpecs::Plain,
                 trim_ascii: false,
+                separators: None,
             },
         }
     }
 
     /// A printer with these settings, which writes to `writer` and has written nothing yet. It
     /// takes memory from `alloc` when it writes.
-    pub fn build<W>(&self, alloc: Global, writer: W) -> Standard<W>
+    pub fn build<W>(&self, alloc: Global, writer: W) -> Standard<'c, W>
         ensures writer { result.writer ≡ writer }
         ensures pending { pending_bytes result.pending ≡ [] }
         ensures config { result.format.config ≡ self.now }
@@ -100,7 +103,7 @@ impl StandardBuilder {
 
     /// Whether the path is written once, in a line above the reports of a search, and not before
     /// each line; not by default.
-    pub fn heading(&mut self, yes: bool) -> &mut StandardBuilder
+    pub fn heading(&mut self, yes: bool) -> &mut StandardBuilder<'c>
         ensures reference { result.ghost_name ≡ self.entry.ghost_name }
         ensures set { result.now ≡ record self.old { heading = yes } }
     {
@@ -111,7 +114,7 @@ impl StandardBuilder {
     /// Whether the column of the first match is written before each line of a match: its first
     /// byte, counted from 1 at the start of the report; not by default. Without a part that matches
     /// there is none.
-    pub fn column(&mut self, yes: bool) -> &mut StandardBuilder
+    pub fn column(&mut self, yes: bool) -> &mut StandardBuilder<'c>
         ensures reference { result.ghost_name ≡ self.entry.ghost_name }
         ensures set { result.now ≡ record self.old { column = yes } }
     {
@@ -121,7 +124,7 @@ impl StandardBuilder {
 
     /// Whether the offset of a line in the decoded input is written before it, in bytes, counted
     /// from 0; not by default.
-    pub fn byte_offset(&mut self, yes: bool) -> &mut StandardBuilder
+    pub fn byte_offset(&mut self, yes: bool) -> &mut StandardBuilder<'c>
         ensures reference { result.ghost_name ≡ self.entry.ghost_name }
         ensures set { result.now ≡ record self.old { byte_offset = yes } }
     {
@@ -131,7 +134,7 @@ impl StandardBuilder {
 
     /// Whether the parts of a match are written in place of its lines, each in a line of its own,
     /// with its own column and offset; not by default. A report without a part is written whole.
-    pub fn only_matching(&mut self, yes: bool) -> &mut StandardBuilder
+    pub fn only_matching(&mut self, yes: bool) -> &mut StandardBuilder<'c>
         ensures reference { result.ghost_name ≡ self.entry.ghost_name }
         ensures set { result.now ≡ record self.old { only_matching = yes } }
     {
@@ -143,7 +146,7 @@ impl StandardBuilder {
     /// one; by default there is no limit. A notice is written in place of a longer line, or of a
     /// longer part of one: it says how many parts of the report match, if they are found and aren't
     /// written themselves.
-    pub fn max_columns(&mut self, most: Option<u64>) -> &mut StandardBuilder
+    pub fn max_columns(&mut self, most: Option<u64>) -> &mut StandardBuilder<'c>
         ensures reference { result.ghost_name ≡ self.entry.ghost_name }
         ensures set { result.now ≡ record self.old { max_columns = most } }
     {
@@ -154,7 +157,7 @@ impl StandardBuilder {
     /// Whether the first characters of a line with more than `max_columns` bytes are written, as many
     /// as bytes may be written, and only after them a notice; not by default. A character is what a
     /// reader takes for one (a grapheme cluster).
-    pub fn max_columns_preview(&mut self, yes: bool) -> &mut StandardBuilder
+    pub fn max_columns_preview(&mut self, yes: bool) -> &mut StandardBuilder<'c>
         ensures reference { result.ghost_name ≡ self.entry.ghost_name }
         ensures set { result.now ≡ record self.old { max_columns_preview = yes } }
     {
@@ -164,7 +167,7 @@ impl StandardBuilder {
 
     /// The byte after a path, in place of the mark or of the end of the heading's line, as NUL, if
     /// there is one; by default there is none.
-    pub fn path_terminator(&mut self, terminator: Option<u8>) -> &mut StandardBuilder
+    pub fn path_terminator(&mut self, terminator: Option<u8>) -> &mut StandardBuilder<'c>
         ensures reference { result.ghost_name ≡ self.entry.ghost_name }
         ensures set { result.now ≡ record self.old { path_terminator = terminator } }
     {
@@ -173,7 +176,7 @@ impl StandardBuilder {
     }
 
     /// What is written between two searches that have both written something; nothing by default.
-    pub fn separator_search(&mut self, separator: SearchSeparator) -> &mut StandardBuilder
+    pub fn separator_search(&mut self, separator: SearchSeparator) -> &mut StandardBuilder<'c>
         ensures reference { result.ghost_name ≡ self.entry.ghost_name }
         ensures set { result.now ≡ record self.old { separator = separator } }
     {
@@ -183,7 +186,7 @@ impl StandardBuilder {
 
     /// The colors of paths, numbers and matches; none by default. With one for matches the parts of
     /// a match are found, as they are for its column.
-    pub fn color_specs(&mut self, specs: ColorSpecs) -> &mut StandardBuilder
+    pub fn color_specs(&mut self, specs: ColorSpecs) -> &mut StandardBuilder<'c>
         ensures reference { result.ghost_name ≡ self.entry.ghost_name }
         ensures set { result.now ≡ record self.old { color_specs = specs } }
     {
@@ -194,11 +197,22 @@ impl StandardBuilder {
     /// Whether the white space of ASCII at the start of a line is left out, or of a part that is
     /// written in its place, but not its terminator; not by default. Numbers, columns and offsets are
     /// those of the whole line.
-    pub fn trim_ascii(&mut self, yes: bool) -> &mut StandardBuilder
+    pub fn trim_ascii(&mut self, yes: bool) -> &mut StandardBuilder<'c>
         ensures reference { result.ghost_name ≡ self.entry.ghost_name }
         ensures set { result.now ≡ record self.old { trim_ascii = yes } }
     {
         self.config.trim_ascii = yes;
+        self
+    }
+
+    /// What is written between fields, and between groups of lines; by default, without any, a colon
+    /// after each field of a line that matches, a dash after one of any other line, and two dashes
+    /// between two groups.
+    pub fn separators(&mut self, separators: Option<&'c Separators>) -> &mut StandardBuilder<'c>
+        ensures reference { result.ghost_name ≡ self.entry.ghost_name }
+        ensures set { result.now ≡ record self.old { separators = separators.entry } }
+    {
+        self.config.separators = separators;
         self
     }
 }

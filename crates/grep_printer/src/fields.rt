@@ -5,13 +5,14 @@ ghost use Rattle.std.specs.List.{count_by, prefix_len};
 ghost use Rattle.std.specs.Option.{unwrap_or};
 ghost use Rattle.grep_matcher.specs.Lines.{byte_of};
 ghost use Rattle.grep_searcher.specs.Lines.{lines};
-ghost use Rattle.grep_printer.specs.ColoredTexts.{color_of, colored};
-ghost use Rattle.grep_printer.specs.LineTexts.{begins_after, counted_notice, counted_parts};
-ghost use Rattle.grep_printer.specs.LineTexts.{fields, long_text, more_notice};
+ghost use Rattle.grep_printer.specs.ColoredTexts.{color_of, colored, path_color};
+ghost use Rattle.grep_printer.specs.LineTexts.{begins_after, break_text, context_line};
+ghost use Rattle.grep_printer.specs.LineTexts.{counted_notice, long_text, more_notice};
 ghost use Rattle.grep_printer.specs.LineTexts.{preview_len, preview_text, previewed};
+ghost use Rattle.grep_printer.specs.LineTexts.{counted_parts, fields};
 ghost use Rattle.grep_printer.specs.LineTexts.{indentation, is_long, is_space, is_touching};
 ghost use Rattle.grep_printer.specs.LineTexts.{line_text};
-ghost use Rattle.grep_printer.specs.LineTexts.{lines_text, mark_of, missing_end, notice};
+ghost use Rattle.grep_printer.specs.LineTexts.{lines_text, mark_after, mark_of, missing_end, notice};
 ghost use Rattle.grep_printer.specs.LineTexts.{next_number, number_field, opening_text};
 ghost use Rattle.grep_printer.specs.LineTexts.{painted_line, path_field, place_after};
 ghost use Rattle.grep_printer.specs.LineTexts.{separator_text};
@@ -21,6 +22,7 @@ ghost use Rattle.grep_output.specs.PendingTexts.{Adds};
 use crate::colors::{push_colored, push_painted};
 use crate::config::{Config, SearchSeparator};
 use crate::parts::parts_after;
+use crate::separators::Separators;
 use bstr::ByteSlice;
 use grep_lines::without_terminator;
 use grep_output::Pending;
@@ -46,33 +48,21 @@ pub(crate) enum LineKind {
     Context,
 }
 
-impl LineKind {
-    // The byte after each field of a line.
-    pub(crate) fn mark(&self) -> u8
-        ensures { result ≡ mark_of self.now }
-    {
-        match self {
-            LineKind::Match => b':',
-            LineKind::Context => b'-',
-        }
-    }
-}
-
 // How the lines of a search are laid out: the settings, the path, and what ends a line.
 #[derive(Clone, Copy)]
-pub(crate) struct Layout<'p> {
-    pub(crate) config: Config,
+pub(crate) struct Layout<'c, 'p> {
+    pub(crate) config: Config<'c>,
     pub(crate) path: Option<&'p str>,
     pub(crate) terminator: LineTerminator,
 }
 
-impl<'p> Layout<'p> {
+impl<'c, 'p> Layout<'c, 'p> {
     // Pushes what is written before the first report of a search.
     pub(crate) fn push_opening(&self, text: &mut Pending, has_written: bool)
         ensures { Adds text.old text.new (opening_text self.now has_written) }
     {
         if has_written {
-            push_separator(text, self.config.separator, self.terminator.as_byte());
+            self.push_separator(text);
         }
         if !self.config.heading {
             return;
@@ -81,7 +71,21 @@ impl<'p> Layout<'p> {
             .config
             .path_terminator
             .unwrap_or(self.terminator.as_byte());
-        push_path(text, self.config.color_specs.path(), self.path, mark)
+        push_path(text, self.config.color_specs.path(), self.path, &[mark])
+    }
+
+    // Pushes what is written between two searches.
+    fn push_separator(&self, text: &mut Pending)
+        ensures { Adds text.old text.new
+            (separator_text self.now.config.separator self.now.config.separators
+            (byte_of self.now.terminator)) }
+    {
+        let end = self.terminator.as_byte();
+        match self.config.separator {
+            SearchSeparator::Nothing => {}
+            SearchSeparator::Blank => text.push(&[end]),
+            SearchSeparator::Groups => push_break(text, self.config.separators, end),
+        }
     }
 
     // Pushes the lines of a match, the first of which is at a place, with its parts in color.
@@ -122,7 +126,7 @@ impl<'p> Layout<'p> {
         requires ordered { AreInOrder 0 (2 ^ 64) parts.now }
         ensures { Adds text.old text.new (line_text self.now kind place.now parts.now line.now) }
     {
-        self.push_fields(text, kind.mark(), place);
+        self.push_fields(text, kind, place);
         let indentation = self.indentation(line);
         let shown = &line[indentation..];
         if is_long(self.config.max_columns, shown) {
@@ -220,13 +224,13 @@ impl<'p> Layout<'p> {
     }
 
     // Pushes the fields before a line.
-    fn push_fields(&self, text: &mut Pending, mark: u8, place: &Place)
-        ensures { Adds text.old text.new (fields self.now mark place.now) }
+    fn push_fields(&self, text: &mut Pending, kind: LineKind, place: &Place)
+        ensures { Adds text.old text.new (fields self.now kind place.now) }
     {
         let colors = &self.config.color_specs;
+        let mark = self.mark(kind);
         if !self.config.heading {
-            let mark = self.config.path_terminator.unwrap_or(mark);
-            push_path(text, colors.path(), self.path, mark);
+            self.push_path(text, mark);
         }
         push_number(text, colors.line(), place.number, mark);
         push_number(text, colors.column(), place.column, mark);
@@ -234,41 +238,65 @@ impl<'p> Layout<'p> {
             push_number(text, colors.column(), Some(place.offset), mark);
         }
     }
+
+    // The text after each field of a line.
+    fn mark(&self, kind: LineKind) -> &[u8]
+        ensures { result.now ≡ mark_of self.now.config.separators kind }
+    {
+        match (self.config.separators, kind) {
+            (None, LineKind::Match) => b":",
+            (None, LineKind::Context) => b"-",
+            (Some(separators), LineKind::Match) => &separators.field_match,
+            (Some(separators), LineKind::Context) => &separators.field_context,
+        }
+    }
+
+    // Pushes the path before a line, with a text after it unless a byte comes in its place.
+    fn push_path(&self, text: &mut Pending, mark: &[u8])
+        ensures { Adds text.old text.new (path_field (path_color self.now.config.color_specs)
+            (mark_after self.now.config.path_terminator mark.now) self.now.path) }
+    {
+        let color = self.config.color_specs.path();
+        match self.config.path_terminator {
+            Some(end) => push_path(text, color, self.path, &[end]),
+            None => push_path(text, color, self.path, mark),
+        }
+    }
 }
 
 // Pushes a number, in a color if there is one, and a mark, if there is a number.
 #[inline]
-pub(crate) fn push_number(text: &mut Pending, color: Option<&str>, number: Option<u64>, mark: u8)
-    ensures { Adds text.old text.new (number_field (color_of color.entry) mark number) }
+pub(crate) fn push_number(text: &mut Pending, color: Option<&str>, number: Option<u64>, mark: &[u8])
+    ensures { Adds text.old text.new (number_field (color_of color.entry) mark.now number) }
 {
     let Some(number) = number else {
         return;
     };
-    match color {
-        Some(color) => push_colored_digits(text, color, number, mark),
-        None => text.push_number(number, mark),
+    match (color, mark) {
+        (None, [mark]) => text.push_number(number, *mark),
+        _ => push_digits(text, color, number, mark),
     }
 }
 
-// Pushes a number in a color, and a mark.
-fn push_colored_digits(text: &mut Pending, color: &str, number: u64, mark: u8)
-    ensures { Adds text.old text.new (colored (Some color.now) (decimal number) ++ mark ∷ []) }
+// Pushes a number, in a color if there is one, and a mark.
+fn push_digits(text: &mut Pending, color: Option<&str>, number: u64, mark: &[u8])
+    ensures { Adds text.old text.new (colored (color_of color.entry) (decimal number) ++ mark.now) }
 {
     // A number of 64 bits has 20 digits at most.
     let mut digits = [0; 20];
     let start = write_digits(number, &mut digits, 20);
-    push_colored(text, Some(color), &digits[start..]);
-    text.push(&[mark])
+    push_colored(text, color, &digits[start..]);
+    text.push(mark)
 }
 
-// Pushes a path, in a color if there is one, and a byte, if there is a path.
-pub(crate) fn push_path(text: &mut Pending, color: Option<&str>, path: Option<&str>, mark: u8)
-    ensures { Adds text.old text.new (path_field (color_of color.entry) mark path.entry) }
+// Pushes a path, in a color if there is one, and a mark, if there is a path.
+pub(crate) fn push_path(text: &mut Pending, color: Option<&str>, path: Option<&str>, mark: &[u8])
+    ensures { Adds text.old text.new (path_field (color_of color.entry) mark.now path.entry) }
 {
     match path {
         Some(path) => {
             push_colored(text, color, path.as_bytes());
-            text.push(&[mark])
+            text.push(mark)
         }
         None => {}
     }
@@ -401,14 +429,26 @@ fn push_counted(text: &mut Pending, before: &[u8], count: usize, after: &[u8])
     text.push(after)
 }
 
-// Pushes what is written between two searches.
-fn push_separator(text: &mut Pending, separator: SearchSeparator, terminator: u8)
-    ensures { Adds text.old text.new (separator_text separator terminator) }
+// Pushes what is written between two groups of lines.
+pub(crate) fn push_break(text: &mut Pending, separators: Option<&Separators>, terminator: u8)
+    ensures { Adds text.old text.new (break_text separators.entry terminator) }
 {
-    match separator {
-        SearchSeparator::Nothing => {}
-        SearchSeparator::Blank => text.push(&[terminator]),
-        SearchSeparator::Dashes => text.push(&[b'-', b'-', terminator]),
+    match separators {
+        None => text.push(&[b'-', b'-', terminator]),
+        Some(separators) => push_context(text, &separators.context, terminator),
+    }
+}
+
+// Pushes a text in a line of its own, if there is one.
+fn push_context(text: &mut Pending, context: &Option<Vec<u8>>, terminator: u8)
+    ensures { Adds text.old text.new (context_line context.now terminator) }
+{
+    match context {
+        Some(context) => {
+            text.push(context);
+            text.push(&[terminator])
+        }
+        None => {}
     }
 }
 

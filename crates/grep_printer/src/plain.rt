@@ -15,7 +15,7 @@ use grep_lines::without_terminator;
 use grep_output::Pending;
 use grep_searcher::{LineIter, LineTerminator, Match};
 
-impl Config {
+impl<'c> Config<'c> {
     // Pushes a report if its lines are written as they are, each after its number alone, and returns
     // whether it did. Most reports are: neither a layout nor a copy of the settings is made for them.
     #[inline(always)]
@@ -62,6 +62,7 @@ impl Config {
             && self.color_specs.line().is_none()
             && self.color_specs.matched().is_none()
             && !self.trim_ascii
+            && self.separators.is_none()
     }
 }
 
@@ -189,7 +190,7 @@ fn push_each_line(text: &mut Pending, mark: u8, number: Option<u64>, terminator:
 fn push_line(text: &mut Pending, mark: u8, number: Option<u64>, terminator: u8, line: &[u8])
     ensures { Adds text.old text.new (plain_line terminator mark number line.now) }
 {
-    push_number(text, None, number, mark);
+    push_number(text, None, number, &[mark]);
     text.push(line);
     push_missing_end(text, terminator, line)
 }

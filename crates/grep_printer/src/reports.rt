@@ -51,7 +51,7 @@ fn line_span(terminator: LineTerminator, start: usize, line: &[u8]) -> Span
     }
 }
 
-impl<'p> Layout<'p> {
+impl<'c, 'p> Layout<'c, 'p> {
     // Pushes what comes before a report: the opening, if nothing was reported yet.
     pub(crate) fn push_before(&self, text: &mut Pending, progress: &Progress)
         ensures { Adds text.old text.new (text_before self.now progress.now) }

@@ -9,7 +9,7 @@ ghost use Rattle.grep_printer.specs.StandardTexts.{progress_after, report_text, 
 
 use crate::binary_messages::push_binary_message;
 use crate::config::Config;
-use crate::fields::Layout;
+use crate::fields::{Layout, push_break};
 use crate::format::{Event, Format};
 use crate::printer::{Printer, PrinterSink};
 use crate::report::{Report, ReportKind};
@@ -19,15 +19,15 @@ use std::alloc::Allocator;
 
 /// A printer of lines: it writes each line that a search reports, after the fields that are asked
 /// for. `sink` gives the sink of one search after another.
-pub type Standard<W> = Printer<StandardFormat, W>;
+pub type Standard<'c, W> = Printer<StandardFormat<'c>, W>;
 
 /// The sink of one search, which writes each line that is reported.
-pub type StandardSink<'s, M, W> = PrinterSink<'s, StandardFormat, M, W>;
+pub type StandardSink<'s, 'c, M, W> = PrinterSink<'s, StandardFormat<'c>, M, W>;
 
 /// The format of lines: its settings, and what was reported of a search.
 #[derive(Clone, Copy)]
-pub struct StandardFormat {
-    pub(crate) config: Config,
+pub struct StandardFormat<'c> {
+    pub(crate) config: Config<'c>,
     pub(crate) progress: Progress,
 }
 
@@ -83,13 +83,13 @@ impl Progress {
     }
 }
 
-impl StandardFormat {
+impl<'c> StandardFormat<'c> {
     // How the lines of a search are laid out.
     pub(crate) fn layout<'p, A: Allocator + Copy>(
         &self,
         searcher: &Searcher<A>,
         path: Option<&'p str>,
-    ) -> Layout<'p>
+    ) -> Layout<'c, 'p>
         ensures { result ≡ layout_of self.now.config
             (record { path = path.entry; settings = searcher.now.settings }) }
     {
@@ -158,7 +158,7 @@ impl StandardFormat {
     }
 }
 
-impl Format for StandardFormat {
+impl<'c> Format for StandardFormat<'c> {
     ghost use Rattle.grep_printer.specs.FormatEnds.{standard-ends};
     ghost use Rattle.grep_printer.specs.StandardTexts.{standard_rules};
 
@@ -166,7 +166,7 @@ impl Format for StandardFormat {
 
     ghost ends = { standard-ends };
 
-    fn begun(&self, has_written: bool) -> StandardFormat {
+    fn begun(&self, has_written: bool) -> StandardFormat<'c> {
         StandardFormat {
             config: self.config,
             progress: Progress::new(has_written),
@@ -193,7 +193,10 @@ impl Format for StandardFormat {
         match event {
             Event::Begin => {}
             Event::Report(report) => return self.push_report(text, searcher, path, report, parts),
-            Event::Break => text.push(&[b'-', b'-', searcher.line_terminator().as_byte()]),
+            Event::Break => {
+                let end = searcher.line_terminator().as_byte();
+                push_break(text, self.config.separators, end)
+            }
             Event::BinaryData(offset) => self.progress.binary = Some(*offset),
             Event::Finish(_, binary) => {
                 let colors = &self.config.color_specs;

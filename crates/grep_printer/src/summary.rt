@@ -190,7 +190,7 @@ fn push_count_line(
     ensures { Adds text.old text.new (count_line config.now path.entry terminator count) }
 {
     let mark = config.path_terminator.unwrap_or(b':');
-    push_path(text, config.color_specs.path(), path, mark);
+    push_path(text, config.color_specs.path(), path, &[mark]);
     text.push_number(count, terminator)
 }
 
@@ -199,5 +199,5 @@ fn push_path_line(text: &mut Pending, config: &SummaryConfig, path: Option<&str>
     ensures { Adds text.old text.new (path_line config.now path.entry terminator) }
 {
     let mark = config.path_terminator.unwrap_or(terminator);
-    push_path(text, config.color_specs.path(), path, mark)
+    push_path(text, config.color_specs.path(), path, &[mark])
 }

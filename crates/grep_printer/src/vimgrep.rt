@@ -19,22 +19,22 @@ use std::alloc::{Allocator, Global};
 
 /// A printer of a line for each part that matches, as Vim's quickfix list reads them. It follows
 /// ripgrep's `--vimgrep`. `sink` gives the sink of one search after another.
-pub type Vimgrep<W> = Printer<VimgrepFormat, W>;
+pub type Vimgrep<'c, W> = Printer<VimgrepFormat<'c>, W>;
 
 /// The sink of one search, which writes a line for each part that matches.
-pub type VimgrepSink<'s, M, W> = PrinterSink<'s, VimgrepFormat, M, W>;
+pub type VimgrepSink<'s, 'c, M, W> = PrinterSink<'s, VimgrepFormat<'c>, M, W>;
 
 /// The format: that of lines, but for reports with parts that match.
 #[derive(Clone, Copy)]
-pub struct VimgrepFormat {
-    pub(crate) lines: StandardFormat,
+pub struct VimgrepFormat<'c> {
+    pub(crate) lines: StandardFormat<'c>,
 }
 
-impl StandardBuilder {
+impl<'c> StandardBuilder<'c> {
     /// A printer that writes for each part that matches the line in which it starts, after the path,
     /// the line's number, the part's column in it and, if `byte_offset` is set, the part's offset.
     /// Of the settings `heading`, `column` and `only_matching` don't count.
-    pub fn build_vimgrep<W>(&self, alloc: Global, writer: W) -> Vimgrep<W>
+    pub fn build_vimgrep<W>(&self, alloc: Global, writer: W) -> Vimgrep<'c, W>
         ensures writer { result.writer ≡ writer }
         ensures pending { pending_bytes result.pending ≡ [] }
         ensures config { result.format.lines.config ≡ vimgrep_config self.now }
@@ -51,7 +51,7 @@ impl StandardBuilder {
     }
 }
 
-impl Format for VimgrepFormat {
+impl<'c> Format for VimgrepFormat<'c> {
     ghost use Rattle.grep_printer.specs.FormatEnds.{vimgrep-ends};
     ghost use Rattle.grep_printer.specs.VimgrepTexts.{vimgrep_rules};
 
@@ -59,7 +59,7 @@ impl Format for VimgrepFormat {
 
     ghost ends = { vimgrep-ends };
 
-    fn begun(&self, has_written: bool) -> VimgrepFormat {
+    fn begun(&self, has_written: bool) -> VimgrepFormat<'c> {
         let lines = self.lines.begun(has_written);
         VimgrepFormat { lines }
     }
@@ -97,7 +97,12 @@ impl Format for VimgrepFormat {
 }
 
 // Pushes of each part of a report the line in which it starts.
-fn push_part_lines(layout: &Layout<'_>, text: &mut Pending, report: &Report<'_>, parts: &[Match])
+fn push_part_lines(
+    layout: &Layout<'_, '_>,
+    text: &mut Pending,
+    report: &Report<'_>,
+    parts: &[Match],
+)
     requires fits { report.now.offset + length report.now.bytes.now < 2 ^ 64 }
     requires ordered { AreInOrder 0 (length report.now.bytes.now) parts.now }
     ensures { Adds text.old text.new (part_lines layout.now (line_kind report.now.kind)
@@ -118,7 +123,7 @@ fn push_part_lines(layout: &Layout<'_>, text: &mut Pending, report: &Report<'_>,
 
 // Pushes the line in which a part of a report starts, after its number.
 fn push_part_line(
-    layout: &Layout<'_>,
+    layout: &Layout<'_, '_>,
     text: &mut Pending,
     report: &Report<'_>,
     number: Option<u64>,

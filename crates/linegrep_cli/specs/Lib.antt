@@ -13,4 +13,5 @@ pub mod PrintingEngines
 pub mod ProgramRuns
 pub mod RunScopes
 pub mod SearcherOptions
+pub mod SeparatorOptions
 pub mod WholeRuns

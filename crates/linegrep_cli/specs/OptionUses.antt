@@ -8,7 +8,7 @@ use Rattle.linegrep_cli.specs.declared.option_id.OptionId.TheVariants.{AfterCont
 use Rattle.linegrep_cli.specs.declared.option_id.OptionId.TheVariants.{BeforeContext, Binary}
 use Rattle.linegrep_cli.specs.declared.option_id.OptionId.TheVariants.{BlockBuffered, ByteOffset}
 use Rattle.linegrep_cli.specs.declared.option_id.OptionId.TheVariants.{CaseSensitive, Color}
-use Rattle.linegrep_cli.specs.declared.option_id.OptionId.TheVariants.{Column, Context, Count}
+use Rattle.linegrep_cli.specs.declared.option_id.OptionId.TheVariants.{Column, Context, ContextSeparator, Count}
 use Rattle.linegrep_cli.specs.declared.option_id.OptionId.TheVariants.{CountMatches, Crlf}
 use Rattle.linegrep_cli.specs.declared.option_id.OptionId.TheVariants.{Encoding, FilesWithMatches}
 use Rattle.linegrep_cli.specs.declared.option_id.OptionId.TheVariants.{Files, FilesWithoutMatch}
@@ -29,7 +29,7 @@ use Rattle.linegrep_cli.specs.declared.option_id.OptionId.TheVariants.{NoPcre2Un
 use Rattle.linegrep_cli.specs.declared.option_id.OptionId.TheVariants.{Pcre2Unicode, Unicode}
 use Rattle.linegrep_cli.specs.declared.option_id.OptionId.TheVariants.{NoBlockBuffered}
 use Rattle.linegrep_cli.specs.declared.option_id.OptionId.TheVariants.{NoByteOffset, NoColumn}
-use Rattle.linegrep_cli.specs.declared.option_id.OptionId.TheVariants.{NoCrlf, NoEncoding}
+use Rattle.linegrep_cli.specs.declared.option_id.OptionId.TheVariants.{NoContextSeparator, NoCrlf, NoEncoding}
 use Rattle.linegrep_cli.specs.declared.option_id.OptionId.TheVariants.{NoFilename, NoFixedStrings}
 use Rattle.linegrep_cli.specs.declared.option_id.OptionId.TheVariants.{NoFollow, NoHeading}
 use Rattle.linegrep_cli.specs.declared.option_id.OptionId.TheVariants.{IncludeZero, NoIncludeZero}
@@ -110,6 +110,7 @@ own_contraries Column = NoColumn ∷ []
 own_contraries NoColumn = Column ∷ []
 own_contraries Trim = NoTrim ∷ []
 own_contraries MaxColumnsPreview = NoMaxColumnsPreview ∷ []
+own_contraries NoContextSeparator = ContextSeparator ∷ []
 own_contraries NoMessages = Messages ∷ []
 own_contraries Hidden = NoHidden ∷ []
 own_contraries Follow = NoFollow ∷ []

@@ -1,6 +1,7 @@
 -- The printer that options ask for, and its settings.
 use Rattle.std.specs.Prelude.{◌≡◌, ℕ, Bool, true, false, not, ◌&&◌, ◌||◌, ◌==◌, if◌then◌else◌}
 use Rattle.std.specs.Prelude.{List, [], codes, nat_lt, Option, None, Some, IfSome}
+use Rattle.std.specs.Borrow.{Bor}
 use Rattle.std.specs.Option.{option_map}
 use Rattle.std.specs.Str.{bytes_eq}
 use Rattle.grep_output.specs.PendingTexts.{pending_bytes}
@@ -8,8 +9,9 @@ use Rattle.grep_printer.specs.declared.colors.ColorSpecs.{ColorSpecs}
 use Rattle.grep_printer.specs.declared.colors.ColorSpecs.TheVariants.{Default, Plain}
 use Rattle.grep_printer.specs.declared.config.Config.{Config}
 use Rattle.grep_printer.specs.declared.config.SearchSeparator.{SearchSeparator}
-use Rattle.grep_printer.specs.declared.config.SearchSeparator.TheVariants.{Blank, Dashes, Nothing}
+use Rattle.grep_printer.specs.declared.config.SearchSeparator.TheVariants.{Blank, Groups, Nothing}
 use Rattle.grep_printer.specs.declared.printer.Printer.{Printer as Writer}
+use Rattle.grep_printer.specs.declared.separators.Separators.{Separators}
 use Rattle.grep_printer.specs.declared.summary_builder.SummaryConfig.{SummaryConfig}
 use Rattle.grep_printer.specs.declared.summary_builder.SummaryKind.{SummaryKind}
 use Rattle.grep_printer.specs.declared.summary_builder.SummaryKind.TheVariants.{Count as lines}
@@ -95,7 +97,7 @@ path_terminator_of options = if has options Null then Some 0 else None
 -- what is written between the lines of two files
 abbrev pub separator_of : Options → SearchSeparator
 separator_of options = if shows_headings options then Blank
-    else if nat_lt 0 (after_lines options) || nat_lt 0 (before_lines options) then Dashes
+    else if nat_lt 0 (after_lines options) || nat_lt 0 (before_lines options) then Groups
     else Nothing
 
 -- when there are colors, in the words of `--color`
@@ -114,9 +116,9 @@ known_colors (Some choice) is_terminal =
     else if bytes_eq choice (codes "never") then Some Plain
     else open_colors is_terminal
 
--- the settings of the printer of lines, with some colors
-abbrev pub line_settings : Options → ColorSpecs → Config
-line_settings options colors = record {
+-- the settings of the printer of lines, with some colors and separators
+abbrev pub line_settings : Options → ColorSpecs → Option (Bor Separators) → Config
+line_settings options colors separators = record {
   heading = shows_headings options;
   column = shows_columns options;
   byte_offset = has options ByteOffset;
@@ -127,6 +129,7 @@ line_settings options colors = record {
   separator = separator_of options;
   color_specs = colors;
   trim_ascii = has options Trim;
+  separators = separators;
 }
 
 -- each part that matches is written with its line, in the form of Vim's quickfix list
@@ -150,27 +153,30 @@ pub record IsNew {F W : Type 0} (options : Options) (writer : W) (printer : Writ
   pub has_failed : printer.has_failed ≡ false
   pub room : is_line_buffered options ≡ true → printer.room ≡ 0
 
--- the printer is the one that options ask for, by line or across lines, with some colors
-abbrev pub IsPrinterFor : {W : Type 0} → Options → Bool → W → ColorSpecs → Printer W → Type 0
-IsPrinterFor options is_across writer colors (Lines printer) =
+-- the printer is the one that options ask for, by line or across lines, with some colors and
+-- separators
+abbrev pub IsPrinterFor : {W : Type 0} → Options → Bool → Option (Bor Separators) → W → ColorSpecs
+    → Printer W → Type 0
+IsPrinterFor options is_across separators writer colors (Lines printer) =
     (summary_kind options is_across ≡ None) × (has options Json ≡ false)
     × (is_vimgrep options ≡ false)
-    × (printer.format.config ≡ line_settings options colors) × IsNew options writer printer
-IsPrinterFor options is_across writer colors (Parts printer) =
+    × (printer.format.config ≡ line_settings options colors separators) × IsNew options writer printer
+IsPrinterFor options is_across separators writer colors (Parts printer) =
     (summary_kind options is_across ≡ None) × (has options Json ≡ false)
     × (is_vimgrep options ≡ true)
-    × (printer.format.lines.config ≡ vimgrep_config (line_settings options colors))
+    × (printer.format.lines.config ≡ vimgrep_config (line_settings options colors separators))
     × IsNew options writer printer
-IsPrinterFor options is_across writer colors (Summary printer) =
+IsPrinterFor options is_across separators writer colors (Summary printer) =
     (kind : SummaryKind) × (summary_kind options is_across ≡ Some kind)
     × (printer.format.config ≡ summary_settings options kind colors) × IsNew options writer printer
-IsPrinterFor options is_across writer colors (Messages run) =
+IsPrinterFor options is_across separators writer colors (Messages run) =
     (summary_kind options is_across ≡ None) × (has options Json ≡ true)
     × (run.printer.format.always_begin_end ≡ false) × IsNew options writer run.printer
 
--- the printer is the one that options ask for, with the colors that they ask for
-abbrev pub IsPrinterOf : {W : Type 0} → Options → Bool → W → Printer W → Type 0
-IsPrinterOf options is_across writer printer = (colors : ColorSpecs)
+-- the printer is the one that options ask for, with the colors that they ask for and some separators
+abbrev pub IsPrinterOf : {W : Type 0} → Options → Bool → Option (Bor Separators) → W → Printer W
+    → Type 0
+IsPrinterOf options is_across separators writer printer = (colors : ColorSpecs)
     × IfSome (known_colors (color_choice options) options.streams.is_terminal)
     (λ known. colors ≡ known)
-    × IsPrinterFor options is_across writer colors printer
+    × IsPrinterFor options is_across separators writer colors printer

@@ -6,6 +6,7 @@ use Rattle.std.specs.declared.alloc.AllocError.{AllocError}
 use Rattle.std.specs.declared.io.Error.{Error}
 use Rattle.std.specs.declared.marker.Brand.{Brand}
 use Rattle.grep_output.specs.Outputs.{OutputCall}
+use Rattle.grep_printer.specs.declared.separators.Separators.{Separators}
 use Rattle.grep_regex.specs.NamedViews.{named_regex}
 use Rattle.grep_regex.specs.Views.{regex_first_at, regex_meaning, regex_options, regex_patterns}
 use Rattle.grep_regex.specs.declared.named.NamedMatcher.{NamedMatcher}
@@ -23,6 +24,7 @@ use Rattle.linegrep_cli.specs.PrinterOptions.{IsPrinterOf}
 use Rattle.linegrep_cli.specs.PrintingEngines.{IsEngineStep}
 use Rattle.linegrep_cli.specs.RunScopes.{IsScopeOf}
 use Rattle.linegrep_cli.specs.SearcherOptions.{searcher_settings}
+use Rattle.linegrep_cli.specs.SeparatorOptions.{AreLent}
 use Rattle.linegrep_cli.specs.declared.engine.PrintingEngine.{PrintingEngine}
 use Rattle.linegrep_cli.specs.declared.file_id.FileId.{FileId}
 use Rattle.linegrep_cli.specs.declared.file_run.Scope.{Scope}
@@ -45,8 +47,11 @@ module _ {F M R W X E : Type 0} (output : E → Option (List ℕ)) (facts : M �
       (errors : X) (engine : PrintingEngine F M R W X) : Type 0 where
     pub settings : engine.searcher.settings ≡ searcher_settings options
     pub asks : engine.matcher ≡ matcher
+    pub separators : Option (Bor Separators)
+    pub lent : AreLent options separators
     pub printer : IsPrinterOf options
-        (is_across (searcher_settings options) (facts matcher).meaning) writer engine.printer
+        (is_across (searcher_settings options) (facts matcher).meaning) separators writer
+        engine.printer
     pub haystack : engine.haystack ≡ record { file = None; reader = input }
     pub says : engine.errors.now ≡ errors
     pub detection : engine.detection ≡ (searcher_settings options).binary_detection

@@ -508,6 +508,30 @@ const LINE_ROWS: &[Row] = &[
     },
 ];
 
+// What sets fields, and groups of lines, apart.
+const SEPARATOR_ROWS: &[Row] = &[
+    Row {
+        id: OptionId::ContextSeparator,
+        name: "context-separator",
+        letter: None,
+    },
+    Row {
+        id: OptionId::NoContextSeparator,
+        name: "no-context-separator",
+        letter: None,
+    },
+    Row {
+        id: OptionId::FieldContextSeparator,
+        name: "field-context-separator",
+        letter: None,
+    },
+    Row {
+        id: OptionId::FieldMatchSeparator,
+        name: "field-match-separator",
+        letter: None,
+    },
+];
+
 // How it is written, or what in its place.
 const OUTPUT_ROWS: &[Row] = &[
     Row {
@@ -624,13 +648,14 @@ const NOTHING: &[&str] = &[
 ];
 
 /// The options of the command line, in tables, since a long one is proved slowly.
-pub fn tables() -> [&'static [Row]; 6] {
+pub fn tables() -> [&'static [Row]; 7] {
     [
         PATTERN_ROWS,
         FILE_ROWS,
         WALK_ROWS,
         IGNORE_ROWS,
         LINE_ROWS,
+        SEPARATOR_ROWS,
         OUTPUT_ROWS,
     ]
 }

@@ -63,7 +63,7 @@ pub struct PrintingEngine<'e, F, M, R, W, E> {
     rt: &'e HostRuntime,
     searcher: Searcher,
     matcher: M,
-    printer: Printer<W>,
+    printer: Printer<'e, W>,
     // Standard input, and the file that is searched.
     haystack: Haystack<F, R>,
     errors: &'e mut E,
@@ -77,13 +77,13 @@ impl<'e, F, M, R, W, E> PrintingEngine<'e, F, M, R, W, E> {
         rt: &'e HostRuntime,
         searcher: Searcher,
         matcher: M,
-        printer: Printer<W>,
+        printer: Printer<'e, W>,
         input: R,
         errors: &'e mut E,
     ) -> PrintingEngine<'e, F, M, R, W, E>
         ensures searcher { result.searcher ≡ searcher }
         ensures matcher { result.matcher ≡ matcher }
-        ensures printer { result.printer ≡ printer }
+        ensures printer { result.printer ≡ printer.entry }
         ensures haystack { result.haystack ≡ record { file = None; reader = input } }
         ensures errors { result.errors.now ≡ errors.old }
         ensures detection { result.detection ≡ searcher.settings.binary_detection }

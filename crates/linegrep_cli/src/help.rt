@@ -116,6 +116,13 @@ Output:
                              0 is no limit
       --max-columns-preview  Write the first characters of such lines before it
       --trim                 Leave out white space at the start of lines
+      --field-match-separator SEPARATOR
+                             Write SEPARATOR after each field of a line that matches
+      --field-context-separator SEPARATOR
+                             And after each of another line
+      --context-separator SEPARATOR
+                             Write a line SEPARATOR between groups of lines
+      --no-context-separator Write nothing between them
   -0, --null                 Write a NUL after each path
       --color WHEN           Write colors: always, never, or auto, for a terminal
   -p, --pretty               As --color always --heading -n

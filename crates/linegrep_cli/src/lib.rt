@@ -27,6 +27,7 @@ mod printers;
 mod program;
 mod refused;
 mod search;
+mod separators;
 mod settings;
 mod system;
 mod type_list;

@@ -40,6 +40,10 @@ pub enum OptionId {
     NoTrim,
     MaxColumnsPreview,
     NoMaxColumnsPreview,
+    ContextSeparator,
+    NoContextSeparator,
+    FieldContextSeparator,
+    FieldMatchSeparator,
     Null,
     Passthru,
     Text,
@@ -143,6 +147,7 @@ pub enum Kind {
     Glob,
     Type,
     Definition,
+    Separator,
 }
 
 const MODES: &[OptionId] = &[
@@ -196,6 +201,9 @@ impl OptionId {
             OptionId::Glob | OptionId::Iglob => Kind::Glob,
             OptionId::Unrestricted => Kind::Count,
             OptionId::Encoding => Kind::Label,
+            OptionId::ContextSeparator
+            | OptionId::FieldContextSeparator
+            | OptionId::FieldMatchSeparator => Kind::Separator,
             OptionId::MaxCount
             | OptionId::MaxColumns
             | OptionId::MaxDepth
@@ -266,6 +274,7 @@ impl OptionId {
             OptionId::NoColumn => &[OptionId::Column],
             OptionId::Trim => &[OptionId::NoTrim],
             OptionId::MaxColumnsPreview => &[OptionId::NoMaxColumnsPreview],
+            OptionId::NoContextSeparator => &[OptionId::ContextSeparator],
             OptionId::NoMessages => &[OptionId::Messages],
             OptionId::Hidden => &[OptionId::NoHidden],
             OptionId::Follow => &[OptionId::NoFollow],
@@ -302,7 +311,8 @@ impl Kind {
             Kind::Pattern | Kind::File | Kind::Glob | Kind::Type | Kind::Definition => {
                 ArgAction::Append
             }
-            Kind::Number | Kind::Size | Kind::Label | Kind::Color | Kind::Order => ArgAction::Set,
+            Kind::Number | Kind::Size | Kind::Label | Kind::Color | Kind::Order | Kind::Separator =>
+                ArgAction::Set,
         }
     }
 
@@ -319,6 +329,7 @@ impl Kind {
             Kind::Glob => &["GLOB"],
             Kind::Type => &["TYPE"],
             Kind::Definition => &["DEFINITION"],
+            Kind::Separator => &["SEPARATOR"],
         }
     }
 

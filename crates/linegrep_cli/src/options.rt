@@ -173,6 +173,12 @@ pub struct Options<'m, 'w> {
     after_context: Option<u64>,
     before_context: Option<u64>,
     context: Option<u64>,
+    /// What is written between groups of lines, with escapes.
+    pub context_separator: Option<&'w str>,
+    /// What is written after each field of a line near a match, with escapes.
+    pub field_context_separator: Option<&'w str>,
+    /// What is written after each field of a line of a match, with escapes.
+    pub field_match_separator: Option<&'w str>,
     color: Option<&'w str>,
     encoding: Option<&'w str>,
     /// The globs, which choose among the files of folders.
@@ -210,6 +216,9 @@ impl<'m, 'w> Options<'m, 'w> {
             after_context: matches.get_one::<u64>("after-context"),
             before_context: matches.get_one::<u64>("before-context"),
             context: matches.get_one::<u64>("context"),
+            context_separator: matches.get_str("context-separator"),
+            field_context_separator: matches.get_str("field-context-separator"),
+            field_match_separator: matches.get_str("field-match-separator"),
             color: matches.get_str("color"),
             encoding: matches.get_str("encoding"),
             globs: matches.get_strs("glob"),

@@ -13,11 +13,11 @@ use std::io;
 
 /// What writes what is found.
 #[derive(Drop)]
-pub enum Printer<W> {
+pub enum Printer<'c, W> {
     /// Writes lines.
-    Lines(Standard<W>),
+    Lines(Standard<'c, W>),
     /// Writes of each part that matches the line.
-    Parts(Vimgrep<W>),
+    Parts(Vimgrep<'c, W>),
     /// Writes a count or a path for each file, or nothing.
     Summary(Summary<W>),
     /// Writes messages in JSON.
@@ -33,10 +33,10 @@ pub struct Searched {
     pub result: Result<(), SearchError>,
 }
 
-impl<W> Printer<W> {
+impl<'c, W> Printer<'c, W> {
     /// The writer back, without what isn't written yet: nothing right after a `flush`.
     pub fn into_writer(self) -> W
-        ensures { result ≡ writer_of self }
+        ensures { result ≡ writer_of self.entry }
     {
         match self {
             Printer::Lines(printer) => printer.into_parts().0,
@@ -47,7 +47,7 @@ impl<W> Printer<W> {
     }
 }
 
-impl<W: Output> Printer<W> {
+impl<'c, W: Output> Printer<'c, W> {
     /// Searches a haystack, and writes what is found in it, with a path if there is one.
     pub fn search<M: FindAt + Copy, H: Source>(
         &mut self,

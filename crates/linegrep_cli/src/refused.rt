@@ -4,8 +4,6 @@ const NO_PROGRAM: &str = "no other program is started, so files are searched as 
 
 const NO_ENGINE: &str = "there is no engine with look-around or backreferences";
 
-const NO_SEPARATOR: &str = "separators can't be chosen";
-
 /// Why an option of ripgrep can't be used, in one line, if it is one.
 pub fn reason(option: &str) -> Option<&'static str> {
     match option {
@@ -20,11 +18,7 @@ pub fn reason(option: &str) -> Option<&'static str> {
 
 fn other_reason(option: &str) -> Option<&'static str> {
     match option {
-        "--context-separator"
-        | "--no-context-separator"
-        | "--field-context-separator"
-        | "--field-match-separator"
-        | "--path-separator" => Some(NO_SEPARATOR),
+        "--path-separator" => Some("paths are written as they are"),
         "--colors" | "--hyperlink-format" => Some("colors can't be chosen, and there are no links"),
         "--regex-size-limit" | "--dfa-size-limit" => Some("the limits are fixed"),
         "--stats" => Some("searches are counted for --json alone"),

@@ -3,6 +3,7 @@ ghost use Rattle.std.specs.Prelude.{◌≡◌, ◌⊎◌, IfOk};
 ghost use Rattle.grep_regex.specs.Views.{IsNamed, regex_options, regex_patterns};
 ghost use Rattle.linegrep_cli.specs.PatternOptions.{pattern_options, pattern_texts};
 ghost use Rattle.linegrep_cli.specs.SearcherOptions.{searcher_settings};
+ghost use Rattle.linegrep_cli.specs.SeparatorOptions.{AreLent, IsSeparators};
 ghost use Rattle.linegrep_cli.specs.WholeRuns.{IsRefused, IsRunFor, IsRunWith, IsWholeRun};
 
 use crate::choices::Choices;
@@ -11,9 +12,11 @@ use crate::failures::{Failure, say};
 use crate::file_run::{Run, Scope};
 use crate::options::Options;
 use crate::patterns::compile;
+use crate::separators::separators;
 use crate::settings::{build_printer, build_searcher};
 use crate::system::System;
 use grep_output::Output;
+use grep_printer::Separators;
 use grep_regex::{NamedMatcher, Naming, Regex};
 use grep_searcher::{FindAt, Matcher, Searcher, Source};
 use std::alloc::AllocError;
@@ -53,6 +56,7 @@ struct Prepared<'r> {
     searcher: Searcher,
     regex: Regex,
     choices: Choices<'r>,
+    separators: Option<Separators>,
 }
 
 // What the options ask a search to be made with. An error is that of a setting, of a pattern that
@@ -68,16 +72,22 @@ fn prepare<'r>(
         regex_options prepared.regex ≡ pattern_options options.now patterns.now) }
     ensures patterns { IfOk result (λ prepared.
         regex_patterns prepared.regex ≡ pattern_texts options.now patterns.now) }
+    ensures separators { IfOk result (λ prepared.
+        IsSeparators options.now prepared.separators) }
 {
     let searcher = build_searcher(rt.alloc(), options)?;
     let regex = compile(rt.alloc(), options, patterns)?;
     options.order().check(rt)?;
     let choices = Choices::read(rt, options)?;
-    Ok(Prepared {
-        searcher,
-        regex,
-        choices,
-    })
+    match separators(rt.alloc(), options) {
+        Ok(separators) => Ok(Prepared {
+            searcher,
+            regex,
+            choices,
+            separators,
+        }),
+        Err(_) => Err(Failure::out_of_memory()),
+    }
 }
 
 /// Searches the files at the paths of the options, one after another, and writes to `output` what
@@ -106,6 +116,7 @@ pub fn search_all<S: System, R: Source + Drop, W: Output + Drop, E: Output>(
                 searcher,
                 regex,
                 mut choices,
+                separators,
             } = prepared;
             search_named::<Brand, S, R, W, E>(
                 rt,
@@ -114,6 +125,7 @@ pub fn search_all<S: System, R: Source + Drop, W: Output + Drop, E: Output>(
                 &regex,
                 searcher,
                 &mut choices,
+                separators.as_ref(),
                 input,
                 output,
                 errors,
@@ -131,6 +143,7 @@ fn search_named<'r, N: Naming, S: System, R: Source + Drop, W: Output + Drop, E:
     regex: &Regex,
     searcher: Searcher,
     choices: &mut Choices<'r>,
+    separators: Option<&Separators>,
     input: R,
     output: W,
     errors: &mut E,
@@ -138,6 +151,7 @@ fn search_named<'r, N: Naming, S: System, R: Source + Drop, W: Output + Drop, E:
 where
     requires named { IsNamed N.options N.patterns regex.now }
     requires settings { searcher.settings ≡ searcher_settings options.now }
+    requires lent { AreLent options.now separators }
     ensures { IsRefused input output result.status result.input result.output
         ⊎ IsRunFor ⟦<AllocError as Display>⟧.output ⟦<&'static NamedMatcher<'static, N> as Matcher>⟧.facts
         ⟦<&'static NamedMatcher<'static, N> as FindAt>⟧.first_at W.step S.File.remaining R.remaining R.step
@@ -146,7 +160,7 @@ where
 {
     match regex.named_matcher::<N>(rt.alloc()) {
         Ok(matcher) => search_with(
-            rt, system, options, &matcher, searcher, choices, input, output, errors,
+            rt, system, options, &matcher, searcher, choices, separators, input, output, errors,
         ),
         Err(_) => Ended::refused(errors, &Failure::out_of_memory(), input, output),
     }
@@ -160,18 +174,20 @@ fn search_with<'r, M: FindAt + Copy, S: System, R: Source + Drop, W: Output + Dr
     matcher: M,
     searcher: Searcher,
     choices: &mut Choices<'r>,
+    separators: Option<&Separators>,
     input: R,
     output: W,
     errors: &mut E,
 ) -> Ended<R, W>
-    requires { searcher.settings ≡ searcher_settings options.now }
+    requires settings { searcher.settings ≡ searcher_settings options.now }
+    requires lent { AreLent options.now separators }
     ensures { IsRunWith M.Error.output M.facts M.first_at W.step S.File.remaining R.remaining R.step
         (S.finds system.now) (S.opens system.now) (S.identifies system.now) options.now matcher input
         output errors.old result.status result.input result.output }
 {
     let scope = Scope::new(system, options);
     let is_across = searcher.multi_line_with_matcher(matcher);
-    let printer = build_printer(rt, options, is_across, output);
+    let printer = build_printer(rt, options, is_across, separators, output);
     let mut engine: PrintingEngine<'_, S::File, M, R, W, E> = PrintingEngine::new(
         rt, searcher, matcher, printer, input, errors,
     );

@@ -20,7 +20,8 @@ use crate::options::Options;
 use crate::printers::Printer;
 use grep_output::Output;
 use grep_printer::{
-    ColorSpecs, JsonBuilder, SearchSeparator, StandardBuilder, SummaryBuilder, SummaryKind,
+    ColorSpecs, JsonBuilder, SearchSeparator, Separators, StandardBuilder, SummaryBuilder,
+    SummaryKind,
 };
 use grep_searcher::{ConfigError, Encoding, Searcher, SearcherBuilder};
 use std::alloc::Global;
@@ -121,13 +122,14 @@ fn looks_for_mark(label: Option<&str>) -> bool
 
 /// The printer that the options ask for, which writes to `writer` what searches find, by line or
 /// across lines. A terminal gets headings, and colors.
-pub fn build_printer<W: Output>(
+pub fn build_printer<'c, W: Output>(
     rt: &HostRuntime,
     options: &Options<'_, '_>,
     is_across: bool,
+    separators: Option<&'c Separators>,
     writer: W,
-) -> Printer<W>
-    ensures { IsPrinterOf options.now is_across writer result }
+) -> Printer<'c, W>
+    ensures { IsPrinterOf options.now is_across separators.entry writer result }
 {
     let is_line_buffered = options.is_line_buffered();
     let colors = color_specs(rt, options.color(), options.streams.is_terminal);
@@ -138,10 +140,10 @@ pub fn build_printer<W: Output>(
         let printer = JsonBuilder::new().build(rt.alloc(), writer);
         Printer::Json(JsonRun::new(rt, buffered(is_line_buffered, printer)))
     } else if options.is_vimgrep() {
-        let printer = lines(options, colors).build_vimgrep(rt.alloc(), writer);
+        let printer = lines(options, colors, separators).build_vimgrep(rt.alloc(), writer);
         Printer::Parts(buffered(is_line_buffered, printer))
     } else {
-        let printer = lines(options, colors).build(rt.alloc(), writer);
+        let printer = lines(options, colors, separators).build(rt.alloc(), writer);
         Printer::Lines(buffered(is_line_buffered, printer))
     }
 }
@@ -174,8 +176,12 @@ fn summary(options: &Options<'_, '_>, kind: SummaryKind, colors: ColorSpecs) -> 
 }
 
 // How lines are written.
-fn lines(options: &Options<'_, '_>, colors: ColorSpecs) -> StandardBuilder
-    ensures { result ≡ line_settings options.now colors }
+fn lines<'c>(
+    options: &Options<'_, '_>,
+    colors: ColorSpecs,
+    separators: Option<&'c Separators>,
+) -> StandardBuilder<'c>
+    ensures { result ≡ line_settings options.now colors separators.entry }
 {
     let heading = options.shows_headings();
     let mut builder = StandardBuilder::new();
@@ -183,13 +189,14 @@ fn lines(options: &Options<'_, '_>, colors: ColorSpecs) -> StandardBuilder
         .heading(heading)
         .separator_search(separator(options, heading))
         .path_terminator(path_terminator(options))
-        .color_specs(colors);
+        .color_specs(colors)
+        .separators(separators);
     show(&mut builder, options);
     builder
 }
 
 // Sets what is written of a line.
-fn show(builder: &mut StandardBuilder, options: &Options<'_, '_>)
+fn show(builder: &mut StandardBuilder<'_>, options: &Options<'_, '_>)
     ensures { builder.new ≡ record builder.old {
       column = shows_columns options.now;
       byte_offset = has options.now OptionId.ByteOffset;
@@ -237,7 +244,7 @@ fn separator(options: &Options<'_, '_>, heading: bool) -> SearchSeparator
     if heading {
         SearchSeparator::Blank
     } else if options.after_context() > 0 || options.before_context() > 0 {
-        SearchSeparator::Dashes
+        SearchSeparator::Groups
     } else {
         SearchSeparator::Nothing
     }

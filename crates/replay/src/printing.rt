@@ -156,7 +156,7 @@ trait Printer {
     fn flush_text(&mut self) -> Result<(), SearchError>;
 }
 
-impl<W: Output> Printer for Standard<W> {
+impl<'c, W: Output> Printer for Standard<'c, W> {
     fn print<M: FindAt>(
         &mut self,
         searcher: &mut Searcher,
@@ -177,7 +177,7 @@ impl<W: Output> Printer for Standard<W> {
     }
 }
 
-impl<W: Output> Printer for Vimgrep<W> {
+impl<'c, W: Output> Printer for Vimgrep<'c, W> {
     fn print<M: FindAt>(
         &mut self,
         searcher: &mut Searcher,

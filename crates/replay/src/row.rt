@@ -34,7 +34,7 @@ pub struct Row<'r> {
     /// The settings of the search.
     pub search: SearcherBuilder,
     /// The settings of the printers of lines.
-    pub lines: StandardBuilder,
+    pub lines: StandardBuilder<'r>,
     /// The settings of the printer of summaries.
     pub summary: SummaryBuilder,
     /// The settings of the printer of JSON.
@@ -128,7 +128,7 @@ impl<'r> Row<'r> {
             }
             _ => return false,
         };
-        self.lines.separator_search(SearchSeparator::Dashes);
+        self.lines.separator_search(SearchSeparator::Groups);
         true
     }
 
@@ -147,7 +147,7 @@ impl<'r> Row<'r> {
     }
 }
 
-fn set_lines(lines: &mut StandardBuilder, word: &str) -> bool {
+fn set_lines(lines: &mut StandardBuilder<'_>, word: &str) -> bool {
     match word {
         "-b" => lines.byte_offset(true),
         "-o" => lines.only_matching(true),

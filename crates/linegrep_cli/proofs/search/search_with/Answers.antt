@@ -11,16 +11,18 @@ returns g c = record {
   last = c.complete-status.new.engine;
   is_scope = c.new-scope.ensures;
   begins = record {
-    settings = ap (λ (state : SearcherState). state.settings) c.new-engine.ensures.searcher ∙ c.requires;
+    settings = ap (λ (state : SearcherState). state.settings) c.new-engine.ensures.searcher ∙ c.requires.settings;
     asks = c.new-engine.ensures.matcher;
+    separators = c.args.separators;
+    lent = c.requires.lent;
     printer = subst (λ printer. IsPrinterOf c.args.options.now (is_across (searcher_settings c.args.options.now)
-        (g.M.Matcher.facts c.args.matcher).meaning) c.args.output printer) (sym c.new-engine.ensures.printer)
-        (subst (λ across. IsPrinterOf c.args.options.now across c.args.output c.build_printer-printer.result)
+        (g.M.Matcher.facts c.args.matcher).meaning) c.args.separators c.args.output printer) (sym c.new-engine.ensures.printer)
+        (subst (λ across. IsPrinterOf c.args.options.now across c.args.separators c.args.output c.build_printer-printer.result)
         (c.multi_line_with_matcher-is_across.ensures ∙ ap (λ settings. is_across settings
-        (g.M.Matcher.facts c.args.matcher).meaning) c.requires) c.build_printer-printer.ensures);
+        (g.M.Matcher.facts c.args.matcher).meaning) c.requires.settings) c.build_printer-printer.ensures);
     haystack = c.new-engine.ensures.haystack;
     says = c.new-engine.ensures.errors;
-    detection = c.new-engine.ensures.detection ∙ ap (λ (settings : Settings). settings.binary_detection) c.requires;
+    detection = c.new-engine.ensures.detection ∙ ap (λ (settings : Settings). settings.binary_detection) c.requires.settings;
   };
   run = rw (c.new-run.ensures.system, c.new-run.ensures.scope, c.paths.ensures) at c.complete-status.ensures;
   input_after = c.into_parts-input.ensures.input;
