@@ -58,7 +58,7 @@ place_after place line = record {
 }
 
 -- whether lines, or parts in their place, are written as they are, each after its number alone:
--- without other fields, limit and colors
+-- without other fields, limit and colors, not trimmed, and with the usual separators
 abbrev pub is_plain : Config → Option (Bor (List ℕ)) → Bool
 is_plain config path =
     (config.heading || is_none path) && not config.column && not config.byte_offset
