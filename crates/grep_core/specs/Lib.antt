@@ -1,5 +1,4 @@
 pub mod BinaryCalls
-pub mod Configured
 pub mod HeldViews
 pub mod QuittingSinks
 pub mod Rolls

@@ -13,18 +13,17 @@ ghost use Rattle.grep_walk.specs.LookAheads.{AreQuestions};
 ghost use Rattle.grep_walk.specs.WalkFaults.{IsWalkFault};
 ghost use Rattle.grep_walk.specs.Walks.{IsOrdered};
 ghost use Rattle.grep_walk.specs.Windows.{HasSearched, HasPassed};
-ghost use Rattle.grep_core.specs.Configured.{IsConfigured};
 ghost use Rattle.grep_walk.specs.Origins.{IsMadeToFrom, Origin};
 ghost use Rattle.grep_report.specs.ErrorMakers.{makers_of};
 
 use crate::calls::Calls;
-use crate::search::Search;
+use crate::search::{Configured, Search};
 use grep_matcher::Matcher;
 use grep_report::SinkError;
 use grep_walk::{NOTHING_AHEAD, Questions, WALK_START, Walk};
 use std::alloc::Allocator;
 
-impl<'c, A: Allocator + Copy, T> Search<'c, A, T> {
+impl<'c, A: Allocator + Copy, T: Configured> Search<'c, A, T> {
     // Makes each call but `finish`, and returns the byte count.
     pub(crate) fn byte_count_by_line<M: Matcher, C: Calls<T>>(
         &self,
@@ -34,7 +33,6 @@ impl<'c, A: Allocator + Copy, T> Search<'c, A, T> {
     ) -> Result<u64, C::Error>
     where
         C::Error: SinkError<A>,
-        requires configured { IsConfigured (C.settings self.now.searcher.now) self.now.config }
         requires may_call { C.may_call sink.old }
         ensures reported { IfOk result (λ count.
             IsLawful (M.facts matcher.now) self.now.config
@@ -87,7 +85,6 @@ impl<'c, A: Allocator + Copy, T> Search<'c, A, T> {
         requires after { start ≤ walk.old.offset }
         requires fits { walk.old.offset + (length window.now - start) < 2 ^ 64 }
         requires ordered { IsOrdered walk.old }
-        requires configured { IsConfigured (C.settings self.now.searcher.now) self.now.config }
         requires may_call { C.may_call sink.old }
         ensures ordered { IfOk result (λ goes_on. IsOrdered walk.new) }
         ensures moved { IfOk result (λ goes_on. goes_on ≡ true

@@ -2,29 +2,25 @@
 ghost use Rattle.std.specs.Prelude.{◌≡◌, ◌+◌, ◌<◌, ◌≤◌, ◌^◌, Bool, Result, length, is_some};
 ghost use Rattle.std.specs.Prelude.{IfSome, IsOk};
 ghost use Rattle.grep_matcher.specs.Lines.{byte_of};
-ghost use Rattle.grep_core.specs.Configured.{IsConfigured};
 ghost use Rattle.grep_definitions.specs.Plans.{Settings, Call, begins, breaks, binary_data};
 ghost use Rattle.grep_definitions.specs.Plans.{finish_result, NeverFails};
 ghost use Rattle.grep_definitions.specs.MatchedLines.{AreTaken, calls_of_match};
 ghost use Rattle.grep_report.specs.SinkReports.{match_bytes};
 ghost use Rattle.grep_definitions.specs.SinkArguments.{match_call, context_call, finish_call};
 
-use crate::search::Search;
+use crate::search::{Configured, Search};
 use grep_report::{SinkContext, SinkFinish, SinkMatch};
 
 /// How a search calls the sinks of one type, with a searcher of type `T`. What implements it is a
 /// name alone: no value of it is needed.
 ///
 /// Each call but `finish` returns whether the search goes on; an error is the sink's own.
-pub trait Calls<T> {
+pub trait Calls<T: Configured> {
     /// The sinks.
     type Sink;
 
     /// Why a call failed.
     type Error;
-
-    /// The settings of a searcher.
-    ghost settings: { T → Settings };
 
     /// One call: the state before, the searcher's settings, the call with its data, what it
     /// returned, the state after.
@@ -35,7 +31,6 @@ pub trait Calls<T> {
 
     /// A search begins.
     fn begin<A>(search: &Search<'_, A, T>, sink: &mut Self::Sink) -> Result<bool, Self::Error>
-        requires configured { IsConfigured (settings search.now.searcher.now) search.now.config }
         requires may_call { may_call sink.old }
         ensures step { step sink.old search.now.config begins result sink.new }
         ensures may_call { may_call sink.new };
@@ -48,7 +43,6 @@ pub trait Calls<T> {
         sink: &mut Self::Sink,
         found: &SinkMatch<'_>,
     ) -> Result<bool, Self::Error>
-        requires configured { IsConfigured (settings search.now.searcher.now) search.now.config }
         requires may_call { may_call sink.old }
         requires split { found.now.terminator ≡ byte_of search.now.config.line_terminator }
         requires numbered { is_some found.now.line_number ≡ search.now.config.line_number }
@@ -64,7 +58,6 @@ pub trait Calls<T> {
         sink: &mut Self::Sink,
         lines: &SinkMatch<'_>,
     ) -> Result<bool, Self::Error>
-        requires configured { IsConfigured (settings search.now.searcher.now) search.now.config }
         requires may_call { may_call sink.old }
         requires split { lines.now.terminator ≡ byte_of search.now.config.line_terminator }
         requires numbered { is_some lines.now.line_number ≡ search.now.config.line_number }
@@ -86,7 +79,6 @@ pub trait Calls<T> {
         sink: &mut Self::Sink,
         line: &SinkContext<'_>,
     ) -> Result<bool, Self::Error>
-        requires configured { IsConfigured (settings search.now.searcher.now) search.now.config }
         requires may_call { may_call sink.old }
         requires numbered { is_some line.now.line_number ≡ search.now.config.line_number }
         requires fits { line.now.offset + length line.now.bytes < 2 ^ 64 }
@@ -98,7 +90,6 @@ pub trait Calls<T> {
         search: &Search<'_, A, T>,
         sink: &mut Self::Sink,
     ) -> Result<bool, Self::Error>
-        requires configured { IsConfigured (settings search.now.searcher.now) search.now.config }
         requires may_call { may_call sink.old }
         ensures step { step sink.old search.now.config breaks result sink.new }
         ensures may_call { may_call sink.new };
@@ -110,7 +101,6 @@ pub trait Calls<T> {
         sink: &mut Self::Sink,
         binary_byte_offset: u64,
     ) -> Result<bool, Self::Error>
-        requires configured { IsConfigured (settings search.now.searcher.now) search.now.config }
         requires may_call { may_call sink.old }
         ensures step { step sink.old search.now.config (binary_data binary_byte_offset) result
             sink.new }
@@ -122,7 +112,6 @@ pub trait Calls<T> {
         sink: &mut Self::Sink,
         finish: &SinkFinish,
     ) -> Result<(), Self::Error>
-        requires configured { IsConfigured (settings search.now.searcher.now) search.now.config }
         requires may_call { may_call sink.old }
         ensures step { step sink.old search.now.config (finish_call finish.now)
             (finish_result result)

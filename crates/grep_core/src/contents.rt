@@ -5,19 +5,18 @@ ghost use Rattle.grep_decode.specs.DecoderStates.{started};
 ghost use Rattle.grep_definitions.specs.Searches.{look_at, EndsUnread, IsRead, IsInOrder};
 ghost use Rattle.grep_definitions.specs.Searches.{IsReadingError};
 ghost use Rattle.grep_definitions.specs.Plans.{is_across, NeverFails};
-ghost use Rattle.grep_core.specs.Configured.{IsConfigured};
 ghost use Rattle.grep_report.specs.ErrorMakers.{makers_of};
 
 use crate::calls::Calls;
 use crate::read_by_line::io_error;
-use crate::search::Search;
+use crate::search::{Configured, Search};
 use grep_decode::{Decoder, Source};
 use grep_line_buffer::read_contents;
 use grep_matcher::Matcher;
 use grep_report::{SinkError, SinkFinish};
 use std::alloc::Allocator;
 
-impl<'c, A: Allocator + Copy, T> Search<'c, A, T> {
+impl<'c, A: Allocator + Copy, T: Configured> Search<'c, A, T> {
     // Searches the decoded bytes of a reader across lines. All of them are read into `contents`
     // before `begin`. The caller ensures that the decoder was started with the searcher's label.
     pub(crate) fn search_contents<M: Matcher, R: Source, C: Calls<T>>(
@@ -32,7 +31,6 @@ impl<'c, A: Allocator + Copy, T> Search<'c, A, T> {
         C::Error: SinkError<A>,
         requires started { decoder.old ≡ started decoder.old.capacity self.now.config.encoding
             self.now.config.bom_sniffing }
-        requires configured { IsConfigured (C.settings self.now.searcher.now) self.now.config }
         requires may_call { C.may_call sink.old }
         ensures searched { is_across self.now.config (M.facts matcher.now).meaning ≡ true
             → (has_buffers : Bool) → IsRead R.remaining R.step C.step

@@ -15,4 +15,4 @@ mod until;
 
 pub use buffers::Buffers;
 pub use calls::Calls;
-pub use search::Search;
+pub use search::{Configured, Search};

@@ -6,17 +6,16 @@ ghost use Rattle.grep_definitions.specs.Searches.{nowhere};
 ghost use Rattle.grep_definitions.specs.SliceSearches.{IsContentsSearch};
 ghost use Rattle.grep_definitions.specs.Plans.{begins, counted, plan_in, Outcome, NeverFails};
 ghost use Rattle.grep_definitions.specs.SinkRuns.{IsMadeTo};
-ghost use Rattle.grep_core.specs.Configured.{IsConfigured};
 ghost use Rattle.grep_report.specs.ErrorMakers.{makers_of};
 
 use crate::calls::Calls;
-use crate::search::Search;
+use crate::search::{Configured, Search};
 use grep_matcher::{Match, Matcher};
 use grep_report::SinkError;
 use grep_walk::{Verdict, WALK_START};
 use std::alloc::Allocator;
 
-impl<'c, A: Allocator + Copy, T> Search<'c, A, T> {
+impl<'c, A: Allocator + Copy, T: Configured> Search<'c, A, T> {
     // Makes each call but `finish` of a search across lines, and returns the byte count.
     pub(crate) fn byte_count_across<M: Matcher, C: Calls<T>>(
         &self,
@@ -26,7 +25,6 @@ impl<'c, A: Allocator + Copy, T> Search<'c, A, T> {
     ) -> Result<u64, C::Error>
     where
         C::Error: SinkError<A>,
-        requires configured { IsConfigured (C.settings self.now.searcher.now) self.now.config }
         requires may_call { C.may_call sink.old }
         ensures reported { IfOk result (λ count. (outcome : Outcome C.Error)
             × IsMadeTo C.step self.now.config sink.old
@@ -57,7 +55,6 @@ impl<'c, A: Allocator + Copy, T> Search<'c, A, T> {
     ) -> Result<u64, C::Error>
     where
         C::Error: SinkError<A>,
-        requires configured { IsConfigured (C.settings self.now.searcher.now) self.now.config }
         requires may_call { C.may_call sink.old }
         ensures reported { IfOk result (λ count. (first : C.Sink)
             → C.step first self.now.config begins (Ok true) sink.old

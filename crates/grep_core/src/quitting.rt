@@ -2,13 +2,12 @@
 ghost use Rattle.std.specs.Prelude.{◌≡◌, ◌+◌, ◌<◌, ◌^◌, true, false, Bool, Option, None, Some, Ok};
 ghost use Rattle.std.specs.Prelude.{Result, length};
 ghost use Rattle.std.specs.Option.{option_map};
-ghost use Rattle.grep_core.specs.Configured.{IsConfigured};
 ghost use Rattle.grep_core.specs.QuittingSinks.{end_result};
 ghost use Rattle.grep_definitions.specs.Searches.{position_of};
 ghost use Rattle.grep_definitions.specs.Plans.{binary_data, breaks};
 
 use crate::calls::Calls;
-use crate::search::Search;
+use crate::search::{Configured, Search};
 use grep_report::{SinkContext, SinkFinish, SinkMatch};
 use memchr::memchr;
 use std::marker::PhantomData;
@@ -53,14 +52,13 @@ impl<'s, S> Quitting<'s, S> {
     }
 }
 
-impl<'c, A, T> Search<'c, A, T> {
+impl<'c, A, T: Configured> Search<'c, A, T> {
     // Ends the search at the byte.
     fn quit<C: Calls<T>>(
         &self,
         sink: &mut Quitting<'_, C::Sink>,
         offset: u64,
     ) -> Result<bool, C::Error>
-        requires configured { IsConfigured (C.settings self.now.searcher.now) self.now.config }
         requires may_call { C.may_call sink.old.sink.now }
         ensures step { (returned : Result Bool C.Error) × (result ≡ end_result returned)
             × C.step sink.old.sink.now self.now.config
@@ -79,7 +77,6 @@ impl<'c, A, T> Search<'c, A, T> {
 
     // Makes the break that was held back, if there is one, and returns whether the search goes on.
     fn make_break<C: Calls<T>>(&self, sink: &mut Quitting<'_, C::Sink>) -> Result<bool, C::Error>
-        requires configured { IsConfigured (C.settings self.now.searcher.now) self.now.config }
         requires may_call { C.may_call sink.old.sink.now }
         ensures none { sink.old.has_break ≡ false → (result ≡ Ok true) × (sink.new ≡ sink.old) }
         ensures made { sink.old.has_break ≡ true
@@ -102,7 +99,7 @@ impl<'c, A, T> Search<'c, A, T> {
 // nor its break is made: `binary_data` is called in their place, and the search ends there.
 pub(crate) struct QuittingCalls<'s, C>(PhantomData<(&'s (), C)>);
 
-impl<'s, T, C: Calls<T>> Calls<T> for QuittingCalls<'s, C>
+impl<'s, T: Configured, C: Calls<T>> Calls<T> for QuittingCalls<'s, C>
 where
     C::Sink: 's,
 {
@@ -111,8 +108,6 @@ where
     type Error = C::Error;
 
     ghost use Rattle.grep_core.specs.QuittingSinks.{Quits};
-
-    ghost settings = { C.settings };
 
     ghost step = { Quits C.step C.may_call };
 

@@ -19,13 +19,12 @@ ghost use Rattle.grep_core.specs.SearchBuffers.{AreFitting, IsFitting, IsMadeOf,
 ghost use Rattle.grep_walk.specs.LookAheads.{AreQuestions};
 ghost use Rattle.grep_walk.specs.WalkFaults.{IsWalkFault};
 ghost use Rattle.grep_walk.specs.Walks.{IsOrdered};
-ghost use Rattle.grep_core.specs.Configured.{IsConfigured};
 ghost use Rattle.grep_walk.specs.Origins.{Origin};
 ghost use Rattle.grep_report.specs.ErrorMakers.{makers_of};
 
 use crate::buffers::Buffers;
 use crate::calls::Calls;
-use crate::search::Search;
+use crate::search::{Configured, Search};
 use grep_decode::{Decoder, Source};
 use grep_line_buffer::{Detection, FillError, LineBuffer};
 use grep_matcher::Matcher;
@@ -34,12 +33,12 @@ use grep_walk::{Questions, WALK_START, Walk};
 use std::alloc::Allocator;
 use std::io;
 
-impl<'c, A: Allocator + Copy, T> Search<'c, A, T> {
+impl<'c, A: Allocator + Copy, T: Configured> Search<'c, A, T> {
     /// Searches the decoded bytes of a reader with these buffers, across lines or by line, as
     /// `Searcher::search_reader` says, and returns its errors. Whatever comes, the buffers fit
     /// another search with this configuration.
     ///
-    /// The caller ensures that the configuration is the searcher's, that its heap limit isn't 0,
+    /// The caller ensures that the configured heap limit isn't 0,
     /// that the buffers fit the configuration, as new ones do, and that the sink may be called.
     pub fn search_reader<M: Matcher, R: Source, C: Calls<T>>(
         &self,
@@ -52,7 +51,6 @@ impl<'c, A: Allocator + Copy, T> Search<'c, A, T> {
         C::Error: SinkError<A>,
         requires allowed { is_at 0 self.now.config.heap_limit ≡ false }
         requires fitting { AreFitting self.now.config buffers.old }
-        requires configured { IsConfigured (C.settings self.now.searcher.now) self.now.config }
         requires may_call { C.may_call sink.old }
         ensures fitting { AreFitting self.now.config buffers.new }
         ensures searched { IsLawful (M.facts matcher.now) self.now.config
@@ -97,7 +95,6 @@ impl<'c, A: Allocator + Copy, T> Search<'c, A, T> {
         C::Error: SinkError<A>,
         requires allowed { is_at 0 self.now.config.heap_limit ≡ false }
         requires fitting { AreFitting self.now.config buffers.old }
-        requires configured { IsConfigured (C.settings self.now.searcher.now) self.now.config }
         requires by_line { is_across self.now.config (M.facts matcher.now).meaning ≡ false }
         requires may_call { C.may_call sink.old }
         ensures fitting { AreFitting self.now.config buffers.new }
@@ -174,7 +171,6 @@ impl<'c, A: Allocator + Copy, T> Search<'c, A, T> {
             (detection_of self.now.config.binary_detection) }
         requires started { decoder.old ≡ started decoder.old.capacity self.now.config.encoding
             self.now.config.bom_sniffing }
-        requires configured { IsConfigured (C.settings self.now.searcher.now) self.now.config }
         requires may_call { C.may_call sink.old }
         requires binary { binary.old ≡ None }
         requires by_line { is_across self.now.config (M.facts matcher.now).meaning ≡ false }
@@ -238,7 +234,6 @@ impl<'c, A: Allocator + Copy, T> Search<'c, A, T> {
         binary: &mut Option<u64>,
         sink: &mut C::Sink,
     ) -> Result<bool, C::Error>
-        requires configured { IsConfigured (C.settings self.now.searcher.now) self.now.config }
         requires may_call { C.may_call sink.old }
         ensures passes { IfOk result (λ goes_on.
             PassesBinary C.step self.now.config found
@@ -277,7 +272,6 @@ impl<'c, A: Allocator + Copy, T> Search<'c, A, T> {
         requires low { lines.old.offset ≤ walk.old.offset }
         requires inside { walk.old.offset ≤ lines.old.offset + length lines.old.shown }
         requires ordered { IsOrdered walk.old }
-        requires configured { IsConfigured (C.settings self.now.searcher.now) self.now.config }
         requires may_call { C.may_call sink.old }
         ensures fitting { (limit : Option ℕ) (t : ℕ) → IsFitting limit t lines.old
             → IsFitting limit t lines.new }

@@ -1,6 +1,5 @@
 //! What a search runs with, and the search of bytes as they are.
-ghost use Rattle.std.specs.Prelude.{◌≡◌, false, Err, IfOk, IfErr, IsOk};
-ghost use Rattle.grep_core.specs.Configured.{IsConfigured};
+ghost use Rattle.std.specs.Prelude.{◌≡◌, true, false, Err, IfOk, IfErr, IsOk};
 ghost use Rattle.grep_matcher.specs.Meanings.{IsInfallible};
 ghost use Rattle.grep_matcher.specs.Lines.{byte_of};
 ghost use Rattle.grep_report.specs.BinaryDetections.{quit_byte_of};
@@ -8,6 +7,7 @@ ghost use Rattle.grep_definitions.specs.CallOrder.{BeginsInOrder};
 ghost use Rattle.grep_definitions.specs.Searches.{nowhere, IsInOrder};
 ghost use Rattle.grep_definitions.specs.SliceSearches.{IsContentsSearch, IsSliceSearch};
 ghost use Rattle.grep_definitions.specs.Plans.{counted, plan_in, IsLawful, NeverFails, Outcome};
+ghost use Rattle.grep_definitions.specs.Plans.{Settings};
 ghost use Rattle.grep_definitions.specs.SinkRuns.{IsMadeTo};
 ghost use Rattle.grep_report.specs.ErrorMakers.{makers_of};
 
@@ -17,24 +17,34 @@ use grep_report::{SinkError, SinkFinish};
 use grep_walk::Config;
 use std::alloc::Allocator;
 
+/// A searcher as a search sees it: by its settings alone.
+pub trait Configured {
+    /// The settings.
+    ghost settings: { Self → Settings };
+}
+
 /// What a search runs with: its configuration, the searcher that the calls of a sink get, and the
 /// allocator for what the search makes.
 #[derive(Drop)]
-pub struct Search<'c, A, T> {
-    /// The configuration: the searcher's.
+pub struct Search<'c, A, T: Configured> {
+    /// The configuration.
     pub config: Config,
     /// The searcher.
     pub searcher: &'c T,
     /// The allocator of the searcher.
     pub alloc: A,
+    /// The configuration is the searcher's.
+    pub ghost same: { T.settings searcher.now ≡ config },
+    /// Under `passthru` it has no contexts.
+    pub ghost bare: { config.passthru ≡ true
+        → (config.after_context ≡ 0) × (config.before_context ≡ 0) },
 }
 
-impl<'c, A: Allocator + Copy, T> Search<'c, A, T> {
+impl<'c, A: Allocator + Copy, T: Configured> Search<'c, A, T> {
     /// Searches a slice as it is, across lines or by line, as `Searcher::search_slice` says of one
     /// that isn't decoded. An error is the sink's own or made of the matcher's.
     ///
-    /// The caller ensures that the configuration is the searcher's, and that the sink may be
-    /// called.
+    /// The caller ensures that the sink may be called.
     pub fn search_bytes<M: Matcher, C: Calls<T>>(
         &self,
         matcher: &M,
@@ -43,7 +53,6 @@ impl<'c, A: Allocator + Copy, T> Search<'c, A, T> {
     ) -> Result<(), C::Error>
     where
         C::Error: SinkError<A>,
-        requires configured { IsConfigured (C.settings self.now.searcher.now) self.now.config }
         requires may_call { C.may_call sink.old }
         ensures searched { IsLawful (M.facts matcher.now) self.now.config
             → IsSliceSearch C.step
@@ -74,7 +83,6 @@ impl<'c, A: Allocator + Copy, T> Search<'c, A, T> {
     ) -> Result<u64, C::Error>
     where
         C::Error: SinkError<A>,
-        requires configured { IsConfigured (C.settings self.now.searcher.now) self.now.config }
         requires may_call { C.may_call sink.old }
         ensures reported { IfOk result (λ count.
             (is_across ≡ false → IsLawful (M.facts matcher.now) self.now.config)

@@ -14,10 +14,9 @@ ghost use Rattle.grep_walk.specs.LookAheads.{AreAllowed, IsBounded};
 ghost use Rattle.grep_walk.specs.Walks.{IsOrdered, chooses, counts_lines, line_calls, line_end};
 ghost use Rattle.grep_walk.specs.Walks.{trails};
 ghost use Rattle.grep_walk.specs.Windows.{IsInWindow, IsLineIn};
-ghost use Rattle.grep_core.specs.Configured.{IsConfigured};
 
 use crate::calls::Calls;
-use crate::search::Search;
+use crate::search::{Configured, Search};
 use grep_matcher::Matcher;
 use grep_report::{SinkContext, SinkContextKind, SinkMatch};
 use grep_walk::{Ahead, ChosenLines, Questions, Verdict, Walk};
@@ -27,7 +26,7 @@ use std::alloc::Allocator;
 // every second line 6 to 9 percent slower. What a call of the sink returns is taken apart at each
 // level, since a result that is returned as it is gets copied with the room for an error: that made
 // a search that reports each line 9 percent slower.
-impl<'c, A: Allocator + Copy, T> Search<'c, A, T> {
+impl<'c, A: Allocator + Copy, T: Configured> Search<'c, A, T> {
     // Reports the line that a walk is at, from `start` up to `end` of the window, and if it is
     // chosen the lines before it that are near. In the context after a match a trailing line is a
     // match too. Returns whether the search goes on.
@@ -47,7 +46,6 @@ impl<'c, A: Allocator + Copy, T> Search<'c, A, T> {
         requires fits { walk.now.offset + (length window.now - start) < 2 ^ 64 }
         requires number { walk.now.line + 1 < 2 ^ 64 }
         requires low { walk.now.next_unreported ≤ walk.now.line }
-        requires configured { IsConfigured (C.settings self.now.searcher.now) self.now.config }
         requires may_call { C.may_call sink.old }
         ensures reported { (gone input : List ℕ)
             → (counts_lines self.now.config ≡ true
@@ -102,7 +100,6 @@ impl<'c, A: Allocator + Copy, T> Search<'c, A, T> {
         requires within { end ≤ length window.now }
         requires fits { walk.now.offset + length (slice_range window.now start end) < 2 ^ 64 }
         requires number { walk.now.line + 1 < 2 ^ 64 }
-        requires configured { IsConfigured (C.settings self.now.searcher.now) self.now.config }
         requires may_call { C.may_call sink.old }
         ensures reported { (stop : ℕ) → AreMade C.step self.now.config sink.old
             (after_calls self.now.config (trails verdict) walk.now.next_unreported walk.now.line
@@ -139,7 +136,6 @@ impl<'c, A: Allocator + Copy, T> Search<'c, A, T> {
         requires fits { walk.now.offset + (length window.now - start) < 2 ^ 64 }
         requires number { walk.now.line + 1 < 2 ^ 64 }
         requires low { walk.now.next_unreported ≤ walk.now.line }
-        requires configured { IsConfigured (C.settings self.now.searcher.now) self.now.config }
         requires may_call { C.may_call sink.old }
         ensures reported { (gone input : List ℕ)
             → (counts_lines self.now.config ≡ true
@@ -179,7 +175,6 @@ impl<'c, A: Allocator + Copy, T> Search<'c, A, T> {
         requires number { walk.now.line + 1 < 2 ^ 64 }
         requires below { index ≤ walk.now.line }
         requires near { walk.now.line - index ≤ self.now.config.before_context }
-        requires configured { IsConfigured (C.settings self.now.searcher.now) self.now.config }
         requires may_call { C.may_call sink.old }
         ensures reported { (gone input : List ℕ)
             → IsInWindow self.now.config gone window.now input start walk.now
@@ -225,7 +220,6 @@ impl<'c, A: Allocator + Copy, T> Search<'c, A, T> {
         requires number { index + 1 < 2 ^ 64 }
         requires below { index < walk.now.line }
         requires near { walk.now.line - index ≤ self.now.config.before_context }
-        requires configured { IsConfigured (C.settings self.now.searcher.now) self.now.config }
         requires may_call { C.may_call sink.old }
         ensures reported { (end : ℕ) → AreMade C.step self.now.config sink.old
             (before_calls self.now.config walk.now.next_unreported index walk.now.line
@@ -256,7 +250,6 @@ impl<'c, A: Allocator + Copy, T> Search<'c, A, T> {
         requires within { end ≤ length window.now }
         requires fits { walk.now.offset + length (slice_range window.now start end) < 2 ^ 64 }
         requires number { walk.now.line + 1 < 2 ^ 64 }
-        requires configured { IsConfigured (C.settings self.now.searcher.now) self.now.config }
         requires may_call { C.may_call sink.old }
         ensures reported { (stop : ℕ) → AreMade C.step self.now.config sink.old
             (selected_calls self.now.config walk.now.next_unreported walk.now.line walk.now.offset
@@ -297,7 +290,6 @@ impl<'c, A: Allocator + Copy, T> Search<'c, A, T> {
         requires inside { start ≤ length window.now }
         requires fits { walk.now.offset + (length window.now - start) < 2 ^ 64 }
         requires ordered { IsOrdered walk.now }
-        requires configured { IsConfigured (C.settings self.now.searcher.now) self.now.config }
         requires may_call { C.may_call sink.old }
         ensures none { IfOk result (λ lines. IfNone lines (sink.new ≡ sink.old)) }
         ensures some { IfOk result (λ lines. IfSome lines (λ lines.
@@ -333,7 +325,6 @@ impl<'c, A: Allocator + Copy, T> Search<'c, A, T> {
 
     // Makes a break if lines were left out. Returns whether the search goes on.
     fn sink_break<C: Calls<T>>(&self, has_break: bool, sink: &mut C::Sink) -> Result<bool, C::Error>
-        requires configured { IsConfigured (C.settings self.now.searcher.now) self.now.config }
         requires may_call { C.may_call sink.old }
         ensures reported { (end : ℕ)
             → AreMade C.step self.now.config sink.old (break_calls has_break end)
@@ -358,7 +349,6 @@ impl<'c, A: Allocator + Copy, T> Search<'c, A, T> {
     ) -> Result<bool, C::Error>
         requires fits { offset + length line.now < 2 ^ 64 }
         requires number { index + 1 < 2 ^ 64 }
-        requires configured { IsConfigured (C.settings self.now.searcher.now) self.now.config }
         requires may_call { C.may_call sink.old }
         ensures step { C.step sink.old self.now.config
             (context kind (number_of self.now.config index) offset line.now) result sink.new }

@@ -6,13 +6,12 @@ ghost use Rattle.grep_definitions.specs.Searches.{first_look};
 ghost use Rattle.grep_definitions.specs.Plans.{IsLawful, NeverFails, IsRun};
 ghost use Rattle.grep_definitions.specs.SliceSearches.{IsContentsSearch};
 ghost use Rattle.grep_report.specs.BinaryDetections.{quit_byte_of};
-ghost use Rattle.grep_core.specs.Configured.{IsConfigured};
 ghost use Rattle.grep_core.specs.QuittingSinks.{first_quit};
 ghost use Rattle.grep_report.specs.ErrorMakers.{makers_of};
 
 use crate::calls::Calls;
 use crate::quitting::{Quitting, QuittingCalls};
-use crate::search::Search;
+use crate::search::{Configured, Search};
 use grep_matcher::Matcher;
 use grep_report::{SinkError, SinkFinish};
 use memchr::memchr;
@@ -21,7 +20,7 @@ use std::alloc::Allocator;
 // How many bytes are looked at before the first line.
 const FIRST_LOOK: usize = 65_536;
 
-impl<'c, A: Allocator + Copy, T> Search<'c, A, T> {
+impl<'c, A: Allocator + Copy, T: Configured> Search<'c, A, T> {
     // Searches whole contents, across lines or by line, up to the first report that holds a byte,
     // or not at all if the first bytes hold it.
     pub(crate) fn search_until<M: Matcher, C: Calls<T>>(
@@ -35,7 +34,6 @@ impl<'c, A: Allocator + Copy, T> Search<'c, A, T> {
     where
         C::Error: SinkError<A>,
         requires detecting { quit_byte_of self.now.config.binary_detection ≡ Some byte }
-        requires configured { IsConfigured (C.settings self.now.searcher.now) self.now.config }
         requires may_call { C.may_call sink.old }
         ensures searched { (is_across ≡ false
             → IsLawful (M.facts matcher.now) self.now.config)
@@ -61,7 +59,6 @@ impl<'c, A: Allocator + Copy, T> Search<'c, A, T> {
 
     // Ends a search at a byte before its first line.
     fn quit_first<C: Calls<T>>(&self, offset: u64, sink: &mut C::Sink) -> Result<(), C::Error>
-        requires configured { IsConfigured (C.settings self.now.searcher.now) self.now.config }
         requires may_call { C.may_call sink.old }
         ensures quits { IsRun C.step self.now.config sink.old (first_quit offset) result sink.new }
         ensures succeeds { NeverFails C.step C.may_call → IsOk result }
@@ -89,7 +86,6 @@ impl<'c, A: Allocator + Copy, T> Search<'c, A, T> {
         requires has_break { sink.old.has_break ≡ false }
         requires found { sink.old.found ≡ None }
         requires detecting { quit_byte_of self.now.config.binary_detection ≡ Some sink.old.byte }
-        requires configured { IsConfigured (C.settings self.now.searcher.now) self.now.config }
         requires may_call { C.may_call sink.old.sink.now }
         ensures searched { (is_across ≡ false
             → IsLawful (M.facts matcher.now) self.now.config)

@@ -1,18 +1,21 @@
 //! How a search calls a sink of a searcher.
 ghost use Rattle.std.specs.Prelude.{◌≡◌};
-ghost use Rattle.grep_core.specs.Configured.{IsConfigured};
 
 use crate::searcher::Searcher;
 use crate::sink::Sink;
-use grep_core::{Calls, Search};
+use grep_core::{Calls, Configured, Search};
 use grep_report::{SinkContext, SinkFinish, SinkMatch};
 use std::alloc::Allocator;
 use std::marker::PhantomData;
 
+impl<A: Allocator + Copy> Configured for Searcher<A> {
+    ghost settings = { λ searcher. searcher.settings };
+}
+
 impl<A: Allocator + Copy> Searcher<A> {
     // What a search with this searcher runs with.
     pub(crate) fn search(&self) -> Search<'_, A, Searcher<A>>
-        ensures configured { IsConfigured self.now.settings result.config }
+        ensures config { result.config ≡ self.now.settings }
         ensures searcher { result.searcher.now ≡ self.now }
     {
         Search {
@@ -31,8 +34,6 @@ impl<A: Allocator + Copy, S: Sink> Calls<Searcher<A>> for SearcherCalls<S> {
     type Sink = S;
 
     type Error = S::Error;
-
-    ghost settings = { λ searcher. searcher.settings };
 
     ghost step = { S.step };
 

@@ -82,7 +82,7 @@ returns-in_err-sink_line-clause-fault g c =
     let reported = rw (c.of-verdict.ensures.chosen, c.of-verdict.ensures.trailing) at
     c.in_err-sink_line.ensures.reported in
     let p = err_from_is_err_and c.from_residual.result c.from_residual.ensures.1 in
-    let reportable = calls.reportable c.requires.configured.bare c.lines.invariant.walk
+    let reportable = calls.reportable c.args.self.now.bare c.lines.invariant.walk
     c.lines.invariant.same
     c.in-Ok-unit_at.ensures.ready c.in-Ok-unit_at.ensures.ahead c.next_chosen-next.ensures
     c.end_across-end.ensures.low
@@ -100,7 +100,7 @@ returns-then-not-branch-clause-reported g c = λ first begun.
     let stops : c.in_ok-sink_line.field-0 ≡ false = search rules in
     let reported = rw (c.of-verdict.ensures.chosen, c.of-verdict.ensures.trailing, stops) at
     c.in_ok-sink_line.ensures.reported in
-    let reportable = calls.reportable c.requires.configured.bare c.lines.invariant.walk
+    let reportable = calls.reportable c.args.self.now.bare c.lines.invariant.walk
     c.lines.invariant.same
     c.in-Ok-unit_at.ensures.ready c.in-Ok-unit_at.ensures.ahead c.next_chosen-next.ensures
     c.end_across-end.ensures.low
@@ -125,7 +125,7 @@ lines-preserved g c =
     let reported = rw (c.of-verdict.ensures.chosen, c.of-verdict.ensures.trailing, goes) at
     c.in_ok-sink_line.ensures.reported in
     let here = rw goes at c.in_ok-sink_line.ensures.called in
-    let reportable = calls.reportable c.requires.configured.bare c.lines.invariant.walk
+    let reportable = calls.reportable c.args.self.now.bare c.lines.invariant.walk
     c.lines.invariant.same
     c.in-Ok-unit_at.ensures.ready c.in-Ok-unit_at.ensures.ahead c.next_chosen-next.ensures
     c.end_across-end.ensures.low

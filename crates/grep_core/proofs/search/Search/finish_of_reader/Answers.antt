@@ -10,13 +10,13 @@ pub returns-in_err-begin-clause-fault : goal.returns-in_err-begin-clause-fault
 returns-in_err-begin-clause-fault g c =
     let p = err_from_is_err_and c.from_residual.result c.from_residual.ensures.1 in
     rw (p.1, p.2) (λ lawful has_buffers. inl (streams.fault-begin _ _ _ _ _
-    c.requires.by_line (λ passthru. (c.requires.configured.bare passthru).1) _ _
+    c.requires.by_line (λ passthru. (c.args.self.now.bare passthru).1) _ _
     c.in_err-begin.ensures.step))
 
 pub returns-then-not-branch-clause-counted : goal.returns-then-not-branch-clause-counted
 returns-then-not-branch-clause-counted g c = λ lawful.
     rw c.new.ensures (streams.counted-unbegun _ _ _ _ _ c.requires.by_line
-    (λ passthru. (c.requires.configured.bare passthru).1)
+    (λ passthru. (c.args.self.now.bare passthru).1)
     (rw c.if-not-branch.true at c.in_ok-begin.ensures.step))
 
 pub returns-then-not-branch-clause-begun : goal.returns-then-not-branch-clause-begun
@@ -41,7 +41,7 @@ returns-then-not-reads_lines-clause-begun g c = record {
 pub returns-then-not-reads_lines-clause-counted : goal.returns-then-not-reads_lines-clause-counted
 returns-then-not-reads_lines-clause-counted g c = λ lawful.
     rw c.new-then-not-reads_lines.ensures (streams.counted-idle _ _ _ _ _ c.requires.by_line
-    (λ passthru. (c.requires.configured.bare passthru).1)
+    (λ passthru. (c.args.self.now.bare passthru).1)
     (idle-unread _ _ (sym c.reads_lines.ensures ∙ c.if-not-reads_lines.true))
     (rw c.if-not-branch.false at c.in_ok-begin.ensures.step))
 

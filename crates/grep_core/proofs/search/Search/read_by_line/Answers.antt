@@ -39,7 +39,7 @@ abbrev stream : (g : Over) (c : goal.After-questions-questions g)
     (meaning-of g c.args.matcher.now) c.args.decoder.now
 stream g c = record {
   by_line = c.requires.by_line;
-  built = λ passthru. (c.requires.configured.bare passthru).1;
+  built = λ passthru. (c.args.self.now.bare passthru).1;
   begun = c.requires.started;
 }
 

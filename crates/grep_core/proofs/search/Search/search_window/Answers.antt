@@ -57,7 +57,7 @@ reached g c lawful gone input first so_far = subst (λ sink. uncounted.HasLine g
     input first c.skip_unmatched-start.result c.in-Some-line_end.end
     c.skip_unmatched-start.new.walk sink c.known_at-known.result) (sym (untaken g c)) (
     let now = c.lines.invariant.searched lawful gone input first so_far in
-    uncounted.line-reached c.requires.configured.bare now c.in-Ok.ensures.bounded
+    uncounted.line-reached c.args.self.now.bare now c.in-Ok.ensures.bounded
     (c.in-Ok.ensures.known lawful _ now.walked.inside.line.begins
     (c.lines.invariant.known lawful gone input first so_far)) c.skip_unmatched-start.ensures.low
     c.skip_unmatched-start.ensures.position c.skip_unmatched-start.ensures.walk
@@ -80,7 +80,7 @@ here g c lawful gone input first so_far =
     let known = c.in-Ok.ensures.known lawful _ now.walked.inside.line.begins
     (c.lines.invariant.known lawful gone input first so_far) in
     let skipped = c.skip_unmatched-start.ensures in (
-      uncounted.searched-on c.requires.configured.bare now c.in-Ok.ensures.bounded known
+      uncounted.searched-on c.args.self.now.bare now c.in-Ok.ensures.bounded known
           skipped.position skipped.walk,
       skips.known-later _ _ _ _ _ _ skipped.low known,
     )
@@ -101,14 +101,14 @@ chosen : (g : Over) (c : After-sink_chosen_lines g)
     c.skip_unmatched-start.new.walk) outcome new
     → LinesCome g.C.Calls.step c.args.self.now.config
     (g.M.Matcher.facts c.args.matcher.now).meaning gone c.args.window.now input first
-    c.requires.configured.bare (HasSearched g.C.Calls.step c.args.self.now.config
+    c.args.self.now.bare (HasSearched g.C.Calls.step c.args.self.now.config
     (g.M.Matcher.facts c.args.matcher.now).meaning gone c.args.window.now input first lines.end
     (after_chosen c.args.self.now.config c.skip_unmatched-start.new.walk
     (lines.end - c.skip_unmatched-start.result) lines.count)) outcome new
 chosen g c lawful gone input first so_far lines are outcome new made =
     let at = here g c lawful gone input first so_far in
     let begins = at.0.walked.inside.line.begins in
-    chosen-come _ _ _ gone _ input first c.requires.configured.bare
+    chosen-come _ _ _ gone _ input first c.args.self.now.bare
     c.skip_unmatched-start.new.walk c.skip_unmatched-start.result _ lines c.lines.sink at.0 begins
     (are.hits lawful _ begins at.1) are.some are.within are.alone outcome new made
 
@@ -140,7 +140,7 @@ returns-in_default-line_end-clause-goes_on g c = λ lawful goes gone input first
     let learns = c.in-Ok.ensures.known in
     let position = c.skip_unmatched-start.ensures.position in
     let skipped = c.skip_unmatched-start.ensures.walk in
-    let bare = c.requires.configured.bare in
+    let bare = c.args.self.now.bare in
     let now = c.lines.invariant.searched lawful gone input first so_far in
     let known = learns lawful _ now.walked.inside.line.begins
     (c.lines.invariant.known lawful gone input first so_far) in
@@ -159,7 +159,7 @@ returns-in-Err-judge-clause-fault g c =
     λ lawful gone input first so_far.
     let call = reached g (goal.at.returns-in-Err-judge-clause-fault g c).After-known_at-known lawful
     _ _ _ so_far in
-    uncounted.failed-asked _ _ c.requires.configured.bare call c.in-Some-line_end.ensures.within.1 below
+    uncounted.failed-asked _ _ c.args.self.now.bare call c.in-Some-line_end.ensures.within.1 below
     c.in-Err-judge.error _ c.error_message-in-Err-judge.ensures c.in-Err-judge.ensures.fault
 
 pub returns-in_err-sink_line-clause-fault : goal.returns-in_err-sink_line-clause-fault
@@ -169,7 +169,7 @@ returns-in_err-sink_line-clause-fault g c =
     rw (p.1, p.2) (λ lawful gone input first so_far.
     let call = reached g (goal.at.returns-in_err-sink_line-clause-fault g c).After-known_at-known
     lawful _ _ _ so_far in
-    at_call (uncounted.line-comes c.requires.configured.bare call c.in-Some-line_end.ensures.within.1
+    at_call (uncounted.line-comes c.args.self.now.bare call c.in-Some-line_end.ensures.within.1
     (decided call.agrees) (failed _) _ (c.in_err-sink_line.ensures.reported gone input
     (uncounted.inside-counted call.here))))
 
@@ -184,7 +184,7 @@ returns-then-not-branch-clause-ends g c = λ lawful ends.
           let call = reached g
           (goal.at.returns-then-not-branch-clause-ends g c).After-known_at-known lawful _ _ _
           so_far in
-          uncounted.line-comes c.requires.configured.bare call c.in-Some-line_end.ensures.within.1
+          uncounted.line-comes c.args.self.now.bare call c.in-Some-line_end.ensures.within.1
           (decided call.agrees)
           (stopped _) _ (reported gone input (uncounted.inside-counted call.here)) refl,
     )
@@ -207,7 +207,7 @@ returns-then-is_over-clause-ends g c = λ lawful ends.
       λ gone input first so_far.
           let call = reached g (goal.at.returns-then-is_over-clause-ends g c).After-known_at-known
           lawful _ _ _ so_far in
-          (uncounted.line-comes c.requires.configured.bare call c.in-Some-line_end.ensures.within.1
+          (uncounted.line-comes c.args.self.now.bare call c.in-Some-line_end.ensures.within.1
           (decided call.agrees)
           all_true _ (reported gone input (uncounted.inside-counted call.here))).0 over,
     )
@@ -261,7 +261,7 @@ lines-preserved g c =
       searched = λ lawful gone input first so_far.
           let call = reached g (goal.at.lines-preserved g c).After-known_at-known lawful _ _ _
           so_far in
-          (uncounted.line-comes c.requires.configured.bare call c.in-Some-line_end.ensures.within.1
+          (uncounted.line-comes c.args.self.now.bare call c.in-Some-line_end.ensures.within.1
           (decided call.agrees)
           all_true _ (reported gone input (uncounted.inside-counted call.here))).1 on;
       called = called-then _ _ _ _ _ _ (called g (goal.at.lines-preserved g c).After-known_at-known) (here 0);

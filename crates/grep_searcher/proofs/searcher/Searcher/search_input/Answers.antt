@@ -17,7 +17,7 @@ returns-then-is_searched_unchanged-clause-searched g c = λ allowed.
     let unchanged =
     rw (settings_is c.self.view_is) at (sym c.is_searched_unchanged.ensures
     ∙ c.if-is_searched_unchanged.true) in
-    let searched = rw (sym c.search.ensures.configured.same) at c.search_bytes.ensures.searched in
+    let searched = rw c.search.ensures.config at c.search_bytes.ensures.searched in
     slice-unchanged g.S.Sink.step errors facts c.args.self.now c.args.input.now unchanged allowed
     c.args.sink.now c.search_bytes.result c.search_bytes.new.sink searched
 
@@ -65,7 +65,7 @@ pub returns-then-is_searched_unchanged-clause-in_order :
 returns-then-is_searched_unchanged-clause-in_order g c =
     let errors = makers_of g.M.Error.Display.output g.S.Error.SinkError.makers in
     let facts = g.M.Matcher.facts c.args.matcher.now in
-    let here = rw (sym c.search.ensures.configured.same) at c.search_bytes.ensures.in_order in
+    let here = rw c.search.ensures.config at c.search_bytes.ensures.in_order in
     in_order-each g.S.Sink.step c.args.self.now.settings errors facts (λ _. ⊥) _
     (λ error never. absurd never) c.args.sink.now c.search_bytes.result c.search_bytes.new.sink here
 

@@ -30,7 +30,7 @@ pub returns-clause-searched : goal.returns-clause-searched
 returns-clause-searched g c = λ lawful.
     let errors = makers_of g.M.Error.Display.output g.S.Error.SinkError.makers in
     let facts = g.M.Matcher.facts c.args.matcher.now in
-    let same = sym c.search-search.ensures.configured.same ∙ c.in-Ok.ensures.settings in
+    let same = c.search-search.ensures.config ∙ c.in-Ok.ensures.settings in
     searched-same g.R.Source.remaining g.R.Source.step g.S.Sink.step errors facts
     c.search-search.result.config
     c.args.self.now c.args.reader.now c.args.sink.now c.search_reader-result.result
@@ -41,7 +41,7 @@ pub returns-clause-succeeds : goal.returns-clause-succeeds
 returns-clause-succeeds g c = λ never infallible lawful.
     let errors = makers_of g.M.Error.Display.output g.S.Error.SinkError.makers in
     let facts = g.M.Matcher.facts c.args.matcher.now in
-    let same = sym c.search-search.ensures.configured.same ∙ c.in-Ok.ensures.settings in
+    let same = c.search-search.ensures.config ∙ c.in-Ok.ensures.settings in
     unread-same g.R.Source.remaining g.R.Source.step g.S.Sink.step errors facts
     c.search-search.result.config c.args.self.now c.args.reader.now c.search_reader-result.result
     c.search_reader-result.new.reader same (c.search_reader-result.ensures.succeeds never infallible
@@ -56,7 +56,7 @@ pub returns-clause-in_order : goal.returns-clause-in_order
 returns-clause-in_order g c =
     let errors = makers_of g.M.Error.Display.output g.S.Error.SinkError.makers in
     let facts = g.M.Matcher.facts c.args.matcher.now in
-    let same = sym c.search-search.ensures.configured.same ∙ c.in-Ok.ensures.settings in
+    let same = c.search-search.ensures.config ∙ c.in-Ok.ensures.settings in
     let of_reading = IsReadingError g.R.Source.remaining g.R.Source.step c.args.reader.now
     c.search_reader-result.new.reader in
     subst (λ k. IsInOrder g.S.Sink.step errors facts k of_reading c.args.sink.now
