@@ -7,7 +7,7 @@ use Rattle.std.proofs.lemmas.List.{take-append-drop, take_more}
 use Rattle.linegrep_cli.specs.EngineCalls.{EngineCall}
 use Rattle.linegrep_cli.specs.OperandRuns.{AreAllVisited, AreVisited, IsOperandVisited, is_over}
 use Rattle.linegrep_cli.specs.OperandRuns.{next_operand, no_visit, visited_then}
-use Rattle.linegrep_cli.specs.declared.file_id.FileId.{FileId}
+use Rattle.linegrep_files.specs.declared.file_id.FileId.{FileId}
 use Rattle.linegrep_cli.specs.declared.file_run.Scope.{Scope}
 use Rattle.linegrep_cli.specs.declared.visit.Visit.{Visit}
 

@@ -14,10 +14,11 @@ use Rattle.grep_searcher.specs.declared.SearchError.{SearchError}
 use Rattle.linegrep_cli.specs.EngineCalls.{EngineCall, finishes, lists, says, searches_file}
 use Rattle.linegrep_cli.specs.EngineCalls.{searches_input, sets_quits}
 use Rattle.linegrep_cli.specs.EngineSteps.{IsWrittenError}
-use Rattle.linegrep_cli.specs.declared.file_id.FileId.{FileId}
 use Rattle.linegrep_cli.specs.declared.file_run.Scope.{Scope}
 use Rattle.linegrep_cli.specs.declared.visit.Visit.{Visit}
 use Rattle.linegrep_cli.specs.declared.printers.Searched.{Searched}
+use Rattle.linegrep_files.specs.FileIds.{is_same_file}
+use Rattle.linegrep_files.specs.declared.file_id.FileId.{FileId}
 
 -- nothing was visited
 abbrev pub no_visit : Visit
@@ -34,7 +35,7 @@ visited_then total next = record {
 
 -- both are files, and the same one
 abbrev pub is_same : Option FileId → Option FileId → Bool
-is_same (Some one) (Some other) = (one.device == other.device) && (one.inode == other.inode)
+is_same (Some one) (Some other) = is_same_file one other
 is_same _ _ = false
 
 -- a file that was opened isn't searched: it is the one that is left out, if one is

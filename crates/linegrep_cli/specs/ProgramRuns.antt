@@ -9,7 +9,7 @@ use Rattle.grep_output.specs.Outputs.{OutputCall}
 use Rattle.grep_output.specs.PendingTexts.{Flushes}
 use Rattle.grep_searcher.specs.Source.{ReadResult}
 use Rattle.linegrep_cli.specs.WholeRuns.{IsRefused, IsWholeRun}
-use Rattle.linegrep_cli.specs.declared.file_id.FileId.{FileId}
+use Rattle.linegrep_files.specs.declared.file_id.FileId.{FileId}
 use Rattle.linegrep_cli.specs.declared.options.Options.{Options}
 use Rattle.linegrep_cli.specs.declared.program.Streams.{Streams}
 

@@ -8,14 +8,14 @@ use Rattle.linegrep_cli.specs.OptionMeanings.{paths_of, searches_input}
 use Rattle.linegrep_cli.specs.OptionUses.{has}
 use Rattle.linegrep_cli.specs.PrinterOptions.{is_summary, shows_paths}
 use Rattle.linegrep_cli.specs.SearcherOptions.{is_all_searched}
-use Rattle.linegrep_cli.specs.declared.file_id.FileId.{FileId}
+use Rattle.linegrep_files.specs.declared.file_id.FileId.{FileId}
 use Rattle.linegrep_cli.specs.declared.file_run.Scope.{Scope}
 use Rattle.linegrep_cli.specs.declared.option_id.OptionId.TheVariants.{Binary, Files}
 use Rattle.linegrep_cli.specs.declared.option_id.OptionId.TheVariants.{FilesWithoutMatch, Follow}
 use Rattle.linegrep_cli.specs.declared.option_id.OptionId.TheVariants.{NoIgnoreMessages}
 use Rattle.linegrep_cli.specs.declared.option_id.OptionId.TheVariants.{NoMessages, Quiet}
 use Rattle.linegrep_cli.specs.declared.options.Options.{Options}
-use Rattle.linegrep_cli.specs.declared.walk.Route.{Route}
+use Rattle.linegrep_files.specs.declared.walk.Route.{Route}
 
 -- the search of a file of a folder goes on after a NUL, though it isn't searched as text
 abbrev pub searches_binary : Options → Bool

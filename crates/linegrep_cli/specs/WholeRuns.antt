@@ -26,7 +26,7 @@ use Rattle.linegrep_cli.specs.RunScopes.{IsScopeOf}
 use Rattle.linegrep_cli.specs.SearcherOptions.{searcher_settings}
 use Rattle.linegrep_cli.specs.SeparatorOptions.{AreLent}
 use Rattle.linegrep_cli.specs.declared.engine.PrintingEngine.{PrintingEngine}
-use Rattle.linegrep_cli.specs.declared.file_id.FileId.{FileId}
+use Rattle.linegrep_files.specs.declared.file_id.FileId.{FileId}
 use Rattle.linegrep_cli.specs.declared.file_run.Scope.{Scope}
 use Rattle.linegrep_cli.specs.declared.options.Options.{Options}
 

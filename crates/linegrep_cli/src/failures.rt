@@ -1,67 +1,21 @@
 //! What the program says on standard error of what goes wrong.
 use crate::refused::reason;
-use crate::words::shown;
 use clap::error::ErrorKind;
 use grep_output::{Output, write_all};
+pub use linegrep_files::Failure;
+use linegrep_files::shown;
 use std::alloc::{AllocError, Global};
 use std::fmt::Display;
 use std::io;
 
-const OUT_OF_MEMORY: &str = "linegrep: out of memory\n";
-
-/// Why a run ends, or what it goes on without: whole lines for standard error.
-#[derive(Drop)]
-pub struct Failure {
-    // There is none if there was no memory for it.
-    text: Option<String>,
+/// Why the arguments can't be used, and how to get help.
+pub fn arguments_failure(alloc: Global, text: &str) -> Failure {
+    Failure::of_text(arguments_text(alloc, text, ""))
 }
 
-impl Failure {
-    /// What is wrong, as something that can be written says it.
-    pub fn new<D: Display>(alloc: Global, text: &D) -> Failure {
-        Failure::of_text(format!(in alloc; "linegrep: {text}\n"))
-    }
-
-    /// That there is no memory.
-    pub fn out_of_memory() -> Failure {
-        Failure { text: None }
-    }
-
-    /// Why the arguments can't be used, and how to get help.
-    pub fn of_arguments(alloc: Global, text: &str) -> Failure {
-        Failure::of_text(arguments_text(alloc, text, ""))
-    }
-
-    /// What can't be read or written, and why: the system's words, without the number of the error.
-    /// The name is a word of `words`.
-    pub fn of_cause<D: Display>(alloc: Global, name: &str, error: &D) -> Failure {
-        Failure::of_text(cause_text(alloc, name, error))
-    }
-
-    /// Why nothing more can be written.
-    pub fn of_output(alloc: Global, error: &io::Error) -> Failure {
-        Failure::of_cause(alloc, "standard output", error)
-    }
-
-    /// A text of whole lines.
-    pub fn of_text(text: Result<String, AllocError>) -> Failure {
-        Failure { text: text.ok() }
-    }
-
-    /// The text, which ends in a line feed.
-    pub fn text(&self) -> &str {
-        match &self.text {
-            Some(text) => text.as_str(),
-            None => OUT_OF_MEMORY,
-        }
-    }
-}
-
-fn cause_text<D: Display>(alloc: Global, name: &str, error: &D) -> Result<String, AllocError> {
-    let name = shown(alloc, name)?;
-    let cause = format!(in alloc; "{error}")?;
-    let words = words_of(cause.as_str());
-    format!(in alloc; "linegrep: {name}: {words}\n")
+/// Why nothing more can be written.
+pub fn output_failure(alloc: Global, error: &io::Error) -> Failure {
+    Failure::of_cause(alloc, "standard output", error)
 }
 
 /// What the parser of the command line says: what is wrong with it, help or the version.
@@ -104,13 +58,6 @@ fn tip(kind: ErrorKind) -> &'static str {
 fn arguments_text(alloc: Global, cause: &str, tip: &str) -> Result<String, AllocError> {
     let cause = shown(alloc, cause)?;
     format!(in alloc; "linegrep: {cause}{tip}\n\nFor more information, try 'linegrep --help'.\n")
-}
-
-fn words_of(cause: &str) -> &str {
-    match cause.split_once(" (os error ") {
-        Some((words, _)) => words,
-        None => cause,
-    }
 }
 
 /// Writes a text to standard error. If that fails, nobody can be told.

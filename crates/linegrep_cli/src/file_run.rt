@@ -17,17 +17,15 @@ ghost use Rattle.linegrep_cli.specs.OperandRuns.{IsPathVisited, IsReported, IsRu
 ghost use Rattle.linegrep_cli.specs.OperandRuns.{IsLeftOut, IsSaid, has_found, is_input, is_over};
 ghost use Rattle.linegrep_cli.specs.OperandRuns.{EndsAs, error_of, is_same, no_visit, path_of, status_of};
 
-use crate::choices::Choices;
 use crate::engine::{Engine, written_error};
-use crate::failures::Failure;
-use crate::file_id::FileId;
+use crate::failures::{Failure, output_failure};
 use crate::option_id::OptionId;
 use crate::options::Options;
 use crate::printers::Searched;
 use crate::system::System;
 use crate::visit::Visit;
-use crate::walk::{Entry, Route, Walk};
-use crate::words::{NOT_UTF8, is_escaped};
+use crate::words::is_escaped;
+use linegrep_files::{Choices, Entry, FileId, NOT_UTF8, Route, Walk};
 use std::fmt::Display;
 use std::io;
 
@@ -491,7 +489,7 @@ impl<'r, S: System> Run<'r, S> {
         if is_closed(error) {
             return 0;
         }
-        self.end(engine, &Failure::of_output(self.rt.alloc(), error))
+        self.end(engine, &output_failure(self.rt.alloc(), error))
     }
 
     // Says why the run ends early.

@@ -13,14 +13,14 @@ ghost use Rattle.linegrep_cli.specs.RunScopes.{searches_binary};
 ghost use Rattle.linegrep_cli.specs.OptionUses.{applies, has, is_none_after, last_use};
 
 use crate::command::{Row, tables};
-use crate::file_id::FileId;
+use crate::file_options::type_options;
 use crate::option_id::{COUNT, Kind, OptionId};
-use crate::order::Order;
 use crate::patterns::{names_patterns, reads_patterns};
 use crate::program::Streams;
 use clap::ArgMatches;
 use grep_printer::SummaryKind;
 use grep_searcher::{BinaryDetection, LineTerminator};
+use linegrep_files::{FileId, Order, TypeOptions};
 
 // When each option was used last.
 #[derive(Clone, Copy)]
@@ -95,71 +95,6 @@ fn is_used(matches: &ArgMatches<'_>, row: &Row) -> bool {
     }
 }
 
-/// The texts that an option is given, and the place of each among the words.
-#[derive(Clone, Copy)]
-pub struct Values<'m, 'w> {
-    texts: Option<&'m [&'w str]>,
-    places: Option<&'m [usize]>,
-}
-
-impl<'m, 'w> Values<'m, 'w> {
-    // Those of an option with a name.
-    fn read(matches: &'m ArgMatches<'w>, name: &str) -> Values<'m, 'w> {
-        Values {
-            texts: matches.get_strs(name),
-            places: matches.indices_of(name),
-        }
-    }
-
-    /// The texts.
-    pub fn texts(&self) -> &'m [&'w str] {
-        match self.texts {
-            Some(texts) => texts,
-            None => &[],
-        }
-    }
-
-    /// Their places.
-    pub fn places(&self) -> &'m [usize] {
-        match self.places {
-            Some(places) => places,
-            None => &[],
-        }
-    }
-}
-
-/// What the options say of types of files.
-#[derive(Clone, Copy)]
-pub struct TypeOptions<'m, 'w> {
-    /// The types that are searched.
-    pub asked: Values<'m, 'w>,
-    /// Those that aren't.
-    pub left_out: Values<'m, 'w>,
-    /// Definitions that are added.
-    pub added: Values<'m, 'w>,
-    /// The types whose definitions are dropped.
-    pub cleared: Values<'m, 'w>,
-}
-
-impl<'m, 'w> TypeOptions<'m, 'w> {
-    fn read(matches: &'m ArgMatches<'w>) -> TypeOptions<'m, 'w> {
-        TypeOptions {
-            asked: Values::read(matches, "type"),
-            left_out: Values::read(matches, "type-not"),
-            added: Values::read(matches, "type-add"),
-            cleared: Values::read(matches, "type-clear"),
-        }
-    }
-
-    /// Whether nothing is said.
-    pub fn are_none(&self) -> bool {
-        self.asked.texts().is_empty()
-            && self.left_out.texts().is_empty()
-            && self.added.texts().is_empty()
-            && self.cleared.texts().is_empty()
-    }
-}
-
 /// What the options ask for, but for patterns, of a run with some standard streams.
 #[derive(Clone, Copy)]
 pub struct Options<'m, 'w> {
@@ -224,7 +159,7 @@ impl<'m, 'w> Options<'m, 'w> {
             globs: matches.get_strs("glob"),
             iglobs: matches.get_strs("iglob"),
             ignore_files: matches.get_strs("ignore-file"),
-            types: TypeOptions::read(matches),
+            types: type_options(matches),
             max_depth: matches.get_one::<u64>("max-depth"),
             max_filesize: matches.get_str("max-filesize"),
             sort: matches.get_str("sort"),

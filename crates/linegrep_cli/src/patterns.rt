@@ -7,7 +7,7 @@ ghost use Rattle.linegrep_cli.specs.PatternOptions.{has_capital, ignores_case, i
 ghost use Rattle.linegrep_cli.specs.PatternOptions.{pattern_options, pattern_texts};
 ghost use Rattle.linegrep_cli.specs.PatternOptions.{searched_options};
 
-use crate::failures::{Failure, pattern_failure};
+use crate::failures::{Failure, arguments_failure, pattern_failure};
 use crate::option_id::OptionId;
 use crate::options::Options;
 use clap::ArgMatches;
@@ -55,7 +55,7 @@ fn add_patterns<R: Source>(
     }
     match matches.get_str("operands") {
         Some(pattern) => add_text(rt.alloc(), patterns, pattern),
-        None => Err(Failure::of_arguments(rt.alloc(), "there is no pattern")),
+        None => Err(arguments_failure(rt.alloc(), "there is no pattern")),
     }
 }
 

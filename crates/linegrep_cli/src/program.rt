@@ -5,19 +5,18 @@ ghost use Rattle.linegrep_cli.specs.ProgramRuns.{IsAnswered, IsProgramRun};
 ghost use Rattle.linegrep_cli.specs.WholeRuns.{IsRefused};
 
 use crate::command::command;
-use crate::failures::{Failure, usage_text};
-use crate::file_id::FileId;
+use crate::failures::{Failure, output_failure, usage_text};
 use crate::help::HELP;
 use crate::option_id::OptionId;
 use crate::options::Options;
 use crate::patterns::read_patterns;
 use crate::search::{Ended, search_all};
 use crate::system::System;
-use crate::types::type_list;
 use crate::words::{is_escaped, words};
 use clap::ArgMatches;
 use grep_output::{Output, write_all};
 use grep_searcher::Source;
+use linegrep_files::{FileId, type_list};
 use std::alloc::{AllocError, Global};
 use std::fmt::Display;
 use std::io;
@@ -114,7 +113,7 @@ fn write_answer<R, W: Output, E: Output>(
 {
     match write_whole(&mut output, text) {
         Err(error) if error.kind() != io::ErrorKind::BrokenPipe => {
-            Ended::refused(errors, &Failure::of_output(alloc, &error), input, output)
+            Ended::refused(errors, &output_failure(alloc, &error), input, output)
         }
         _ => Ended {
             status: 0,

@@ -6,9 +6,9 @@ ghost use Rattle.linegrep_cli.specs.SearcherOptions.{searcher_settings};
 ghost use Rattle.linegrep_cli.specs.SeparatorOptions.{AreLent, IsSeparators};
 ghost use Rattle.linegrep_cli.specs.WholeRuns.{IsRefused, IsRunFor, IsRunWith, IsWholeRun};
 
-use crate::choices::Choices;
 use crate::engine::PrintingEngine;
 use crate::failures::{Failure, say};
+use crate::file_options::file_options;
 use crate::file_run::{Run, Scope};
 use crate::options::Options;
 use crate::patterns::compile;
@@ -19,6 +19,7 @@ use grep_output::Output;
 use grep_printer::Separators;
 use grep_regex::{NamedMatcher, Naming, Regex};
 use grep_searcher::{FindAt, Matcher, Searcher, Source};
+use linegrep_files::Choices;
 use std::alloc::AllocError;
 use std::fmt::Display;
 use std::marker::Brand;
@@ -78,7 +79,7 @@ fn prepare<'r>(
     let searcher = build_searcher(rt.alloc(), options)?;
     let regex = compile(rt.alloc(), options, patterns)?;
     options.order().check(rt)?;
-    let choices = Choices::read(rt, options)?;
+    let choices = Choices::read(rt, &file_options(options))?;
     match separators(rt.alloc(), options) {
         Ok(separators) => Ok(Prepared {
             searcher,

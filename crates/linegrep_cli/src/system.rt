@@ -1,10 +1,10 @@
 //! What a run asks of the system about its operands.
 ghost use Rattle.std.specs.Prelude.{ℕ, Bool, List, Option, Result};
 ghost use Rattle.std.specs.declared.io.Error.{Error};
-ghost use Rattle.linegrep_cli.specs.declared.file_id.FileId.{FileId};
+ghost use Rattle.linegrep_files.specs.declared.file_id.FileId.{FileId};
 
-use crate::file_id::FileId;
 use grep_searcher::Open;
+use linegrep_files::FileId;
 use std::fs::OpenFile;
 use std::rt::Files;
 use std::{fs, io};

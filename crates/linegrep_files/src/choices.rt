@@ -1,10 +1,9 @@
 //! Which of the files and folders of a folder are visited.
 use crate::failures::Failure;
+use crate::file_options::FileOptions;
 use crate::globs::{Choice, Globs};
-use crate::ignores::{Ignores, Sources};
+use crate::ignores::Ignores;
 use crate::limits::Limits;
-use crate::option_id::OptionId;
-use crate::options::Options;
 use crate::types::Types;
 use std::alloc::{AllocError, Global};
 
@@ -22,23 +21,26 @@ pub struct Choices<'r> {
 impl<'r> Choices<'r> {
     /// What the options say. An error is that a glob, a type or a size isn't well formed, or that there
     /// is no memory.
-    pub fn read(rt: &'r HostRuntime, options: &Options<'_, '_>) -> Result<Choices<'r>, Failure> {
+    pub fn read(
+        rt: &'r HostRuntime,
+        options: &FileOptions<'_, '_>,
+    ) -> Result<Choices<'r>, Failure> {
         let globs = Globs::read(
             rt.alloc(),
-            options.globs.unwrap_or(&[]),
-            options.iglobs.unwrap_or(&[]),
-            options.has(OptionId::GlobCaseInsensitive),
+            options.globs,
+            options.iglobs,
+            options.ignores_glob_case,
         )?;
         let types = Types::read(rt.alloc(), &options.types)?;
         let limits = Limits::read(rt.alloc(), options)?;
-        match Ignores::read(rt, sources(options), options.ignore_files()) {
+        match Ignores::read(rt, options.sources, options.ignore_files) {
             Ok(ignores) => Ok(Choices {
                 alloc: rt.alloc(),
                 globs,
                 ignores,
                 types,
                 limits,
-                shows_hidden: options.shows_hidden(),
+                shows_hidden: options.shows_hidden,
             }),
             Err(_) => Err(Failure::out_of_memory()),
         }
@@ -109,19 +111,5 @@ impl<'r> Choices<'r> {
     /// Forgets what was wrong.
     pub fn clear_warnings(&mut self) {
         self.ignores.clear_warnings();
-    }
-}
-
-// Which ignore files are read.
-fn sources(options: &Options<'_, '_>) -> Sources {
-    let git = options.reads(OptionId::IgnoreVcs, OptionId::NoIgnoreVcs);
-    Sources {
-        dot: options.reads(OptionId::IgnoreDot, OptionId::NoIgnoreDot),
-        git,
-        exclude: git && options.reads(OptionId::IgnoreExclude, OptionId::NoIgnoreExclude),
-        global: git && options.reads(OptionId::IgnoreGlobal, OptionId::NoIgnoreGlobal),
-        parents: options.reads(OptionId::IgnoreParent, OptionId::NoIgnoreParent),
-        needs_repository: !options.has(OptionId::NoRequireGit),
-        ignores_case: options.has(OptionId::IgnoreFileCaseInsensitive),
     }
 }

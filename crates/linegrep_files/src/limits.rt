@@ -1,8 +1,7 @@
 //! Which folders are too deep or elsewhere, and which files are too large.
 use crate::failures::Failure;
 use crate::file_id::FileId;
-use crate::option_id::OptionId;
-use crate::options::Options;
+use crate::file_options::FileOptions;
 use std::alloc::Global;
 use std::fs;
 use std::fs::Metadata;
@@ -20,7 +19,7 @@ pub struct Limits {
 
 impl Limits {
     /// Those of the options. The only error is that of a size that isn't well formed.
-    pub fn read(alloc: Global, options: &Options<'_, '_>) -> Result<Limits, Failure> {
+    pub fn read(alloc: Global, options: &FileOptions<'_, '_>) -> Result<Limits, Failure> {
         let max_size = match options.max_filesize {
             None => None,
             Some(text) => match size_of(text) {
@@ -31,7 +30,7 @@ impl Limits {
         Ok(Limits {
             max_depth: options.max_depth,
             max_size,
-            is_one_system: options.has(OptionId::OneFileSystem),
+            is_one_system: options.is_one_system,
         })
     }
 

@@ -1,8 +1,8 @@
 //! Types of files, which choose among the files of folders by their names.
 use crate::failures::Failure;
+use crate::file_options::{TypeOptions, Values};
 use crate::globs::Choice;
-use crate::options::{TypeOptions, Values};
-use crate::type_list::TYPES;
+use crate::known_types::TYPES;
 use crate::wildcards;
 use crate::wildcards::Wildcards;
 use crate::words::escape;
@@ -399,7 +399,7 @@ fn add_changes<'t>(
     values: Values<'_, 't>,
     action: Action,
 ) -> Result<(), AllocError> {
-    for (text, place) in values.texts().iter().zip(values.places()) {
+    for (text, place) in values.texts.iter().zip(values.places) {
         changes.push(Change {
             place: *place,
             action,

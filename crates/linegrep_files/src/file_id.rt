@@ -1,6 +1,4 @@
 //! Which file of the system is which.
-ghost use Rattle.std.specs.Prelude.{◌≡◌, ◌==◌, ◌&&◌};
-
 use std::fs;
 use std::fs::Metadata;
 use std::os::unix::fs::MetadataExt;
@@ -13,6 +11,9 @@ pub struct FileId {
 }
 
 impl FileId {
+    ghost use Rattle.std.specs.Prelude.{◌≡◌};
+    ghost use Rattle.linegrep_files.specs.FileIds.{is_beside, is_same_file};
+
     /// The regular file at a path, if there is one. At `/proc/self/fd/1` there is the one that
     /// standard output goes to.
     pub fn at(rt: &HostRuntime, path: &str) -> Option<FileId> {
@@ -41,12 +42,15 @@ impl FileId {
 
     /// Whether both are the same file.
     pub fn is(self, other: FileId) -> bool
-        ensures { result ≡ ((self.device == other.device) && (self.inode == other.inode)) }
+        ensures { result ≡ is_same_file self other }
     {
         self.device == other.device && self.inode == other.inode
     }
+
     /// Whether both are on one file system.
-    pub fn is_beside(self, other: FileId) -> bool {
+    pub fn is_beside(self, other: FileId) -> bool
+        ensures { result ≡ is_beside self other }
+    {
         self.device == other.device
     }
 }

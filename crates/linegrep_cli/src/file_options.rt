@@ -1,0 +1,68 @@
+//! What the options say of which files of folders are searched.
+use crate::option_id::OptionId;
+use crate::options::Options;
+use clap::ArgMatches;
+use linegrep_files::{FileOptions, Sources, TypeOptions, Values};
+
+/// What parsed arguments say of types of files.
+pub fn type_options<'m, 'w>(matches: &'m ArgMatches<'w>) -> TypeOptions<'m, 'w> {
+    TypeOptions {
+        asked: values(matches, "type"),
+        left_out: values(matches, "type-not"),
+        added: values(matches, "type-add"),
+        cleared: values(matches, "type-clear"),
+    }
+}
+
+// The texts of an option with a name, and the place of each among the words.
+fn values<'m, 'w>(matches: &'m ArgMatches<'w>, name: &str) -> Values<'m, 'w> {
+    Values {
+        texts: texts_of(matches.get_strs(name)),
+        places: places_of(matches.indices_of(name)),
+    }
+}
+
+// The texts of an option, if it is used.
+fn texts_of<'m, 'w>(texts: Option<&'m [&'w str]>) -> &'m [&'w str] {
+    match texts {
+        Some(texts) => texts,
+        None => &[],
+    }
+}
+
+fn places_of(places: Option<&[usize]>) -> &[usize] {
+    match places {
+        Some(places) => places,
+        None => &[],
+    }
+}
+
+/// What the options say of which files of folders are searched.
+pub fn file_options<'m, 'w>(options: &Options<'m, 'w>) -> FileOptions<'m, 'w> {
+    FileOptions {
+        globs: texts_of(options.globs),
+        iglobs: texts_of(options.iglobs),
+        ignores_glob_case: options.has(OptionId::GlobCaseInsensitive),
+        types: options.types,
+        max_depth: options.max_depth,
+        max_filesize: options.max_filesize,
+        is_one_system: options.has(OptionId::OneFileSystem),
+        sources: sources(options),
+        ignore_files: options.ignore_files(),
+        shows_hidden: options.shows_hidden(),
+    }
+}
+
+// Which ignore files are read.
+fn sources(options: &Options<'_, '_>) -> Sources {
+    let git = options.reads(OptionId::IgnoreVcs, OptionId::NoIgnoreVcs);
+    Sources {
+        dot: options.reads(OptionId::IgnoreDot, OptionId::NoIgnoreDot),
+        git,
+        exclude: git && options.reads(OptionId::IgnoreExclude, OptionId::NoIgnoreExclude),
+        global: git && options.reads(OptionId::IgnoreGlobal, OptionId::NoIgnoreGlobal),
+        parents: options.reads(OptionId::IgnoreParent, OptionId::NoIgnoreParent),
+        needs_repository: !options.has(OptionId::NoRequireGit),
+        ignores_case: options.has(OptionId::IgnoreFileCaseInsensitive),
+    }
+}

@@ -1,0 +1,30 @@
+//! Which files of folders are searched: the walk through a folder, and what globs, ignore files, types
+//! of files, sizes and depths say of what is in it.
+//!
+//! `CALLING.md` has an example.
+#![tactic(auto)]
+
+mod choices;
+mod failures;
+mod file_id;
+mod file_options;
+mod git_settings;
+mod globs;
+mod ignores;
+mod known_types;
+mod limits;
+mod order;
+mod types;
+mod walk;
+mod wildcards;
+mod words;
+
+pub use choices::Choices;
+pub use failures::Failure;
+pub use file_id::FileId;
+pub use file_options::{FileOptions, TypeOptions, Values};
+pub use ignores::Sources;
+pub use order::{Order, SortKey};
+pub use types::type_list;
+pub use walk::{Entry, Route, Walk};
+pub use words::{NOT_UTF8, escape, shown};
