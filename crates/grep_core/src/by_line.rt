@@ -16,8 +16,8 @@ ghost use Rattle.grep_walk.specs.Windows.{HasSearched, HasPassed};
 ghost use Rattle.grep_walk.specs.Origins.{IsMadeToFrom, Origin};
 ghost use Rattle.grep_report.specs.ErrorMakers.{makers_of};
 
-use crate::calls::Calls;
 use crate::search::{Configured, Search};
+use crate::sink_calls::SinkCalls;
 use grep_matcher::Matcher;
 use grep_report::SinkError;
 use grep_walk::{NOTHING_AHEAD, Questions, WALK_START, Walk};
@@ -25,7 +25,7 @@ use std::alloc::Allocator;
 
 impl<'c, A: Allocator + Copy, T: Configured> Search<'c, A, T> {
     // Makes each call but `finish`, and returns the byte count.
-    pub(crate) fn byte_count_by_line<M: Matcher, C: Calls<T>>(
+    pub(crate) fn byte_count_by_line<M: Matcher, C: SinkCalls<T>>(
         &self,
         matcher: &M,
         bytes: &[u8],
@@ -69,7 +69,7 @@ impl<'c, A: Allocator + Copy, T: Configured> Search<'c, A, T> {
     // bytes of the input. The caller ensures that its lines are lines of the input, that of the
     // lines before `start` that weren't reported it has as many as are reported with a match, and
     // that these are the questions for this matcher.
-    pub(crate) fn search_window<M: Matcher, C: Calls<T>>(
+    pub(crate) fn search_window<M: Matcher, C: SinkCalls<T>>(
         &self,
         matcher: &M,
         questions: Questions,

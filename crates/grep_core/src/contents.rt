@@ -7,9 +7,9 @@ ghost use Rattle.grep_definitions.specs.Searches.{IsReadingError};
 ghost use Rattle.grep_definitions.specs.Plans.{is_across, NeverFails};
 ghost use Rattle.grep_report.specs.ErrorMakers.{makers_of};
 
-use crate::calls::Calls;
 use crate::read_by_line::io_error;
 use crate::search::{Configured, Search};
+use crate::sink_calls::SinkCalls;
 use grep_decode::{Decoder, Source};
 use grep_line_buffer::read_contents;
 use grep_matcher::Matcher;
@@ -19,7 +19,7 @@ use std::alloc::Allocator;
 impl<'c, A: Allocator + Copy, T: Configured> Search<'c, A, T> {
     // Searches the decoded bytes of a reader across lines. All of them are read into `contents`
     // before `begin`. The caller ensures that the decoder was started with the searcher's label.
-    pub(crate) fn search_contents<M: Matcher, R: Source, C: Calls<T>>(
+    pub(crate) fn search_contents<M: Matcher, R: Source, C: SinkCalls<T>>(
         &self,
         matcher: &M,
         decoder: &mut Decoder<A>,

@@ -4,15 +4,15 @@
 
 mod buffers;
 mod by_line;
-mod calls;
 mod contents;
 mod multi_line;
 mod quitting;
 mod read_by_line;
 mod search;
+mod sink_calls;
 mod sink_lines;
 mod until;
 
 pub use buffers::Buffers;
-pub use calls::Calls;
 pub use search::{Configured, Search};
+pub use sink_calls::SinkCalls;

@@ -8,8 +8,8 @@ ghost use Rattle.grep_definitions.specs.Plans.{begins, counted, plan_in, Outcome
 ghost use Rattle.grep_definitions.specs.SinkRuns.{IsMadeTo};
 ghost use Rattle.grep_report.specs.ErrorMakers.{makers_of};
 
-use crate::calls::Calls;
 use crate::search::{Configured, Search};
+use crate::sink_calls::SinkCalls;
 use grep_matcher::{Match, Matcher};
 use grep_report::SinkError;
 use grep_walk::{Verdict, WALK_START};
@@ -17,7 +17,7 @@ use std::alloc::Allocator;
 
 impl<'c, A: Allocator + Copy, T: Configured> Search<'c, A, T> {
     // Makes each call but `finish` of a search across lines, and returns the byte count.
-    pub(crate) fn byte_count_across<M: Matcher, C: Calls<T>>(
+    pub(crate) fn byte_count_across<M: Matcher, C: SinkCalls<T>>(
         &self,
         matcher: &M,
         bytes: &[u8],
@@ -47,7 +47,7 @@ impl<'c, A: Allocator + Copy, T: Configured> Search<'c, A, T> {
     }
 
     // Makes the calls after `begin`, and returns the byte count.
-    fn byte_count_of_units<M: Matcher, C: Calls<T>>(
+    fn byte_count_of_units<M: Matcher, C: SinkCalls<T>>(
         &self,
         matcher: &M,
         bytes: &[u8],

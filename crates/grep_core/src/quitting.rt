@@ -6,8 +6,8 @@ ghost use Rattle.grep_core.specs.QuittingSinks.{end_result};
 ghost use Rattle.grep_definitions.specs.Searches.{position_of};
 ghost use Rattle.grep_definitions.specs.Plans.{binary_data, breaks};
 
-use crate::calls::Calls;
 use crate::search::{Configured, Search};
+use crate::sink_calls::SinkCalls;
 use grep_report::{SinkContext, SinkFinish, SinkMatch};
 use memchr::memchr;
 use std::marker::PhantomData;
@@ -54,7 +54,7 @@ impl<'s, S> Quitting<'s, S> {
 
 impl<'c, A, T: Configured> Search<'c, A, T> {
     // Ends the search at the byte.
-    fn quit<C: Calls<T>>(
+    fn quit<C: SinkCalls<T>>(
         &self,
         sink: &mut Quitting<'_, C::Sink>,
         offset: u64,
@@ -76,7 +76,10 @@ impl<'c, A, T: Configured> Search<'c, A, T> {
     }
 
     // Makes the break that was held back, if there is one, and returns whether the search goes on.
-    fn make_break<C: Calls<T>>(&self, sink: &mut Quitting<'_, C::Sink>) -> Result<bool, C::Error>
+    fn make_break<C: SinkCalls<T>>(
+        &self,
+        sink: &mut Quitting<'_, C::Sink>,
+    ) -> Result<bool, C::Error>
         requires may_call { C.may_call sink.old.sink.now }
         ensures none { sink.old.has_break ≡ false → (result ≡ Ok true) × (sink.new ≡ sink.old) }
         ensures made { sink.old.has_break ≡ true
@@ -99,7 +102,7 @@ impl<'c, A, T: Configured> Search<'c, A, T> {
 // nor its break is made: `binary_data` is called in their place, and the search ends there.
 pub(crate) struct QuittingCalls<'s, C>(PhantomData<(&'s (), C)>);
 
-impl<'s, T: Configured, C: Calls<T>> Calls<T> for QuittingCalls<'s, C>
+impl<'s, T: Configured, C: SinkCalls<T>> SinkCalls<T> for QuittingCalls<'s, C>
 where
     C::Sink: 's,
 {

@@ -23,8 +23,8 @@ ghost use Rattle.grep_walk.specs.Origins.{Origin};
 ghost use Rattle.grep_report.specs.ErrorMakers.{makers_of};
 
 use crate::buffers::Buffers;
-use crate::calls::Calls;
 use crate::search::{Configured, Search};
+use crate::sink_calls::SinkCalls;
 use grep_decode::{Decoder, Source};
 use grep_line_buffer::{Detection, FillError, LineBuffer};
 use grep_matcher::Matcher;
@@ -40,7 +40,7 @@ impl<'c, A: Allocator + Copy, T: Configured> Search<'c, A, T> {
     ///
     /// The caller ensures that the configured heap limit isn't 0,
     /// that the buffers fit the configuration, as new ones do, and that the sink may be called.
-    pub fn search_reader<M: Matcher, R: Source, C: Calls<T>>(
+    pub fn search_reader<M: Matcher, R: Source, C: SinkCalls<T>>(
         &self,
         matcher: &M,
         buffers: &mut Buffers<A>,
@@ -84,7 +84,7 @@ impl<'c, A: Allocator + Copy, T: Configured> Search<'c, A, T> {
     }
 
     // Searches by line: makes each call but `finish`, and returns what that has.
-    fn finish_of_reader<M: Matcher, R: Source, C: Calls<T>>(
+    fn finish_of_reader<M: Matcher, R: Source, C: SinkCalls<T>>(
         &self,
         matcher: &M,
         buffers: &mut Buffers<A>,
@@ -151,7 +151,7 @@ impl<'c, A: Allocator + Copy, T: Configured> Search<'c, A, T> {
     // once it was reported. The caller ensures that the buffer is empty and detects what is set,
     // that the decoder was started with the searcher's label, that `begin` returned true and
     // nothing else was called, and that some line may be reported or a binary byte is looked for.
-    fn read_by_line<M: Matcher, R: Source, C: Calls<T>>(
+    fn read_by_line<M: Matcher, R: Source, C: SinkCalls<T>>(
         &self,
         matcher: &M,
         lines: &mut LineBuffer<A>,
@@ -228,7 +228,7 @@ impl<'c, A: Allocator + Copy, T: Configured> Search<'c, A, T> {
 
     // Calls `binary_data` if a binary byte was found that wasn't reported, and notes its
     // offset. Returns whether the search goes on.
-    fn passes_binary<C: Calls<T>>(
+    fn passes_binary<C: SinkCalls<T>>(
         &self,
         found: Option<u64>,
         binary: &mut Option<u64>,
@@ -258,7 +258,7 @@ impl<'c, A: Allocator + Copy, T: Configured> Search<'c, A, T> {
     // Searches what a buffer shows from where a walk is, and moves past the lines that aren't kept.
     // Returns whether more lines may come; if not, the walk's offset is the byte count. The caller
     // ensures that these are the questions for this matcher.
-    fn search_shown<M: Matcher, C: Calls<T>>(
+    fn search_shown<M: Matcher, C: SinkCalls<T>>(
         &self,
         matcher: &M,
         questions: Questions,

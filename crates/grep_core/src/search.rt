@@ -11,7 +11,7 @@ ghost use Rattle.grep_definitions.specs.Plans.{Settings};
 ghost use Rattle.grep_definitions.specs.SinkRuns.{IsMadeTo};
 ghost use Rattle.grep_report.specs.ErrorMakers.{makers_of};
 
-use crate::calls::Calls;
+use crate::sink_calls::SinkCalls;
 use grep_matcher::Matcher;
 use grep_report::{SinkError, SinkFinish};
 use grep_walk::Config;
@@ -45,7 +45,7 @@ impl<'c, A: Allocator + Copy, T: Configured> Search<'c, A, T> {
     /// that isn't decoded. An error is the sink's own or made of the matcher's.
     ///
     /// The caller ensures that the sink may be called.
-    pub fn search_bytes<M: Matcher, C: Calls<T>>(
+    pub fn search_bytes<M: Matcher, C: SinkCalls<T>>(
         &self,
         matcher: &M,
         bytes: &[u8],
@@ -74,7 +74,7 @@ impl<'c, A: Allocator + Copy, T: Configured> Search<'c, A, T> {
     }
 
     // Makes each call but `finish`, across lines or by line, and returns the byte count.
-    pub(crate) fn byte_count_of<M: Matcher, C: Calls<T>>(
+    pub(crate) fn byte_count_of<M: Matcher, C: SinkCalls<T>>(
         &self,
         matcher: &M,
         bytes: &[u8],

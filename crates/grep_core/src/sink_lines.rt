@@ -15,8 +15,8 @@ ghost use Rattle.grep_walk.specs.Walks.{IsOrdered, chooses, counts_lines, line_c
 ghost use Rattle.grep_walk.specs.Walks.{trails};
 ghost use Rattle.grep_walk.specs.Windows.{IsInWindow, IsLineIn};
 
-use crate::calls::Calls;
 use crate::search::{Configured, Search};
+use crate::sink_calls::SinkCalls;
 use grep_matcher::Matcher;
 use grep_report::{SinkContext, SinkContextKind, SinkMatch};
 use grep_walk::{Ahead, ChosenLines, Questions, Verdict, Walk};
@@ -31,7 +31,7 @@ impl<'c, A: Allocator + Copy, T: Configured> Search<'c, A, T> {
     // chosen the lines before it that are near. In the context after a match a trailing line is a
     // match too. Returns whether the search goes on.
     #[inline(always)]
-    pub(crate) fn sink_line<C: Calls<T>>(
+    pub(crate) fn sink_line<C: SinkCalls<T>>(
         &self,
         window: &[u8],
         start: usize,
@@ -87,7 +87,7 @@ impl<'c, A: Allocator + Copy, T: Configured> Search<'c, A, T> {
 
     // Reports the line that a walk is at, from `start` up to `end` of the window, which is in the
     // context after a match and isn't chosen.
-    fn sink_after_context<C: Calls<T>>(
+    fn sink_after_context<C: SinkCalls<T>>(
         &self,
         window: &[u8],
         start: usize,
@@ -124,7 +124,7 @@ impl<'c, A: Allocator + Copy, T: Configured> Search<'c, A, T> {
     // window: of those after the last reported one as many as the context has. They are found again
     // by stepping back.
     #[inline(always)]
-    fn sink_before_context<C: Calls<T>>(
+    fn sink_before_context<C: SinkCalls<T>>(
         &self,
         window: &[u8],
         start: usize,
@@ -159,7 +159,7 @@ impl<'c, A: Allocator + Copy, T: Configured> Search<'c, A, T> {
 
     // Reports the lines from the one with this index on, which begins at `first` of the window, up
     // to the chosen one that a walk is at, which begins at `start`.
-    fn sink_before_lines<C: Calls<T>>(
+    fn sink_before_lines<C: SinkCalls<T>>(
         &self,
         window: &[u8],
         first: usize,
@@ -208,7 +208,7 @@ impl<'c, A: Allocator + Copy, T: Configured> Search<'c, A, T> {
 
     // Reports a line near the chosen one that a walk is at, and the break before it, if there is
     // one.
-    fn sink_before_line<C: Calls<T>>(
+    fn sink_before_line<C: SinkCalls<T>>(
         &self,
         line: &[u8],
         offset: u64,
@@ -238,7 +238,7 @@ impl<'c, A: Allocator + Copy, T: Configured> Search<'c, A, T> {
     // Reports the line that a walk is at, from `start` up to `end` of the window, as a match, and
     // the break before it, if there is one.
     #[inline(always)]
-    fn sink_matched<C: Calls<T>>(
+    fn sink_matched<C: SinkCalls<T>>(
         &self,
         window: &[u8],
         start: usize,
@@ -275,7 +275,7 @@ impl<'c, A: Allocator + Copy, T: Configured> Search<'c, A, T> {
     // Reports lines from `start` on that are chosen one after another, if there are some and the
     // sink takes them at once, and returns them; `None` if nothing was reported.
     #[inline(always)]
-    pub(crate) fn sink_chosen_lines<M: Matcher, C: Calls<T>>(
+    pub(crate) fn sink_chosen_lines<M: Matcher, C: SinkCalls<T>>(
         &self,
         matcher: &M,
         questions: Questions,
@@ -324,7 +324,11 @@ impl<'c, A: Allocator + Copy, T: Configured> Search<'c, A, T> {
     }
 
     // Makes a break if lines were left out. Returns whether the search goes on.
-    fn sink_break<C: Calls<T>>(&self, has_break: bool, sink: &mut C::Sink) -> Result<bool, C::Error>
+    fn sink_break<C: SinkCalls<T>>(
+        &self,
+        has_break: bool,
+        sink: &mut C::Sink,
+    ) -> Result<bool, C::Error>
         requires may_call { C.may_call sink.old }
         ensures reported { (end : ℕ)
             → AreMade C.step self.now.config sink.old (break_calls has_break end)
@@ -339,7 +343,7 @@ impl<'c, A: Allocator + Copy, T: Configured> Search<'c, A, T> {
     }
 
     // Reports a context line with this index.
-    fn sink_context<C: Calls<T>>(
+    fn sink_context<C: SinkCalls<T>>(
         &self,
         kind: SinkContextKind,
         line: &[u8],

@@ -9,9 +9,9 @@ ghost use Rattle.grep_report.specs.BinaryDetections.{quit_byte_of};
 ghost use Rattle.grep_core.specs.QuittingSinks.{first_quit};
 ghost use Rattle.grep_report.specs.ErrorMakers.{makers_of};
 
-use crate::calls::Calls;
 use crate::quitting::{Quitting, QuittingCalls};
 use crate::search::{Configured, Search};
+use crate::sink_calls::SinkCalls;
 use grep_matcher::Matcher;
 use grep_report::{SinkError, SinkFinish};
 use memchr::memchr;
@@ -23,7 +23,7 @@ const FIRST_LOOK: usize = 65_536;
 impl<'c, A: Allocator + Copy, T: Configured> Search<'c, A, T> {
     // Searches whole contents, across lines or by line, up to the first report that holds a byte,
     // or not at all if the first bytes hold it.
-    pub(crate) fn search_until<M: Matcher, C: Calls<T>>(
+    pub(crate) fn search_until<M: Matcher, C: SinkCalls<T>>(
         &self,
         matcher: &M,
         bytes: &[u8],
@@ -58,7 +58,7 @@ impl<'c, A: Allocator + Copy, T: Configured> Search<'c, A, T> {
     }
 
     // Ends a search at a byte before its first line.
-    fn quit_first<C: Calls<T>>(&self, offset: u64, sink: &mut C::Sink) -> Result<(), C::Error>
+    fn quit_first<C: SinkCalls<T>>(&self, offset: u64, sink: &mut C::Sink) -> Result<(), C::Error>
         requires may_call { C.may_call sink.old }
         ensures quits { IsRun C.step self.now.config sink.old (first_quit offset) result sink.new }
         ensures succeeds { NeverFails C.step C.may_call → IsOk result }
@@ -73,7 +73,7 @@ impl<'c, A: Allocator + Copy, T: Configured> Search<'c, A, T> {
 
     // Searches whole contents whose first bytes don't hold the byte, up to the first report that
     // does. The caller ensures that the sink has had no call.
-    fn search_quitting<M: Matcher, C: Calls<T>>(
+    fn search_quitting<M: Matcher, C: SinkCalls<T>>(
         &self,
         matcher: &M,
         bytes: &[u8],

@@ -10,7 +10,7 @@ use Rattle.std.specs.declared.io.ErrorKind.TheVariants.{Interrupted}
 use Rattle.std.proofs.lemmas.List.{append-nil, length-append, length-take-le, take-append-drop}
 use Rattle.std.proofs.lemmas.List.Elements.{All-append, All-cons, All-nil}
 use Rattle.grep_output.specs.Outputs.{OutputCall, writes, write_call, taken_by, taken_by_all, IsInterrupted, GoesOn}
-use Rattle.grep_output.specs.Outputs.{EndsIn, Calls}
+use Rattle.grep_output.specs.Outputs.{EndsIn, AreCalled}
 use Rattle.grep_output.specs.Outputs.{WritesAll, Writes, Repeats}
 
 -- nothing more
@@ -37,12 +37,12 @@ at-least : {n : ℕ} (first later : List OutputCall) → n ≤ length later → 
 at-least {n} first later enough = subst (λ m. n ≤ m) (sym (length-append first later)) (omega arith)
 
 module _ {W : Type 0} (write_step : W → OutputCall → W → Type 0) where
-  Calls-more : (old mid new : W) (first later : List OutputCall) → Calls write_step old first mid
-      → Calls write_step mid later new
-      → Calls write_step old (first ++ later) new
-  Calls-more old mid new [] later same made = subst (λ s. Calls write_step s later new) (sym same) made
-  Calls-more old mid new (call ∷ first) later (next, step, made) rest =
-      (next, step, Calls-more next mid new first later made rest)
+  AreCalled-more : (old mid new : W) (first later : List OutputCall) → AreCalled write_step old first mid
+      → AreCalled write_step mid later new
+      → AreCalled write_step old (first ++ later) new
+  AreCalled-more old mid new [] later same made = subst (λ s. AreCalled write_step s later new) (sym same) made
+  AreCalled-more old mid new (call ∷ first) later (next, step, made) rest =
+      (next, step, AreCalled-more next mid new first later made rest)
 
   -- nothing is written
   pub Writes-none : (writer : W) → WritesAll write_step writer [] writer
@@ -54,7 +54,7 @@ module _ {W : Type 0} (write_step : W → OutputCall → W → Type 0) where
       → WritesAll write_step old (xs ++ ys) new
   all-more old mid new xs ys first later = record {
     calls = first.calls ++ later.calls;
-    made = Calls-more old mid new first.calls later.calls first.made later.made;
+    made = AreCalled-more old mid new first.calls later.calls first.made later.made;
     go_on = All-append GoesOn first.calls later.calls first.go_on later.go_on;
     taken = taken-more first.calls later.calls
         ∙ (ap (λ zs. zs ++ taken_by_all later.calls) first.taken ∙ ap (λ zs. xs ++ zs) later.taken);
@@ -111,7 +111,7 @@ module _ {W : Type 0} (write_step : W → OutputCall → W → Type 0) where
       → WritesAll write_step old xs last
   tried old mid last xs first later = record {
     calls = first.calls ++ later.calls;
-    made = Calls-more old mid last first.calls later.calls first.made later.made;
+    made = AreCalled-more old mid last first.calls later.calls first.made later.made;
     go_on = All-append GoesOn first.calls later.calls first.go_on later.go_on;
     taken = taken-more first.calls later.calls
         ∙ (ap (λ zs. zs ++ taken_by_all later.calls) first.taken ∙ (ap (λ zs. xs ++ zs) later.taken ∙ append-nil xs));
@@ -182,7 +182,7 @@ module _ {W : Type 0} (write_step : W → OutputCall → W → Type 0) where
   -- what the output holds grows by a text that is written
   calls-append : (contents : W → Option (List ℕ))
       → ((s t : W) (call : OutputCall) → write_step s call t → Appends (contents s) (contents t) (taken_by call))
-      → (old new : W) (calls : List OutputCall) → Calls write_step old calls new
+      → (old new : W) (calls : List OutputCall) → AreCalled write_step old calls new
       → Appends (contents old) (contents new) (taken_by_all calls)
   calls-append contents grows old new [] same = subst (λ s. Appends (contents old) (contents s) []) same
       (Appends-none (contents old))

@@ -51,15 +51,15 @@ Begins part text = (rest : List ℕ) × (text ≡ part ++ rest)
 
 module _ {S : Type 0} (step : S → OutputCall → S → Type 0) where
   -- from the old state to the new one by these calls
-  abbrev pub Calls : S → List OutputCall → S → Type 0
-  Calls old [] new = old ≡ new
-  Calls old (call ∷ later) new = (mid : S) × step old call mid × Calls mid later new
+  abbrev pub AreCalled : S → List OutputCall → S → Type 0
+  AreCalled old [] new = old ≡ new
+  AreCalled old (call ∷ later) new = (mid : S) × step old call mid × AreCalled mid later new
 
   -- from the old state to the new one by writes alone, which took these bytes. After each of them
   -- another one may follow
   pub record WritesAll (old : S) (bytes : List ℕ) (new : S) : Type 0 where
     pub calls : List OutputCall
-    pub made : Calls old calls new
+    pub made : AreCalled old calls new
     pub go_on : All GoesOn calls
     pub taken : taken_by_all calls ≡ bytes
 

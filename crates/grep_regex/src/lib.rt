@@ -15,6 +15,7 @@ mod known;
 mod lanes;
 pub mod laws;
 mod literal;
+mod literal_matcher;
 mod locality;
 mod matcher;
 mod named;
@@ -32,6 +33,7 @@ mod unions;
 
 pub use builder::RegexMatcherBuilder;
 pub use error::Error;
+pub use literal_matcher::LiteralRegexMatcher;
 pub use matcher::RegexMatcher;
 pub use named::{NamedMatcher, Naming};
 pub use options::Options;

@@ -1,5 +1,5 @@
 -- What a run does from its options on, and what it writes.
-use Rattle.std.specs.Prelude.{◌≡◌, ℕ, Bool, List, Option, None, Result, String}
+use Rattle.std.specs.Prelude.{◌≡◌, ◌⊎◌, ℕ, Bool, List, Option, None, Result, String}
 use Rattle.std.specs.Borrow.{Bor}
 use Rattle.std.specs.Global.{Global}
 use Rattle.std.specs.declared.alloc.AllocError.{AllocError}
@@ -7,8 +7,10 @@ use Rattle.std.specs.declared.io.Error.{Error}
 use Rattle.std.specs.declared.marker.Brand.{Brand}
 use Rattle.grep_output.specs.Outputs.{OutputCall}
 use Rattle.grep_printer.specs.declared.separators.Separators.{Separators}
+use Rattle.grep_regex.specs.LiteralViews.{literal_regex}
 use Rattle.grep_regex.specs.NamedViews.{named_regex}
 use Rattle.grep_regex.specs.Views.{regex_first_at, regex_meaning, regex_options, regex_patterns}
+use Rattle.grep_regex.specs.declared.literal_matcher.LiteralRegexMatcher.{LiteralRegexMatcher}
 use Rattle.grep_regex.specs.declared.named.NamedMatcher.{NamedMatcher}
 use Rattle.grep_regex.specs.declared.named.Naming.{Ghosts}
 use Rattle.grep_regex.specs.declared.regex.Regex.{Regex}
@@ -103,6 +105,21 @@ named_facts matcher = record {
 abbrev pub named_first_at : {naming : Ghosts Brand} → Named naming → List ℕ → ℕ → Option (ℕ × ℕ)
 named_first_at matcher = regex_first_at (named_regex matcher.now)
 
+-- a matcher of a literal
+abbrev pub Literal : Type 0
+Literal = Bor LiteralRegexMatcher
+
+-- what it finds, from a place on; it never fails, and can be trusted
+abbrev pub literal_facts : Literal → MatcherFacts AllocError
+literal_facts matcher = record {
+  meaning = regex_meaning (literal_regex matcher.now);
+  fails = λ haystack error. ⊥;
+  is_lawful = λ terminator. Unit {0};
+}
+
+abbrev pub literal_first_at : Literal → List ℕ → ℕ → Option (ℕ × ℕ)
+literal_first_at matcher = regex_first_at (literal_regex matcher.now)
+
 -- a whole run, by its options and patterns: they are compiled as the options say, and the run is one
 -- for what they give
 pub record IsWholeRun {F R W X : Type 0} (output : AllocError → Option (List ℕ))
@@ -115,6 +132,9 @@ pub record IsWholeRun {F R W X : Type 0} (output : AllocError → Option (List �
   pub regex : Regex
   pub has_options : regex_options regex ≡ pattern_options options patterns
   pub has_patterns : regex_patterns regex ≡ pattern_texts options patterns
-  pub run : IsRunFor {M = Named (naming_of regex)} output named_facts named_first_at write_step
+  pub run : IsRunFor {M = Literal} output literal_facts literal_first_at write_step file_remaining
+      remaining read_step finds opens identifies options regex input writer errors status input'
+      writer'
+      ⊎ IsRunFor {M = Named (naming_of regex)} output named_facts named_first_at write_step
       file_remaining remaining read_step finds opens identifies options regex input writer errors
       status input' writer'

@@ -5,6 +5,7 @@ ghost use Rattle.linegrep_cli.specs.PatternOptions.{pattern_options, pattern_tex
 ghost use Rattle.linegrep_cli.specs.SearcherOptions.{searcher_settings};
 ghost use Rattle.linegrep_cli.specs.SeparatorOptions.{AreLent, IsSeparators};
 ghost use Rattle.linegrep_cli.specs.WholeRuns.{IsRefused, IsRunFor, IsRunWith, IsWholeRun};
+ghost use Rattle.linegrep_cli.specs.WholeRuns.{literal_facts, literal_first_at};
 
 use crate::engine::PrintingEngine;
 use crate::failures::{Failure, say};
@@ -136,7 +137,8 @@ pub fn search_all<S: System, R: Source + Drop, W: Output + Drop, E: Output>(
     }
 }
 
-// Searches for a compiled expression, which `N` names: no call of its matcher compares texts.
+// Searches for a compiled expression: by the matcher of a literal, if it is one, and otherwise by one
+// that `N` names, no call of which compares texts.
 fn search_named<'r, N: Naming, S: System, R: Source + Drop, W: Output + Drop, E: Output>(
     rt: &'r HostRuntime,
     system: &'r S,
@@ -154,11 +156,20 @@ where
     requires settings { searcher.settings ≡ searcher_settings options.now }
     requires lent { AreLent options.now separators }
     ensures { IsRefused input output result.status result.input result.output
+        ⊎ (IsRunFor ⟦<AllocError as Display>⟧.output literal_facts literal_first_at W.step
+        S.File.remaining R.remaining R.step (S.finds system.now) (S.opens system.now)
+        (S.identifies system.now) options.now regex.now input output errors.old result.status
+        result.input result.output
         ⊎ IsRunFor ⟦<AllocError as Display>⟧.output ⟦<&'static NamedMatcher<'static, N> as Matcher>⟧.facts
         ⟦<&'static NamedMatcher<'static, N> as FindAt>⟧.first_at W.step S.File.remaining R.remaining R.step
         (S.finds system.now) (S.opens system.now) (S.identifies system.now) options.now regex.now
-        input output errors.old result.status result.input result.output }
+        input output errors.old result.status result.input result.output) }
 {
+    if let Some(matcher) = regex.literal_matcher() {
+        return search_with(
+            rt, system, options, &matcher, searcher, choices, separators, input, output, errors,
+        );
+    }
     match regex.named_matcher::<N>(rt.alloc()) {
         Ok(matcher) => search_with(
             rt, system, options, &matcher, searcher, choices, separators, input, output, errors,

@@ -3,7 +3,7 @@ ghost use Rattle.std.specs.Prelude.{◌≡◌};
 
 use crate::searcher::Searcher;
 use crate::sink::Sink;
-use grep_core::{Calls, Configured, Search};
+use grep_core::{Configured, Search, SinkCalls};
 use grep_report::{SinkContext, SinkFinish, SinkMatch};
 use std::alloc::Allocator;
 use std::marker::PhantomData;
@@ -30,7 +30,7 @@ impl<A: Allocator + Copy> Searcher<A> {
 // the room for an error isn't copied (`sink_lines.rt` of grep_core).
 pub(crate) struct SearcherCalls<S>(PhantomData<S>);
 
-impl<A: Allocator + Copy, S: Sink> Calls<Searcher<A>> for SearcherCalls<S> {
+impl<A: Allocator + Copy, S: Sink> SinkCalls<Searcher<A>> for SearcherCalls<S> {
     type Sink = S;
 
     type Error = S::Error;

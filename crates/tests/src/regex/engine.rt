@@ -146,10 +146,29 @@ pub fn answer_from(
     };
     let answer = plain_answer(alloc, &regex, haystack, start)?;
     let named = pick_answer(alloc, &regex, haystack, start)?;
-    if is_same(&answer, &named) {
+    if is_same(&answer, &named) && agrees_as_literal(&answer, &regex, haystack, start) {
         Some(answer)
     } else {
         None
+    }
+}
+
+// Whether the matcher of a literal answers so too, if the expression has one.
+fn agrees_as_literal(answer: &Answer, regex: &Regex, haystack: &[u8], start: usize) -> bool {
+    let Some(matcher) = regex.literal_matcher() else {
+        return true;
+    };
+    match ask(&matcher, haystack, start) {
+        Ok(literal) => is_same(answer, &literal),
+        Err(_) => false,
+    }
+}
+
+// Whether the expression of a pattern has a matcher of a literal.
+pub fn is_literal(alloc: Global, letters: &str, pattern: &str) -> bool {
+    match build(alloc, letters, &[pattern]) {
+        Ok(regex) => regex.literal_matcher().is_some(),
+        Err(_) => false,
     }
 }
 

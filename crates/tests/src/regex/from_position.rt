@@ -1,5 +1,5 @@
 //! First matches from a position on.
-use crate::regex::engine::answer_from;
+use crate::regex::engine::{answer_from, is_literal};
 use std::alloc::Global;
 
 // Options by their letters, a pattern, a haystack, a position, and where the first match from it on
@@ -72,6 +72,30 @@ fn positions(rt: HostRuntime) -> Result<(), usize> {
 fn line_ends(rt: HostRuntime) -> Result<(), usize> {
     for (index, row) in LINE_END_ROWS.iter().enumerate() {
         if !finds_from(rt.alloc(), row) {
+            return Err(index);
+        }
+    }
+    Ok(())
+}
+
+// Options by their letters, a pattern, and whether it has a matcher of a literal.
+const LITERAL_ROWS: &[(&str, &str, bool)] = &[
+    ("n", r"a", true),
+    ("n", r"a\.b", true),
+    ("nm", r"abc", true),
+    ("nl", r"a.b", true),
+    ("", r"abc", true),
+    ("", r"a.c", false),
+    ("n", r"", false),
+    ("ni", r"a", false),
+    ("nw", r"a", false),
+    ("r", r"abc", false),
+];
+
+#[test]
+fn literals(rt: HostRuntime) -> Result<(), usize> {
+    for (index, row) in LITERAL_ROWS.iter().enumerate() {
+        if is_literal(rt.alloc(), row.0, row.1) != row.2 {
             return Err(index);
         }
     }

@@ -54,7 +54,7 @@ returns-clause-reported g c = λ lawful.
     let begun = rw goes at c.in_ok-begin.ensures.step in
     let start = search.searched-start _ _ _
     _ _ _ _ (own-window _ _) (sym idle ∙ c.if-reports_nothing.false) begun in
-    let counted = search.counted-either g.C.Calls.step
+    let counted = search.counted-either g.C.SinkCalls.step
     (makers_of g.M.Error.Display.output g.C.Error.SinkError.makers)
     (g.M.Matcher.facts c.args.matcher.now) _ [] _ _ _ _ _ _
     (λ on. c.in_ok-search_window.ensures.goes_on lawful on [] c.args.bytes.now

@@ -89,7 +89,7 @@ returns-in_err-sink_line-clause-fault g c =
     c.end_across-end.ensures.within _ refl c.end_across-end.ensures.unit
     c.end_across-end.ensures.line in
     rw (p.1, p.2) (λ first begun. ends.fault-sink _ _ _ k _ first _ _ _ reportable.across
-    (ends.reported-next k (g.M.Matcher.facts c.args.matcher.now).meaning _ g.C.Calls.step first
+    (ends.reported-next k (g.M.Matcher.facts c.args.matcher.now).meaning _ g.C.SinkCalls.step first
     c.lines.walk _ _ c.lines.sink reportable.front
     (c.lines.invariant.reported first begun) (failed _) _ (reported [] c.args.bytes.now
     (λ _. calls.in-window k _ _ _ _ c.lines.invariant.same c.lines.invariant.walk))))
@@ -110,7 +110,7 @@ returns-then-not-branch-clause-reported g c = λ first begun.
     (slice_range c.args.bytes.now c.lines.start c.end_across-end.result) in (
       stopped (counted stop),
       ends.counted-stopped k _ _ _ first _ _ _ _ reportable.across (sym reportable.end_is)
-          (ends.reported-next k (g.M.Matcher.facts c.args.matcher.now).meaning _ g.C.Calls.step
+          (ends.reported-next k (g.M.Matcher.facts c.args.matcher.now).meaning _ g.C.SinkCalls.step
           first c.lines.walk _ _ c.lines.sink reportable.front
           (c.lines.invariant.reported first begun) (stopped (counted stop)) _
           (reported [] c.args.bytes.now (λ _. calls.in-window k _ _ _ _ c.lines.invariant.same
@@ -138,7 +138,7 @@ lines-preserved g c =
       ready = reportable.ready;
       walk = reportable.across;
       reported = λ first begun. ends.reported-next k (g.M.Matcher.facts c.args.matcher.now).meaning
-          _ g.C.Calls.step first c.lines.walk _ _ c.lines.sink
+          _ g.C.SinkCalls.step first c.lines.walk _ _ c.lines.sink
           reportable.front (c.lines.invariant.reported first begun) all_true _
           (reported [] c.args.bytes.now (λ _. calls.in-window k _ _ _ _ c.lines.invariant.same
           c.lines.invariant.walk));

@@ -14,12 +14,12 @@ invariant-lines g l = record {
   ready : IsAtUnit l.self.config (g.M.Matcher.facts l.matcher).meaning l.bytes l.start l.walk l.unit
       l.blocks;
   walk : IsAcross l.self.config (g.M.Matcher.facts l.matcher).meaning l.bytes l.walk;
-  reported : (first : g.row.C-Sink.Denot) → g.C.Calls.step first l.self.config begins (Ok true)
-      l.fn.sink → AreMade g.C.Calls.step l.self.config first (calls_before l.self.config l.bytes
+  reported : (first : g.row.C-Sink.Denot) → g.C.SinkCalls.step first l.self.config begins (Ok true)
+      l.fn.sink → AreMade g.C.SinkCalls.step l.self.config first (calls_before l.self.config l.bytes
       (touched_lines l.self.config (g.M.Matcher.facts l.matcher).meaning l.bytes)
       l.walk.next_unreported) all_true l.sink;
-  called : HasCalled g.C.Calls.step l.self.config 0 l.fn.sink all_true l.sink;
-  may_call : g.C.Calls.may_call l.sink;
+  called : HasCalled g.C.SinkCalls.step l.self.config 0 l.fn.sink all_true l.sink;
+  may_call : g.C.SinkCalls.may_call l.sink;
 }
 
 abbrev pub decreases-lines : goal.decreases-lines

@@ -13,7 +13,7 @@ returns-in_err-begin-clause-quits g c =
       made = inr (inr (
         p.0,
         refl,
-        subst (λ e. g.C.Calls.step c.args.sink.now c.args.self.now.config begins
+        subst (λ e. g.C.SinkCalls.step c.args.sink.now c.args.self.now.config begins
             (Err e) c.begin.new.sink) (sym p.2) c.in_err-begin.ensures.step,
       ));
       finished = (p.1, refl);
@@ -40,7 +40,7 @@ returns-in_err-binary_data-clause-quits g c =
         inr (inr (
           p.0,
           refl,
-          subst (λ e. g.C.Calls.step c.begin.new.sink c.args.self.now.config
+          subst (λ e. g.C.SinkCalls.step c.begin.new.sink c.args.self.now.config
               (binary_data c.args.offset)
               (Err e) c.binary_data.new.sink) (sym p.2) c.in_err-binary_data.ensures.step,
         )),

@@ -80,25 +80,25 @@ exact g c = c.binary_byte_offset.ensures.exact c.in_default.ensures.filled.fits
 
 -- after that no offset is known if no byte is looked for
 clear : (g : Over) (c : goal.After-passes_binary g) (goes : Bool)
-    → PassesBinary g.C.Calls.step c.args.self.now.config c.binary_byte_offset.result
+    → PassesBinary g.C.SinkCalls.step c.args.self.now.config c.binary_byte_offset.result
     (noted c.fills.sink c.fills.binary)
     goes (noted c.passes_binary.new.sink c.passes_binary.new.binary)
     → is_detecting c.args.self.now.config.binary_detection ≡ false → c.passes_binary.new.binary
     ≡ None
-clear g c goes passes = passed.clear-passed g.C.Calls.step c.args.self.now.config
+clear g c goes passes = passed.clear-passed g.C.SinkCalls.step c.args.self.now.config
     c.binary_byte_offset.result (λ none. exact g c ∙ unfound g c none) _
     _ goes c.fills.invariant.noted_clear passes
 
 -- the search goes on after it
 passes : (g : Over) (c : goal.Else-not-branch g)
-    → PassesBinary g.C.Calls.step c.args.self.now.config
+    → PassesBinary g.C.SinkCalls.step c.args.self.now.config
     c.fill.new.self.binary (noted c.fills.sink c.fills.binary) true
     (noted c.passes_binary.new.sink c.passes_binary.new.binary)
 passes g c =
     let goes : c.in_ok-passes_binary.field-0 ≡ true = search rules in
     rw (exact g _, goes) at c.in_ok-passes_binary.ensures.passes
 
-called : (g : Over) (c : goal.Else-not-branch g) → HasCalled g.C.Calls.step c.args.self.now.config
+called : (g : Over) (c : goal.Else-not-branch g) → HasCalled g.C.SinkCalls.step c.args.self.now.config
     (passed.known_count c.passes_binary.new.binary) c.args.sink.now all_true
     c.passes_binary.new.sink
 called g c = passed.passes-on _ _ _ (unfound g (goal.at.Else-not-branch g c).After-passes_binary)
@@ -106,8 +106,8 @@ called g c = passed.passes-on _ _ _ (unfound g (goal.at.Else-not-branch g c).Aft
 
 there : (g : Over) (c : goal.Else-not-branch g) → IsLawful (g.M.Matcher.facts c.args.matcher.now)
     c.args.self.now.config → (first : g.row.C-Sink.Denot)
-    → g.C.Calls.step first c.args.self.now.config begins (Ok true) c.args.sink.now
-    → cuts.GoesOn g.C.Calls.step c.args.self.now.config (meaning-of g c.args.matcher.now)
+    → g.C.SinkCalls.step first c.args.self.now.config begins (Ok true) c.args.sink.now
+    → cuts.GoesOn g.C.SinkCalls.step c.args.self.now.config (meaning-of g c.args.matcher.now)
     g.R.Source.remaining
     g.R.Source.step c.args.decoder.now c.args.reader.now first c.fills.lines c.fills.decoder
     c.fills.reader c.fills.walk c.in_default.ensures.reads.given c.fill.new.self
@@ -121,7 +121,7 @@ there g c lawful first begun =
 short : (g : Over) (c : goal.After-error_io g)
     → (lawful : IsLawful (g.M.Matcher.facts c.args.matcher.now)
     c.args.self.now.config) (first : g.row.C-Sink.Denot)
-    (begun : g.C.Calls.step first c.args.self.now.config begins (Ok true) c.args.sink.now)
+    (begun : g.C.SinkCalls.step first c.args.self.now.config begins (Ok true) c.args.sink.now)
     (has_buffers : Bool) → IsShort g.R.Source.remaining g.R.Source.step
     (record {
       settings = c.args.self.now.config;
@@ -178,7 +178,7 @@ fills-init g c =
           record {
             start = fresh first;
             rolling = rolls;
-            passed = subst (IsStartAt g.C.Calls.step c.args.self.now.config
+            passed = subst (IsStartAt g.C.SinkCalls.step c.args.self.now.config
                 (meaning-of g c.args.matcher.now) rolls.given 0
                 first (fresh first)) (sym c.requires.binary) (not_passed refl);
           };
@@ -272,7 +272,7 @@ fills-preserved g c =
       fresh = λ idle. absurd (false≢true (sym busy ∙ idle));
       calls = order.called-then _ k _ _ _ _ (called g on)
           (rw moves at c.in_ok-search_shown.ensures.in_order);
-      noted = λ lawful. noting.noted-passed g.C.Calls.step k c.fills.lines.binary _ _
+      noted = λ lawful. noting.noted-passed g.C.SinkCalls.step k c.fills.lines.binary _ _
           (noted c.fills.sink c.fills.binary) _ reads.found (c.fills.invariant.noted lawful)
           (passes g on) ∙ sym c.in_ok-search_shown.ensures.binary;
       rolling = λ lawful first begun. cuts.reads-on (streamed g at) (filled g at)

@@ -16,7 +16,7 @@ invariant-fills g l = record {
   at : l.walk.offset ≡ l.lines.offset + length l.lines.shown;
   below : l.walk.offset < 2 ^ 64;
   ordered : IsOrdered l.walk;
-  may_call : g.C.Calls.may_call l.sink;
+  may_call : g.C.SinkCalls.may_call l.sink;
   decoded : (given : List ℕ) × Decodes g.R.Source.remaining g.R.Source.step l.fn.decoder l.fn.reader
       given l.decoder l.reader;
   detects : l.lines.detection ≡ detection_of l.self.config.binary_detection;
@@ -24,11 +24,11 @@ invariant-fills g l = record {
   noted_clear : is_detecting l.self.config.binary_detection ≡ false → l.binary ≡ None;
   fresh : reports_nothing l.self.config ≡ true
       → (l.lines ≡ l.fn.lines) × (l.decoder ≡ l.fn.decoder) × (l.reader ≡ l.fn.reader);
-  calls : HasCalled g.C.Calls.step l.self.config (known_count l.binary) l.fn.sink all_true l.sink;
+  calls : HasCalled g.C.SinkCalls.step l.self.config (known_count l.binary) l.fn.sink all_true l.sink;
   noted : IsLawful (g.M.Matcher.facts l.matcher) l.self.config → l.binary ≡ l.lines.binary;
   rolling : IsLawful (g.M.Matcher.facts l.matcher) l.self.config
-      → (first : g.row.C-Sink.Denot) → g.C.Calls.step first l.self.config begins (Ok true) l.fn.sink
-      → IsReadingOn g.C.Calls.step l.self.config (g.M.Matcher.facts l.matcher).meaning
+      → (first : g.row.C-Sink.Denot) → g.C.SinkCalls.step first l.self.config begins (Ok true) l.fn.sink
+      → IsReadingOn g.C.SinkCalls.step l.self.config (g.M.Matcher.facts l.matcher).meaning
       g.R.Source.remaining g.R.Source.step
       l.fn.decoder l.fn.reader first l.lines l.decoder l.reader l.walk
       (record { sink = l.sink; binary = l.binary });

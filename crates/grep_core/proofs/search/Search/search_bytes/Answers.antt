@@ -13,7 +13,7 @@ errors-of g = makers_of g.M.Error.Display.output g.C.Error.SinkError.makers
 
 pub returns-in-Some-clause-searched : goal.returns-in-Some-clause-searched
 returns-in-Some-clause-searched g c = λ lawful.
-    search-at g.C.Calls.step (errors-of g) (g.M.Matcher.facts c.args.matcher.now)
+    search-at g.C.SinkCalls.step (errors-of g) (g.M.Matcher.facts c.args.matcher.now)
     c.args.self.now.config c.args.bytes.now
     c.args.sink.now (look-quit _ _ (sym c.quit_byte.ensures ∙ c.in-Some.is))
     (sym c.is_across-is_across.ensures)
@@ -22,7 +22,7 @@ returns-in-Some-clause-searched g c = λ lawful.
 pub returns-clause-searched : goal.returns-clause-searched
 returns-clause-searched g c = λ lawful.
     let reported = c.in_ok-count.ensures.reported (λ _. lawful) in
-    search-at g.C.Calls.step (errors-of g) (g.M.Matcher.facts c.args.matcher.now)
+    search-at g.C.SinkCalls.step (errors-of g) (g.M.Matcher.facts c.args.matcher.now)
     c.args.self.now.config c.args.bytes.now
     c.args.sink.now (look-plain _ (λ b is. c.in_default.not-Some b (c.quit_byte.ensures ∙ is)))
     (sym c.is_across-is_across.ensures) _ _
@@ -50,7 +50,7 @@ returns-in-Some-clause-in_order g c =
 pub returns-in_err-count-clause-searched : goal.returns-in_err-count-clause-searched
 returns-in_err-count-clause-searched g c = λ lawful.
     let p = err_from_is_err_and c.from_residual.result c.from_residual.ensures.1 in
-    rw (p.1, p.2) (search-at g.C.Calls.step (errors-of g) (g.M.Matcher.facts c.args.matcher.now)
+    rw (p.1, p.2) (search-at g.C.SinkCalls.step (errors-of g) (g.M.Matcher.facts c.args.matcher.now)
     c.args.self.now.config c.args.bytes.now
     c.args.sink.now (look-plain _ (λ b is. c.in_default.not-Some b (c.quit_byte.ensures ∙ is)))
     (sym c.is_across-is_across.ensures) (Err c.in_err-count.field-0.0) c.byte_count_of.new.sink

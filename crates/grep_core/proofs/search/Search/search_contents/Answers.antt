@@ -59,10 +59,10 @@ returns-in-Some-clause-searched g c = λ across has_buffers.
     let given = c.read_contents.new.contents.items in
     whole.contents-read-all c.args.self.now.config c.requires.started
     c.in_default.ensures.reads c.in_default.ensures.done
-    (below g (goal.at.returns-in-Some-clause-searched g c).After-quit_byte) g.C.Calls.step
+    (below g (goal.at.returns-in-Some-clause-searched g c).After-quit_byte) g.C.SinkCalls.step
     (errors-of g) facts has_buffers
     c.args.sink.now across c.search_until.result c.search_until.new.sink
-    (search-at g.C.Calls.step (errors-of g) facts c.args.self.now.config given c.args.sink.now
+    (search-at g.C.SinkCalls.step (errors-of g) facts c.args.self.now.config given c.args.sink.now
     (look-quit _ _ (sym c.quit_byte.ensures ∙ c.in-Some.is)) across c.search_until.result
     c.search_until.new.sink searched)
 
@@ -73,10 +73,10 @@ returns-in_err-count-clause-searched g c = λ across has_buffers.
     let given = c.read_contents.new.contents.items in
     rw (error.1, error.2) (whole.contents-read-all c.args.self.now.config c.requires.started
     c.in_default.ensures.reads c.in_default.ensures.done
-    (below g (goal.at.returns-in_err-count-clause-searched g c).After-quit_byte) g.C.Calls.step
+    (below g (goal.at.returns-in_err-count-clause-searched g c).After-quit_byte) g.C.SinkCalls.step
     (errors-of g) facts
     has_buffers c.args.sink.now across (Err c.in_err-count.field-0.0) c.byte_count_across.new.sink
-    (search-at g.C.Calls.step (errors-of g) facts c.args.self.now.config given c.args.sink.now
+    (search-at g.C.SinkCalls.step (errors-of g) facts c.args.self.now.config given c.args.sink.now
     (look-plain _ (λ b is. c.in_default-quit_byte.not-Some b (c.quit_byte.ensures ∙ is))) across _
     c.byte_count_across.new.sink (rw c.deref-2.ensures.value at c.in_err-count.ensures.fault)))
 
@@ -87,11 +87,11 @@ returns-clause-searched g c = λ across has_buffers.
     let given = c.read_contents.new.contents.items in
     whole.contents-read-all c.args.self.now.config c.requires.started
     c.in_default.ensures.reads c.in_default.ensures.done
-    (below g (goal.at.returns-clause-searched g c).After-quit_byte) g.C.Calls.step (errors-of g)
+    (below g (goal.at.returns-clause-searched g c).After-quit_byte) g.C.SinkCalls.step (errors-of g)
     facts has_buffers c.args.sink.now across c.finish.result c.finish.new.sink
-    (search-at g.C.Calls.step (errors-of g) facts c.args.self.now.config given c.args.sink.now
+    (search-at g.C.SinkCalls.step (errors-of g) facts c.args.self.now.config given c.args.sink.now
     (look-plain _ (λ b is. c.in_default-quit_byte.not-Some b (c.quit_byte.ensures ∙ is))) across _ _
-    (searched-finish g.C.Calls.step (errors-of g) facts c.args.self.now.config given c.args.sink.now
+    (searched-finish g.C.SinkCalls.step (errors-of g) facts c.args.self.now.config given c.args.sink.now
     _ _ _ c.finish.result _ reported.1 (rw c.new.ensures at c.finish.ensures.step)))
 
 pub search_until-requires-clause-detecting : goal.search_until-requires-clause-detecting

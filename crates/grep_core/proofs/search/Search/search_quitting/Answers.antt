@@ -18,10 +18,10 @@ errors-of g = makers_of g.M.Error.Display.output g.C.Error.SinkError.makers
 pub returns-in_err-count-clause-searched : goal.returns-in_err-count-clause-searched
 returns-in_err-count-clause-searched g c = λ lawful.
     let error = err_from_is_err_and c.from_residual.result c.from_residual.ensures.1 in
-    rw error.1 (fault-until _ g.C.Calls.may_call _ _ _
+    rw error.1 (fault-until _ g.C.SinkCalls.may_call _ _ _
     _ (quit-is _ _ c.requires.detecting) _ c.requires.none _ refl c.requires.has_break
     c.requires.found _
-    (subst (λ e. IsContentsSearch (Quits g.C.Calls.step g.C.Calls.may_call) (errors-of g)
+    (subst (λ e. IsContentsSearch (Quits g.C.SinkCalls.step g.C.SinkCalls.may_call) (errors-of g)
     (g.M.Matcher.facts c.args.matcher.now) c.args.self.now.config nowhere c.args.is_across
     c.args.bytes.now c.args.sink.now (Err e) c.byte_count_of.new.sink) (sym error.2)
     (c.in_err-count.ensures.fault lawful)))
@@ -35,7 +35,7 @@ returns-in_err-count-clause-same_sink g c =
 pub returns-clause-searched : goal.returns-clause-searched
 returns-clause-searched g c = λ lawful.
     let counted = c.in_ok-count.ensures.reported lawful in
-    until-finished g.C.Calls.step g.C.Calls.may_call (errors-of g)
+    until-finished g.C.SinkCalls.step g.C.SinkCalls.may_call (errors-of g)
     (g.M.Matcher.facts c.args.matcher.now) _
     _ (quit-is _ _ c.requires.detecting) _ c.requires.none _ refl c.requires.has_break
     c.requires.found _ _ c.finish.new.sink counted.1 (rw c.new.ensures at c.finish.ensures.step)
@@ -49,8 +49,8 @@ returns-clause-same_sink g c =
 pub returns-in_err-count-clause-in_order : goal.returns-in_err-count-clause-in_order
 returns-in_err-count-clause-in_order g c =
     let error = err_from_is_err_and c.from_residual.result c.from_residual.ensures.1 in
-    let step = g.C.Calls.step in
-    let may_call = g.C.Calls.may_call in
+    let step = g.C.SinkCalls.step in
+    let may_call = g.C.SinkCalls.may_call in
     let k = c.args.self.now.config in
     rw (error.1, error.2) (order.order-failed _ k _ _ _ (omega arith) _ _ _
     (order.passed-begun-failed _ _ k (λ q. q.sink.now)
@@ -63,8 +63,8 @@ returns-in_err-count-clause-in_order g c =
 
 pub returns-clause-in_order : goal.returns-clause-in_order
 returns-clause-in_order g c =
-    let step = g.C.Calls.step in
-    let may_call = g.C.Calls.may_call in
+    let step = g.C.SinkCalls.step in
+    let may_call = g.C.SinkCalls.may_call in
     let k = c.args.self.now.config in
     let finish = rw c.new.ensures at c.finish.ensures.step in
     order.order-finished _ k _ _ _ (omega arith) _ _ _ c.byte_count_of.new.sink.found _ _

@@ -23,7 +23,7 @@ returns-in-Some-clause-searched g c = λ lawful.
 
 pub returns-in-None-clause-searched : goal.returns-in-None-clause-searched
 returns-in-None-clause-searched g c = λ lawful.
-    subst (λ s. IsContentsSearch g.C.Calls.step (errors-of g) (g.M.Matcher.facts c.args.matcher.now)
+    subst (λ s. IsContentsSearch g.C.SinkCalls.step (errors-of g) (g.M.Matcher.facts c.args.matcher.now)
     c.args.self.now.config (in_contents c.args.byte) c.args.is_across c.args.bytes.now
     c.args.sink.now c.search_quitting.result s) (sym (c.sink-1.given.1
     (sym (c.search_quitting.ensures.same_sink ∙ c.new-quitting.ensures.same_sink))))
@@ -32,12 +32,12 @@ returns-in-None-clause-searched g c = λ lawful.
 
 pub returns-in-Some-clause-in_order : goal.returns-in-Some-clause-in_order
 returns-in-Some-clause-in_order g c =
-    quit-in-order _ _ g.C.Calls.may_call (look-detects _ _ c.requires.detecting) _
+    quit-in-order _ _ g.C.SinkCalls.may_call (look-detects _ _ c.requires.detecting) _
     c.quit_first.ensures.quits
 
 pub returns-in-None-clause-in_order : goal.returns-in-None-clause-in_order
 returns-in-None-clause-in_order g c =
-    subst (λ s. IsInOrder g.C.Calls.step (errors-of g) (g.M.Matcher.facts c.args.matcher.now)
+    subst (λ s. IsInOrder g.C.SinkCalls.step (errors-of g) (g.M.Matcher.facts c.args.matcher.now)
     c.args.self.now.config (λ _. ⊥) c.args.sink.now c.search_quitting.result s)
     (sym (c.sink-1.given.1
     (sym (c.search_quitting.ensures.same_sink ∙ c.new-quitting.ensures.same_sink))))

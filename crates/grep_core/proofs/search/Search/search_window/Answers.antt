@@ -36,23 +36,23 @@ untaken : (g : Over) (c : goal.After-known_at-known g)
 untaken g c = search rules
 
 called : (g : Over) (c : goal.After-known_at-known g)
-    → HasCalled g.C.Calls.step c.args.self.now.config 0 c.args.sink.now all_true
+    → HasCalled g.C.SinkCalls.step c.args.self.now.config 0 c.args.sink.now all_true
     c.sink_chosen_lines.new.sink
-called g c = subst (HasCalled g.C.Calls.step c.args.self.now.config 0 c.args.sink.now all_true)
+called g c = subst (HasCalled g.C.SinkCalls.step c.args.self.now.config 0 c.args.sink.now all_true)
     (sym (untaken g c)) c.lines.invariant.called
 
 -- the line that a walk decides, after those that it skipped
 reached : (g : Over) (c : goal.After-known_at-known g)
     → IsLawful (g.M.Matcher.facts c.args.matcher.now) c.args.self.now.config
     → (gone input : List ℕ) (first : Origin g.row.C-Sink.Denot)
-    → HasSearched g.C.Calls.step c.args.self.now.config
+    → HasSearched g.C.SinkCalls.step c.args.self.now.config
     (g.M.Matcher.facts c.args.matcher.now).meaning gone c.args.window.now input
     first c.args.start c.args.walk.now c.args.sink.now
-    → uncounted.HasLine g.C.Calls.step c.args.self.now.config
+    → uncounted.HasLine g.C.SinkCalls.step c.args.self.now.config
     (g.M.Matcher.facts c.args.matcher.now).meaning gone
     c.args.window.now input first c.skip_unmatched-start.result c.in-Some-line_end.end
     c.skip_unmatched-start.new.walk c.sink_chosen_lines.new.sink c.known_at-known.result
-reached g c lawful gone input first so_far = subst (λ sink. uncounted.HasLine g.C.Calls.step
+reached g c lawful gone input first so_far = subst (λ sink. uncounted.HasLine g.C.SinkCalls.step
     c.args.self.now.config (g.M.Matcher.facts c.args.matcher.now).meaning gone c.args.window.now
     input first c.skip_unmatched-start.result c.in-Some-line_end.end
     c.skip_unmatched-start.new.walk sink c.known_at-known.result) (sym (untaken g c)) (
@@ -67,10 +67,10 @@ reached g c lawful gone input first so_far = subst (λ sink. uncounted.HasLine g
 here : (g : Over) (c : After-sink_chosen_lines g)
     → IsLawful (g.M.Matcher.facts c.args.matcher.now) c.args.self.now.config
     → (gone input : List ℕ) (first : Origin g.row.C-Sink.Denot)
-    → HasSearched g.C.Calls.step c.args.self.now.config
+    → HasSearched g.C.SinkCalls.step c.args.self.now.config
     (g.M.Matcher.facts c.args.matcher.now).meaning gone c.args.window.now input
     first c.args.start c.args.walk.now c.args.sink.now
-    → HasSearched g.C.Calls.step c.args.self.now.config
+    → HasSearched g.C.SinkCalls.step c.args.self.now.config
     (g.M.Matcher.facts c.args.matcher.now).meaning gone c.args.window.now input
     first c.skip_unmatched-start.result c.skip_unmatched-start.new.walk c.lines.sink
     × IsKnown c.args.self.now.config (g.M.Matcher.facts c.args.matcher.now).meaning
@@ -89,19 +89,19 @@ here g c lawful gone input first so_far =
 chosen : (g : Over) (c : After-sink_chosen_lines g)
     → IsLawful (g.M.Matcher.facts c.args.matcher.now) c.args.self.now.config
     → (gone input : List ℕ) (first : Origin g.row.C-Sink.Denot)
-    → HasSearched g.C.Calls.step c.args.self.now.config
+    → HasSearched g.C.SinkCalls.step c.args.self.now.config
     (g.M.Matcher.facts c.args.matcher.now).meaning gone c.args.window.now input
     first c.args.start c.args.walk.now c.args.sink.now
     → (lines : ChosenLines) → AreChosen c.args.self.now.config
     (g.M.Matcher.facts c.args.matcher.now) c.args.window.now c.skip_unmatched-start.result
     c.in-Ok.ahead c.skip_unmatched-start.new.walk lines
     → (outcome : Outcome g.row.C-Error.Denot) (new : g.row.C-Sink.Denot)
-    → AreMade g.C.Calls.step c.args.self.now.config c.lines.sink
+    → AreMade g.C.SinkCalls.step c.args.self.now.config c.lines.sink
     (chosen_calls c.args.self.now.config c.args.window.now c.skip_unmatched-start.result lines.end
     c.skip_unmatched-start.new.walk) outcome new
-    → LinesCome g.C.Calls.step c.args.self.now.config
+    → LinesCome g.C.SinkCalls.step c.args.self.now.config
     (g.M.Matcher.facts c.args.matcher.now).meaning gone c.args.window.now input first
-    c.args.self.now.bare (HasSearched g.C.Calls.step c.args.self.now.config
+    c.args.self.now.bare (HasSearched g.C.SinkCalls.step c.args.self.now.config
     (g.M.Matcher.facts c.args.matcher.now).meaning gone c.args.window.now input first lines.end
     (after_chosen c.args.self.now.config c.skip_unmatched-start.new.walk
     (lines.end - c.skip_unmatched-start.result) lines.count)) outcome new
@@ -146,7 +146,7 @@ returns-in_default-line_end-clause-goes_on g c = λ lawful goes gone input first
     (c.lines.invariant.known lawful gone input first so_far) in
     let here = uncounted.searched-on bare now c.in-Ok.ensures.bounded known position skipped in
     let terminator = c.terminator-terminator.ensures in
-    search.passed-all _ _ _ _ _ _ _ _ _ _ (subst (HasSearched g.C.Calls.step
+    search.passed-all _ _ _ _ _ _ _ _ _ _ (subst (HasSearched g.C.SinkCalls.step
     c.args.self.now.config (g.M.Matcher.facts c.args.matcher.now).meaning gone c.args.window.now
     input first c.skip_unmatched-start.result c.skip_unmatched-start.new.walk) (sym same) here)
     c.in_default-line_end.ensures.end
@@ -324,7 +324,7 @@ lines-preserved-in-Some g c =
     let some : AreChosen c.args.self.now.config (g.M.Matcher.facts c.args.matcher.now)
     c.args.window.now c.skip_unmatched-start.result c.in-Ok.ahead
     c.skip_unmatched-start.new.walk c.in-Some.lines
-    × AreMade g.C.Calls.step c.args.self.now.config c.lines.sink
+    × AreMade g.C.SinkCalls.step c.args.self.now.config c.lines.sink
     (chosen_calls c.args.self.now.config c.args.window.now c.skip_unmatched-start.result
     c.in-Some.lines.end c.skip_unmatched-start.new.walk) all_true c.sink_chosen_lines.new.sink =
     search rules in
@@ -355,7 +355,7 @@ lines-preserved-in-Some g c =
       known = λ lawful gone input first so_far.
           let now = here g at lawful gone input first so_far in
           (some.0.hits lawful _ now.0.walked.inside.line.begins now.1).known;
-      searched = λ lawful gone input first so_far. subst (λ w. HasSearched g.C.Calls.step
+      searched = λ lawful gone input first so_far. subst (λ w. HasSearched g.C.SinkCalls.step
           c.args.self.now.config (g.M.Matcher.facts c.args.matcher.now).meaning gone
           c.args.window.now input first c.in-Some.lines.end w c.sink_chosen_lines.new.sink)
           (sym c.after_chosen.ensures.walk)

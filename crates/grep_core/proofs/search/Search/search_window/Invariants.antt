@@ -17,17 +17,17 @@ invariant-lines g l = record {
   further : AreAllowed l.self.config (g.M.Matcher.facts l.matcher).meaning l.further;
   known : IsLawful (g.M.Matcher.facts l.matcher) l.self.config
       → (gone input : List ℕ) (first : Origin g.row.C-Sink.Denot)
-      → HasSearched g.C.Calls.step l.self.config (g.M.Matcher.facts l.matcher).meaning gone l.window
+      → HasSearched g.C.SinkCalls.step l.self.config (g.M.Matcher.facts l.matcher).meaning gone l.window
       input first l.fn.start l.fn.walk l.fn.sink
       → IsKnown l.self.config (g.M.Matcher.facts l.matcher).meaning l.window l.start l.ahead;
   searched : IsLawful (g.M.Matcher.facts l.matcher) l.self.config
       → (gone input : List ℕ) (first : Origin g.row.C-Sink.Denot)
-      → HasSearched g.C.Calls.step l.self.config (g.M.Matcher.facts l.matcher).meaning gone l.window
+      → HasSearched g.C.SinkCalls.step l.self.config (g.M.Matcher.facts l.matcher).meaning gone l.window
       input first l.fn.start l.fn.walk l.fn.sink
-      → HasSearched g.C.Calls.step l.self.config (g.M.Matcher.facts l.matcher).meaning gone l.window
+      → HasSearched g.C.SinkCalls.step l.self.config (g.M.Matcher.facts l.matcher).meaning gone l.window
       input first l.start l.walk l.sink;
-  called : HasCalled g.C.Calls.step l.self.config 0 l.fn.sink all_true l.sink;
-  may_call : g.C.Calls.may_call l.sink;
+  called : HasCalled g.C.SinkCalls.step l.self.config 0 l.fn.sink all_true l.sink;
+  may_call : g.C.SinkCalls.may_call l.sink;
 }
 
 abbrev pub decreases-lines : goal.decreases-lines

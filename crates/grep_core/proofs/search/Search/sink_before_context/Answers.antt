@@ -10,7 +10,7 @@ pub returns-then-near-eq0-clause-reported : goal.returns-then-near-eq0-clause-re
 returns-then-near-eq0-clause-reported g c =
     let w = c.args.walk.now in
     λ gone input inside end. before.reported-none c.args.self.now.config input w.next_unreported
-    w.line end g.C.Calls.step c.args.sink.now
+    w.line end g.C.SinkCalls.step c.args.sink.now
     c.requires.low ((sym c.lines_before-near.ensures ∙ c.if-near-eq0.true))
 
 pub returns-clause-reported : goal.returns-clause-reported

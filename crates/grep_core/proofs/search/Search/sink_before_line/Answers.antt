@@ -13,7 +13,7 @@ returns-then-not-branch-clause-reported g c =
     c.requires.near in
     let stops : c.in_ok-sink_break.field-0 ≡ false = search rules in
     let reported = rw (stops, gap) at c.in_ok-sink_break.ensures.reported in
-    rw near (λ end. AreMade-unbroken g.C.Calls.step c.args.self.now.config _ _ end c.args.sink.now
+    rw near (λ end. AreMade-unbroken g.C.SinkCalls.step c.args.self.now.config _ _ end c.args.sink.now
     (stopped (counted end)) c.sink_break.new.sink (λ x. cc) (reported end))
 
 pub returns-clause-reported : goal.returns-clause-reported
@@ -24,5 +24,5 @@ returns-clause-reported g c =
     c.requires.near in
     let goes : c.in_ok-sink_break.field-0 ≡ true = search rules in
     let reported = rw (goes, gap) at c.in_ok-sink_break.ensures.reported in
-    rw near (λ end. AreMade-broken g.C.Calls.step _ (breaks_near c.args.self.now.config w.next_unreported
+    rw near (λ end. AreMade-broken g.C.SinkCalls.step _ (breaks_near c.args.self.now.config w.next_unreported
     c.args.index w.line) _ end c.args.sink.now _ _ _ (reported end) c.sink_context.ensures.step)

@@ -17,7 +17,7 @@ returns-in_err-sink_before_line-clause-reported g c =
     let k = c.args.self.now.config in
     let window = c.args.window.now in
     let w = c.args.walk.now in
-    before.window-ended k _ _ _ w _ inside end g.C.Calls.step c.args.sink.now c.loop-at.sink
+    before.window-ended k _ _ _ w _ inside end g.C.SinkCalls.step c.args.sink.now c.loop-at.sink
     c.sink_before_line.new.sink
     c.args.index _ _ _ c.loop-at.offset (c.loop-at.invariant.at gone from) line
     c.loop-at.invariant.same c.loop-at.invariant.low
@@ -33,7 +33,7 @@ returns-then-not-branch-clause-reported g c =
     let k = c.args.self.now.config in
     let window = c.args.window.now in
     let w = c.args.walk.now in
-    before.window-ended k _ _ _ w _ inside end g.C.Calls.step c.args.sink.now c.loop-at.sink
+    before.window-ended k _ _ _ w _ inside end g.C.SinkCalls.step c.args.sink.now c.loop-at.sink
     c.sink_before_line.new.sink _ _ _ _ _ (c.loop-at.invariant.at gone from) line
     c.loop-at.invariant.same c.loop-at.invariant.low
     (c.loop-at.invariant.reported gone input inside from end)
@@ -42,7 +42,7 @@ returns-then-not-branch-clause-reported g c =
 pub returns-in_default-clause-reported : goal.returns-in_default-clause-reported
 returns-in_default-clause-reported g c = λ gone input inside from end.
     let last = c.in_default.ensures.last in
-    before.window-short _ _ _ _ _ _ inside g.C.Calls.step c.args.sink.now
+    before.window-short _ _ _ _ _ _ inside g.C.SinkCalls.step c.args.sink.now
     c.loop-at.sink _ all_true _ _ (c.loop-at.invariant.at gone from) last c.loop-at-test.true
 
 pub returns-clause-reported : goal.returns-clause-reported
@@ -50,7 +50,7 @@ returns-clause-reported g c = λ gone input inside from end.
     let w = c.args.walk.now in
     let all : c.loop-at.at ≡ w.line =
     omega (arith, c.loop-at.invariant.below, c.loop-at-test.false) in
-    subst (λ m. AreMade g.C.Calls.step c.args.self.now.config c.args.sink.now
+    subst (λ m. AreMade g.C.SinkCalls.step c.args.self.now.config c.args.sink.now
     (pending_calls c.args.self.now.config input w.next_unreported w.line end c.args.index
     (m - c.args.index)) all_true c.loop-at.sink) all
     (c.loop-at.invariant.reported gone input inside from end)
@@ -78,7 +78,7 @@ loop-at-preserved g c =
       at = λ gone from. windows.next-line k _ _ window _ _ _
           (c.loop-at.invariant.at gone from) line;
       reported = λ gone input inside from end. before.window-more k _ _ _ w _ inside end
-          g.C.Calls.step c.args.sink.now c.loop-at.sink c.sink_before_line.new.sink _ _ _ _ _
+          g.C.SinkCalls.step c.args.sink.now c.loop-at.sink c.sink_before_line.new.sink _ _ _ _ _
           (c.loop-at.invariant.at gone from) line c.loop-at.invariant.same c.loop-at.invariant.low
           (c.loop-at.invariant.reported gone input inside from end) all_true (here end);
       called = called-then _ k _ _ _ _ c.loop-at.invariant.called (called-before _ k _ _ _ _

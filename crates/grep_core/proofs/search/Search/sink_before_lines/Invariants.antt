@@ -15,11 +15,11 @@ invariant-loop-at g l = record {
       → IsLineIn l.self.config gone l.window l.position l.at;
   reported : (gone input : List ℕ) → IsInWindow l.self.config gone l.window input l.start l.walk
       → IsLineIn l.self.config gone l.window l.first l.index
-      → (end : ℕ) → AreMade g.C.Calls.step l.self.config l.fn.sink
+      → (end : ℕ) → AreMade g.C.SinkCalls.step l.self.config l.fn.sink
       (pending_calls l.self.config input l.walk.next_unreported l.walk.line end l.index
       (l.at - l.index)) all_true l.sink;
-  called : HasCalled g.C.Calls.step l.self.config 0 l.fn.sink all_true l.sink;
-  may_call : g.C.Calls.may_call l.sink;
+  called : HasCalled g.C.SinkCalls.step l.self.config 0 l.fn.sink all_true l.sink;
+  may_call : g.C.SinkCalls.may_call l.sink;
 }
 
 abbrev pub decreases-loop-at : goal.decreases-loop-at

@@ -17,7 +17,7 @@ returns-in_err-sink_before_context-clause-reported g c =
     let here = slice_range c.args.window.now c.args.start c.args.end in
     let stop = line_end w here in
     let p = err_from_is_err_and c.from_residual.result c.from_residual.ensures.1 in
-    rw (p.1, p.2, chosen) (λ gone input inside. AreMade-ended g.C.Calls.step c.args.self.now.config
+    rw (p.1, p.2, chosen) (λ gone input inside. AreMade-ended g.C.SinkCalls.step c.args.self.now.config
     (pending_calls c.args.self.now.config input w.next_unreported w.line stop w.next_unreported
     (w.line - w.next_unreported))
     (selected_calls c.args.self.now.config w.next_unreported w.line w.offset stop here)
@@ -33,7 +33,7 @@ returns-then-not-branch-clause-reported g c =
     let stop = line_end w here in
     let stops : c.in_ok-sink_before_context.field-0 ≡ false = search rules in
     let reported = rw stops at c.in_ok-sink_before_context.ensures.reported in
-    rw chosen (λ gone input inside. AreMade-ended g.C.Calls.step c.args.self.now.config
+    rw chosen (λ gone input inside. AreMade-ended g.C.SinkCalls.step c.args.self.now.config
     (pending_calls c.args.self.now.config input w.next_unreported w.line stop w.next_unreported
     (w.line - w.next_unreported))
     (selected_calls c.args.self.now.config w.next_unreported w.line w.offset stop here)
@@ -48,7 +48,7 @@ returns-in-Ok-clause-reported g c =
     let stop = line_end w here in
     let goes : c.in_ok-sink_before_context.field-0 ≡ true = search rules in
     let reported = rw goes at c.in_ok-sink_before_context.ensures.reported in
-    rw chosen (λ gone input inside. AreMade-append g.C.Calls.step c.args.self.now.config _
+    rw chosen (λ gone input inside. AreMade-append g.C.SinkCalls.step c.args.self.now.config _
     _ c.args.sink.now c.sink_before_context.new.sink
     (outcome_of stop (Ok c.in-Ok.goes_on)) c.sink_matched.new.sink (reported gone input inside stop)
     (c.in-Ok.ensures.reported stop))
@@ -61,7 +61,7 @@ returns-in-Err-clause-reported g c =
     let stop = line_end w here in
     let goes : c.in_ok-sink_before_context.field-0 ≡ true = search rules in
     let reported = rw goes at c.in_ok-sink_before_context.ensures.reported in
-    rw chosen (λ gone input inside. AreMade-append g.C.Calls.step c.args.self.now.config _
+    rw chosen (λ gone input inside. AreMade-append g.C.SinkCalls.step c.args.self.now.config _
     _ c.args.sink.now c.sink_before_context.new.sink
     (outcome_of stop (Err c.in-Err.error)) c.sink_matched.new.sink (reported gone input inside stop)
     (c.in-Err.ensures.reported stop))

@@ -11,7 +11,7 @@ returns-then-not-branch-clause-reported g c =
     let gap = c.breaks_before_match-has_break.ensures in
     let stops : c.in_ok-sink_break.field-0 ≡ false = search rules in
     let reported = rw (stops, gap) at c.in_ok-sink_break.ensures.reported in
-    λ stop. AreMade-unbroken g.C.Calls.step c.args.self.now.config _ _ stop
+    λ stop. AreMade-unbroken g.C.SinkCalls.step c.args.self.now.config _ _ stop
     c.args.sink.now (stopped (counted stop)) c.sink_break.new.sink (λ x. cc) (reported stop)
 
 pub returns-in-Ok-clause-reported : goal.returns-in-Ok-clause-reported
@@ -22,7 +22,7 @@ returns-in-Ok-clause-reported g c =
     let reported = rw (goes, gap) at c.in_ok-sink_break.ensures.reported in
     let number = c.number-number.ensures in
     let step = rw (c.new-found.ensures, number) at c.in-Ok.ensures.step in
-    λ stop. AreMade-broken g.C.Calls.step _ (nat_lt 0 c.args.self.now.config.after_context
+    λ stop. AreMade-broken g.C.SinkCalls.step _ (nat_lt 0 c.args.self.now.config.after_context
     && breaks_near c.args.self.now.config w.next_unreported w.line w.line) _ stop
     c.args.sink.now _ _ _ (reported stop) step
 
@@ -34,6 +34,6 @@ returns-in-Err-clause-reported g c =
     let reported = rw (goes, gap) at c.in_ok-sink_break.ensures.reported in
     let number = c.number-number.ensures in
     let step = rw (c.new-found.ensures, number) at c.in-Err.ensures.step in
-    λ stop. AreMade-broken g.C.Calls.step _ (nat_lt 0 c.args.self.now.config.after_context
+    λ stop. AreMade-broken g.C.SinkCalls.step _ (nat_lt 0 c.args.self.now.config.after_context
     && breaks_near c.args.self.now.config w.next_unreported w.line w.line) _ stop
     c.args.sink.now _ _ _ (reported stop) step

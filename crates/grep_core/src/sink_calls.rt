@@ -15,7 +15,7 @@ use grep_report::{SinkContext, SinkFinish, SinkMatch};
 /// name alone: no value of it is needed.
 ///
 /// Each call but `finish` returns whether the search goes on; an error is the sink's own.
-pub trait Calls<T: Configured> {
+pub trait SinkCalls<T: Configured> {
     /// The sinks.
     type Sink;
 
