@@ -1,58 +1,99 @@
 -- What the compiled pattern finds, and the first match that holds none of the bytes.
 use Rattle.std.proofs.Common.{◌≡◌, ℕ, zero, suc, ◌+◌, ◌-◌, ◌<◌, ◌≤◌, true, List, length, All}
 use Rattle.std.proofs.Common.{Option, Some, None}
-use Rattle.std.proofs.Common.{option_map, refl, sym, ap, ap₂, ◌∙◌, ⊎_elim, arith}
+use Rattle.std.proofs.Common.{option_map, refl, sym, ap, ap₂, ◌∙◌, ⊎_elim, arith, map}
+use Rattle.std.specs.List.{range_with_len}
 use Rattle.std.proofs.lemmas.Bool.{cases_Bool, cond-true, cond-false}
 use Rattle.std.proofs.lemmas.Option.{none-some, same_Some}
 use Rattle.std.specs.Option.{option_or}
-use Rattle.regex_hir.specs.Find.{Match, first_from, find}
+use Rattle.regex_hir.specs.Find.{Match, first_from, find, last_write}
 use Rattle.regex_hir.specs.Re.{Re, Trace, Rest, accept, attempt}
 use Rattle.regex_hir.proofs.AttemptLemmas.{attempt_sound, attempt_cong}
 use Rattle.regex_hir.proofs.FindLemmas.{IsFirst-of_first_between, first_between_cong}
 use Rattle.regex_hir.proofs.OptionLemmas.{option_cases}
 use Rattle.regex_syntax.specs.Captures.{outcome, SameCaptures}
-use Rattle.regex_vm.specs.Found.{span}
+use Rattle.regex_vm.specs.Found.{cell, group_cells, span}
 use Rattle.grep_regex.specs.Clear.{is_clear, if_clear, find_clear}
+use Rattle.grep_regex.specs.Patterns.{captured}
 use Rattle.grep_regex.specs.Stripped.{IsStripped}
 use Rattle.grep_regex.proofs.ClearLemmas.{clear-empty, clear-at, clear-from}
 
-span-at : (i : ℕ) (o : Option Trace) (later : Option Match) →
-    option_map span (option_or (option_map (λ t. record { start = i; trace = t }) o) later)
-    ≡ option_or (option_map (λ s. (i, s.0)) (outcome o)) (option_map span later)
-unfolding outcome
-span-at i None later = refl
-span-at i (Some t) later = refl
+-- What is seen of a match, by where it starts, where it ends, and what its slots were given last.
+module _ {A : Type 0} (see : Match → A) (view : ℕ → ℕ × (ℕ → Option ℕ) → A)
+    (sees : (i : ℕ) (t : Trace) → see (record { start = i; trace = t }) ≡ view i (t.end, last_write t.writes)) where
+  seen-at : (i : ℕ) (o : Option Trace) (later : Option Match) →
+      option_map see (option_or (option_map (λ t. record { start = i; trace = t }) o) later)
+      ≡ option_or (option_map (view i) (outcome o)) (option_map see later)
+  unfolding outcome
+  seen-at i None later = refl
+  seen-at i (Some t) later = ap Some (sees i t)
 
-first_from-span : (f g : Rest) (last : ℕ) → ((i : ℕ) → i ≤ last → outcome (f i) ≡ outcome (g i)) → (n i : ℕ)
-    → i + n ≤ last + 1 →
-    option_map span (first_from f n i) ≡ option_map span (first_from g n i)
-unfolding first_from
-first_from-span f g last h zero i room = refl
-first_from-span f g last h (suc n) i room =
-    span-at i (f i) _
-    ∙ (ap₂ option_or (ap (option_map (λ s. (i, s.0))) (h i (omega arith)))
-    (first_from-span f g last h n (i + 1) (omega arith))
-    ∙ sym (span-at i (g i) _))
+  first_from-seen : (f g : Rest) (last : ℕ) → ((i : ℕ) → i ≤ last → outcome (f i) ≡ outcome (g i)) → (n i : ℕ)
+      → i + n ≤ last + 1 →
+      option_map see (first_from f n i) ≡ option_map see (first_from g n i)
+  unfolding first_from
+  first_from-seen f g last h zero i room = refl
+  first_from-seen f g last h (suc n) i room =
+      seen-at i (f i) _
+      ∙ (ap₂ option_or (ap (option_map (view i)) (h i (omega arith)))
+      (first_from-seen f g last h n (i + 1) (omega arith))
+      ∙ sym (seen-at i (g i) _))
 
--- patterns that match alike find the same
+  -- patterns that match alike find the same
+  seen-alike : (a b : Re) → SameCaptures a b → (hay : List ℕ) (start : ℕ) → All (λ x. x < 256) hay
+      → start ≤ length hay → option_map see (find a hay start) ≡ option_map see (find b hay start)
+  unfolding find
+  seen-alike a b same hay start small from =
+      first_from-seen _ _ (length hay) (λ i inside. same.at hay small accept i) (length hay + 1 - start) start
+      (omega arith)
+
+  -- the stripped pattern finds what the pattern finds that a text is read as, among the matches that hold none of the
+  -- bytes
+  seen-stripped : (bytes : List ℕ) (whole stripped written : Re) → IsStripped bytes whole stripped
+      → SameCaptures whole written →
+      (hay : List ℕ) (start : ℕ) → All (λ x. x < 256) hay → start ≤ length hay
+      → option_map see (find stripped hay start) ≡ option_map see (find_clear bytes written hay start)
+  unfolding find find_clear
+  seen-stripped bytes whole stripped written p q hay start small from =
+      first_from-seen _ _ (length hay) (λ i inside.
+      ap outcome (p.at hay small accept i i (omega arith) inside (clear-empty bytes hay i))
+      ∙ q.at hay small (if_clear bytes hay i accept) i) (length hay + 1 - start) start (omega arith)
+
+-- the span of a match is seen, and so are the cells of its groups
+abbrev span-view : ℕ → ℕ × (ℕ → Option ℕ) → ℕ × ℕ
+span-view i o = (i, o.0)
+
+abbrev cells-view : ℕ → ℕ → ℕ × (ℕ → Option ℕ) → (ℕ × ℕ) × List ℕ
+cells-view count i o = ((i, o.0), map (λ k. cell (o.1 (k + 2))) (range_with_len 0 count))
+
+cells-seen : (count i : ℕ) (t : Trace)
+    → captured count (record { start = i; trace = t }) ≡ cells-view count i (t.end, last_write t.writes)
+unfolding group_cells
+cells-seen count i t = refl
+
+-- so patterns that match alike have the same spans and groups
 pub find-alike : (a b : Re) → SameCaptures a b → (hay : List ℕ) (start : ℕ) → All (λ x. x < 256) hay
     → start ≤ length hay → option_map span (find a hay start) ≡ option_map span (find b hay start)
-unfolding find
-find-alike a b same hay start small from =
-    first_from-span _ _ (length hay) (λ i inside. same.at hay small accept i) (length hay + 1 - start) start
-    (omega arith)
+find-alike = seen-alike span span-view (λ i t. refl)
 
--- the stripped pattern finds what the pattern finds that a text is read as, among the matches that hold none of the
--- bytes
+pub captures-alike : (count : ℕ) (a b : Re) → SameCaptures a b → (hay : List ℕ) (start : ℕ) → All (λ x. x < 256) hay
+    → start ≤ length hay
+    → option_map (captured count) (find a hay start) ≡ option_map (captured count) (find b hay start)
+captures-alike count = seen-alike (captured count) (cells-view count) (cells-seen count)
+
+-- and so does the stripped pattern
 pub find-stripped : (bytes : List ℕ) (whole stripped written : Re) → IsStripped bytes whole stripped
     → SameCaptures whole written →
     (hay : List ℕ) (start : ℕ) → All (λ x. x < 256) hay → start ≤ length hay → option_map span (find stripped hay start)
     ≡ option_map span (find_clear bytes written hay start)
-unfolding find find_clear
-find-stripped bytes whole stripped written p q hay start small from =
-    first_from-span _ _ (length hay) (λ i inside.
-    ap outcome (p.at hay small accept i i (omega arith) inside (clear-empty bytes hay i))
-    ∙ q.at hay small (if_clear bytes hay i accept) i) (length hay + 1 - start) start (omega arith)
+find-stripped = seen-stripped span span-view (λ i t. refl)
+
+pub captures-stripped : (count : ℕ) (bytes : List ℕ) (whole stripped written : Re) → IsStripped bytes whole stripped
+    → SameCaptures whole written →
+    (hay : List ℕ) (start : ℕ) → All (λ x. x < 256) hay → start ≤ length hay
+    → option_map (captured count) (find stripped hay start)
+    ≡ option_map (captured count) (find_clear bytes written hay start)
+captures-stripped count = seen-stripped (captured count) (cells-view count) (cells-seen count)
 
 -- the first match that holds none of the bytes holds none of them
 pub clear-match : (bytes : List ℕ) (re : Re) (hay : List ℕ) (from a b : ℕ)

@@ -13,6 +13,7 @@ pub mod StrippedLemmas
 pub mod StrippedTreeLemmas
 pub mod NamedByteLemmas
 pub mod FindLemmas
+pub mod GroupLemmas
 pub mod EdgeLemmas
 pub mod SeenLemmas
 pub mod SeenMatchLemmas

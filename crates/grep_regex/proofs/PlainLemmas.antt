@@ -25,7 +25,7 @@ use Rattle.grep_regex.specs.Patterns.{config_of, text_of, escape_of, re_of, read
 use Rattle.grep_regex.specs.Patterns.{excluded_bytes, FindsAs}
 use Rattle.grep_regex.specs.Stripped.{IsStripped, AreStripped}
 use Rattle.grep_regex.specs.declared.options.Options.{Options}
-use Rattle.grep_regex.proofs.FindLemmas.{find-alike, find-stripped}
+use Rattle.grep_regex.proofs.FindLemmas.{captures-alike, captures-stripped, find-alike, find-stripped}
 use Rattle.grep_regex.proofs.StrippedLemmas.{stripped-alt_all, stripped-cat_all, stripped-literal, stripped-look}
 use Rattle.grep_regex.proofs.WrittenLemmas.{alike-alt_all, framed-alike}
 
@@ -118,4 +118,8 @@ module _ (o : Options) (patterns : List (List ℕ)) (whole : Re) where
             find-alike whole texts (reads also written) haystack start small from
             ∙ find-stripped bytes texts texts (written_re o patterns) thin (alike_sym written) haystack start small
             from;
+        captures = λ count haystack start small from.
+            captures-alike count whole texts (reads also written) haystack start small from
+            ∙ captures-stripped count bytes texts texts (written_re o patterns) thin (alike_sym written) haystack start
+            small from;
       }

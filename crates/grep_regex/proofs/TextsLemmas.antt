@@ -1,6 +1,6 @@
 -- Texts that stand one after another.
 use Rattle.std.proofs.Common.{◌≡◌, ℕ, ◌+◌, ◌<◌, ◌≤◌, List, [], ◌∷◌, ◌++◌, length, map, take, drop, get_or, Bor}
-use Rattle.std.proofs.Common.{sym, ap, ap₂, ◌∙◌, arith, length-append}
+use Rattle.std.proofs.Common.{refl, suc, sym, ap, ap₂, ◌∙◌, arith, length-append}
 use Rattle.std.proofs.lemmas.List.{take-append-le, drop-append-le, length-drop, take_more, map-append}
 use Rattle.std.proofs.lemmas.List.Sums.{sum_by-cons, sum_by_push}
 use Rattle.std.proofs.Math.Seq.{take-length}
@@ -39,3 +39,17 @@ module _ (texts : List (Bor (List ℕ))) (i : ℕ) (d : Bor (List ℕ)) (lens mo
       ∙ (ap (λ front. front ++ text ∷ []) same
       ∙ sym (ap (map (λ (t : Bor (List ℕ)). t.now)) (take_more texts i d inside)
       ∙ map-append (λ (t : Bor (List ℕ)). t.now) (take i texts) (get_or texts i d ∷ []))))
+
+-- there is a text for each length
+pub texts-count : (lens bytes : List ℕ) → length (texts_of bytes lens) ≡ length lens
+texts-count [] bytes = refl
+texts-count (n ∷ lens) bytes = ap suc (texts-count lens (drop n bytes))
+
+-- one alone is all that is kept
+pub texts-only : (lens bytes : List ℕ) → sum lens ≡ length bytes → length lens ≡ 1
+    → texts_of bytes lens ≡ bytes ∷ []
+texts-only [] bytes whole one = absurd (omega (arith, one))
+texts-only (n ∷ []) bytes whole one =
+    let all : n ≡ length bytes = omega (arith, whole, sum_by-cons (λ x. x) n []) in
+    ap (λ t. t ∷ []) (ap (λ k. take k bytes) all ∙ take-length bytes)
+texts-only (n ∷ (m ∷ lens)) bytes whole one = absurd (omega (arith, one))

@@ -28,7 +28,7 @@ use Rattle.grep_regex.specs.Patterns.{config_of, text_of, framed, between, re_of
 use Rattle.grep_regex.specs.Patterns.{written_re, excluded_bytes, FindsAs}
 use Rattle.grep_regex.specs.Stripped.{IsStripped}
 use Rattle.grep_regex.specs.declared.options.Options.{Options}
-use Rattle.grep_regex.proofs.FindLemmas.{find-stripped}
+use Rattle.grep_regex.proofs.FindLemmas.{captures-stripped, find-stripped}
 
 read-alike : (o : Option (Nested Re × Names)) (most : ℕ) (a : Re) (m : Names) →
     IsSomeAnd o (λ (re, found). (re.depth ≤ most) × SameCaptures a re.value × (m ≡ found) × (group_count a ≤ length m))
@@ -129,4 +129,6 @@ pub finds-as : (o : Options) (patterns : List (List ℕ)) (whole stripped : Re)
 finds-as o patterns whole stripped reads thin = record {
   at = λ haystack start small from. find-stripped (excluded_bytes o.line_terminator) whole stripped
       (written_re o patterns) thin reads haystack start small from;
+  captures = λ count haystack start small from. captures-stripped count (excluded_bytes o.line_terminator) whole
+      stripped (written_re o patterns) thin reads haystack start small from;
 }

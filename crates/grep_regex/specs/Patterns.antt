@@ -3,7 +3,7 @@ use Rattle.std.specs.Prelude.{◌≡◌, ◌<◌, ◌≤◌, ℕ, max, true, fal
 use Rattle.std.specs.Prelude.{◌∷◌, map}
 use Rattle.std.specs.Prelude.{length, Option, None, Some, IsSomeAnd, All, option_map, chars}
 use Rattle.std.specs.Prelude.{encode_utf8_all}
-use Rattle.regex_hir.specs.Find.{find}
+use Rattle.regex_hir.specs.Find.{Match, find}
 use Rattle.regex_hir.specs.Meaning.{alt_all}
 use Rattle.regex_hir.specs.Re.{Re, empty, byte_in, look, cat}
 use Rattle.regex_hir.specs.declared.look.Look.{Look}
@@ -14,7 +14,7 @@ use Rattle.regex_syntax.specs.Brackets.{Nested}
 use Rattle.regex_syntax.specs.Grammar.{Names, read}
 use Rattle.regex_syntax.specs.Verdict.{default_config, default_flags, escaped_text}
 use Rattle.regex_syntax.specs.declared.Config.{Config}
-use Rattle.regex_vm.specs.Found.{span}
+use Rattle.regex_vm.specs.Found.{group_cells, span}
 use Rattle.grep_matcher.specs.FindResults.{Avoids}
 use Rattle.grep_matcher.specs.Meanings.{Meaning}
 use Rattle.grep_matcher.specs.Lines.{bytes_of}
@@ -153,10 +153,17 @@ meaning_of o patterns = record {
 abbrev pub leftmost_match_at : Re → List ℕ → ℕ → Option (ℕ × ℕ)
 leftmost_match_at re haystack start = option_map span (find re haystack start)
 
--- the pattern finds in each text, from each position on, what the patterns find there
+-- what is seen of a match with so many cells of groups: its span, and the cells
+abbrev pub captured : ℕ → Match → (ℕ × ℕ) × List ℕ
+captured count m = (span m, group_cells m count)
+
+-- the pattern finds in each text, from each position on, what the patterns find there, with the same groups
 pub record FindsAs (o : Options) (patterns : List (List ℕ)) (re : Re) : Type 0 where
   pub at : (text : List ℕ) (start : ℕ) → All (λ x. x < 256) text → start ≤ length text →
       leftmost_match_at re text start ≡ text_match_at o patterns text start
+  pub captures : (count : ℕ) (text : List ℕ) (start : ℕ) → All (λ x. x < 256) text → start ≤ length text →
+      option_map (captured count) (find re text start) ≡ option_map (captured count)
+      (find_clear (excluded_bytes o.line_terminator) (written_re o patterns) text start)
 
 -- what the patterns find holds none of their absent bytes
 pub record AvoidsAbsent (o : Options) (patterns : List (List ℕ)) : Type 0 where

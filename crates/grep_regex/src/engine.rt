@@ -1,10 +1,12 @@
 //! What searches for a regular expression.
-ghost use Rattle.std.specs.Prelude.{◌≡◌, ◌≤◌, length, IfOk};
+ghost use Rattle.std.specs.Prelude.{◌≡◌, ◌≤◌, ◌-◌, length, IfOk, OnOk};
 ghost use Rattle.std.specs.Arc.{arc_value};
 
 use crate::asked::Asked;
 use crate::finder::Finder;
+use crate::groups::push_match;
 use crate::regex::Regex;
+use grep_matcher::Match;
 use regex_meta::Searcher;
 use std::alloc::{AllocError, Global};
 
@@ -27,7 +29,9 @@ impl<'r> Drop for Engine<'r> {
 
 impl<'r> Engine<'r> {
     ghost use Rattle.grep_matcher.specs.FindResults.{IsFrom};
+    ghost use Rattle.grep_replace.specs.Groups.{IsOfMatch, LieWithin};
     ghost use Rattle.grep_regex.specs.Views.{engine_regex, regex_text_at, IsAnswer};
+    ghost use Rattle.grep_regex.specs.Views.{regex_text_groups_at};
 
     pub(crate) fn new(alloc: Global, regex: &'r Regex) -> Result<Engine<'r>, AllocError>
         ensures { IfOk result (λ engine. engine.regex.now ≡ regex.now) }
@@ -82,6 +86,88 @@ impl<'r> Engine<'r> {
             Err(error) => Err(error),
         }
     }
+
+    // The first match from a position on in a haystack of which all is seen, with its groups in
+    // place of what was in `groups`.
+    pub(crate) fn captures_at(
+        &mut self,
+        haystack: &[u8],
+        start: usize,
+        groups: &mut Vec<Option<Match>>,
+    ) -> Result<Option<Match>, AllocError>
+        requires { start ≤ length haystack.now }
+        ensures value { IfOk result (λ m.
+            m ≡ regex_text_at (engine_regex self.old) haystack.now start) }
+        ensures groups { OnOk result (groups.new.items
+            ≡ regex_text_groups_at (engine_regex self.old) haystack.now start) }
+        ensures whole { IfOk result (IsOfMatch groups.new.items) }
+        ensures within { OnOk result (LieWithin (length haystack.now) groups.new.items) }
+        ensures same { self.new.regex.now ≡ self.old.regex.now }
+    {
+        let slots = self.searcher.program.dfa.nfa.slot_count as usize;
+        match zeros(*groups.allocator(), slots.saturating_sub(2)) {
+            Ok(mut cells) => self.captures_by(haystack, start, groups, &mut cells),
+            Err(error) => Err(error),
+        }
+    }
+
+    // The same by cells, two for each group but the first.
+    fn captures_by(
+        &mut self,
+        haystack: &[u8],
+        start: usize,
+        groups: &mut Vec<Option<Match>>,
+        cells: &mut [usize],
+    ) -> Result<Option<Match>, AllocError>
+        requires start { start ≤ length haystack.now }
+        requires width { length cells.old
+            ≡ self.old.searcher.program.now.dfa.nfa.slot_count - 2 }
+        ensures value { IfOk result (λ m.
+            m ≡ regex_text_at (engine_regex self.old) haystack.now start) }
+        ensures groups { OnOk result (groups.new.items
+            ≡ regex_text_groups_at (engine_regex self.old) haystack.now start) }
+        ensures whole { IfOk result (IsOfMatch groups.new.items) }
+        ensures within { OnOk result (LieWithin (length haystack.now) groups.new.items) }
+        ensures same { self.new.regex.now ≡ self.old.regex.now }
+    {
+        groups.clear();
+        let Some((from, end)) = self.searcher.captures(haystack, start, cells) else {
+            return Ok(None);
+        };
+        match push_match(groups, haystack.len(), from, end, cells) {
+            Ok(whole) => Ok(Some(whole)),
+            Err(error) => Err(error),
+        }
+    }
+
+    // The same, by a new engine.
+    pub(crate) fn captures_anew(
+        alloc: Global,
+        regex: &'r Regex,
+        haystack: &[u8],
+        start: usize,
+        groups: &mut Vec<Option<Match>>,
+    ) -> Result<Option<Match>, AllocError>
+        requires { start ≤ length haystack.now }
+        ensures value { IfOk result (λ m. m ≡ regex_text_at regex.now haystack.now start) }
+        ensures groups { OnOk result (groups.new.items
+            ≡ regex_text_groups_at regex.now haystack.now start) }
+        ensures whole { IfOk result (IsOfMatch groups.new.items) }
+        ensures within { OnOk result (LieWithin (length haystack.now) groups.new.items) }
+    {
+        match Engine::new(alloc, regex) {
+            Ok(mut engine) => engine.captures_at(haystack, start, groups),
+            Err(error) => Err(error),
+        }
+    }
+}
+
+// So many cells for groups.
+fn zeros(alloc: Global, count: usize) -> Result<Vec<usize>, AllocError>
+    ensures { IfOk result (λ cells. length cells.items ≡ count) }
+{
+    let cells = vec![in alloc; 0usize; count]?;
+    Ok(cells)
 }
 
 // It is for the expressions that have the same options and texts.
@@ -99,5 +185,18 @@ impl<'r> Finder for Engine<'r> {
             return None;
         }
         Some(self.find_at(haystack, start, asked))
+    }
+
+    fn captures_for(
+        &mut self,
+        regex: &Regex,
+        haystack: &[u8],
+        start: usize,
+        groups: &mut Vec<Option<Match>>,
+    ) -> Option<Result<Option<Match>, AllocError>> {
+        if !self.regex.is_equal(regex) {
+            return None;
+        }
+        Some(self.captures_at(haystack, start, groups))
     }
 }

@@ -1,8 +1,10 @@
 //! Asking what is in a cell for matches.
-ghost use Rattle.std.specs.Prelude.{◌≡◌, ◌≤◌, length, is_some, IfOk, IfSome};
+ghost use Rattle.std.specs.Prelude.{◌≡◌, ◌≤◌, length, is_some, IfOk, IfSome, OnOk};
 ghost use Rattle.grep_matcher.specs.FindResults.{Avoids, IsFrom};
 ghost use Rattle.grep_matcher.specs.Lawful.{IsInside, IsTrusted};
+ghost use Rattle.grep_replace.specs.Groups.{IsOfMatch, LieWithin};
 ghost use Rattle.grep_regex.specs.Views.{regex_first, regex_first_at, regex_text_at};
+ghost use Rattle.grep_regex.specs.Views.{regex_groups_at, regex_text_groups_at};
 ghost use Rattle.grep_regex.specs.Views.{regex_meaning, IsAnswer};
 
 use crate::asked::Asked;
@@ -36,6 +38,24 @@ pub(crate) trait Finder {
         ensures value { IfSome result
             (IsAnswer asked (regex_text_at regex.now haystack.now start)) }
         ensures within { IfSome result (IsFrom start haystack.now) };
+
+    // The same match with its groups, in place of what was in `groups`.
+    fn captures_for(
+        &mut self,
+        regex: &Regex,
+        haystack: &[u8],
+        start: usize,
+        groups: &mut Vec<Option<Match>>,
+    ) -> Option<Result<Option<Match>, AllocError>>
+        requires start { start ≤ length haystack.now }
+        requires known { is_known regex.now }
+        ensures value { IfSome result (λ found. IfOk found (λ m.
+            m ≡ regex_text_at regex.now haystack.now start)) }
+        ensures groups { IfSome result (λ found. OnOk found (groups.new.items
+            ≡ regex_text_groups_at regex.now haystack.now start)) }
+        ensures whole { IfSome result (λ found. IfOk found (IsOfMatch groups.new.items)) }
+        ensures within { IfSome result (λ found. OnOk found
+            (LieWithin (length haystack.now) groups.new.items)) };
 }
 
 // The first match from a position on; for `AnyMatch` some pair exactly if there is a match, and
@@ -107,6 +127,57 @@ pub(crate) fn match_at<F: Finder>(
         Ok(None) => Ok(None),
         Err(error) => Err(error),
     }
+}
+
+// The first match of an expression that starts at a position or after it, with its groups in place
+// of what was in `groups`.
+pub(crate) fn captures_at<F: Finder>(
+    alloc: Global,
+    regex: &Regex,
+    cell: &RefCell<F>,
+    haystack: &[u8],
+    start: usize,
+    groups: &mut Vec<Option<Match>>,
+) -> Result<Option<Match>, AllocError>
+    requires start { start ≤ length haystack.now }
+    requires known { F.is_known regex.now }
+    ensures value { IfOk result (λ m. m ≡ regex_first_at regex.now haystack.now start) }
+    ensures groups { OnOk result (groups.new.items
+        ≡ regex_groups_at regex.now haystack.now start) }
+    ensures whole { IfOk result (IsOfMatch groups.new.items) }
+    ensures within { OnOk result (LieWithin (length haystack.now) groups.new.items) }
+{
+    let seen = regex.seen_bytes(haystack);
+    if seen.len() < start {
+        groups.clear();
+        return Ok(None);
+    }
+    captures_in(alloc, regex, cell, seen, start, groups)
+}
+
+// The same in a haystack of which all is seen.
+fn captures_in<F: Finder>(
+    alloc: Global,
+    regex: &Regex,
+    cell: &RefCell<F>,
+    haystack: &[u8],
+    start: usize,
+    groups: &mut Vec<Option<Match>>,
+) -> Result<Option<Match>, AllocError>
+    requires start { start ≤ length haystack.now }
+    requires known { F.is_known regex.now }
+    ensures value { IfOk result (λ m. m ≡ regex_text_at regex.now haystack.now start) }
+    ensures groups { OnOk result (groups.new.items
+        ≡ regex_text_groups_at regex.now haystack.now start) }
+    ensures whole { IfOk result (IsOfMatch groups.new.items) }
+    ensures within { OnOk result (LieWithin (length haystack.now) groups.new.items) }
+{
+    if let Ok(mut borrowed) = cell.try_borrow_mut() {
+        if let Some(found) = borrowed.captures_for(regex, haystack, start, groups) {
+            return found;
+        }
+    }
+    Engine::captures_anew(alloc, regex, haystack, start, groups)
 }
 
 // Whether the haystack has a match of an expression.

@@ -2,10 +2,11 @@
 ghost use Rattle.std.specs.Prelude.{◌≡◌, IfOk};
 
 use crate::engine::Engine;
-use crate::finder::{candidate_line, has_match, match_at};
+use crate::finder::{candidate_line, captures_at, has_match, match_at};
 use crate::regex::Regex;
 use crate::shortcut::Shortcut;
 use grep_matcher::{ByteSet, FindAt, LineMatchKind, LineTerminator, Match, Matcher};
+use grep_replace::CapturesAt;
 use std::alloc::{AllocError, Global};
 use std::cell::RefCell;
 
@@ -98,5 +99,33 @@ impl FindAt for RegexMatcher<'_> {
 
     fn find_at(&self, haystack: &[u8], start: usize) -> Result<Option<Match>, AllocError> {
         match_at(self.alloc, &self.shortcut, &self.engine, haystack, start)
+    }
+}
+
+/// The groups are those of the pattern that matches: each pattern has its own numbers.
+impl CapturesAt for RegexMatcher<'_> {
+    ghost use Rattle.grep_regex.specs.GroupsPast.{groups-past};
+    ghost use Rattle.grep_regex.specs.Views.{matcher_regex, regex_groups_at};
+    ghost use Rattle.grep_regex.specs.Views.{regex_options, regex_patterns};
+
+    ghost groups_at = { λ m. regex_groups_at (matcher_regex m) };
+
+    ghost none_past = { λ m.
+        groups-past (regex_options (matcher_regex m)) (regex_patterns (matcher_regex m)) };
+
+    fn captures_at(
+        &self,
+        haystack: &[u8],
+        start: usize,
+        groups: &mut Vec<Option<Match>>,
+    ) -> Result<Option<Match>, AllocError> {
+        captures_at(
+            self.alloc,
+            self.shortcut.regex,
+            &self.engine,
+            haystack,
+            start,
+            groups,
+        )
     }
 }

@@ -4,10 +4,11 @@ ghost use Rattle.grep_regex.specs.Views.{IsNamed};
 
 use crate::asked::Asked;
 use crate::engine::Engine;
-use crate::finder::{Finder, candidate_line, has_match, match_at};
+use crate::finder::{Finder, candidate_line, captures_at, has_match, match_at};
 use crate::regex::Regex;
 use crate::shortcut::Shortcut;
 use grep_matcher::{ByteSet, FindAt, LineMatchKind, LineTerminator, Match, Matcher};
+use grep_replace::CapturesAt;
 use std::alloc::{AllocError, Global};
 use std::cell::RefCell;
 use std::marker::{Brand, PhantomData};
@@ -54,6 +55,16 @@ impl<'r, N: Naming> Finder for NamedEngine<'r, N> {
         asked: Asked,
     ) -> Option<Option<(usize, usize)>> {
         Some(self.engine.find_at(haystack, start, asked))
+    }
+
+    fn captures_for(
+        &mut self,
+        _regex: &Regex,
+        haystack: &[u8],
+        start: usize,
+        groups: &mut Vec<Option<Match>>,
+    ) -> Option<Result<Option<Match>, AllocError>> {
+        Some(self.engine.captures_at(haystack, start, groups))
     }
 }
 
@@ -149,5 +160,33 @@ impl<N: Naming> FindAt for NamedMatcher<'_, N> {
 
     fn find_at(&self, haystack: &[u8], start: usize) -> Result<Option<Match>, AllocError> {
         match_at(self.alloc, &self.shortcut, &self.engine, haystack, start)
+    }
+}
+
+/// The groups are those of the pattern that matches: each pattern has its own numbers.
+impl<N: Naming> CapturesAt for NamedMatcher<'_, N> {
+    ghost use Rattle.grep_regex.specs.GroupsPast.{groups-past};
+    ghost use Rattle.grep_regex.specs.NamedViews.{named_regex};
+    ghost use Rattle.grep_regex.specs.Views.{regex_groups_at, regex_options, regex_patterns};
+
+    ghost groups_at = { λ m. regex_groups_at (named_regex m) };
+
+    ghost none_past = { λ m.
+        groups-past (regex_options (named_regex m)) (regex_patterns (named_regex m)) };
+
+    fn captures_at(
+        &self,
+        haystack: &[u8],
+        start: usize,
+        groups: &mut Vec<Option<Match>>,
+    ) -> Result<Option<Match>, AllocError> {
+        captures_at(
+            self.alloc,
+            self.shortcut.regex,
+            &self.engine,
+            haystack,
+            start,
+            groups,
+        )
     }
 }

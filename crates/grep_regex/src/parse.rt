@@ -1,9 +1,11 @@
 //! Reading patterns.
 ghost use Rattle.std.specs.Prelude.{◌≡◌, ◌-◌, ◌^◌, IfOk, IfErr, map, min, option_map};
-ghost use Rattle.std.specs.Prelude.{string_bytes};
+ghost use Rattle.std.specs.Prelude.{chars, string_bytes};
 ghost use Rattle.regex_hir.specs.Meaning.{meaning, alt_all};
 ghost use Rattle.regex_syntax.specs.Captures.{SameCaptures};
+ghost use Rattle.regex_syntax.specs.Grammar.{read};
 ghost use Rattle.regex_syntax.specs.Verdict.{Reads};
+ghost use Rattle.grep_regex.specs.Groups.{names_in};
 ghost use Rattle.grep_regex.specs.Patterns.{config_of, escape_of, text_of, read_re};
 ghost use Rattle.grep_regex.specs.Patterns.{ArePatterns, most_groups};
 ghost use Rattle.grep_regex.specs.Alike.{AreAlike};
@@ -13,7 +15,8 @@ use crate::error::Error;
 use crate::options::Options;
 use regex_hir::Hir;
 use regex_syntax::{Config, Error as SyntaxError, Flags, Parsed, Span};
-use std::alloc::Global;
+use std::alloc::{AllocError, Global};
+use std::mem;
 
 // The alternation of some patterns.
 #[derive(Drop)]
@@ -70,6 +73,22 @@ fn read_all(alloc: Global, options: &Options, patterns: &[&str]) -> Result<Branc
         hirs.push(hir)?;
     }
     Ok(Branches { hirs, groups })
+}
+
+// The names of the groups of a text that is a pattern, by their numbers. So it fails only where memory
+// is out.
+pub(crate) fn read_names(
+    alloc: Global,
+    options: &Options,
+    pattern: &str,
+) -> Result<Vec<Option<String>>, AllocError>
+    ensures { IfOk result (λ names. map (option_map string_bytes) names.items
+        ≡ names_in (read (config_of options.now) (chars (text_of options.now pattern.now)))) }
+{
+    match read(alloc, options, 0, pattern) {
+        Ok(mut parsed) => Ok(mem::replace(&mut parsed.names, Vec::new(alloc))),
+        Err(_) => Err(AllocError),
+    }
 }
 
 // The alternation of the patterns; of one, that pattern itself.

@@ -1,10 +1,12 @@
 //! A compiled regular expression.
 ghost use Rattle.std.specs.Prelude.{◌≡◌, ℕ, IfOk, IfErr, IfSome, OnOk, IsTrue, None, map};
-ghost use Rattle.std.specs.Option.{option_copied};
+ghost use Rattle.std.specs.Option.{option_copied, option_map};
+ghost use Rattle.std.specs.Prelude.{string_bytes};
 ghost use Rattle.regex_hir.specs.Meaning.{meaning};
 ghost use Rattle.grep_matcher.specs.FindResults.{holds_if_some};
 ghost use Rattle.grep_regex.specs.AbsentBytes.{is_absent};
 ghost use Rattle.grep_regex.specs.Choices.{items_of};
+ghost use Rattle.grep_regex.specs.Groups.{group_names};
 ghost use Rattle.grep_regex.specs.Classes.{IsPrefix};
 ghost use Rattle.grep_regex.specs.Locality.{is_by_line};
 ghost use Rattle.grep_regex.specs.Patterns.{excluded_bytes, named_terminator, AvoidsAbsent};
@@ -22,7 +24,7 @@ use crate::frame::frame;
 use crate::literal::literal_of;
 use crate::locality::is_by_line;
 use crate::options::Options;
-use crate::parse::{Choice, read_choice};
+use crate::parse::{Choice, read_choice, read_names};
 use crate::prefix::Prefix;
 use crate::seen::seen_bytes;
 use crate::strip::without_terminator;
@@ -55,6 +57,7 @@ pub(crate) struct Shared {
         IsTrue (is_by_line options.line_terminator (meaning program.hir))) ∥₁ },
     ghost strips: { ∥ (IsTrue by_line → options.line_terminator ≡ None →
         IsTrue (is_absent options patterns 13)) ∥₁ },
+    ghost sized: { ∥ IsSized options patterns program ∥₁ },
 }
 
 // Written out, so that a caller's proof sees one call.
@@ -160,6 +163,19 @@ impl Regex {
         ensures { result ≡ regex_options self.now }
     {
         self.shared.options
+    }
+
+    /// The names of the groups of its pattern, by their numbers; the first is that of the whole match,
+    /// which has none. Of several patterns no group has a name. The text is read again, and the only
+    /// error is being out of memory.
+    pub fn group_names(&self, alloc: Global) -> Result<Vec<Option<String>>, AllocError>
+        ensures { IfOk result (λ names. map (option_map string_bytes) names.items
+            ≡ group_names (regex_options self.now) (regex_patterns self.now)) }
+    {
+        match self.shared.patterns.only() {
+            Some(pattern) => read_names(alloc, &self.shared.options, pattern),
+            None => Ok(Vec::new(alloc)),
+        }
     }
 
     // The line terminator that its matchers name: none for the byte 0.

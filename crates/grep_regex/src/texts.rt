@@ -1,5 +1,5 @@
 //! The texts of patterns, one after another.
-ghost use Rattle.std.specs.Prelude.{◌≡◌, IfOk, IsTrue, map};
+ghost use Rattle.std.specs.Prelude.{◌≡◌, ◌≢◌, ◌∷◌, [], IfOk, IsTrue, MatchOption, length, map};
 
 use std::alloc::{AllocError, Global};
 use std::fmt;
@@ -13,12 +13,15 @@ pub(crate) struct Texts {
 }
 
 impl Model for Texts {
-    ghost use Rattle.std.specs.Prelude.{ℕ, List, string_bytes};
+    ghost use Rattle.std.specs.Prelude.{◌≡◌, ℕ, List, length, string_bytes};
+    ghost use Rattle.std.specs.List.{sum};
     ghost use Rattle.grep_regex.specs.Texts.{texts_of};
 
     ghost Value = { List (List ℕ) };
 
     ghost view = { λ t. texts_of (string_bytes t.joined) t.lens.items };
+
+    ghost invariant = { λ t. sum t.lens.items ≡ length (string_bytes t.joined) };
 }
 
 // Written out, so that a caller's proof sees one call.
@@ -58,6 +61,17 @@ impl Texts {
             lens.push(text.len())?;
         }
         Ok(Texts { joined, lens })
+    }
+
+    // The text, if there is one alone.
+    pub(crate) fn only(&self) -> Option<&str>
+        ensures { MatchOption result (length self.now ≢ 1) (λ text. self.now ≡ text.now ∷ []) }
+    {
+        if self.lens.len() == 1 {
+            Some(self.joined.as_str())
+        } else {
+            None
+        }
     }
 
     // Whether the texts are equal.

@@ -4,6 +4,7 @@ mod debug;
 mod engine;
 mod errors;
 mod from_position;
+mod groups;
 mod hostile;
 mod large;
 mod matches;

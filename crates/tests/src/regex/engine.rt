@@ -5,6 +5,7 @@ ghost use Rattle.grep_regex.specs.Views.{IsNamed};
 use crate::texts::debugs;
 use grep_matcher::{FindAt, LineTerminator, Matcher};
 use grep_regex::{Error, Naming, Regex, RegexMatcherBuilder};
+use grep_replace::{CapturesAt, Template};
 use std::alloc::Global;
 use std::marker::Brand;
 
@@ -204,6 +205,97 @@ fn is_same(answer: &Answer, other: &Answer) -> bool {
         && answer.position == other.position
         && answer.terminator == other.terminator
         && answer.lacks_nul == other.lacks_nul
+}
+
+// What a template makes of the groups of the first match from a position on, or `None` if there is no
+// match, or the matchers of the patterns differ.
+pub fn expanded(
+    alloc: Global,
+    letters: &str,
+    patterns: &[&str],
+    haystack: &[u8],
+    start: usize,
+    template: &[u8],
+) -> Option<Vec<u8>> {
+    let Ok(regex) = build(alloc, letters, patterns) else {
+        return None;
+    };
+    let template = template_of(alloc, &regex, template)?;
+    let plain = plain_expanded(alloc, &regex, haystack, start, &template)?;
+    let named = pick_expanded(alloc, &regex, haystack, start, &template)?;
+    if plain.as_slice() == named.as_slice() {
+        Some(plain)
+    } else {
+        None
+    }
+}
+
+fn template_of(alloc: Global, regex: &Regex, template: &[u8]) -> Option<Template> {
+    let Ok(names) = regex.group_names(alloc) else {
+        return None;
+    };
+    Template::new(alloc, template, &names).ok()
+}
+
+fn plain_expanded(
+    alloc: Global,
+    regex: &Regex,
+    haystack: &[u8],
+    start: usize,
+    template: &Template,
+) -> Option<Vec<u8>> {
+    let Ok(matcher) = regex.matcher(alloc) else {
+        return None;
+    };
+    expand(alloc, &matcher, haystack, start, template)
+}
+
+fn pick_expanded(
+    alloc: Global,
+    regex: &Regex,
+    haystack: &[u8],
+    start: usize,
+    template: &Template,
+) -> Option<Vec<u8>> {
+    named_expanded::<Brand>(alloc, regex, haystack, start, template)
+}
+
+fn named_expanded<N: Naming>(
+    alloc: Global,
+    regex: &Regex,
+    haystack: &[u8],
+    start: usize,
+    template: &Template,
+) -> Option<Vec<u8>>
+    requires { IsNamed N.options N.patterns regex.now }
+{
+    let Ok(matcher) = regex.named_matcher::<N>(alloc) else {
+        return None;
+    };
+    expand(alloc, &matcher, haystack, start, template)
+}
+
+// What a template makes of the groups that a matcher finds.
+fn expand<M: CapturesAt>(
+    alloc: Global,
+    matcher: &M,
+    haystack: &[u8],
+    start: usize,
+    template: &Template,
+) -> Option<Vec<u8>> {
+    if start > haystack.len() {
+        return None;
+    }
+    let mut groups = Vec::new(alloc);
+    match matcher.captures_at(haystack, start, &mut groups) {
+        Ok(Some(_)) => {}
+        _ => return None,
+    }
+    let mut bytes = Vec::new(alloc);
+    match template.push_to(&mut bytes, haystack, &groups) {
+        Ok(()) => Some(bytes),
+        Err(_) => None,
+    }
 }
 
 // Whether this is the debug form of a clone of the expression of patterns.

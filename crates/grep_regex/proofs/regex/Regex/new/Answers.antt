@@ -3,6 +3,7 @@ use Rattle.regex_hir.specs.Meaning.{meaning}
 use Rattle.grep_matcher.specs.FindResults.{holds_if_some}
 use Rattle.grep_regex.specs.AbsentBytes.{is_absent}
 use Rattle.grep_regex.specs.Patterns.{AvoidsAbsent, FindsAs}
+use Rattle.grep_regex.specs.Sizes.{IsSized}
 use Rattle.grep_regex.proofs.regex.Regex.new.Goals as goal
 
 pub invariant_of-shared : goal.invariant_of-shared
@@ -17,4 +18,5 @@ invariant_of-shared c =
       confirms = ∣ c.confirms-by_line.ensures.local ∣₁;
       strips = ∣ (λ yes none. subst (λ p. is_absent o p 13 ≡ true) texts
           (c.absent_bytes-absent.ensures.value 13 ∙ c.confirms-by_line.ensures.strips yes none)) ∣₁;
+      sized = ∣ subst (λ p. IsSized o p c.in-Ok.program) texts c.in-Ok.ensures.sized ∣₁;
     }
