@@ -9,12 +9,13 @@ use Rattle.grep_searcher.specs.Meanings.{Meaning}
 use Rattle.grep_searcher.specs.Plans.{is_across, reported_bytes, Call, Settings}
 use Rattle.grep_printer.proofs.ReportLemmas.{reported_bytes-report}
 use Rattle.grep_printer.proofs.SuccessiveLemmas.{parts-below}
-use Rattle.grep_printer.specs.CallParts.{HasParts, Surroundings, asked_bytes, asked_start}
+use Rattle.grep_printer.specs.CallParts.{HasParts, asked_bytes, asked_start}
 use Rattle.grep_printer.specs.CallParts.{parts_of_call, shown_bytes, shown_start}
+use Rattle.grep_printer.specs.Formats.{Surroundings, nothing_around}
 use Rattle.grep_printer.specs.JsonLaws.{IsWordRange}
 use Rattle.grep_printer.specs.MatchedParts.{first_from, parts_in}
 use Rattle.grep_printer.specs.Reports.{IsAround, IsShownAs, call_of, event_call, reporting_call}
-use Rattle.grep_printer.specs.Reports.{surroundings_of}
+use Rattle.grep_printer.specs.Reports.{event_surroundings, surroundings_of}
 use Rattle.grep_printer.specs.SearchMessages.{PartsHaveWords}
 use Rattle.grep_printer.specs.declared.format.Event.{Event}
 use Rattle.grep_printer.specs.declared.format.Event.TheVariants.{Begin, Break, BinaryData, Finish}
@@ -24,30 +25,31 @@ use Rattle.grep_printer.specs.declared.report.ReportKind.{ReportKind}
 use Rattle.grep_printer.specs.declared.report.ReportKind.TheVariants.{Match, Context}
 
 -- what is around the report of a call
-some-around : (event : Event) → (around : Surroundings) × IsAround event around
-some-around (report_event report) = (surroundings_of report, refl)
-some-around Begin = (record { before = []; after = [] }, tt)
-some-around Break = (record { before = []; after = [] }, tt)
-some-around (BinaryData offset) = (record { before = []; after = [] }, tt)
-some-around (Finish count binary) = (record { before = []; after = [] }, tt)
+some-around : (event : Event) → IsAround event (event_surroundings event)
+some-around (report_event report) = refl
+some-around Begin = tt
+some-around Break = tt
+some-around (BinaryData offset) = tt
+some-around (Finish count binary) = tt
 
 -- no parts, if they aren't asked for
 pub no-parts : (first_at : List ℕ → ℕ → Option (ℕ × ℕ)) (settings : Settings) (meaning : Meaning) (is_asked : Bool)
     (event : Event) (parts : List (ℕ × ℕ)) → is_asked ≡ false → parts ≡ []
     → HasParts (IsAround event) first_at settings meaning is_asked
-    (record { call = event_call event; parts = parts })
+    (record { call = event_call event; around = event_surroundings event; parts = parts })
 no-parts first_at settings meaning is_asked event parts unasked none =
-    let around = some-around event in (around.0, around.1, rw unasked none)
+    (some-around event, rw unasked none)
 
 -- those of a report, if they are asked for
 pub found-parts : (first_at : List ℕ → ℕ → Option (ℕ × ℕ)) (settings : Settings) (meaning : Meaning) (is_asked : Bool)
     (event : Event) (report : Report) (parts : List (ℕ × ℕ)) → event ≡ report_event report → is_asked ≡ true
     → parts ≡ parts_of_call settings meaning (surroundings_of report) (call_of report) first_at
     → HasParts (IsAround event) first_at settings meaning is_asked
-    (record { call = event_call event; parts = parts })
+    (record { call = event_call event; around = event_surroundings event; parts = parts })
 found-parts first_at settings meaning is_asked event report parts is asked found =
-    subst (λ e. HasParts (IsAround e) first_at settings meaning is_asked (record { call = event_call e; parts = parts }))
-    (sym is) (surroundings_of report, refl, rw asked found)
+    subst (λ e. HasParts (IsAround e) first_at settings meaning is_asked
+    (record { call = event_call e; around = event_surroundings e; parts = parts }))
+    (sym is) (refl, rw asked found)
 
 module _ (number : Option ℕ) (offset : ℕ) (bytes shown : List ℕ) (start : ℕ) where
   -- what is shown before a report and after it
@@ -111,14 +113,14 @@ module _ (number : Option ℕ) (offset : ℕ) (bytes shown : List ℕ) (start : 
 pub parts-have-words : PartsHaveWords
 parts-have-words first_at settings meaning is_asked printed found has = record {
   call = has;
-  ranges = subst (All IsWordRange) (sym found.2) (go is_asked);
+  ranges = subst (All IsWordRange) (sym found.1) (go is_asked);
 }
   where
     call : Call
     call = printed.call
 
     parts : List (ℕ × ℕ)
-    parts = parts_of_call settings meaning found.0 call first_at
+    parts = parts_of_call settings meaning printed.around call first_at
 
     short : length (reported_bytes call) < 2 ^ 64
     short = has.size
@@ -126,8 +128,8 @@ parts-have-words first_at settings meaning is_asked printed found has = record {
     go : (asked : Bool) → All IsWordRange (if asked then parts else [])
     go true = All-weaker (λ range. (range.0 < length (reported_bytes call)) × (range.1 ≤ length (reported_bytes call)))
         IsWordRange (λ range lies. (omega (arith, lies.0, short), omega (arith, lies.1, short))) parts
-        (parts-below (first_from (first_at (asked_bytes settings meaning found.0 call))
-        (asked_start settings meaning found.0 call))
-        (length (asked_bytes settings meaning found.0 call) - asked_start settings meaning found.0 call)
+        (parts-below (first_from (first_at (asked_bytes settings meaning printed.around call))
+        (asked_start settings meaning printed.around call))
+        (length (asked_bytes settings meaning printed.around call) - asked_start settings meaning printed.around call)
         (length (reported_bytes call)))
     go false = All-nil IsWordRange

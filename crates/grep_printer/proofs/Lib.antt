@@ -10,6 +10,8 @@ pub mod PlanWordLemmas
 mod PreviewLemmas
 pub mod PushLemmas
 pub mod ReadBackLemmas
+pub mod ReplacedCallLemmas
+pub mod ReplacedLemmas
 pub mod ReportLemmas
 pub mod ReportToldLemmas
 pub mod SearchMessageLemmas

@@ -165,7 +165,7 @@ module _ (always : Bool) (scene : Scene) where
           (record { format = record { always_begin_end = always; progress = progress }; text = made }) later).format.progress
           (fold (printed_with json_rules scene)
           (record { format = record { always_begin_end = always; progress = progress }; text = made }) later).text)
-          → AreCounted terminator (record { call = call; parts = ranges } ∷ later) found lines parts
+          → AreCounted terminator (record { call = call; around = printed.around; parts = ranges } ∷ later) found lines parts
           (fold (printed_with json_rules scene) (record {
             format = record {
               always_begin_end = always;
@@ -183,18 +183,19 @@ module _ (always : Bool) (scene : Scene) where
       go begins ranges same others =
           others found lines parts _ _ (counted-other found lines parts progress made begins ranges refl is)
       go (matches number offset bytes) ranges same others =
-          let printed : PrintedCall = record { call = matches number offset bytes; parts = ranges } in
-          let more = line_count_of terminator printed in
+          let one_call : PrintedCall =
+          record { call = matches number offset bytes; around = printed.around; parts = ranges } in
+          let more = line_count_of terminator one_call in
           let count = length ranges in
           let end = others (suc found) (lines + more) (parts + count) _ _
           (counted-match found lines parts more count progress made
           (json_text always scene progress (matches number offset bytes) ranges) (report-some progress _) is) in
-          let first = sum_by-cons (line_count_of terminator) printed (matched later) in
-          let second = sum_by-cons part_count_of printed (matched later) in
-          counted-as (suc found + length (matched later)) (found + length (printed ∷ matched later))
+          let first = sum_by-cons (line_count_of terminator) one_call (matched later) in
+          let second = sum_by-cons part_count_of one_call (matched later) in
+          counted-as (suc found + length (matched later)) (found + length (one_call ∷ matched later))
           ((lines + more) + sum_by (line_count_of terminator) (matched later))
-          (lines + sum_by (line_count_of terminator) (printed ∷ matched later))
-          ((parts + count) + sum_by part_count_of (matched later)) (parts + sum_by part_count_of (printed ∷ matched later))
+          (lines + sum_by (line_count_of terminator) (one_call ∷ matched later))
+          ((parts + count) + sum_by part_count_of (matched later)) (parts + sum_by part_count_of (one_call ∷ matched later))
           _ _ (omega arith) (omega (arith, first)) (omega (arith, second)) end
       go (context kind number offset bytes) ranges same others =
           others found lines parts _ _
@@ -270,17 +271,18 @@ module _ (config : SummaryConfig) (scene : Scene) where
           → ((found parts : ℕ) → fold (printed_with summary_rules scene) (so_many config found parts []) later
           ≡ so_many config (found + length (matched later)) (parts + sum_by part_count_of (matched later)) [])
           → fold (printed_with summary_rules scene) (so_many config found parts [])
-          (record { call = call; parts = ranges } ∷ later)
-          ≡ so_many config (found + length (matched (record { call = call; parts = ranges } ∷ later)))
-          (parts + sum_by part_count_of (matched (record { call = call; parts = ranges } ∷ later))) []
+          (record { call = call; around = printed.around; parts = ranges } ∷ later)
+          ≡ so_many config (found + length (matched (record { call = call; around = printed.around; parts = ranges } ∷ later)))
+          (parts + sum_by part_count_of (matched (record { call = call; around = printed.around; parts = ranges } ∷ later))) []
       go begins ranges here others = others found parts
       go (matches number offset bytes) ranges here others =
           let count = length ranges in
-          let printed : PrintedCall = record { call = matches number offset bytes; parts = ranges } in
-          let first = sum_by-cons part_count_of printed (matched later) in
-          let one : found + 1 + length (matched later) ≡ found + length (printed ∷ matched later) = omega arith in
+          let one_call : PrintedCall =
+          record { call = matches number offset bytes; around = printed.around; parts = ranges } in
+          let first = sum_by-cons part_count_of one_call (matched later) in
+          let one : found + 1 + length (matched later) ≡ found + length (one_call ∷ matched later) = omega arith in
           let two : parts + count + sum_by part_count_of (matched later)
-          ≡ parts + sum_by part_count_of (printed ∷ matched later) = omega (arith, first) in
+          ≡ parts + sum_by part_count_of (one_call ∷ matched later) = omega (arith, first) in
           let counts : Counts → Printed SummaryFormat =
           λ counts. record { format = record { config = config; counts = counts }; text = [] } in
           ap (λ n. fold (printed_with summary_rules scene)
@@ -290,7 +292,7 @@ module _ (config : SummaryConfig) (scene : Scene) where
           (counts (record { match_count = capped (found + 1); part_count = n })) later) (capped-more parts count)
           ∙ (others (found + 1) (parts + count)
           ∙ (ap (λ n. so_many config n (parts + count + sum_by part_count_of (matched later)) []) one
-          ∙ ap (λ n. so_many config (found + length (printed ∷ matched later)) n []) two)))
+          ∙ ap (λ n. so_many config (found + length (one_call ∷ matched later)) n []) two)))
       go (context kind number offset bytes) ranges here others = others found parts
       go breaks ranges here others = others found parts
       go (binary_data offset) ranges here others = others found parts

@@ -12,7 +12,7 @@ use Rattle.grep_matcher.specs.Lines.{lines, onto_first}
 use Rattle.grep_searcher.specs.Plans.{Call, begins, matches, context, breaks, binary_data, finishes}
 use Rattle.grep_printer.proofs.ReadBackLemmas.{messages-read-back}
 use Rattle.grep_printer.proofs.ReportToldLemmas.{begin-other, messages-tell}
-use Rattle.grep_printer.specs.Formats.{PrintedCall, Scene, printed_by, printed_with}
+use Rattle.grep_printer.specs.Formats.{PrintedCall, Scene, Surroundings, printed_by, printed_with}
 use Rattle.grep_printer.specs.JsonLaws.{IsLineOf, IsReport, IsSameReport, IsWordRange, Reported, message_of_report}
 use Rattle.grep_printer.specs.JsonMessages.{begin_json, json_line}
 use Rattle.grep_printer.specs.JsonTexts.{json_progress, json_rules, json_text, with_text}
@@ -81,13 +81,14 @@ module _ (always : Bool) (scene : Scene) where
   -- ---- the text of a search
 
   -- one call with its parts, and those after it
-  text-more : (progress : JsonProgress) (call : Call) (parts : List (ℕ × ℕ)) (later : List PrintedCall)
+  text-more : (progress : JsonProgress) (call : Call) (around : Surroundings) (parts : List (ℕ × ℕ))
+      (later : List PrintedCall)
       → flat_map json_line (messages_of always scene.path progress.is_begun
-      (record { call = call; parts = parts } ∷ later))
+      (record { call = call; around = around; parts = parts } ∷ later))
       ≡ json_text always scene progress call parts
       ++ flat_map json_line (messages_of always scene.path (json_progress always scene progress call parts).is_begun
       later)
-  text-more progress begins parts later = go always progress.is_begun
+  text-more progress begins around parts later = go always progress.is_begun
     where
       go : (due begun : Bool)
           → flat_map json_line ((if not begun && (due || list_any (λ p. opens always p.call) later)
@@ -100,27 +101,27 @@ module _ (always : Bool) (scene : Scene) where
       go true true = refl
       go true false = refl
       go false begun = refl
-  text-more progress (matches number offset bytes) parts later = go progress.is_begun
+  text-more progress (matches number offset bytes) around parts later = go progress.is_begun
     where
       go : (begun : Bool)
           → flat_map json_line (messages_of always scene.path begun
-          (record { call = matches number offset bytes; parts = parts } ∷ later))
+          (record { call = matches number offset bytes; around = around; parts = parts } ∷ later))
           ≡ json_text always scene (record progress { is_begun = begun }) (matches number offset bytes) parts
           ++ flat_map json_line (messages_of always scene.path true later)
       go true = refl
       go false = sym (append_assoc (json_line (begin_json scene.path)) _ _)
-  text-more progress (context kind number offset bytes) parts later = go progress.is_begun
+  text-more progress (context kind number offset bytes) around parts later = go progress.is_begun
     where
       go : (begun : Bool)
           → flat_map json_line (messages_of always scene.path begun
-          (record { call = context kind number offset bytes; parts = parts } ∷ later))
+          (record { call = context kind number offset bytes; around = around; parts = parts } ∷ later))
           ≡ json_text always scene (record progress { is_begun = begun }) (context kind number offset bytes) parts
           ++ flat_map json_line (messages_of always scene.path true later)
       go true = refl
       go false = sym (append_assoc (json_line (begin_json scene.path)) _ _)
-  text-more progress breaks parts later = refl
-  text-more progress (binary_data offset) parts later = refl
-  text-more progress (finishes count binary) parts later = refl
+  text-more progress breaks around parts later = refl
+  text-more progress (binary_data offset) around parts later = refl
+  text-more progress (finishes count binary) around parts later = refl
 
   -- no calls have no message
   messages-none : (begun : Bool) → messages_of always scene.path begun [] ≡ []
@@ -141,7 +142,7 @@ module _ (always : Bool) (scene : Scene) where
       let rest = flat_map json_line (messages_of always scene.path after.is_begun later) in
       text-all later after (text ++ here)
       ∙ (append_assoc text here rest
-      ∙ ap (λ t. text ++ t) (sym (text-more progress printed.call printed.parts later)))
+      ∙ ap (λ t. text ++ t) (sym (text-more progress printed.call printed.around printed.parts later)))
 
 -- ---- its messages
 

@@ -6,8 +6,7 @@ use Rattle.grep_output.specs.Outputs.{OutputCall}
 use Rattle.grep_matcher.specs.Meanings.{MatcherFacts}
 use Rattle.grep_searcher.specs.Plans.{Call, Settings}
 use Rattle.grep_searcher.specs.declared.SearchError.{SearchError}
-use Rattle.grep_printer.specs.CallParts.{Surroundings}
-use Rattle.grep_printer.specs.Formats.{Rules}
+use Rattle.grep_printer.specs.Formats.{Rules, Surroundings}
 use Rattle.grep_printer.specs.PrinterSteps.{PrintsShown}
 use Rattle.grep_printer.specs.declared.printer.PrinterSink.{PrinterSink}
 
@@ -22,7 +21,7 @@ module _ {F M W E : Type 0} (rules : Rules F) (output : E → Option (List ℕ))
     same = prints.same;
     printed = prints.printed;
     is_call = prints.is_call;
-    has_parts = (prints.has_parts.0, weaker prints.has_parts.0 prints.has_parts.1, prints.has_parts.2);
+    has_parts = (weaker prints.printed.around prints.has_parts.0, prints.has_parts.1);
     goes_on = prints.goes_on;
     put = prints.put;
     format = prints.format;
@@ -36,7 +35,7 @@ module _ {F M W E : Type 0} (rules : Rules F) (output : E → Option (List ℕ))
       | inl writing ↦ inl (record {
         printed = writing.printed;
         is_call = writing.is_call;
-        has_parts = (writing.has_parts.0, weaker writing.has_parts.0 writing.has_parts.1, writing.has_parts.2);
+        has_parts = (weaker writing.printed.around writing.has_parts.0, writing.has_parts.1);
         error = writing.error;
         is_io = writing.is_io;
         failed = writing.failed;

@@ -54,7 +54,7 @@ module _ {F M W E : Type 0} (rules : Rules F) (output : E → Option (List ℕ))
   found-none old number index offset line none =
       let unasked : (not settings.invert_match
       && rules.asks old.format (match_of number index offset line).call) ≡ false = grind arith in
-      (record { before = []; after = [] }, tt, rw unasked refl)
+      (tt, rw unasked refl)
 
   -- a call of which the text is kept
   one-kept : (old new : PrinterSink F M W) (number : Option ℕ) (index offset : ℕ) (line : List ℕ)

@@ -13,7 +13,7 @@ use Rattle.grep_searcher.specs.Plans.{all_true, finishes}
 use Rattle.grep_searcher.specs.declared.SearchError.{SearchError}
 use Rattle.grep_printer.specs.CallParts.{Anything, HasParts, has_match, parts_of_call}
 use Rattle.grep_printer.specs.Formats.{AllGoOn, AreAlong, IsEnd, Printed, PrintedCall, Rules, Scene, printed_by}
-use Rattle.grep_printer.specs.Formats.{is_text, printed_with}
+use Rattle.grep_printer.specs.Formats.{is_text, nothing_around, printed_with}
 use Rattle.grep_printer.proofs.SomeTextLemmas.{text-more, text-none}
 use Rattle.grep_printer.specs.PrinterSteps.{FailsAlongPlan, FailsToPrint, HasFound, IsCutShort, IsSameSink}
 use Rattle.grep_printer.specs.PrinterSteps.{Prints, PrintsAll, PrintsCall, scene_of, text_of}
@@ -202,14 +202,15 @@ module _ {F M W E : Type 0} (rules : Rules F) (output : E → Option (List ℕ))
   abbrev alone : F → Call → PrintedCall
   alone format call = record {
     call = call;
+    around = nothing_around;
     parts = if has_match settings call && rules.asks format call
-        then parts_of_call settings (facts start.matcher).meaning (record { before = []; after = [] }) call
+        then parts_of_call settings (facts start.matcher).meaning nothing_around call
         (first_at start.matcher)
         else [];
   }
 
   alone-found : (format : F) (call : Call) → Found format (alone format call)
-  alone-found format call = (record { before = []; after = [] }, tt, refl)
+  alone-found format call = (tt, refl)
 
   some-end : (finish : Finish) (format : F)
       → IsEnd rules scene Found format finish (alone format (finishes finish.count finish.binary) ∷ [])

@@ -9,7 +9,7 @@ use Rattle.grep_searcher.specs.Lines.{strip}
 use Rattle.grep_searcher.specs.Meanings.{Meaning}
 use Rattle.grep_searcher.specs.Plans.{is_across, reported_bytes, Call, Settings, matches, context}
 use Rattle.grep_searcher.specs.declared.SearchError.{SearchError}
-use Rattle.grep_printer.specs.Formats.{PrintedCall}
+use Rattle.grep_printer.specs.Formats.{PrintedCall, Surroundings}
 use Rattle.grep_printer.specs.MatchedParts.{IsMatcherError, first_from, parts_in}
 
 -- whether the lines of a call's report match: those of a match do, and in an inverted search those
@@ -18,11 +18,6 @@ abbrev pub has_match : Settings → Call → Bool
 has_match settings (matches number offset bytes) = not settings.invert_match
 has_match settings (context kind number offset bytes) = settings.invert_match
 has_match settings call = false
-
--- the bytes that a sink was shown around those of a report: before them and after them
-pub record Surroundings : Type 0 where
-  pub before : List ℕ
-  pub after : List ℕ
 
 -- the bytes of a report with those around it, which are shown of a match alone
 abbrev pub shown_bytes : Surroundings → Call → List ℕ
@@ -71,9 +66,9 @@ module _ (Shown : Surroundings → Type 0) where
   abbrev pub HasParts : (List ℕ → ℕ → Option (ℕ × ℕ)) → Settings → Meaning → Bool → PrintedCall
       → Type 0
   HasParts first_at settings meaning is_asked printed =
-      (around : Surroundings) × Shown around
-      × (printed.parts
-      ≡ (if is_asked then parts_of_call settings meaning around printed.call first_at else []))
+      Shown printed.around
+      × (printed.parts ≡ (if is_asked
+      then parts_of_call settings meaning printed.around printed.call first_at else []))
 
   -- an error is the matcher's, as a message, for what it was asked to find the parts of a call in
   abbrev pub FailsAtParts : {E : Type 0} → (E → Option (List ℕ)) → MatcherFacts E → Settings → Call

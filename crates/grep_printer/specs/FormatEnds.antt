@@ -1,9 +1,12 @@
 -- After the end of a search each format is as if the search went on.
 use Rattle.std.proofs.Common.{◌≡◌, refl}
-use Rattle.std.specs.Prelude.{ℕ, true, Option}
-use Rattle.grep_searcher.specs.Plans.{finishes}
+use Rattle.std.specs.Prelude.{ℕ, true, List, Option}
+use Rattle.grep_replace.specs.declared.template.Template.{Template}
+use Rattle.grep_searcher.specs.Meanings.{Meaning}
+use Rattle.grep_searcher.specs.Plans.{Settings, finishes}
 use Rattle.grep_printer.specs.Formats.{PrintedCall, Rules, Scene}
 use Rattle.grep_printer.specs.JsonTexts.{json_rules}
+use Rattle.grep_printer.specs.ReplacedTexts.{replaced_call, replaced_rules}
 use Rattle.grep_printer.specs.StandardTexts.{standard_rules}
 use Rattle.grep_printer.specs.SummaryTexts.{summary_rules}
 use Rattle.grep_printer.specs.VimgrepTexts.{vimgrep_rules}
@@ -25,3 +28,17 @@ json-ends format scene printed count binary is = refl
 
 pub vimgrep-ends : Ends vimgrep_rules
 vimgrep-ends format = standard-ends format.lines
+
+-- the end of a search stays where parts are replaced
+end-stays : (template : Template) (groups_at : List ℕ → ℕ → List (Option (ℕ × ℕ))) (settings : Settings)
+    (meaning : Meaning) (printed : PrintedCall) (count : ℕ) (binary : Option ℕ) → printed.call ≡ finishes count binary
+    → (replaced_call template groups_at settings meaning printed).call ≡ finishes count binary
+end-stays template groups_at settings meaning printed count binary is = rw is refl
+
+pub replaced-ends : {F M : Type 0} (rules : Rules F) (groups_at : M → List ℕ → ℕ → List (Option (ℕ × ℕ)))
+    (meaning_of : M → Meaning) → Ends rules → Ends (replaced_rules rules groups_at meaning_of)
+replaced-ends rules groups_at meaning_of ends format scene printed count binary is =
+    ends format.format scene (replaced_call format.template.now (groups_at format.matcher) scene.settings
+    (meaning_of format.matcher) printed) count binary
+    (end-stays format.template.now (groups_at format.matcher) scene.settings (meaning_of format.matcher) printed
+    count binary is)

@@ -11,9 +11,20 @@ pub record Scene : Type 0 where
   pub path : Option (Bor (List ℕ))
   pub settings : Settings
 
--- a call with the parts of its report that match, if they are asked for
+-- the bytes that a sink was shown around those of a report: before them and after them
+pub record Surroundings : Type 0 where
+  pub before : List ℕ
+  pub after : List ℕ
+
+-- none
+abbrev pub nothing_around : Surroundings
+nothing_around = record { before = []; after = [] }
+
+-- a call with what was shown around its report, and the parts of the report that match, if they are
+-- asked for
 pub record PrintedCall : Type 0 where
   pub call : Call
+  pub around : Surroundings
   pub parts : List (ℕ × ℕ)
 
 -- The rules of a format F, which is its settings and what it has kept of the calls before.
@@ -54,7 +65,7 @@ module _ {F : Type 0} (rules : Rules F) (scene : Scene) where
 
 -- a call without parts
 abbrev pub without_parts : Planned → PrintedCall
-without_parts planned = record { call = planned.call; parts = [] }
+without_parts planned = record { call = planned.call; around = nothing_around; parts = [] }
 
 module _ {F : Type 0} (rules : Rules F) (scene : Scene) where
   -- what is made of matches without parts, since none are asked for or the search is inverted, and

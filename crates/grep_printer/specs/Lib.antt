@@ -14,6 +14,7 @@ pub mod PartTexts
 pub mod PlanCounts
 pub mod PrinterSteps
 pub mod Pushes
+pub mod ReplacedTexts
 pub mod Reports
 pub mod SearchMessages
 pub mod StandardTexts

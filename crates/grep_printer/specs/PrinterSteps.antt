@@ -10,9 +10,9 @@ use Rattle.grep_searcher.specs.Plans.{AreMade, Call, IsRun, Plan, Planned, Setti
 use Rattle.grep_searcher.specs.SearchErrors.{IsOutOfMemory}
 use Rattle.grep_searcher.specs.declared.SearchError.{SearchError}
 use Rattle.grep_searcher.specs.declared.SearchError.TheVariants.{Io}
-use Rattle.grep_printer.specs.CallParts.{Anything, FailsAtParts, HasParts, Surroundings}
+use Rattle.grep_printer.specs.CallParts.{Anything, FailsAtParts, HasParts}
 use Rattle.grep_printer.specs.CallParts.{has_match}
-use Rattle.grep_printer.specs.Formats.{AllGoOn, AreAlong, PrintedCall, Rules, Scene, is_text}
+use Rattle.grep_printer.specs.Formats.{AllGoOn, AreAlong, PrintedCall, Rules, Scene, Surroundings, is_text}
 use Rattle.grep_printer.specs.Formats.{printed_by}
 use Rattle.grep_printer.specs.declared.printer.PrinterSink.{PrinterSink}
 

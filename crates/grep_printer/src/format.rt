@@ -1,14 +1,15 @@
 //! What a printer writes of the calls of a search.
 ghost use Rattle.std.specs.Prelude.{◌≡◌, ◌+◌, ◌<◌, ◌≤◌, ◌^◌, [], ℕ, Option, true, false, length};
-ghost use Rattle.std.specs.Prelude.{IfSome};
+ghost use Rattle.std.specs.Prelude.{IfSome, MatchOption};
 ghost use Rattle.grep_searcher.specs.Plans.{finishes, reported_bytes};
+ghost use Rattle.grep_searcher.specs.SearchLaws.{is_report};
 ghost use Rattle.grep_report.specs.SinkReports.{match_bytes};
 ghost use Rattle.grep_searcher.specs.Lines.{byte_of};
 ghost use Rattle.grep_searcher.specs.MatchedLines.{calls_of_match};
 ghost use Rattle.grep_printer.specs.Formats.{AreTexts, PrintedCall, Rules, Scene};
 ghost use Rattle.grep_printer.specs.MatchedParts.{AreInOrder};
 ghost use Rattle.grep_output.specs.PendingTexts.{Adds, pending_bytes};
-ghost use Rattle.grep_printer.specs.Reports.{FitsEvent, event_call, event_has_match};
+ghost use Rattle.grep_printer.specs.Reports.{FitsEvent, IsShownEvent, event_call, event_has_match, event_surroundings};
 
 use crate::report::Report;
 use grep_output::Pending;
@@ -31,6 +32,17 @@ pub enum Event<'r> {
 }
 
 impl<'r> Event<'r> {
+    // The report, if it is one.
+    pub(crate) fn report(&self) -> Option<&Report<'r>>
+        ensures { MatchOption result (is_report (event_call self.now) ≡ false)
+            (λ report. self.now ≡ Event.Report report.now) }
+    {
+        match self {
+            Event::Report(report) => Some(report),
+            Event::Begin | Event::Break | Event::BinaryData(_) | Event::Finish(_, _) => None,
+        }
+    }
+
     /// Whether lines are reported that match, by whether the lines without a match are selected.
     pub(crate) fn has_match(&self, is_inverted: bool) -> bool
         ensures { result ≡ event_has_match self.now is_inverted }
@@ -72,16 +84,17 @@ pub trait Format: Copy {
     ) -> bool
         requires empty { text.old.text ≡ [] }
         requires fits { FitsEvent event.now }
+        requires shown { IsShownEvent event.now }
         requires ordered { AreInOrder 0 (length (reported_bytes (event_call event.now))) parts.now }
         ensures text { Adds text.old text.new (rules.text self.old
             (record { path = path.entry; settings = searcher.now.settings })
-            (record { call = event_call event.now; parts = parts.now })) }
+            (record { call = event_call event.now; around = event_surroundings event.now; parts = parts.now })) }
         ensures next { text.new.has_failed ≡ false → self.new ≡ rules.next self.old
             (record { path = path.entry; settings = searcher.now.settings })
-            (record { call = event_call event.now; parts = parts.now }) }
+            (record { call = event_call event.now; around = event_surroundings event.now; parts = parts.now }) }
         ensures goes_on { text.new.has_failed ≡ false → result ≡ rules.goes_on self.old
             (record { path = path.entry; settings = searcher.now.settings })
-            (record { call = event_call event.now; parts = parts.now }) };
+            (record { call = event_call event.now; around = event_surroundings event.now; parts = parts.now }) };
 
     /// Pushes the texts of the lines of a match, each of which is a match, as one text after those
     /// that are kept, and returns whether it did: only if no parts of them are asked for or the

@@ -12,7 +12,7 @@ ghost use Rattle.grep_printer.specs.Formats.{is_text};
 ghost use Rattle.grep_printer.specs.MatchedParts.{AreInOrder};
 ghost use Rattle.grep_printer.specs.PrinterSteps.{HasFound, IsPreparing, PrintsCall};
 ghost use Rattle.grep_printer.specs.PrinterSteps.{PrintsShown};
-ghost use Rattle.grep_printer.specs.Reports.{FitsEvent, IsAround, IsShownEvent, event_call};
+ghost use Rattle.grep_printer.specs.Reports.{FitsEvent, IsAround, IsShownEvent, event_call, event_surroundings};
 
 use crate::format::{Event, Format};
 use crate::parts::find_report_parts;
@@ -256,7 +256,7 @@ impl<'s, F: Format, M: FindAt, W: Output> PrinterSink<'s, F, M, W> {
         ensures same { IsPreparing self.old self.new }
         ensures parts { OnOk result (HasFound F.rules (IsAround event.now) M.facts M.first_at
             self.old searcher.now.settings self.old.format
-            (record { call = event_call event.now; parts = self.new.printer.now.parts.items })) }
+            (record { call = event_call event.now; around = event_surroundings event.now; parts = self.new.printer.now.parts.items })) }
         ensures ordered { OnOk result (AreInOrder 0 (length (reported_bytes (event_call event.now)))
             self.new.printer.now.parts.items) }
         ensures error { IfErr result (λ e. IsOutOfMemory e
@@ -281,7 +281,7 @@ impl<'s, F: Format, M: FindAt, W: Output> PrinterSink<'s, F, M, W> {
         ensures same { IsPreparing self.old self.new }
         ensures parts { HasFound F.rules (IsAround event.now) M.facts M.first_at
             self.old searcher.now.settings self.old.format
-            (record { call = event_call event.now; parts = self.new.printer.now.parts.items }) }
+            (record { call = event_call event.now; around = event_surroundings event.now; parts = self.new.printer.now.parts.items }) }
         ensures ordered { AreInOrder 0 (length (reported_bytes (event_call event.now)))
             self.new.printer.now.parts.items }
     {

@@ -3,8 +3,10 @@ ghost use Rattle.std.specs.Prelude.{◌≡◌, true, IfOk};
 ghost use Rattle.grep_report.specs.SinkReports.{match_bytes};
 ghost use Rattle.grep_searcher.specs.Plans.{finish_result};
 ghost use Rattle.grep_searcher.specs.SinkArguments.{context_call, match_call};
+ghost use Rattle.grep_printer.specs.Formats.{nothing_around};
+ghost use Rattle.grep_printer.specs.ReplacedTexts.{with_bytes};
 ghost use Rattle.grep_printer.specs.Reports.{IsShown, call_of, kind_has_match};
-ghost use Rattle.grep_printer.specs.Reports.{line_kind, type_of};
+ghost use Rattle.grep_printer.specs.Reports.{line_kind, surroundings_of, type_of};
 
 use crate::fields::LineKind;
 use grep_searcher::{SearchError, SinkContext, SinkContextKind, SinkMatch};
@@ -79,6 +81,24 @@ impl<'r> Report<'r> {
             bytes: found.bytes(),
             shown: found.buffer(),
             start: found.bytes_range_in_buffer().start,
+        }
+    }
+
+    // The report with other bytes, with which nothing else is shown.
+    pub(crate) fn with_bytes<'b>(&self, bytes: &'b [u8]) -> Report<'b>
+        ensures call { call_of result ≡ with_bytes (call_of self.now) bytes.now }
+        ensures surroundings { surroundings_of result ≡ nothing_around }
+        ensures offset { result.offset ≡ self.now.offset }
+        ensures bytes { result.bytes.now ≡ bytes.now }
+        ensures shown { IsShown result }
+    {
+        Report {
+            kind: self.kind,
+            number: self.number,
+            offset: self.offset,
+            bytes,
+            shown: bytes,
+            start: 0,
         }
     }
 

@@ -1,0 +1,109 @@
+-- Calls in which parts are replaced.
+use Rattle.std.proofs.Common.{◌≡◌, ℕ, ◌+◌, List, [], ◌∷◌, Bool, false, length, refl, ap, sym, ◌∙◌}
+use Rattle.grep_replace.specs.declared.template.Template.{Template}
+use Rattle.grep_searcher.specs.Meanings.{Meaning}
+use Rattle.grep_searcher.specs.Plans.{Call, Settings, begins, matches, context, breaks, binary_data, finishes}
+use Rattle.grep_searcher.specs.Plans.{reported_bytes}
+use Rattle.grep_searcher.specs.SearchLaws.{is_report}
+use Rattle.std.proofs.Common.{Option, true≢false}
+use Rattle.grep_printer.proofs.ReportLemmas.{reported_bytes-report}
+use Rattle.grep_printer.specs.CallParts.{asked_bytes, asked_start}
+use Rattle.grep_printer.specs.Formats.{PrintedCall, Surroundings, nothing_around}
+use Rattle.grep_printer.specs.ReplacedTexts.{part_text, replaced_by, replaced_bytes, replaced_call, replaced_parts}
+use Rattle.grep_printer.specs.ReplacedTexts.{replaced_report, replacement_at, with_bytes}
+use Rattle.grep_printer.specs.Reports.{call_of, event_call, event_surroundings, reporting_call, surroundings_of}
+use Rattle.grep_printer.specs.declared.format.Event.{Event}
+use Rattle.grep_printer.specs.declared.format.Event.TheVariants.{Report as report_event}
+use Rattle.grep_printer.specs.declared.report.Report.{Report}
+use Rattle.grep_printer.specs.declared.replaced.Replacement.{Replacement}
+use Rattle.grep_printer.specs.declared.report.ReportKind.{ReportKind}
+use Rattle.grep_printer.specs.declared.report.ReportKind.TheVariants.{Match, Context}
+
+module _ (template : Template) (groups_at : List ℕ → ℕ → List (Option (ℕ × ℕ))) (settings : Settings)
+    (meaning : Meaning) (printed : PrintedCall) where
+  -- a call without parts stays
+  pub none-replaced : (call : Call) → replaced_by template groups_at settings meaning printed call [] ≡ printed
+  none-replaced begins = refl
+  none-replaced (matches number offset bytes) = refl
+  none-replaced (context kind number offset bytes) = refl
+  none-replaced breaks = refl
+  none-replaced (binary_data offset) = refl
+  none-replaced (finishes count binary) = refl
+
+  -- and so does one that is no report
+  pub others-stay : (call : Call) (parts : List (ℕ × ℕ)) → is_report call ≡ false
+      → replaced_by template groups_at settings meaning printed call parts ≡ printed
+  others-stay begins parts is = refl
+  others-stay (matches number offset bytes) parts is = absurd (true≢false is)
+  others-stay (context kind number offset bytes) parts is = absurd (true≢false is)
+  others-stay breaks parts is = refl
+  others-stay (binary_data offset) parts is = refl
+  others-stay (finishes count binary) parts is = refl
+
+  -- a report with parts is replaced
+  pub report-replaced : (kind : ReportKind) (number : Option ℕ) (offset : ℕ) (bytes : List ℕ) (part : ℕ × ℕ)
+      (later : List (ℕ × ℕ))
+      → replaced_by template groups_at settings meaning printed (reporting_call kind number offset bytes) (part ∷ later)
+      ≡ replaced_report template groups_at settings meaning printed.around (reporting_call kind number offset bytes)
+      (part ∷ later)
+  report-replaced Match number offset bytes part later = refl
+  report-replaced (Context kind) number offset bytes part later = refl
+
+-- what a part is replaced by, by its definition
+replacement-is : {M : Type 0} (groups_at : M → List ℕ → ℕ → List (Option (ℕ × ℕ))) (r : Replacement M)
+    (template : Template) (matcher : M) (settings : Settings) (meaning : Meaning) (around : Surroundings) (call : Call)
+    → r.template.now ≡ template → r.matcher ≡ matcher → r.asked.now ≡ asked_bytes settings meaning around call
+    → r.start ≡ asked_start settings meaning around call
+    → replacement_at groups_at r ≡ part_text template (groups_at matcher) settings meaning around call
+replacement-is groups_at r template matcher settings meaning around call one two three four =
+    rw (one, two, three, four) refl
+
+abbrev made_call : Call → Surroundings → List (ℕ × ℕ) → PrintedCall
+made_call call around parts = record { call = call; around = around; parts = parts }
+
+module _ (template : Template) (groups_at : List ℕ → ℕ → List (Option (ℕ × ℕ))) (settings : Settings)
+    (meaning : Meaning) where
+  -- the call of a report with parts
+  pub event-replaced : (event : Event) (report : Report) (parts : List (ℕ × ℕ)) → event ≡ report_event report
+      → (parts ≡ [] → ⊥)
+      → replaced_call template groups_at settings meaning
+      (record { call = event_call event; around = event_surroundings event; parts = parts })
+      ≡ replaced_report template groups_at settings meaning (surroundings_of report) (call_of report) parts
+  event-replaced event report [] is some = absurd (some refl)
+  event-replaced event report (part ∷ later) is some =
+      ap (λ e. replaced_call template groups_at settings meaning
+      (record { call = event_call e; around = event_surroundings e; parts = part ∷ later })) is
+      ∙ report-replaced template groups_at settings meaning
+      (record { call = call_of report; around = surroundings_of report; parts = part ∷ later })
+      report.kind report.number report.offset report.bytes.now part later
+
+  -- a report with other bytes and parts is one in which each part is replaced, if these are so
+  report-is : (around : Surroundings) (call : Call) (parts : List (ℕ × ℕ)) (text_at : ℕ → List ℕ)
+      (call' : Call) (around' : Surroundings) (parts' : List (ℕ × ℕ)) (bytes' : List ℕ)
+      → text_at ≡ part_text template groups_at settings meaning around call → call' ≡ with_bytes call bytes'
+      → bytes' ≡ replaced_bytes text_at (reported_bytes call) 0 parts → around' ≡ nothing_around
+      → parts' ≡ replaced_parts text_at 0 0 parts
+      → made_call call' around' parts'
+      ≡ replaced_report template groups_at settings meaning around call parts
+  report-is around call parts text_at call' around' parts' bytes' text one two three four =
+      rw (one, two, three, four, text) refl
+
+-- so is what was made of a report by what its parts are replaced by
+pub replaced-is : {M : Type 0} (groups_at : M → List ℕ → ℕ → List (Option (ℕ × ℕ))) (r : Replacement M)
+    (template : Template) (matcher : M) (settings : Settings) (meaning : Meaning) (report made : Report)
+    (parts put : List (ℕ × ℕ)) (bytes : List ℕ) → r.template.now ≡ template → r.matcher ≡ matcher
+    → r.asked.now ≡ asked_bytes settings meaning (surroundings_of report) (call_of report)
+    → r.start ≡ asked_start settings meaning (surroundings_of report) (call_of report)
+    → call_of made ≡ with_bytes (call_of report) bytes → surroundings_of made ≡ nothing_around
+    → bytes ≡ replaced_bytes (replacement_at groups_at r) report.bytes.now 0 parts
+    → put ≡ replaced_parts (replacement_at groups_at r) 0 0 parts
+    → made_call (call_of made) (surroundings_of made) put
+    ≡ replaced_report template (groups_at matcher) settings meaning (surroundings_of report) (call_of report) parts
+replaced-is groups_at r template matcher settings meaning report made parts put bytes one two three four call around same
+    ranges =
+    report-is template (groups_at matcher) settings meaning (surroundings_of report) (call_of report) parts
+    (replacement_at groups_at r) (call_of made) (surroundings_of made) put bytes
+    (replacement-is groups_at r template matcher settings meaning (surroundings_of report) (call_of report) one two three
+    four) call
+    (same ∙ ap (λ (b : List ℕ). replaced_bytes (replacement_at groups_at r) b 0 parts)
+    (sym (reported_bytes-report report.kind report.number report.offset report.bytes.now))) around ranges

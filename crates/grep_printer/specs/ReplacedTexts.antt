@@ -1,0 +1,84 @@
+-- Reports in which each part that matches is replaced.
+use Rattle.std.specs.Prelude.{ℕ, ◌+◌, ◌-◌, true, List, [], ◌∷◌, ◌++◌, drop, length, slice_range, Option}
+use Rattle.grep_replace.specs.Templates.{group_text, template_text}
+use Rattle.grep_replace.specs.declared.template.Template.{Template}
+use Rattle.grep_searcher.specs.Meanings.{Meaning}
+use Rattle.grep_searcher.specs.Plans.{Call, Settings, matches, context, reported_bytes}
+use Rattle.grep_printer.specs.CallParts.{asked_bytes, asked_start}
+use Rattle.grep_printer.specs.Formats.{PrintedCall, Rules, Surroundings, nothing_around}
+use Rattle.grep_printer.specs.declared.replaced.Replacement.{Replacement}
+use Rattle.grep_printer.specs.declared.replaced_format.ReplacedFormat.{ReplacedFormat}
+
+-- what is written in place of the part at a position of a report: what the template makes of the groups of the match
+-- there, in the bytes about which the matcher was asked
+abbrev pub replacement_at : {M : Type 0} → (M → List ℕ → ℕ → List (Option (ℕ × ℕ))) → Replacement M → ℕ → List ℕ
+replacement_at groups_at r position = template_text r.template.now
+    (group_text r.asked.now (groups_at r.matcher r.asked.now (r.start + position)))
+
+-- By what is written in place of the part at a position.
+module _ (text_at : ℕ → List ℕ) where
+  -- the bytes from a position on, in which each part is replaced
+  abbrev pub replaced_bytes : List ℕ → ℕ → List (ℕ × ℕ) → List ℕ
+  replaced_bytes bytes position [] = drop position bytes
+  replaced_bytes bytes position (part ∷ later) =
+      slice_range bytes position part.0 ++ (text_at part.0 ++ replaced_bytes bytes part.1 later)
+
+  -- where what is written in place of the parts is then: the bytes from a position on come after so many
+  abbrev pub replaced_parts : ℕ → ℕ → List (ℕ × ℕ) → List (ℕ × ℕ)
+  replaced_parts count position [] = []
+  replaced_parts count position (part ∷ later) =
+      (count + (part.0 - position), count + (part.0 - position) + length (text_at part.0))
+      ∷ replaced_parts (count + (part.0 - position) + length (text_at part.0)) part.1 later
+
+-- the call with other bytes in its report
+abbrev pub with_bytes : Call → List ℕ → Call
+with_bytes (matches number offset old) bytes = matches number offset bytes
+with_bytes (context kind number offset old) bytes = context kind number offset bytes
+with_bytes call bytes = call
+
+-- By a template, and the groups of the first match of a haystack from a position on.
+module _ (template : Template) (groups_at : List ℕ → ℕ → List (Option (ℕ × ℕ))) (settings : Settings)
+    (meaning : Meaning) where
+  -- what is written in place of the part at a position of a report: what the template makes of the groups of the match
+  -- there, in the bytes about which the matcher was asked
+  abbrev pub part_text : Surroundings → Call → ℕ → List ℕ
+  part_text around call position =
+      template_text template (group_text (asked_bytes settings meaning around call)
+      (groups_at (asked_bytes settings meaning around call) (asked_start settings meaning around call + position)))
+
+  -- a report in which each part is replaced
+  abbrev pub replaced_report : Surroundings → Call → List (ℕ × ℕ) → PrintedCall
+  replaced_report around call parts = record {
+    call = with_bytes call (replaced_bytes (part_text around call) (reported_bytes call) 0 parts);
+    around = nothing_around;
+    parts = replaced_parts (part_text around call) 0 0 parts;
+  }
+
+  -- the call as it is printed: a report with parts as they are replaced, and any other call as it is
+  abbrev pub replaced_by : PrintedCall → Call → List (ℕ × ℕ) → PrintedCall
+  replaced_by printed (matches number offset bytes) (part ∷ later) =
+      replaced_report printed.around (matches number offset bytes) (part ∷ later)
+  replaced_by printed (context kind number offset bytes) (part ∷ later) =
+      replaced_report printed.around (context kind number offset bytes) (part ∷ later)
+  replaced_by printed call parts = printed
+
+  abbrev pub replaced_call : PrintedCall → PrintedCall
+  replaced_call printed = replaced_by printed printed.call printed.parts
+
+-- what a format writes of calls in which each part is replaced: the parts are always asked for
+abbrev pub replaced_rules : {F M : Type 0} → Rules F → (M → List ℕ → ℕ → List (Option (ℕ × ℕ))) → (M → Meaning)
+    → Rules (ReplacedFormat F M)
+replaced_rules rules groups_at meaning_of = record {
+  begun = λ format follows. record format { format = rules.begun format.format follows };
+  asks = λ format call. true;
+  text = λ format scene printed. rules.text format.format scene (replaced_call format.template.now
+      (groups_at format.matcher) scene.settings (meaning_of format.matcher) printed);
+  next = λ format scene printed. record format {
+    format = rules.next format.format scene
+        (replaced_call format.template.now (groups_at format.matcher) scene.settings (meaning_of format.matcher)
+        printed);
+  };
+  goes_on = λ format scene printed. rules.goes_on format.format scene (replaced_call format.template.now
+      (groups_at format.matcher) scene.settings (meaning_of format.matcher) printed);
+  has_match = λ format. rules.has_match format.format;
+}

@@ -1,0 +1,103 @@
+//! Bytes in which each part that matches is replaced.
+ghost use Rattle.std.specs.Prelude.{◌≡◌, ◌≤◌, ◌+◌, ◌++◌, ◌∷◌, [], length, IfOk, OnOk};
+ghost use Rattle.grep_replace.specs.Groups.{LieWithin};
+ghost use Rattle.grep_printer.specs.MatchedParts.{AreInOrder};
+ghost use Rattle.grep_printer.specs.ReplacedTexts.{replaced_bytes, replaced_parts, replacement_at};
+
+use grep_replace::{CapturesAt, Template};
+use grep_searcher::Match;
+use std::alloc::{AllocError, Global};
+
+// What a part is replaced by: a template, for the groups that a matcher finds in some bytes, in
+// which those of a report begin at a position.
+#[derive(Clone, Copy)]
+pub struct Replacement<'t, 'r, M> {
+    pub(crate) template: &'t Template,
+    pub(crate) matcher: M,
+    pub(crate) asked: &'r [u8],
+    pub(crate) start: usize,
+}
+
+// Bytes in which parts are replaced, and where what replaced them is.
+#[derive(Drop)]
+pub struct Replaced {
+    pub(crate) bytes: Vec<u8>,
+    pub(crate) parts: Vec<Match>,
+}
+
+impl<'t, 'r, M: CapturesAt<Error = AllocError> + Copy> Replacement<'t, 'r, M> {
+    // The bytes of a report in which each part is replaced.
+    pub(crate) fn replace(
+        &self,
+        alloc: Global,
+        bytes: &[u8],
+        parts: &[Match],
+    ) -> Result<Replaced, AllocError>
+        requires ordered { AreInOrder 0 (length bytes.now) parts.now }
+        ensures bytes { IfOk result (λ replaced. replaced.bytes.items ≡ replaced_bytes
+            (replacement_at M.groups_at self.now) bytes.now 0 parts.now) }
+        ensures parts { IfOk result (λ replaced. replaced.parts.items ≡ replaced_parts
+            (replacement_at M.groups_at self.now) 0 0 parts.now) }
+        ensures ordered { IfOk result (λ replaced.
+            AreInOrder 0 (length replaced.bytes.items) replaced.parts.items) }
+    {
+        let mut replaced = Replaced {
+            bytes: Vec::new(alloc),
+            parts: Vec::new(alloc),
+        };
+        let mut position = 0;
+        let mut rest = parts;
+        while let Some((part, later)) = rest.split_first() {
+            replaced
+                .bytes
+                .extend_from_slice(&bytes[position..part.start()])?;
+            self.push_part(&mut replaced, part.start())?;
+            position = part.end();
+            rest = later;
+        }
+        replaced.bytes.extend_from_slice(&bytes[position..])?;
+        Ok(replaced)
+    }
+
+    // Pushes what is written in place of the part at a position.
+    fn push_part(&self, replaced: &mut Replaced, position: usize) -> Result<(), AllocError>
+        ensures bytes { OnOk result (replaced.new.bytes.items ≡ replaced.old.bytes.items
+            ++ replacement_at M.groups_at self.now position) }
+        ensures parts { OnOk result (replaced.new.parts.items ≡ replaced.old.parts.items
+            ++ (length replaced.old.bytes.items, length replaced.new.bytes.items) ∷ []) }
+    {
+        let mut groups = Vec::new(*replaced.parts.allocator());
+        self.find_groups(&mut groups, position)?;
+        let start = replaced.bytes.len();
+        self.template
+            .push_to(&mut replaced.bytes, self.asked, &groups)?;
+        replaced
+            .parts
+            .push(Match::new(start, replaced.bytes.len()))?;
+        Ok(())
+    }
+
+    // The groups of the match at a position.
+    fn find_groups(
+        &self,
+        groups: &mut Vec<Option<Match>>,
+        position: usize,
+    ) -> Result<(), AllocError>
+        ensures groups { OnOk result (groups.new.items
+            ≡ M.groups_at self.now.matcher self.now.asked.now (self.now.start + position)) }
+        ensures within { OnOk result (LieWithin (length self.now.asked.now) groups.new.items) }
+    {
+        let len = self.asked.len();
+        if position > len || self.start > len - position {
+            groups.clear();
+            return Ok(());
+        }
+        match self
+            .matcher
+            .captures_at(self.asked, self.start + position, groups)
+        {
+            Ok(_) => Ok(()),
+            Err(error) => Err(error),
+        }
+    }
+}

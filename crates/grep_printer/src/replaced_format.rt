@@ -1,0 +1,209 @@
+//! A format of which each part that matches is replaced.
+ghost use Rattle.std.specs.Prelude.{◌≡◌, ◌+◌, ◌<◌, ◌^◌, [], false, true, length};
+ghost use Rattle.grep_output.specs.PendingTexts.{Adds, pending_bytes};
+ghost use Rattle.grep_printer.specs.CallParts.{asked_bytes, asked_start};
+ghost use Rattle.grep_printer.specs.MatchedParts.{AreInOrder};
+ghost use Rattle.grep_printer.specs.ReplacedTexts.{replaced_report};
+ghost use Rattle.grep_printer.specs.Reports.{IsShown, call_of, surroundings_of};
+
+use crate::format::{Event, Format};
+use crate::printer::Printer;
+use crate::replaced::Replacement;
+use crate::report::Report;
+use grep_lines::without_terminator;
+use grep_output::Pending;
+use grep_replace::{CapturesAt, Template};
+use grep_searcher::{Match, Searcher};
+use std::alloc::{AllocError, Allocator};
+
+/// A format of the calls of a search in which each part of a report that matches is replaced by what
+/// a template makes of its groups: what is written of a report are the new bytes, and the parts are
+/// what was put in. It has the matcher of the search, which finds the groups.
+#[derive(Clone, Copy)]
+pub struct ReplacedFormat<'t, F, M> {
+    pub(crate) format: F,
+    pub(crate) matcher: M,
+    pub(crate) template: &'t Template,
+}
+
+impl<F, W> Printer<F, W> {
+    /// The printer, which has written nothing yet, with each part that matches replaced by what a
+    /// template makes of its groups: each sink has to be for the search with this matcher. Where a
+    /// report would then be too long to have an offset of 64 bits, that counts as being out of
+    /// memory.
+    pub fn replacing<'t, M>(
+        self,
+        matcher: M,
+        template: &'t Template,
+    ) -> Printer<ReplacedFormat<'t, F, M>, W>
+        ensures writer { result.writer ≡ self.writer }
+        ensures pending { pending_bytes result.pending ≡ pending_bytes self.pending }
+        ensures format { result.format.format ≡ self.format }
+        ensures matcher { result.format.matcher ≡ matcher }
+        ensures template { result.format.template.now ≡ template.now }
+        ensures room { result.room ≡ self.room }
+        ensures has_written { result.has_written ≡ self.has_written }
+        ensures has_failed { result.has_failed ≡ self.has_failed }
+    {
+        let Printer {
+            writer,
+            pending,
+            room,
+            parts,
+            format,
+            has_written,
+            has_failed,
+        } = self;
+        Printer {
+            writer,
+            pending,
+            room,
+            parts,
+            format: ReplacedFormat {
+                format,
+                matcher,
+                template,
+            },
+            has_written,
+            has_failed,
+        }
+    }
+}
+
+impl<'t, F, M: CapturesAt<Error = AllocError> + Copy> ReplacedFormat<'t, F, M> {
+    // What each part of a report is replaced by: the groups are found in the bytes about which the
+    // matcher was asked.
+    fn replacement<'r, A: Allocator + Copy>(
+        &self,
+        searcher: &Searcher<A>,
+        report: &Report<'r>,
+    ) -> Replacement<'t, 'r, M>
+        requires { IsShown report.now }
+        ensures template { result.template.now ≡ self.now.template.now }
+        ensures matcher { result.matcher ≡ self.now.matcher }
+        ensures asked { result.asked.now ≡ asked_bytes searcher.now.settings
+            (M.facts self.now.matcher).meaning (surroundings_of report.now) (call_of report.now) }
+        ensures start { result.start ≡ asked_start searcher.now.settings
+            (M.facts self.now.matcher).meaning (surroundings_of report.now) (call_of report.now) }
+    {
+        let (asked, start) = if searcher.multi_line_with_matcher(&self.matcher) {
+            (report.shown, report.start)
+        } else {
+            (
+                without_terminator(report.bytes, searcher.line_terminator()),
+                0,
+            )
+        };
+        Replacement {
+            template: self.template,
+            matcher: self.matcher,
+            asked,
+            start,
+        }
+    }
+}
+
+impl<'t, F: Format, M: CapturesAt<Error = AllocError> + Copy> Format for ReplacedFormat<'t, F, M> {
+    ghost use Rattle.grep_printer.specs.FormatEnds.{replaced-ends};
+    ghost use Rattle.grep_printer.specs.ReplacedTexts.{replaced_rules};
+
+    ghost rules = { replaced_rules F.rules M.groups_at (λ m. (M.facts m).meaning) };
+
+    ghost ends = { replaced-ends F.rules M.groups_at (λ m. (M.facts m).meaning) F.ends };
+
+    fn begun(&self, has_written: bool) -> ReplacedFormat<'t, F, M> {
+        ReplacedFormat {
+            format: self.format.begun(has_written),
+            matcher: self.matcher,
+            template: self.template,
+        }
+    }
+
+    fn asks(&self, _event: &Event<'_>) -> bool {
+        true
+    }
+
+    fn has_match(&self) -> bool {
+        self.format.has_match()
+    }
+
+    fn push<A: Allocator + Copy>(
+        &mut self,
+        text: &mut Pending,
+        searcher: &Searcher<A>,
+        path: Option<&str>,
+        event: &Event<'_>,
+        parts: &[Match],
+    ) -> bool {
+        if parts.is_empty() {
+            return self.format.push(text, searcher, path, event, parts);
+        }
+        match event.report() {
+            Some(report) => self.push_replaced(text, searcher, path, report, parts),
+            None => self.format.push(text, searcher, path, event, parts),
+        }
+    }
+}
+
+impl<'t, F: Format, M: CapturesAt<Error = AllocError> + Copy> ReplacedFormat<'t, F, M> {
+    // Pushes the text of a report in which each part is replaced, and returns whether the search
+    // goes on.
+    fn push_replaced<A: Allocator + Copy>(
+        &mut self,
+        text: &mut Pending,
+        searcher: &Searcher<A>,
+        path: Option<&str>,
+        report: &Report<'_>,
+        parts: &[Match],
+    ) -> bool
+        requires empty { text.old.text ≡ [] }
+        requires shown { IsShown report.now }
+        requires ordered { AreInOrder 0 (length report.now.bytes.now) parts.now }
+        ensures text { Adds text.old text.new (F.rules.text self.old.format
+            (record { path = path.entry; settings = searcher.now.settings })
+            (replaced_report self.old.template.now (M.groups_at self.old.matcher)
+            searcher.now.settings (M.facts self.old.matcher).meaning
+            (surroundings_of report.now) (call_of report.now) parts.now)) }
+        ensures next { text.new.has_failed ≡ false → self.new ≡ record self.old {
+          format = F.rules.next self.old.format
+              (record { path = path.entry; settings = searcher.now.settings })
+              (replaced_report self.old.template.now (M.groups_at self.old.matcher)
+              searcher.now.settings (M.facts self.old.matcher).meaning
+              (surroundings_of report.now) (call_of report.now) parts.now);
+        } }
+        ensures goes_on { text.new.has_failed ≡ false → result ≡ F.rules.goes_on self.old.format
+            (record { path = path.entry; settings = searcher.now.settings })
+            (replaced_report self.old.template.now (M.groups_at self.old.matcher)
+            searcher.now.settings (M.facts self.old.matcher).meaning
+            (surroundings_of report.now) (call_of report.now) parts.now) }
+    {
+        let replacement = self.replacement(searcher, report);
+        let replaced = match replacement.replace(text.allocator(), report.bytes, parts) {
+            Ok(replaced) if fits(report.offset, &replaced.bytes) => replaced,
+            _ => {
+                fail(text);
+                return true;
+            }
+        };
+        let shown = Event::Report(report.with_bytes(&replaced.bytes));
+        self.format
+            .push(text, searcher, path, &shown, &replaced.parts)
+    }
+}
+
+// Whether the offset at which some bytes end has 64 bits.
+fn fits(offset: u64, bytes: &[u8]) -> bool
+    ensures { result ≡ true → offset + length bytes.now < 2 ^ 64 }
+{
+    offset.checked_add(bytes.len() as u64).is_some()
+}
+
+// Notes that a text has failed.
+fn fail(text: &mut Pending)
+    ensures before { text.new.before ≡ text.old.before }
+    ensures has_failed { text.new.has_failed ≡ true }
+{
+    let start = text.len() - text.text_len();
+    let bytes = text.take_out();
+    text.put_back(bytes, start, true)
+}
