@@ -25,7 +25,7 @@ pub struct Replaced {
     pub(crate) parts: Vec<Match>,
 }
 
-impl<'t, 'r, M: CapturesAt<Error = AllocError> + Copy> Replacement<'t, 'r, M> {
+impl<'t, 'r, M: CapturesAt + Copy> Replacement<'t, 'r, M> {
     // The bytes of a report in which each part is replaced.
     pub(crate) fn replace(
         &self,

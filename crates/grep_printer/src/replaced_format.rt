@@ -70,7 +70,7 @@ impl<F, W> Printer<F, W> {
     }
 }
 
-impl<'t, F, M: CapturesAt<Error = AllocError> + Copy> ReplacedFormat<'t, F, M> {
+impl<'t, F, M: CapturesAt + Copy> ReplacedFormat<'t, F, M> {
     // What each part of a report is replaced by: the groups are found in the bytes about which the
     // matcher was asked.
     fn replacement<'r, A: Allocator + Copy>(
@@ -103,7 +103,7 @@ impl<'t, F, M: CapturesAt<Error = AllocError> + Copy> ReplacedFormat<'t, F, M> {
     }
 }
 
-impl<'t, F: Format, M: CapturesAt<Error = AllocError> + Copy> Format for ReplacedFormat<'t, F, M> {
+impl<'t, F: Format, M: CapturesAt + Copy> Format for ReplacedFormat<'t, F, M> {
     ghost use Rattle.grep_printer.specs.FormatEnds.{replaced-ends};
     ghost use Rattle.grep_printer.specs.ReplacedTexts.{replaced_rules};
 
@@ -145,7 +145,7 @@ impl<'t, F: Format, M: CapturesAt<Error = AllocError> + Copy> Format for Replace
     }
 }
 
-impl<'t, F: Format, M: CapturesAt<Error = AllocError> + Copy> ReplacedFormat<'t, F, M> {
+impl<'t, F: Format, M: CapturesAt + Copy> ReplacedFormat<'t, F, M> {
     // Pushes the text of a report in which each part is replaced, and returns whether the search
     // goes on.
     fn push_replaced<A: Allocator + Copy>(

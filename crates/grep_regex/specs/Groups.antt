@@ -8,7 +8,7 @@ use Rattle.regex_syntax.specs.Brackets.{Nested}
 use Rattle.regex_syntax.specs.Grammar.{Names, read}
 use Rattle.regex_vm.specs.Found.{group_cells, span}
 use Rattle.grep_regex.specs.Clear.{find_clear}
-use Rattle.grep_regex.specs.Patterns.{config_of, excluded_bytes, most_groups, text_of, written_re}
+use Rattle.grep_regex.specs.Patterns.{config_of, excluded_bytes, first_match_at, most_groups, text_of, written_re}
 use Rattle.grep_regex.specs.Seen.{seen_bytes}
 use Rattle.grep_regex.specs.declared.options.Options.{Options}
 
@@ -43,6 +43,11 @@ text_groups_at o patterns text start =
 abbrev pub groups_at : Options → List (List ℕ) → List ℕ → ℕ → List (Option (ℕ × ℕ))
 groups_at o patterns haystack start =
     text_groups_at o patterns (seen_bytes o.line_terminator haystack) start
+
+-- that match alone
+abbrev pub whole_at : Options → List (List ℕ) → List ℕ → ℕ → List (Option (ℕ × ℕ))
+whole_at o patterns haystack start =
+    option_map_or (λ m. Some m ∷ []) (first_match_at o patterns haystack start) []
 
 -- the names of the groups that were read, by their numbers
 abbrev pub names_in : Option (Nested Re × Names) → Names

@@ -1,5 +1,5 @@
 //! The groups of matches, from the cells that the engines write.
-ghost use Rattle.std.specs.Prelude.{◌≡◌, ◌≤◌, ◌++◌, ◌∷◌, IfOk, OnOk, Some};
+ghost use Rattle.std.specs.Prelude.{◌≡◌, ◌≤◌, ◌++◌, ◌∷◌, [], IfOk, OnOk, Some};
 ghost use Rattle.grep_regex.specs.Groups.{group_of_cells, groups_of_cells};
 
 use grep_matcher::Match;
@@ -22,6 +22,21 @@ pub(crate) fn push_match(
     groups.push(Some(whole))?;
     push_groups(groups, size, cells)?;
     Ok(whole)
+}
+
+// Pushes a match alone.
+pub(crate) fn push_whole(
+    groups: &mut Vec<Option<Match>>,
+    from: usize,
+    end: usize,
+) -> Result<Option<Match>, AllocError>
+    requires { from ≤ end }
+    ensures whole { IfOk result (λ m. m ≡ Some (from, end)) }
+    ensures groups { OnOk result (groups.new.items ≡ groups.old.items ++ Some (from, end) ∷ []) }
+{
+    let whole = Match::new(from, end);
+    groups.push(Some(whole))?;
+    Ok(Some(whole))
 }
 
 // Pushes the groups with these cells, two for each: the position of each end and one more, or 0. A

@@ -8,11 +8,13 @@ ghost use Rattle.grep_regex.specs.Locality.{is_by_line};
 ghost use Rattle.grep_regex.specs.Seen.{seen_bytes};
 ghost use Rattle.grep_regex.specs.Spelled.{IsSpelled};
 
+use crate::groups::push_whole;
 use crate::literal::{matcher_of, occurrence};
 use crate::regex::Regex;
 use grep_matcher::{
     ByteSet, FindAt, LineMatchKind, LineTerminator, LiteralMatcher, Match, Matcher,
 };
+use grep_replace::CapturesAt;
 use std::alloc::AllocError;
 
 /// The matcher of an expression that is a literal within one line. It finds what a `RegexMatcher`
@@ -134,6 +136,31 @@ impl FindAt for LiteralRegexMatcher<'_> {
     fn find_at(&self, haystack: &[u8], start: usize) -> Result<Option<Match>, AllocError> {
         match self.first_at(haystack, start) {
             Some((from, end)) => Ok(Some(Match::new(from, end))),
+            None => Ok(None),
+        }
+    }
+}
+
+/// The one group is the match: a literal has no other.
+impl CapturesAt for LiteralRegexMatcher<'_> {
+    ghost use Rattle.grep_regex.specs.GroupsPast.{whole-past};
+    ghost use Rattle.grep_regex.specs.LiteralViews.{literal_regex};
+    ghost use Rattle.grep_regex.specs.Views.{regex_options, regex_patterns, regex_whole_at};
+
+    ghost groups_at = { λ m. regex_whole_at (literal_regex m) };
+
+    ghost none_past = { λ m.
+        whole-past (regex_options (literal_regex m)) (regex_patterns (literal_regex m)) };
+
+    fn captures_at(
+        &self,
+        haystack: &[u8],
+        start: usize,
+        groups: &mut Vec<Option<Match>>,
+    ) -> Result<Option<Match>, AllocError> {
+        groups.clear();
+        match self.first_at(haystack, start) {
+            Some((from, end)) => push_whole(groups, from, end),
             None => Ok(None),
         }
     }

@@ -1,8 +1,9 @@
 //! The trait of a pattern whose matches have groups.
-ghost use Rattle.std.specs.Prelude.{◌≡◌, ◌<◌, ◌≤◌, ℕ, List, [], length, Option, IfOk, IfErr, OnOk};
+ghost use Rattle.std.specs.Prelude.{◌≡◌, ◌<◌, ◌≤◌, ℕ, List, [], length, Option, IfOk, OnOk};
 ghost use Rattle.grep_replace.specs.Groups.{IsOfMatch, LieWithin};
 
 use grep_matcher::{FindAt, Match};
+use std::alloc::AllocError;
 
 /// A matcher that also finds the groups of a match: the parts of it that a part of the pattern
 /// matches, by their numbers. The first is the match itself.
@@ -17,21 +18,19 @@ pub trait CapturesAt: FindAt {
 
     /// The first match of a haystack that starts at `start` or after it, as `find_at` gives it, with
     /// its groups in `groups`, in place of what was there: the first is the match, and each lies in
-    /// the haystack. Without a match there are none. An error is one that the matcher may return for
-    /// this haystack, or of being out of memory. The caller ensures that `start` is at most the
-    /// haystack's length.
+    /// the haystack. Without a match there are none. The only error is being out of memory. The
+    /// caller ensures that `start` is at most the haystack's length.
     fn captures_at(
         &self,
         haystack: &[u8],
         start: usize,
         groups: &mut Vec<Option<Match>>,
-    ) -> Result<Option<Match>, Self::Error>
+    ) -> Result<Option<Match>, AllocError>
         requires { start ≤ length haystack.now }
         ensures value { IfOk result (λ m. m ≡ Self.first_at self.now haystack.now start) }
         ensures groups { OnOk result (groups.new.items ≡ groups_at self.now haystack.now start) }
         ensures whole { IfOk result (IsOfMatch groups.new.items) }
-        ensures within { OnOk result (LieWithin (length haystack.now) groups.new.items) }
-        ensures error { IfErr result ((Self.facts self.now).fails haystack.now) };
+        ensures within { OnOk result (LieWithin (length haystack.now) groups.new.items) };
 }
 
 /// A reference is the matcher that it refers to.
@@ -45,7 +44,7 @@ impl<M: CapturesAt> CapturesAt for &M {
         haystack: &[u8],
         start: usize,
         groups: &mut Vec<Option<Match>>,
-    ) -> Result<Option<Match>, M::Error> {
+    ) -> Result<Option<Match>, AllocError> {
         (**self).captures_at(haystack, start, groups)
     }
 }
