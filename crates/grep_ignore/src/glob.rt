@@ -20,12 +20,15 @@ pub enum GlobError {
     OutOfMemory,
 }
 
-// A piece of a glob, what follows it, and whether a name begins there.
+/// A piece of a glob, what follows it, and whether a name begins there.
 #[derive(Drop)]
-struct Step<'g> {
-    piece: Piece,
-    rest: &'g [u8],
-    begins_name: bool,
+pub struct Step<'g> {
+    /// The piece.
+    pub piece: Piece,
+    /// What follows it.
+    pub rest: &'g [u8],
+    /// Whether a name begins where the rest does.
+    pub begins_name: bool,
 }
 
 /// Adds the pieces of a glob.
@@ -52,8 +55,13 @@ pub fn add_pieces(pieces: &mut Vec<Piece>, glob: &[u8], ignores_case: bool) -> R
     Ok(())
 }
 
-// The piece that a glob begins with, or why there is none.
-fn read_piece(glob: &[u8], begins_name: bool, ignores_case: bool) -> Result<Step<'_>, &'static str>
+/// The piece that a glob begins with, which isn't empty, or why there is none. `begins_name` says
+/// whether a name begins there.
+pub fn read_piece(
+    glob: &[u8],
+    begins_name: bool,
+    ignores_case: bool,
+) -> Result<Step<'_>, &'static str>
     requires { glob.now ≢ [] }
     ensures { MatchResult result
         (λ s. IsPieceText ignores_case begins_name glob.now s.piece s.begins_name s.rest.now)

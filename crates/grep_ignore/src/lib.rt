@@ -12,7 +12,8 @@ mod rules;
 mod tests;
 mod wildcards;
 
-pub use glob::GlobError;
+pub use glob::{GlobError, Step, read_piece};
 pub use layers::{Layer, Layers, Origin};
+pub use line::{RuleText, split_rule};
 pub use rules::{Decision, Misread, Rules};
 pub use wildcards::{Piece, Wildcards};

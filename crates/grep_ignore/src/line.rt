@@ -110,22 +110,51 @@ pub fn has_no_rule(text: &[u8]) -> bool
     text.is_empty() || begins_with(text, b'#')
 }
 
+/// The parts of the text of a rule.
+#[derive(Clone, Copy)]
+pub struct RuleText<'t> {
+    /// Whether it begins with an exclamation mark.
+    pub is_marked: bool,
+    /// Whether it ends in a slash, and so is about folders alone.
+    pub names_folders: bool,
+    /// Whether it has a slash besides, and so is about paths, and not about names in any folder.
+    pub is_anchored: bool,
+    /// The glob, without the mark and without a slash at its start or its end.
+    pub glob: &'t [u8],
+}
+
+/// The parts of the text of a rule.
+pub fn split_rule(text: &[u8]) -> RuleText<'_>
+    ensures marked { result.is_marked ≡ keeps_of text.now }
+    ensures folders { result.names_folders ≡ names_folders_of text.now }
+    ensures anchored { result.is_anchored ≡ is_anchored (glob_of text.now) }
+    ensures glob { result.glob.now ≡ path_glob (glob_of text.now) }
+{
+    let glob = glob_of(text);
+    RuleText {
+        is_marked: begins_with(text, b'!'),
+        names_folders: ends_with(marked_of(text), b'/'),
+        is_anchored: is_anchored(glob),
+        glob: path_glob(glob),
+    }
+}
+
 /// The rule that a line says.
 pub fn read_rule(alloc: Global, text: &[u8], ignores_case: bool) -> Result<Rule, GlobError>
     ensures ok { IfOk result (IsRule ignores_case text.now) }
     ensures err { IfErr result (λ e. OnMalformed e
         (IsMalformed ignores_case (path_glob (glob_of text.now)))) }
 {
-    let glob = glob_of(text);
+    let parts = split_rule(text);
     let mut pieces = Vec::new(alloc);
-    if !is_anchored(glob) && pieces.push(Piece::Folders).is_err() {
+    if !parts.is_anchored && pieces.push(Piece::Folders).is_err() {
         return Err(GlobError::OutOfMemory);
     }
-    match add_pieces(&mut pieces, path_glob(glob), ignores_case) {
+    match add_pieces(&mut pieces, parts.glob, ignores_case) {
         Ok(()) => Ok(Rule {
             wildcards: Wildcards::new(pieces),
-            keeps: begins_with(text, b'!'),
-            names_folders: ends_with(marked_of(text), b'/'),
+            keeps: parts.is_marked,
+            names_folders: parts.names_folders,
         }),
         Err(error) => Err(error),
     }

@@ -11,6 +11,7 @@ pub mod PrinterOptions
 pub mod PrinterSearches
 pub mod PrintingEngines
 pub mod ProgramRuns
+pub mod Refusals
 pub mod RunScopes
 pub mod SearcherOptions
 pub mod SeparatorOptions

@@ -1,4 +1,9 @@
 //! What the program says on standard error of what goes wrong.
+ghost use Rattle.std.specs.Prelude.{◌≡◌, ◌≢◌, true};
+ghost use Rattle.grep_regex.specs.declared.error.Error.TheVariants.{Memory};
+ghost use Rattle.linegrep_cli.specs.Refusals.{IsSaid};
+ghost use Rattle.linegrep_files.specs.Failures.{has_cause};
+
 use crate::refused::reason;
 use clap::error::ErrorKind;
 use grep_output::{Output, write_all};
@@ -61,14 +66,19 @@ fn arguments_text(alloc: Global, cause: &str, tip: &str) -> Result<String, Alloc
 }
 
 /// Writes a text to standard error. If that fails, nobody can be told.
-pub fn say<E: Output>(errors: &mut E, text: &str) {
+pub fn say<E: Output>(errors: &mut E, text: &str)
+    ensures { IsSaid E.step text.now errors.old errors.new }
+{
     let _ = write_all(errors, text.as_bytes());
 }
 
 /// Why patterns can't be compiled, with the text of the one that is wrong if that is known, and a
 /// mark below the place if there is one.
-pub fn pattern_failure(alloc: Global, texts: &[&str], error: &grep_regex::Error) -> Failure {
+pub fn pattern_failure(alloc: Global, texts: &[&str], error: &grep_regex::Error) -> Failure
+    ensures { has_cause result ≡ true → error.now ≢ Memory }
+{
     match error {
+        grep_regex::Error::Memory => Failure::out_of_memory(),
         grep_regex::Error::Syntax { pattern, error } => {
             let text = texts.get(*pattern).copied().unwrap_or("");
             let place = place_of(text, error.span.start);

@@ -1,4 +1,7 @@
 //! What the options say of which files of folders are searched.
+ghost use Rattle.std.specs.Prelude.{◌≡◌};
+ghost use Rattle.linegrep_cli.specs.Refusals.{AreFileOptions, texts_of};
+
 use crate::option_id::OptionId;
 use crate::options::Options;
 use clap::ArgMatches;
@@ -23,7 +26,9 @@ fn values<'m, 'w>(matches: &'m ArgMatches<'w>, name: &str) -> Values<'m, 'w> {
 }
 
 // The texts of an option, if it is used.
-fn texts_of<'m, 'w>(texts: Option<&'m [&'w str]>) -> &'m [&'w str] {
+fn texts_of<'m, 'w>(texts: Option<&'m [&'w str]>) -> &'m [&'w str]
+    ensures { result.now ≡ texts_of texts.entry }
+{
     match texts {
         Some(texts) => texts,
         None => &[],
@@ -38,7 +43,9 @@ fn places_of(places: Option<&[usize]>) -> &[usize] {
 }
 
 /// What the options say of which files of folders are searched.
-pub fn file_options<'m, 'w>(options: &Options<'m, 'w>) -> FileOptions<'m, 'w> {
+pub fn file_options<'m, 'w>(options: &Options<'m, 'w>) -> FileOptions<'m, 'w>
+    ensures { AreFileOptions options.now result }
+{
     FileOptions {
         globs: texts_of(options.globs),
         iglobs: texts_of(options.iglobs),

@@ -1,11 +1,15 @@
 //! The patterns that are searched for.
-ghost use Rattle.std.specs.Prelude.{◌≡◌, map, string_bytes, IfOk};
+ghost use Rattle.std.specs.Prelude.{◌≡◌, ◌≢◌, map, string_bytes, true, IfErr, IfOk};
 ghost use Rattle.std.specs.List.{list_any};
 ghost use Rattle.grep_regex.specs.Views.{regex_options, regex_patterns};
 ghost use Rattle.linegrep_cli.specs.OptionUses.{has};
 ghost use Rattle.linegrep_cli.specs.PatternOptions.{has_capital, ignores_case, is_escape, is_unicode};
 ghost use Rattle.linegrep_cli.specs.PatternOptions.{pattern_options, pattern_texts};
 ghost use Rattle.linegrep_cli.specs.PatternOptions.{searched_options};
+ghost use Rattle.grep_regex.specs.Refusals.{IsRefusal};
+ghost use Rattle.grep_regex.specs.declared.error.Error.{Error};
+ghost use Rattle.grep_regex.specs.declared.error.Error.TheVariants.{Memory};
+ghost use Rattle.linegrep_files.specs.Failures.{has_cause};
 
 use crate::failures::{Failure, arguments_failure, pattern_failure};
 use crate::option_id::OptionId;
@@ -155,6 +159,10 @@ pub fn compile(
         regex_options regex ≡ pattern_options options.now patterns.now) }
     ensures patterns { IfOk result (λ regex.
         regex_patterns regex ≡ pattern_texts options.now patterns.now) }
+    ensures refused { IfErr result (λ failure. has_cause failure ≡ true
+        → (error : Error) × (error ≢ Memory)
+        × IsRefusal (pattern_options options.now patterns.now)
+        (pattern_texts options.now patterns.now) error) }
 {
     if options.has(OptionId::Files) {
         return compile_with(alloc, &RegexMatcherBuilder::new(), &[""]);
@@ -173,6 +181,9 @@ fn compile_with(
     ensures options { IfOk result (λ regex. regex_options regex ≡ builder.now) }
     ensures patterns { IfOk result
         (λ regex. regex_patterns regex ≡ map (λ text. text.now) texts.now) }
+    ensures refused { IfErr result (λ failure. has_cause failure ≡ true
+        → (error : Error) × (error ≢ Memory)
+        × IsRefusal builder.now (map (λ text. text.now) texts.now) error) }
 {
     match builder.build_many(alloc, texts) {
         Ok(regex) => Ok(regex),

@@ -1,11 +1,14 @@
 //! The search of all that the arguments name.
-ghost use Rattle.std.specs.Prelude.{◌≡◌, ◌⊎◌, IfOk};
+ghost use Rattle.std.specs.Prelude.{◌≡◌, ◌⊎◌, List, String, true, IfErr, IfOk};
+ghost use Rattle.std.specs.Global.{Global};
 ghost use Rattle.grep_regex.specs.Views.{IsNamed, regex_options, regex_patterns};
 ghost use Rattle.linegrep_cli.specs.PatternOptions.{pattern_options, pattern_texts};
+ghost use Rattle.linegrep_cli.specs.Refusals.{IsCause, IsRefusedFor, IsSaid};
 ghost use Rattle.linegrep_cli.specs.SearcherOptions.{searcher_settings};
 ghost use Rattle.linegrep_cli.specs.SeparatorOptions.{AreLent, IsSeparators};
-ghost use Rattle.linegrep_cli.specs.WholeRuns.{IsRefused, IsRunFor, IsRunWith, IsWholeRun};
+ghost use Rattle.linegrep_cli.specs.WholeRuns.{IsRunFor, IsRunWith, IsWholeRun};
 ghost use Rattle.linegrep_cli.specs.WholeRuns.{literal_facts, literal_first_at};
+ghost use Rattle.linegrep_files.specs.Failures.{has_cause, text_of};
 
 use crate::engine::PrintingEngine;
 use crate::failures::{Failure, say};
@@ -42,6 +45,7 @@ impl<R, W> Ended<R, W> {
         ensures status { result.status ≡ 2 }
         ensures input { result.input ≡ input }
         ensures output { result.output ≡ output }
+        ensures said { IsSaid E.step (text_of failure.now) errors.old errors.new }
     {
         say(errors, failure.text());
         Ended {
@@ -76,11 +80,19 @@ fn prepare<'r>(
         regex_patterns prepared.regex ≡ pattern_texts options.now patterns.now) }
     ensures separators { IfOk result (λ prepared.
         IsSeparators options.now prepared.separators) }
+    ensures refused { IfErr result (λ failure. has_cause failure ≡ true
+        → IsCause options.now patterns.now) }
 {
     let searcher = build_searcher(rt.alloc(), options)?;
-    let regex = compile(rt.alloc(), options, patterns)?;
+    let regex = match compile(rt.alloc(), options, patterns) {
+        Ok(regex) => regex,
+        Err(failure) => return Err(failure),
+    };
     options.order().check(rt)?;
-    let choices = Choices::read(rt, &file_options(options))?;
+    let choices = match Choices::read(rt, &file_options(options)) {
+        Ok(choices) => choices,
+        Err(failure) => return Err(failure),
+    };
     match separators(rt.alloc(), options) {
         Ok(separators) => Ok(Prepared {
             searcher,
@@ -107,8 +119,8 @@ pub fn search_all<S: System, R: Source + Drop, W: Output + Drop, E: Output>(
     output: W,
     errors: &mut E,
 ) -> Ended<R, W>
-    ensures { IsRefused input output result.status result.input result.output
-        ⊎ IsWholeRun ⟦<AllocError as Display>⟧.output W.step S.File.remaining R.remaining R.step
+    ensures { IsRefusedFor E.step options.now patterns.now input output errors.old result.status
+        result.input result.output errors.new ⊎ IsWholeRun ⟦<AllocError as Display>⟧.output W.step S.File.remaining R.remaining R.step
         (S.finds system.now) (S.opens system.now) (S.identifies system.now) options.now patterns.now
         input output errors.old result.status result.input result.output }
 {
@@ -155,7 +167,8 @@ where
     requires named { IsNamed N.options N.patterns regex.now }
     requires settings { searcher.settings ≡ searcher_settings options.now }
     requires lent { AreLent options.now separators }
-    ensures { IsRefused input output result.status result.input result.output
+    ensures { ((patterns : List (String Global)) → IsRefusedFor E.step options.now patterns input
+        output errors.old result.status result.input result.output errors.new)
         ⊎ (IsRunFor ⟦<AllocError as Display>⟧.output literal_facts literal_first_at W.step
         S.File.remaining R.remaining R.step (S.finds system.now) (S.opens system.now)
         (S.identifies system.now) options.now regex.now input output errors.old result.status

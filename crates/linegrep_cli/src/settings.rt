@@ -11,6 +11,7 @@ ghost use Rattle.linegrep_cli.specs.SearcherOptions.{encoding_of_label, is_unkno
 ghost use Rattle.linegrep_cli.specs.SearcherOptions.{looks_for_mark, refuses_label};
 ghost use Rattle.linegrep_cli.specs.SearcherOptions.{searcher_settings};
 ghost use Rattle.linegrep_cli.specs.SearcherOptions.{terminator_of};
+ghost use Rattle.linegrep_files.specs.Failures.{has_cause};
 
 use crate::colors::color_specs;
 use crate::failures::Failure;
@@ -33,9 +34,12 @@ pub fn build_searcher(alloc: Global, options: &Options<'_, '_>) -> Result<Search
     ensures settings { IfOk result (λ searcher.
         searcher ≡ record { settings = searcher_settings options.now; has_buffers = true }) }
     ensures known { IfOk result (λ _. refuses_label options.now ≡ false) }
+    ensures refused { IfErr result (λ failure. has_cause failure ≡ true
+        → refuses_label options.now ≡ true) }
 {
     match try_searcher(alloc, options) {
         Ok(searcher) => Ok(searcher),
+        Err(ConfigError::Memory) => Err(Failure::out_of_memory()),
         Err(error) => Err(Failure::new(alloc, &error)),
     }
 }

@@ -1,1 +1,7 @@
+pub mod Choices
+pub mod Failures
 pub mod FileIds
+pub mod FileTypes
+pub mod Globs
+pub mod Limits
+pub mod Orders

@@ -1,30 +1,38 @@
 //! Which of the files and folders of a folder are visited.
+ghost use Rattle.std.specs.Prelude.{◌≡◌, false, true, IfErr, IfOk};
+ghost use Rattle.linegrep_files.specs.Choices.{AreChoices, IsChosen, IsUnmatchedChosen, SaysTheSame};
+ghost use Rattle.linegrep_files.specs.Choices.{is_shown, may_be_refused};
+ghost use Rattle.linegrep_files.specs.Failures.{has_cause};
+
+use crate::class::begins_with;
 use crate::failures::Failure;
 use crate::file_options::FileOptions;
 use crate::globs::{Choice, Globs};
 use crate::ignores::Ignores;
 use crate::limits::Limits;
 use crate::types::Types;
-use std::alloc::{AllocError, Global};
+use std::alloc::AllocError;
 
 /// What globs, ignore files, types and names say.
 #[derive(Drop)]
 pub struct Choices<'r> {
-    alloc: Global,
     globs: Globs,
     ignores: Ignores<'r>,
     types: Types,
     limits: Limits,
     shows_hidden: bool,
+    // Room to work in.
+    row: Vec<bool>,
 }
 
 impl<'r> Choices<'r> {
     /// What the options say. An error is that a glob, a type or a size isn't well formed, or that there
     /// is no memory.
-    pub fn read(
-        rt: &'r HostRuntime,
-        options: &FileOptions<'_, '_>,
-    ) -> Result<Choices<'r>, Failure> {
+    pub fn read(rt: &'r HostRuntime, options: &FileOptions<'_, '_>) -> Result<Choices<'r>, Failure>
+        ensures ok { IfOk result (AreChoices options.now) }
+        ensures err { IfErr result (λ failure. has_cause failure ≡ true
+            → may_be_refused options.now ≡ true) }
+    {
         let globs = Globs::read(
             rt.alloc(),
             options.globs,
@@ -35,12 +43,12 @@ impl<'r> Choices<'r> {
         let limits = Limits::read(rt.alloc(), options)?;
         match Ignores::read(rt, options.sources, options.ignore_files) {
             Ok(ignores) => Ok(Choices {
-                alloc: rt.alloc(),
                 globs,
                 ignores,
                 types,
                 limits,
                 shows_hidden: options.shows_hidden,
+                row: Vec::new(rt.alloc()),
             }),
             Err(_) => Err(Failure::out_of_memory()),
         }
@@ -57,31 +65,42 @@ impl<'r> Choices<'r> {
     }
 
     /// How far the walk goes.
-    pub fn limits(&self) -> Limits {
+    pub fn limits(&self) -> Limits
+        ensures { result ≡ self.now.limits }
+    {
         self.limits
     }
 
     /// Whether the file or the folder with a name in the folder is visited, which is at a path: globs
     /// decide first, then ignore files, and of files types. What none says anything about is visited
     /// unless it is hidden, or if hidden ones are too.
-    pub fn is_chosen(
-        &mut self,
-        path: &str,
-        name: &str,
-        is_folder: bool,
-    ) -> Result<bool, AllocError> {
-        match self.globs.choice(path, is_folder) {
+    pub fn is_chosen(&mut self, path: &str, name: &str, is_folder: bool) -> Result<bool, AllocError>
+        ensures chosen { IfOk result (IsChosen self.old path.now name.now is_folder) }
+        ensures same { SaysTheSame self.old self.new }
+    {
+        match self.globs.choice(&mut self.row, path, is_folder)? {
             Choice::Chosen => Ok(true),
             Choice::LeftOut => Ok(false),
             Choice::Unmatched => {
-                let is_shown = self.shows_hidden || !name.starts_with('.');
-                self.is_unmatched_chosen(name.as_bytes(), is_folder, is_shown)
+                let name = name.as_bytes();
+                let is_shown = self.is_shown(name);
+                self.is_unmatched_chosen(name, is_folder, is_shown)
             }
         }
     }
 
+    // Whether what has a name isn't hidden, or hidden ones are shown.
+    fn is_shown(&self, name: &[u8]) -> bool
+        ensures { result ≡ is_shown self.now name.now }
+    {
+        self.shows_hidden || !begins_with(name, b'.')
+    }
+
     /// Whether a file whose name isn't UTF-8 is visited.
-    pub fn is_name_chosen(&mut self, name: &[u8]) -> Result<bool, AllocError> {
+    pub fn is_name_chosen(&mut self, name: &[u8]) -> Result<bool, AllocError>
+        ensures chosen { IfOk result (IsUnmatchedChosen self.old name.now false true) }
+        ensures same { SaysTheSame self.old self.new }
+    {
         self.is_unmatched_chosen(name, false, true)
     }
 
@@ -91,16 +110,16 @@ impl<'r> Choices<'r> {
         name: &[u8],
         is_folder: bool,
         is_shown: bool,
-    ) -> Result<bool, AllocError> {
+    ) -> Result<bool, AllocError>
+        ensures chosen { IfOk result (IsUnmatchedChosen self.old name.now is_folder is_shown) }
+        ensures same { SaysTheSame self.old self.new }
+    {
         let decision = self.ignores.decision(name, is_folder)?;
         if is_folder || !decision.is_kept(true) {
             return Ok(decision.is_kept(is_shown));
         }
-        match self.types.choice(self.alloc, name)? {
-            Choice::Chosen => Ok(true),
-            Choice::LeftOut => Ok(false),
-            Choice::Unmatched => Ok(decision.is_kept(is_shown)),
-        }
+        let choice = self.types.choice(&mut self.row, name)?;
+        Ok(choice.is_chosen(decision.is_kept(is_shown)))
     }
 
     /// What is wrong with ignore files that were read, as lines for standard error.

@@ -13,13 +13,18 @@ pub struct Failure {
 }
 
 impl Failure {
+    ghost use Rattle.std.specs.Prelude.{◌≡◌, false};
+    ghost use Rattle.linegrep_files.specs.Failures.{has_cause, text_of};
+
     /// What is wrong, as something that can be written says it.
     pub fn new<D: Display>(alloc: Global, text: &D) -> Failure {
         Failure::of_text(format!(in alloc; "linegrep: {text}\n"))
     }
 
     /// That there is no memory.
-    pub fn out_of_memory() -> Failure {
+    pub fn out_of_memory() -> Failure
+        ensures { has_cause result ≡ false }
+    {
         Failure { text: None }
     }
 
@@ -35,7 +40,9 @@ impl Failure {
     }
 
     /// The text, which ends in a line feed.
-    pub fn text(&self) -> &str {
+    pub fn text(&self) -> &str
+        ensures { result.now ≡ text_of self.now }
+    {
         match &self.text {
             Some(text) => text.as_str(),
             None => OUT_OF_MEMORY,

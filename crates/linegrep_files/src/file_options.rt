@@ -24,8 +24,13 @@ pub struct TypeOptions<'o, 'w> {
 }
 
 impl TypeOptions<'_, '_> {
+    ghost use Rattle.std.specs.Prelude.{◌≡◌};
+    ghost use Rattle.linegrep_files.specs.FileTypes.{are_none};
+
     /// Whether nothing is said.
-    pub fn are_none(&self) -> bool {
+    pub fn are_none(&self) -> bool
+        ensures { result ≡ are_none self.now }
+    {
         self.asked.texts.is_empty()
             && self.left_out.texts.is_empty()
             && self.added.texts.is_empty()

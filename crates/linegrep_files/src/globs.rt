@@ -1,6 +1,16 @@
 //! Globs, which choose among the files of folders.
+ghost use Rattle.std.specs.Prelude.{◌≡◌, ◌↔◌, ◌||◌, true, if◌then◌else◌, IfErr, IfOk, IsTrue};
+ghost use Rattle.std.specs.List.{list_all};
+ghost use Rattle.grep_ignore.specs.Globs.{OnMalformed};
+ghost use Rattle.linegrep_files.specs.Failures.{has_cause};
+ghost use Rattle.linegrep_files.specs.Globs.{AreAdded, AreGlobs, IsAbout, IsAdded, IsGlobChoice};
+ghost use Rattle.linegrep_files.specs.Globs.{IsGlobRule, IsLastChoice, choice_of, glob_text, may_be_malformed};
+ghost use Rattle.linegrep_files.specs.Globs.{may_be_malformed_in, is_chosen, path_from_here, said_glob};
+
+use crate::class::is_empty;
 use crate::failures::Failure;
-use crate::wildcards::{Error, Wildcards};
+use crate::glob::Glob;
+use grep_ignore::{GlobError, split_rule};
 use std::alloc::{AllocError, Global};
 
 /// What globs say of a file or a folder.
@@ -14,10 +24,23 @@ pub enum Choice {
     Unmatched,
 }
 
+impl Choice {
+    /// Whether what is chosen or left out is visited, if what nothing is said about is visited or isn't.
+    pub fn is_chosen(self, unmatched: bool) -> bool
+        ensures { result ≡ is_chosen self unmatched }
+    {
+        match self {
+            Choice::Chosen => true,
+            Choice::LeftOut => false,
+            Choice::Unmatched => unmatched,
+        }
+    }
+}
+
 /// The globs of the arguments, in order.
 #[derive(Drop)]
 pub struct Globs {
-    globs: Vec<Glob>,
+    rules: Vec<GlobRule>,
     // Whether each leaves paths out.
     are_exclusions: bool,
 }
@@ -25,73 +48,110 @@ pub struct Globs {
 // A glob: the paths that it matches, whether it leaves them out, and whether it matches folders
 // alone.
 #[derive(Drop)]
-struct Glob {
-    wildcards: Wildcards,
+struct GlobRule {
+    glob: Glob,
     is_exclusion: bool,
     names_folders: bool,
 }
 
 impl Globs {
-    /// Reads globs, of which an empty one is left out. An error is that one isn't well formed, or
-    /// that there is no memory.
-    /// The letters of `iglobs`, which come after the others, match in either case, and if
-    /// `ignores_case` is set those of all.
+    /// Reads globs, of which an empty one is left out. The letters of `iglobs`, which come after the
+    /// others, match in either case, and if `ignores_case` is set those of all. An error is that one
+    /// isn't well formed, or that there is no memory.
     pub fn read(
         alloc: Global,
         texts: &[&str],
         iglobs: &[&str],
         ignores_case: bool,
-    ) -> Result<Globs, Failure> {
+    ) -> Result<Globs, Failure>
+        ensures ok { IfOk result (AreGlobs texts.now iglobs.now ignores_case) }
+        ensures err { IfErr result (λ failure. has_cause failure ≡ true
+            → (may_be_malformed_in texts.now || may_be_malformed_in iglobs.now) ≡ true) }
+    {
         let mut globs = Globs {
-            globs: Vec::new(alloc),
+            rules: Vec::new(alloc),
             are_exclusions: true,
         };
         globs.add_all(alloc, texts, ignores_case)?;
         globs.add_all(alloc, iglobs, true)?;
+        globs.are_exclusions = are_exclusions(globs.rules.as_slice());
         Ok(globs)
     }
 
     // Adds the globs of some texts.
-    fn add_all(
-        &mut self,
-        alloc: Global,
-        texts: &[&str],
-        ignores_case: bool,
-    ) -> Result<(), Failure> {
+    fn add_all(&mut self, alloc: Global, texts: &[&str], ignores_case: bool) -> Result<(), Failure>
+        ensures ok { IfOk result (λ _. AreAdded ignores_case texts.now self.old.rules.items
+            self.new.rules.items) }
+        ensures err { IfErr result (λ failure. has_cause failure ≡ true
+            → may_be_malformed_in texts.now ≡ true) }
+    {
         for text in texts {
-            if let Err(error) = self.add(alloc, text, ignores_case) {
-                return Err(glob_failure(alloc, text, error));
+            match self.add(alloc, text, ignores_case) {
+                Ok(()) => {}
+                Err(GlobError::Malformed(cause)) => return Err(malformed(alloc, text, cause)),
+                Err(GlobError::OutOfMemory) => return Err(Failure::out_of_memory()),
             }
         }
         Ok(())
     }
 
     // Adds the glob of a text, unless the text is empty.
-    fn add(&mut self, alloc: Global, text: &str, ignores_case: bool) -> Result<(), Error> {
-        if text.is_empty() {
+    fn add(&mut self, alloc: Global, text: &str, ignores_case: bool) -> Result<(), GlobError>
+        ensures ok { IfOk result (λ _. IsAdded ignores_case text.now self.old.rules.items
+            self.new.rules.items) }
+        ensures err { IfErr result (λ e. OnMalformed e (may_be_malformed (glob_text text.now) ≡ true)) }
+    {
+        if is_empty(text.as_bytes()) {
             return Ok(());
         }
-        let glob = compile(alloc, text, ignores_case)?;
-        self.are_exclusions = self.are_exclusions && glob.is_exclusion;
-        self.globs.push(glob)?;
-        Ok(())
+        match read_rule(alloc, text.as_bytes(), ignores_case) {
+            Ok(rule) => match self.rules.push(rule) {
+                Ok(()) => return Ok(()),
+                Err(_) => return Err(GlobError::OutOfMemory),
+            },
+            Err(error) => return Err(error),
+        }
     }
 
     /// What the globs say of the file or the folder at a path: the last that matches it decides. If
-    /// none does, a file is left out if there is a glob that asks for files.
-    pub fn choice(&mut self, path: &str, is_folder: bool) -> Choice {
-        let path = path.strip_prefix("./").unwrap_or(path);
-        let mut choice = self.default_choice(is_folder);
-        for glob in self.globs.iter_mut() {
-            if glob.is_match(path, is_folder) {
-                choice = glob.choice();
+    /// none does, a file is left out if there is a glob that asks for files. `row` is room to work in.
+    /// An error is one of being out of memory.
+    pub fn choice(
+        &self,
+        row: &mut Vec<bool>,
+        path: &str,
+        is_folder: bool,
+    ) -> Result<Choice, AllocError>
+        ensures { IfOk result (IsGlobChoice self.now path.now is_folder) }
+    {
+        self.last_choice(row, path_from_here(path.as_bytes()), is_folder)
+    }
+
+    // What the last glob says that is about the file or the folder at a path.
+    fn last_choice(
+        &self,
+        row: &mut Vec<bool>,
+        path: &[u8],
+        is_folder: bool,
+    ) -> Result<Choice, AllocError>
+        ensures { IfOk result (IsLastChoice self.now path.now is_folder) }
+    {
+        let mut at = self.rules.len();
+        while at > 0 {
+            at -= 1;
+            let rule = &self.rules[at];
+            if rule.is_about(row, path, is_folder)? {
+                return Ok(rule.choice());
             }
         }
-        choice
+        Ok(self.default_choice(is_folder))
     }
 
     // What they say of what none of them matches.
-    fn default_choice(&self, is_folder: bool) -> Choice {
+    fn default_choice(&self, is_folder: bool) -> Choice
+        ensures { result ≡ (if self.now.are_exclusions || is_folder then Choice.Unmatched
+            else Choice.LeftOut) }
+    {
         if self.are_exclusions || is_folder {
             Choice::Unmatched
         } else {
@@ -100,9 +160,11 @@ impl Globs {
     }
 }
 
-impl Glob {
+impl GlobRule {
     // What it says of what it matches.
-    fn choice(&self) -> Choice {
+    fn choice(&self) -> Choice
+        ensures { result ≡ choice_of self.now }
+    {
         if self.is_exclusion {
             Choice::LeftOut
         } else {
@@ -110,46 +172,68 @@ impl Glob {
         }
     }
 
-    fn is_match(&mut self, path: &str, is_folder: bool) -> bool {
-        (is_folder || !self.names_folders) && self.wildcards.is_match(path)
+    fn is_about(
+        &self,
+        row: &mut Vec<bool>,
+        path: &[u8],
+        is_folder: bool,
+    ) -> Result<bool, AllocError>
+        ensures { IfOk result (λ is_about. IsTrue is_about ↔ IsAbout path.now is_folder self.now) }
+    {
+        if self.names_folders && !is_folder {
+            Ok(false)
+        } else {
+            self.glob.is_match(row, path)
+        }
     }
 }
 
-// Compiles the text of a glob: an exclamation mark at its start leaves paths out, all of them if
+// A path without what names the current folder at its start.
+fn path_from_here(path: &[u8]) -> &[u8]
+    ensures { result.now ≡ path_from_here path.now }
+{
+    match path {
+        [b'.', b'/', rest @ ..] => rest,
+        _ => path,
+    }
+}
+
+// The rule of the text of a glob: an exclamation mark at its start leaves paths out, all of them if
 // nothing follows it, a slash at its end means folders alone, and without any other slash it is
 // about names in any folder.
-fn compile(alloc: Global, text: &str, ignores_case: bool) -> Result<Glob, Error> {
-    let (is_exclusion, glob) = match text.strip_prefix('!') {
-        Some("") => (true, "*"),
-        Some(glob) => (true, glob),
-        None => (false, text),
-    };
-    let (names_folders, glob) = match glob.strip_suffix('/') {
-        Some(glob) => (true, glob),
-        None => (false, glob),
-    };
-    Ok(Glob {
-        wildcards: wildcards(alloc, glob, ignores_case)?,
-        is_exclusion,
-        names_folders,
-    })
-}
-
-fn wildcards(alloc: Global, glob: &str, ignores_case: bool) -> Result<Wildcards, Error> {
-    let letters = letters(alloc, glob.strip_prefix('/').unwrap_or(glob))?;
-    Wildcards::new(alloc, &letters, !glob.contains('/'), ignores_case)
-}
-
-fn letters(alloc: Global, text: &str) -> Result<Vec<char>, AllocError> {
-    Ok(text.chars().collect(alloc)?)
-}
-
-// What is wrong with a glob.
-fn glob_failure(alloc: Global, text: &str, error: Error) -> Failure {
-    match error {
-        Error::Malformed(cause) => {
-            Failure::of_text(format!(in alloc; "linegrep: the glob {text}: {cause}\n"))
-        }
-        Error::OutOfMemory => Failure::out_of_memory(),
+fn read_rule(alloc: Global, text: &[u8], ignores_case: bool) -> Result<GlobRule, GlobError>
+    ensures ok { IfOk result (IsGlobRule ignores_case text.now) }
+    ensures err { IfErr result (λ e. OnMalformed e (may_be_malformed (glob_text text.now) ≡ true)) }
+{
+    let parts = split_rule(said_glob(text));
+    match Glob::read(alloc, parts.glob, !parts.is_anchored, ignores_case) {
+        Ok(glob) => Ok(GlobRule {
+            glob,
+            is_exclusion: parts.is_marked,
+            names_folders: parts.names_folders,
+        }),
+        Err(error) => Err(error),
     }
+}
+
+// A text, or if it is an exclamation mark alone that of the glob that leaves everything out.
+fn said_glob(text: &[u8]) -> &[u8]
+    ensures { result.now ≡ said_glob text.now }
+{
+    match text {
+        [b'!'] => b"!*",
+        _ => text,
+    }
+}
+
+// That a glob isn't well formed.
+fn malformed(alloc: Global, text: &str, cause: &str) -> Failure {
+    Failure::of_text(format!(in alloc; "linegrep: the glob {text}: {cause}\n"))
+}
+
+// Whether each of some globs leaves paths out.
+fn are_exclusions(rules: &[GlobRule]) -> bool
+    ensures { result ≡ list_all (λ rule. rule.is_exclusion) rules.now }
+{
+    rules.iter().all(|rule| rule.is_exclusion)
 }

@@ -1,4 +1,7 @@
 //! The ignore files that count in a folder, and what they say of what is in it.
+ghost use Rattle.std.specs.Prelude.{◌≡◌, IfOk};
+ghost use Rattle.linegrep_files.specs.Choices.{IgnoresTheSame, IsIgnoreDecision, repository_of};
+
 use crate::failures::Failure;
 use crate::git_settings;
 use grep_ignore::{Decision, Layer, Layers, Misread, Origin, Rules};
@@ -212,7 +215,10 @@ impl<'r> Ignores<'r> {
     }
 
     /// What the files say of a name in the folder.
-    pub fn decision(&mut self, name: &[u8], is_folder: bool) -> Result<Decision, AllocError> {
+    pub fn decision(&mut self, name: &[u8], is_folder: bool) -> Result<Decision, AllocError>
+        ensures said { IfOk result (IsIgnoreDecision self.old name.now is_folder) }
+        ensures same { IgnoresTheSame self.old self.new }
+    {
         if self.layers.is_empty() {
             return Ok(Decision::Unmatched);
         }
@@ -246,7 +252,9 @@ impl<'r> Ignores<'r> {
     }
 
     // The depth of the repository that the folder is in. If none is needed it is in one.
-    fn repository(&self) -> Option<usize> {
+    fn repository(&self) -> Option<usize>
+        ensures { result ≡ repository_of self.now }
+    {
         match self.repositories.last() {
             Some(depth) => Some(*depth),
             None if self.sources.needs_repository => None,

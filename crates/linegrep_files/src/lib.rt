@@ -4,11 +4,14 @@
 //! `CALLING.md` has an example.
 #![tactic(auto)]
 
+mod braces;
 mod choices;
+mod class;
 mod failures;
 mod file_id;
 mod file_options;
 mod git_settings;
+mod glob;
 mod globs;
 mod ignores;
 mod known_types;
@@ -16,7 +19,6 @@ mod limits;
 mod order;
 mod types;
 mod walk;
-mod wildcards;
 mod words;
 
 pub use choices::Choices;

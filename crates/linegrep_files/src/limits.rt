@@ -1,4 +1,7 @@
 //! Which folders are too deep or elsewhere, and which files are too large.
+ghost use Rattle.std.specs.Prelude.{◌≡◌, true, IfOk, OnErr, is_some};
+ghost use Rattle.linegrep_files.specs.Limits.{AreLimits, allows_depth, allows_size};
+
 use crate::failures::Failure;
 use crate::file_id::FileId;
 use crate::file_options::FileOptions;
@@ -19,7 +22,10 @@ pub struct Limits {
 
 impl Limits {
     /// Those of the options. The only error is that of a size that isn't well formed.
-    pub fn read(alloc: Global, options: &FileOptions<'_, '_>) -> Result<Limits, Failure> {
+    pub fn read(alloc: Global, options: &FileOptions<'_, '_>) -> Result<Limits, Failure>
+        ensures ok { IfOk result (AreLimits options.now) }
+        ensures err { OnErr result (is_some options.now.max_filesize ≡ true) }
+    {
         let max_size = match options.max_filesize {
             None => None,
             Some(text) => match size_of(text) {
@@ -35,7 +41,9 @@ impl Limits {
     }
 
     /// Whether what is in a folder is visited, which is so many folders below one that is named.
-    pub fn allows_depth(&self, depth: usize) -> bool {
+    pub fn allows_depth(&self, depth: usize) -> bool
+        ensures { result ≡ allows_depth self.now depth }
+    {
         match self.max_depth {
             Some(max) => (depth as u64) < max,
             None => true,
@@ -44,8 +52,14 @@ impl Limits {
 
     /// Whether a file isn't too large.
     pub fn allows_file(&self, file: &Metadata) -> bool {
+        self.allows_size(file.len())
+    }
+
+    fn allows_size(&self, size: u64) -> bool
+        ensures { result ≡ allows_size self.now size }
+    {
         match self.max_size {
-            Some(max) => file.len() <= max,
+            Some(max) => size <= max,
             None => true,
         }
     }

@@ -1,4 +1,7 @@
 //! In which order files are found.
+ghost use Rattle.std.specs.Prelude.{◌≡◌, false, true, OnErr};
+ghost use Rattle.linegrep_files.specs.Orders.{is_by_time, names_time};
+
 use crate::failures::Failure;
 use std::cmp::Ordering;
 use std::time::SystemTime;
@@ -36,7 +39,9 @@ pub struct Dated {
 
 impl Order {
     /// That of paths.
-    pub fn by_path() -> Order {
+    pub fn by_path() -> Order
+        ensures { is_by_time result ≡ false }
+    {
         Order {
             key: SortKey::Path,
             is_reversed: false,
@@ -44,7 +49,9 @@ impl Order {
     }
 
     /// The order that the value of an option names.
-    pub fn read(name: Option<&str>, is_reversed: bool) -> Order {
+    pub fn read(name: Option<&str>, is_reversed: bool) -> Order
+        ensures { is_by_time result ≡ names_time name.entry }
+    {
         let key = match name {
             Some("modified") => SortKey::Modified,
             Some("accessed") => SortKey::Accessed,
@@ -56,7 +63,9 @@ impl Order {
     }
 
     /// Says why the system has no such order, if it has none.
-    pub fn check(&self, rt: &HostRuntime) -> Result<(), Failure> {
+    pub fn check(&self, rt: &HostRuntime) -> Result<(), Failure>
+        ensures { OnErr result (is_by_time self.now ≡ true) }
+    {
         match self.time(rt, ".") {
             Err(error) if self.is_by_time() => {
                 Err(Failure::of_cause(rt.alloc(), "files can't be sorted", &error))
@@ -66,7 +75,9 @@ impl Order {
     }
 
     /// Whether files are sorted by a time, for which all of them have to be found first.
-    pub fn is_by_time(&self) -> bool {
+    pub fn is_by_time(&self) -> bool
+        ensures { result ≡ is_by_time self.now }
+    {
         !matches!(self.key, SortKey::Path)
     }
 

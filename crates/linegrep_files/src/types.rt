@@ -1,13 +1,16 @@
 //! Types of files, which choose among the files of folders by their names.
+ghost use Rattle.std.specs.Prelude.{◌≡◌, ◌↔◌, false, true, if◌then◌else◌, IfErr, IfOk, IsTrue, Ok};
+ghost use Rattle.linegrep_files.specs.FileTypes.{AreNoTypes, Have, IsTypeChoice, are_none, type_choice_of};
+ghost use Rattle.linegrep_files.specs.Failures.{has_cause};
+ghost use Rattle.linegrep_files.specs.declared.types.Types.{Types};
+
 use crate::failures::Failure;
 use crate::file_options::{TypeOptions, Values};
+use crate::glob::Glob;
 use crate::globs::Choice;
 use crate::known_types::TYPES;
-use crate::wildcards;
-use crate::wildcards::Wildcards;
-use crate::words::escape;
+use grep_ignore::GlobError;
 use std::alloc::{AllocError, AllocFailed, Global};
-use std::str;
 
 // The name that stands for all types.
 const ALL: &str = "all";
@@ -33,7 +36,7 @@ struct TypeGlob {
 enum Names {
     Only(String),
     EndingIn(String),
-    Matching(Wildcards),
+    Matching(Glob),
 }
 
 /// The types that are known, and which of them are selected.
@@ -99,7 +102,11 @@ impl<'t, T: Drop> From<AllocFailed<T>> for Error<'t> {
 impl Types {
     /// The types that options ask for or leave out. An error is that one isn't known, that a
     /// definition isn't well formed, or that there is no memory.
-    pub fn read(alloc: Global, options: &TypeOptions<'_, '_>) -> Result<Types, Failure> {
+    pub fn read(alloc: Global, options: &TypeOptions<'_, '_>) -> Result<Types, Failure>
+        ensures none { are_none options.now ≡ true → IfOk result AreNoTypes }
+        ensures err { IfErr result (λ failure. has_cause failure ≡ true
+            → are_none options.now ≡ false) }
+    {
         match try_read(alloc, options) {
             Ok(types) => Ok(types),
             Err(error) => Err(failure(alloc, error)),
@@ -107,23 +114,43 @@ impl Types {
     }
 
     /// What the types say of a file with a name: the last that has it decides. If none does, it is
-    /// left out if one is asked for. The only error is being out of memory.
-    pub fn choice(&mut self, alloc: Global, name: &[u8]) -> Result<Choice, AllocError> {
-        let mut choice = if self.are_asked {
+    /// left out if one is asked for. `row` is room to work in. An error is one of being out of memory.
+    pub fn choice(&self, row: &mut Vec<bool>, name: &[u8]) -> Result<Choice, AllocError>
+        ensures { IfOk result (IsTypeChoice self.now name.now) }
+    {
+        let mut at = self.globs.len();
+        while at > 0 {
+            at -= 1;
+            let glob = &self.globs[at];
+            if glob.names.have(row, name)? {
+                return Ok(glob.choice());
+            }
+        }
+        Ok(self.default_choice())
+    }
+
+    // What they say of a file that none of them has.
+    fn default_choice(&self) -> Choice
+        ensures { result ≡ (if self.now.are_asked then Choice.LeftOut else Choice.Unmatched) }
+    {
+        if self.are_asked {
             Choice::LeftOut
         } else {
             Choice::Unmatched
-        };
-        for glob in self.globs.iter_mut() {
-            if glob.names.have(alloc, name)? {
-                choice = if glob.is_exclusion {
-                    Choice::LeftOut
-                } else {
-                    Choice::Chosen
-                };
-            }
         }
-        Ok(choice)
+    }
+}
+
+impl TypeGlob {
+    // What it says of a file that it has.
+    fn choice(&self) -> Choice
+        ensures { result ≡ type_choice_of self.now }
+    {
+        if self.is_exclusion {
+            Choice::LeftOut
+        } else {
+            Choice::Chosen
+        }
     }
 }
 
@@ -136,7 +163,10 @@ pub fn type_list(alloc: Global, options: &TypeOptions<'_, '_>) -> Result<String,
     }
 }
 
-fn try_read<'t>(alloc: Global, options: &TypeOptions<'_, 't>) -> Result<Types, Error<'t>> {
+fn try_read<'t>(alloc: Global, options: &TypeOptions<'_, 't>) -> Result<Types, Error<'t>>
+    ensures none { are_none options.now ≡ true
+        → (types : Types) × (result ≡ Ok types) × AreNoTypes types }
+{
     if options.are_none() {
         return Ok(Types {
             globs: Vec::new(alloc),
@@ -327,15 +357,14 @@ impl<'t> TypesBuilder<'t> {
 }
 
 impl Names {
-    // Whether a name is one of these. What isn't UTF-8 in it is compared as a word of it.
-    fn have(&mut self, alloc: Global, name: &[u8]) -> Result<bool, AllocError> {
+    // Whether a name is one of these.
+    fn have(&self, row: &mut Vec<bool>, name: &[u8]) -> Result<bool, AllocError>
+        ensures { IfOk result (λ have. IsTrue have ↔ Have self.now name.now) }
+    {
         match self {
             Names::Only(only) => Ok(name == only.as_bytes()),
             Names::EndingIn(end) => Ok(name.ends_with(end.as_bytes())),
-            Names::Matching(wildcards) => match str::from_utf8(name) {
-                Ok(name) => Ok(wildcards.is_match(name)),
-                Err(_) => Ok(wildcards.is_match(escape(alloc, name)?.as_str())),
-            },
+            Names::Matching(glob) => glob.is_match(row, name),
         }
     }
 }
@@ -352,11 +381,10 @@ fn names_of<'t>(alloc: Global, glob: &'t str) -> Result<Names, Error<'t>> {
 }
 
 fn matching<'t>(alloc: Global, glob: &'t str) -> Result<Names, Error<'t>> {
-    let letters: Vec<char> = glob.chars().collect(alloc)?;
-    match Wildcards::new(alloc, &letters, false, false) {
-        Ok(wildcards) => Ok(Names::Matching(wildcards)),
-        Err(wildcards::Error::Malformed(cause)) => Err(Error::Glob(glob, cause)),
-        Err(wildcards::Error::OutOfMemory) => Err(Error::OutOfMemory),
+    match Glob::read(alloc, glob.as_bytes(), false, false) {
+        Ok(glob) => Ok(Names::Matching(glob)),
+        Err(GlobError::Malformed(cause)) => Err(Error::Glob(glob, cause)),
+        Err(GlobError::OutOfMemory) => Err(Error::OutOfMemory),
     }
 }
 

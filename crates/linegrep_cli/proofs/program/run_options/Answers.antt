@@ -17,7 +17,7 @@ returns-in-Err g c = of_refusal c.args.input (record {
 
 pub returns-in-Ok-patterns_of : goal.returns-in-Ok-patterns_of
 returns-in-Ok-patterns_of g c = elim c.search_all.ensures [
-  | inl refused ↦ of_refusal c.patterns_of.new.input refused
+  | inl refused ↦ of_refusal c.patterns_of.new.input refused.refused
   | inr run ↦ of_run c.args.options.now _ c.patterns_of.new.input refl run
 ]
 

@@ -1,0 +1,10 @@
+use Rattle.linegrep_cli.specs.Refusals.{of_files, of_pattern}
+use Rattle.linegrep_cli.proofs.search.prepare.Goals as goal
+
+pub returns-in-Err-clause-refused : goal.returns-in-Err-clause-refused
+returns-in-Err-clause-refused c = λ caused.
+    let (error, other, refusal) = c.in-Err.ensures.refused caused in of_pattern error other refusal
+
+pub returns-in-Err-read-clause-refused : goal.returns-in-Err-read-clause-refused
+returns-in-Err-read-clause-refused c = λ caused.
+    of_files c.file_options.result c.file_options.ensures (c.in-Err-read.ensures.err caused)

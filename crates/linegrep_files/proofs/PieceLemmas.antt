@@ -1,0 +1,99 @@
+-- The texts of pieces of a glob, one after another.
+use Rattle.std.proofs.Common.{◌≡◌, ℕ, ◌<◌, Bool, true, false, ap, sym, ◌∙◌, replicate}
+use Rattle.std.proofs.Common.{List, [], ◌∷◌, ◌++◌, length, refl, subst, arith, length-append, inl, inr}
+use Rattle.std.proofs.Common.{append_assoc}
+use Rattle.std.proofs.lemmas.Bool.{false≢true, or_right}
+use Rattle.std.specs.List.{list_any}
+use Rattle.std.specs.Prelude.{Err, IfOk, MatchResult, Ok, Result}
+use Rattle.grep_ignore.specs.Classes.{begins_with}
+use Rattle.grep_ignore.specs.Globs.{IsFault, IsPieceText as IsIgnoreText}
+use Rattle.grep_ignore.proofs.ClassLemmas.{begins-is}
+use Rattle.grep_ignore.proofs.GlobLemmas.{piece-shorter as ignore-shorter}
+use Rattle.grep_ignore.specs.declared.glob.Step.{Step}
+use Rattle.grep_ignore.specs.declared.wildcards.Piece.{Piece}
+use Rattle.grep_ignore.specs.declared.wildcards.Piece.TheVariants.{Folders, Many, One}
+use Rattle.linegrep_files.specs.Globs.{ArePieceTexts, IsPieceText, has_brackets, has_stars, of_class, of_other, of_stars}
+
+-- the text of a piece after those of some others
+pub texts-more : (ignores begins : Bool) (text : List ℕ) (pieces : List Piece) (middle : Bool) (mid : List ℕ)
+    (piece : Piece) (next : Bool) (rest : List ℕ) → ArePieceTexts ignores begins text pieces middle mid
+    → IsPieceText ignores middle mid piece next rest
+    → ArePieceTexts ignores begins text (pieces ++ piece ∷ []) next rest
+texts-more ignores begins text [] middle mid piece next rest are last = (
+  next,
+  rest,
+  subst (λ b. IsPieceText ignores b text piece next rest) are.0
+      (subst (λ g. IsPieceText ignores middle g piece next rest) are.1 last),
+  (refl, refl),
+)
+texts-more ignores begins text (first ∷ later) middle mid piece next rest (m, g, one, are) last =
+    (m, g, one, texts-more ignores m g later middle mid piece next rest are last)
+
+-- what is left after the text of a piece is shorter
+pub piece-shorter : (ignores begins : Bool) (text : List ℕ) (piece : Piece) (next : Bool) (rest : List ℕ)
+    → IsPieceText ignores begins text piece next rest → length rest < length text
+piece-shorter ignores begins text piece next rest (of_class set class r is (front, ends)) =
+    rw (is, ends) (omega (arith, length-append front (93 ∷ r)))
+piece-shorter ignores begins text piece next rest (of_stars set r stars is bytes) = rw is (omega arith)
+piece-shorter ignores begins text piece next rest (of_other class stars other) =
+    ignore-shorter ignores begins text piece next rest other
+
+-- a piece has the front of a text
+ignore-front : (ignores begins : Bool) (text : List ℕ) (piece : Piece) (next : Bool) (rest : List ℕ)
+    → begins_with 91 text ≡ false → IsIgnoreText ignores begins text piece next rest
+    → (front : List ℕ) × (text ≡ front ++ rest)
+ignore-front ignores begins text (One set) next rest class (inl any) = (63 ∷ [], any.0)
+ignore-front ignores begins text (One set) next rest class (inr (inl (byte, inl plain, is, other))) =
+    (byte ∷ [], plain.1)
+ignore-front ignores begins text (One set) next rest class (inr (inl (byte, inr escaped, is, other))) =
+    (92 ∷ byte ∷ [], escaped)
+ignore-front ignores begins text (One set) next rest class (inr (inr (members, is, after, other))) =
+    absurd (false≢true (sym class ∙ ap (begins_with 91) is))
+ignore-front ignores begins text (Many set) next rest class (more, stars, after, other) =
+    (42 ∷ replicate more 42, stars.0)
+ignore-front ignores begins text Folders next rest class (more, stars, after, other) = (
+  42 ∷ (replicate more 42 ++ 47 ∷ []),
+  stars.0 ∙ ap (λ l. 42 ∷ l) (sym (append_assoc (replicate more 42) (47 ∷ []) rest)),
+)
+
+piece-front : (ignores begins : Bool) (text : List ℕ) (piece : Piece) (next : Bool) (rest : List ℕ)
+    → IsPieceText ignores begins text piece next rest → (front : List ℕ) × (text ≡ front ++ rest)
+piece-front ignores begins text piece next rest (of_class set class r is (front, ends)) =
+    (91 ∷ (front ++ 93 ∷ []), is ∙ ap (λ l. 91 ∷ l) (ends ∙ sym (append_assoc front (93 ∷ []) r)))
+piece-front ignores begins text piece next rest (of_stars set r stars is bytes) = (42 ∷ [], is)
+piece-front ignores begins text piece next rest (of_other class stars other) =
+    ignore-front ignores begins text piece next rest class other
+
+any-after : (p : ℕ → Bool) (front rest : List ℕ) → list_any p rest ≡ true
+    → list_any p (front ++ rest) ≡ true
+any-after p [] rest has = has
+any-after p (byte ∷ front) rest has = or_right (p byte) _ (any-after p front rest has)
+
+-- what is left after the texts of pieces has brackets, so the text has
+pub brackets-before : (ignores begins : Bool) (text : List ℕ) (pieces : List Piece) (next : Bool) (rest : List ℕ)
+    → ArePieceTexts ignores begins text pieces next rest → has_brackets rest ≡ true
+    → has_brackets text ≡ true
+brackets-before ignores begins text [] next rest are has = subst (λ t. has_brackets t ≡ true) are.1 has
+brackets-before ignores begins text (piece ∷ later) next rest (m, mid, one, are) has =
+    let front : (front : List ℕ) × (text ≡ front ++ mid) = piece-front ignores begins text piece m mid one in
+    subst (λ t. has_brackets t ≡ true) (sym front.1)
+    (any-after _ front.0 mid (brackets-before ignores m mid later next rest are has))
+
+-- a fault is one of brackets
+pub fault-brackets : (text : List ℕ) → IsFault text → has_brackets text ≡ true
+fault-brackets text (inl is) = rw is refl
+fault-brackets text (inr (class, is, unclosed)) = rw is refl
+
+pub brackets-at : (text : List ℕ) → begins_with 91 text ≡ true → has_brackets text ≡ true
+brackets-at text begins = rw (begins-is 91 text begins) refl
+
+-- a piece that is read as in an ignore file
+pub ignore-step : {E : Type 0} (result : Result Step E) (ignores begins : Bool) (text : List ℕ)
+    → begins_with 91 text ≡ false → has_stars text ≡ false
+    → MatchResult result (λ s. IsIgnoreText ignores begins text s.piece s.begins_name s.rest.now) (λ _. IsFault text)
+    → IfOk result (λ s. IsPieceText ignores begins text s.piece s.begins_name s.rest.now)
+ignore-step (Ok s) ignores begins text class stars is = of_other class stars is
+ignore-step (Err e) ignores begins text class stars is = tt
+
+pub stars-begin : (text : List ℕ) → has_stars text ≡ true → begins_with 42 text ≡ true
+stars-begin text stars = grind (arith, stars)

@@ -1,0 +1,20 @@
+use Rattle.std.proofs.Common.{◌∷◌, ◌++◌, [], ◌∙◌, ap, append_assoc}
+use Rattle.linegrep_files.proofs.PieceLemmas.{brackets-before, piece-shorter, texts-more}
+use Rattle.linegrep_files.proofs.glob.add_pieces.Goals as goal
+
+pub loop-rest-smaller : goal.loop-rest-smaller
+loop-rest-smaller c = piece-shorter _ _ _ _ _ _ c.in-Ok.ensures.ok
+
+pub loop-rest-preserved : goal.loop-rest-preserved
+loop-rest-preserved c = (
+  c.loop-rest.invariant.0 ++ c.in-Ok.step.piece ∷ [],
+  c.in-Ok-push.ensures.items ∙ ap (λ l. l ++ c.in-Ok.step.piece ∷ []) c.loop-rest.invariant.1
+      ∙ append_assoc c.args.pieces.now.items c.loop-rest.invariant.0 (c.in-Ok.step.piece ∷ []),
+  texts-more _ _ _ _ _ _ _ _ _ c.loop-rest.invariant.2 c.in-Ok.ensures.ok,
+)
+
+pub returns-in-Err : goal.returns-in-Err
+returns-in-Err c = record {
+  ok = tt;
+  err = brackets-before _ _ _ _ _ _ c.loop-rest.invariant.2 c.in-Err.ensures.err;
+}

@@ -1,0 +1,83 @@
+-- Which of the files and folders of a folder are visited: globs decide first, then ignore files, and of
+-- files types.
+use Rattle.std.specs.Prelude.{◌≡◌, ℕ, ◌-◌, Bool, true, false, not, ◌||◌, if◌then◌else◌, List}
+use Rattle.std.specs.Prelude.{◌++◌, length, MatchBool, None, Option, Some, is_some, slice_get}
+use Rattle.std.specs.Option.{option_or}
+use Rattle.grep_ignore.specs.Classes.{begins_with}
+use Rattle.grep_ignore.specs.Decisions.{is_kept}
+use Rattle.grep_ignore.specs.Layers.{IsFirst}
+use Rattle.grep_ignore.specs.declared.rules.Decision.{Decision}
+use Rattle.linegrep_files.specs.FileTypes.{AreNoTypes, IsTypeChoice, are_none}
+use Rattle.linegrep_files.specs.Globs.{AreGlobs, IsGlobChoice, may_be_malformed_in, is_chosen}
+use Rattle.linegrep_files.specs.Limits.{AreLimits}
+use Rattle.linegrep_files.specs.declared.choices.Choices.{Choices}
+use Rattle.linegrep_files.specs.declared.file_options.FileOptions.{FileOptions}
+use Rattle.linegrep_files.specs.declared.globs.Choice.{Choice}
+use Rattle.linegrep_files.specs.declared.globs.Choice.TheVariants.{Chosen, LeftOut, Unmatched}
+use Rattle.linegrep_files.specs.declared.ignores.Ignores.{Ignores}
+
+-- the depth of the repository that the folder is in, if it is in one; if none is needed it is
+abbrev pub repository_of : Ignores → Option ℕ
+repository_of ignores = option_or (last_of ignores.repositories.items)
+    (if ignores.sources.needs_repository then None else Some 0)
+  where
+    last_of : List ℕ → Option ℕ
+    last_of depths = slice_get depths (length depths - 1)
+
+-- what ignore files say of a name in the folder
+abbrev pub IsIgnoreDecision : Ignores → List ℕ → Bool → Decision → Type 0
+IsIgnoreDecision ignores name is_folder decision =
+    IsFirst (ignores.path.items ++ name) is_folder ignores.start (repository_of ignores)
+    ignores.layers decision
+
+-- what no glob says anything about is visited: by what ignore files say, and of files types; or if
+-- nothing says something it is shown
+abbrev pub IsUnmatchedChosen : Choices → List ℕ → Bool → Bool → Bool → Type 0
+IsUnmatchedChosen choices name is_folder is_shown chosen = (decision : Decision)
+    × IsIgnoreDecision choices.ignores name is_folder decision
+    × MatchBool (is_folder || not (is_kept decision true)) (chosen ≡ is_kept decision is_shown)
+    ((choice : Choice) × IsTypeChoice choices.types name choice
+    × (chosen ≡ is_chosen choice (is_kept decision is_shown)))
+
+-- what has a name isn't hidden, or hidden ones are shown
+abbrev pub is_shown : Choices → List ℕ → Bool
+is_shown choices name = choices.shows_hidden || not (begins_with 46 name)
+
+-- what has a name in the folder, and is at a path, is visited
+pub data IsChosen (choices : Choices) (path name : List ℕ) (is_folder : Bool) : Bool → Type 0 where
+  of_glob : IsGlobChoice choices.globs path is_folder Chosen
+      → IsChosen choices path name is_folder true
+  of_exclusion : IsGlobChoice choices.globs path is_folder LeftOut
+      → IsChosen choices path name is_folder false
+  of_unmatched : (chosen : Bool) → IsGlobChoice choices.globs path is_folder Unmatched
+      → IsUnmatchedChosen choices name is_folder (is_shown choices name) chosen
+      → IsChosen choices path name is_folder chosen
+
+-- ignore files say the same as before
+pub record IgnoresTheSame (old new : Ignores) : Type 0 where
+  pub layers : new.layers ≡ old.layers
+  pub path : new.path.items ≡ old.path.items
+  pub start : new.start ≡ old.start
+  pub repositories : new.repositories ≡ old.repositories
+  pub sources : new.sources ≡ old.sources
+
+-- choices say the same as before
+pub record SaysTheSame (old new : Choices) : Type 0 where
+  pub globs : new.globs ≡ old.globs
+  pub types : new.types ≡ old.types
+  pub limits : new.limits ≡ old.limits
+  pub shows_hidden : new.shows_hidden ≡ old.shows_hidden
+  pub ignores : IgnoresTheSame old.ignores new.ignores
+
+-- what options say of files may be refused: one of the globs has brackets, braces or backslashes, types
+-- are named or defined, or a size is given
+abbrev pub may_be_refused : FileOptions → Bool
+may_be_refused options = may_be_malformed_in options.globs.now || may_be_malformed_in options.iglobs.now
+    || not (are_none options.types) || is_some options.max_filesize
+
+-- choices are what options say
+pub record AreChoices (options : FileOptions) (choices : Choices) : Type 0 where
+  pub globs : AreGlobs options.globs.now options.iglobs.now options.ignores_glob_case choices.globs
+  pub types : are_none options.types ≡ true → AreNoTypes choices.types
+  pub limits : AreLimits options choices.limits
+  pub hidden : choices.shows_hidden ≡ options.shows_hidden

@@ -1,0 +1,21 @@
+-- In which order files are found.
+use Rattle.std.specs.Prelude.{ℕ, Bool, true, false, ◌||◌, List, None, Option, Some, codes}
+use Rattle.std.specs.Borrow.{Bor}
+use Rattle.std.specs.Str.{bytes_eq}
+use Rattle.linegrep_files.specs.declared.order.Order.{Order}
+use Rattle.linegrep_files.specs.declared.order.SortKey.{SortKey}
+use Rattle.linegrep_files.specs.declared.order.SortKey.TheVariants.{Path}
+
+-- files are sorted by a time, and not by their paths
+abbrev pub is_time : SortKey → Bool
+is_time Path = false
+is_time _ = true
+
+abbrev pub is_by_time : Order → Bool
+is_by_time order = is_time order.key
+
+-- a name of an order is that of a time
+abbrev pub names_time : Option (Bor (List ℕ)) → Bool
+names_time None = false
+names_time (Some name) = bytes_eq name.now (codes "modified") || bytes_eq name.now (codes "accessed")
+    || bytes_eq name.now (codes "created")

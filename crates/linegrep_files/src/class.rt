@@ -1,0 +1,157 @@
+//! A class of a glob, which is in brackets: the bytes that it stands for.
+ghost use Rattle.std.specs.Prelude.{◌≡◌, ◌∷◌, drop, IfOk};
+ghost use Rattle.grep_ignore.specs.Classes.{begins_with, is_empty};
+ghost use Rattle.linegrep_files.specs.Globs.{IsSuffix};
+
+use grep_matcher::ByteSet;
+
+/// A class of a glob.
+#[derive(Drop)]
+pub struct Class<'g> {
+    /// The bytes that it stands for.
+    pub set: ByteSet,
+    /// What follows it.
+    pub rest: &'g [u8],
+}
+
+// The bytes from one to another, and what follows them in a class.
+#[derive(Clone, Copy)]
+struct Member<'g> {
+    first: u8,
+    last: u8,
+    rest: &'g [u8],
+}
+
+const UNCLOSED: &str = "a bracket isn't closed";
+
+const REVERSED: &str = "a range ends before it begins";
+
+/// Reads a class of which the opening bracket is left out. An exclamation mark or a caret at its start
+/// means all other bytes. A bracket that comes first is a member, and a dash after a range moves its
+/// end. If `ignores_case` is set, letters of ASCII stand for both cases. An error is that it isn't
+/// closed, or that a range ends before it begins.
+pub fn read_class(text: &[u8], ignores_case: bool) -> Result<Class<'_>, &'static str>
+    ensures { IfOk result (λ class. IsSuffix text.now (93 ∷ class.rest.now)) }
+{
+    match text {
+        [b'!' | b'^', members @ ..] => {
+            let class = read_members(members, ignores_case)?;
+            Ok(Class {
+                set: others(&class.set),
+                rest: class.rest,
+            })
+        }
+        _ => read_members(text, ignores_case),
+    }
+}
+
+// Reads the members of a class, and its closing bracket.
+fn read_members(text: &[u8], ignores_case: bool) -> Result<Class<'_>, &'static str>
+    ensures { IfOk result (λ class. IsSuffix text.now (93 ∷ class.rest.now)) }
+{
+    let mut set = ByteSet::empty();
+    let mut member = read_member(text)?;
+    for _ in text {
+        match member.rest {
+            [b']', rest @ ..] => {
+                add_range(&mut set, member.first, member.last, ignores_case);
+                return Ok(Class { set, rest });
+            }
+            [b'-', last, rest @ ..] if *last != b']' => {
+                member = range(member.first, *last, rest)?;
+                continue;
+            }
+            _ => {
+                add_range(&mut set, member.first, member.last, ignores_case);
+                member = read_member(member.rest)?;
+                continue;
+            }
+        }
+    }
+    Err(UNCLOSED)
+}
+
+// The member that some members of a class begin with: a byte, or two with a dash between them, which
+// make a range.
+fn read_member(text: &[u8]) -> Result<Member<'_>, &'static str>
+    ensures { IfOk result (λ member. IsSuffix text.now member.rest.now) }
+{
+    match text {
+        [first, b'-', last, rest @ ..] if *last != b']' => range(*first, *last, rest),
+        [byte, rest @ ..] => range(*byte, *byte, rest),
+        [] => Err(UNCLOSED),
+    }
+}
+
+fn range(first: u8, last: u8, rest: &[u8]) -> Result<Member<'_>, &'static str>
+    ensures { IfOk result (λ member. member.rest.now ≡ rest.now) }
+{
+    if first > last {
+        Err(REVERSED)
+    } else {
+        Ok(Member { first, last, rest })
+    }
+}
+
+fn add_range(set: &mut ByteSet, first: u8, last: u8, ignores_case: bool) {
+    for number in 0..256u16 {
+        let byte = number as u8;
+        if first <= byte && byte <= last {
+            set.add(byte);
+            if ignores_case {
+                set.add(other_case(byte));
+            }
+        }
+    }
+}
+
+// The letter of ASCII that a letter is in the other case; any other byte is itself.
+fn other_case(byte: u8) -> u8 {
+    if byte.is_ascii_uppercase() {
+        byte.to_ascii_lowercase()
+    } else {
+        byte.to_ascii_uppercase()
+    }
+}
+
+// The bytes that aren't in a set.
+fn others(set: &ByteSet) -> ByteSet {
+    let mut others = ByteSet::full();
+    for number in 0..256u16 {
+        let byte = number as u8;
+        if set.contains(byte) {
+            others.remove(byte);
+        }
+    }
+    others
+}
+
+/// All of a text but its first byte.
+pub fn tail(text: &[u8]) -> &[u8]
+    ensures { result.now ≡ drop 1 text.now }
+{
+    match text {
+        [] => text,
+        [_, after @ ..] => after,
+    }
+}
+
+/// Whether a text begins with a byte.
+pub fn begins_with(text: &[u8], first: u8) -> bool
+    ensures { result ≡ begins_with first text.now }
+{
+    match text {
+        [] => false,
+        [byte, ..] => *byte == first,
+    }
+}
+
+/// Whether a text has no byte.
+pub fn is_empty(text: &[u8]) -> bool
+    ensures { result ≡ is_empty text.now }
+{
+    match text {
+        [] => true,
+        _ => false,
+    }
+}

@@ -1,0 +1,198 @@
+//! A glob: the paths that it matches.
+ghost use Rattle.std.specs.Prelude.{◌≡◌, ◌≢◌, ◌↔◌, ◌++◌, ◌∷◌, [], Bool, List, true};
+ghost use Rattle.std.specs.Prelude.{IfErr, IfOk, IsTrue, OnErr};
+ghost use Rattle.grep_ignore.specs.Classes.{IsSet, begins_with, is_name_byte};
+ghost use Rattle.grep_ignore.specs.Globs.{OnMalformed};
+ghost use Rattle.grep_ignore.specs.declared.wildcards.Piece.{Piece};
+ghost use Rattle.linegrep_files.specs.Globs.{ArePieces, IsGlob, IsGlobOf, IsPieceText, MatchesOne};
+ghost use Rattle.linegrep_files.specs.Globs.{has_braces, has_brackets, has_stars, is_brace, may_be_malformed};
+
+use crate::braces::texts_of;
+use crate::class::{begins_with, read_class, tail};
+use grep_ignore::{GlobError, Piece, Step, Wildcards, read_piece};
+use grep_matcher::ByteSet;
+use std::alloc::{AllocError, Global};
+
+/// A glob: a path matches if one of the texts that it stands for matches.
+#[derive(Drop)]
+pub struct Glob {
+    choices: Vec<Wildcards>,
+}
+
+impl Glob {
+    /// Reads a glob: one of names in any folder, or of whole paths. Its letters of ASCII match in either
+    /// case if `ignores_case` is set. A text without brackets, braces and backslashes is a glob.
+    pub fn read(
+        alloc: Global,
+        text: &[u8],
+        is_of_names: bool,
+        ignores_case: bool,
+    ) -> Result<Glob, GlobError>
+        ensures ok { IfOk result (IsGlobOf is_of_names ignores_case text.now) }
+        ensures err { IfErr result (λ e. OnMalformed e (may_be_malformed text.now ≡ true)) }
+    {
+        let mut glob = Glob {
+            choices: Vec::new(alloc),
+        };
+        if !has_braces(text) {
+            glob.add(alloc, text, is_of_names, ignores_case)?;
+            return Ok(glob);
+        }
+        let texts = texts_of(alloc, text)?;
+        for text in texts.iter() {
+            glob.add(alloc, text.as_slice(), is_of_names, ignores_case)?;
+        }
+        Ok(glob)
+    }
+
+    // Adds a text without braces that the glob stands for.
+    fn add(
+        &mut self,
+        alloc: Global,
+        text: &[u8],
+        is_of_names: bool,
+        ignores_case: bool,
+    ) -> Result<(), GlobError>
+        ensures ok { IfOk result (λ _. (pieces : List Piece)
+            × (self.new.choices.items ≡ self.old.choices.items ++ pieces ∷ [])
+            × ArePieces is_of_names ignores_case text.now pieces) }
+        ensures err { IfErr result (λ e. OnMalformed e (has_brackets text.now ≡ true)) }
+    {
+        let wildcards = read_text(alloc, text, is_of_names, ignores_case)?;
+        match self.choices.push(wildcards) {
+            Ok(()) => Ok(()),
+            Err(_) => Err(GlobError::OutOfMemory),
+        }
+    }
+
+    /// Whether a path matches. `row` is room to work in. An error is one of being out of memory.
+    pub fn is_match(&self, row: &mut Vec<bool>, path: &[u8]) -> Result<bool, AllocError>
+        ensures { IfOk result
+            (λ matches. IsTrue matches ↔ MatchesOne self.now.choices.items path.now) }
+    {
+        let mut at = self.choices.len();
+        while at > 0 {
+            at -= 1;
+            if self.choices[at].is_match(row, path)? {
+                return Ok(true);
+            }
+        }
+        Ok(false)
+    }
+}
+
+// The wildcards of a text without braces.
+fn read_text(
+    alloc: Global,
+    text: &[u8],
+    is_of_names: bool,
+    ignores_case: bool,
+) -> Result<Wildcards, GlobError>
+    ensures ok { IfOk result (ArePieces is_of_names ignores_case text.now) }
+    ensures err { IfErr result (λ e. OnMalformed e (has_brackets text.now ≡ true)) }
+{
+    let mut pieces = Vec::new(alloc);
+    if is_of_names && pieces.push(Piece::Folders).is_err() {
+        return Err(GlobError::OutOfMemory);
+    }
+    add_pieces(&mut pieces, text, ignores_case)?;
+    Ok(Wildcards::new(pieces))
+}
+
+// Adds the pieces of a text without braces.
+fn add_pieces(pieces: &mut Vec<Piece>, text: &[u8], ignores_case: bool) -> Result<(), GlobError>
+    ensures ok { IfOk result (λ _. (spelled : List Piece)
+        × (pieces.new.items ≡ pieces.old.items ++ spelled) × IsGlob ignores_case text.now spelled) }
+    ensures err { IfErr result (λ e. OnMalformed e (has_brackets text.now ≡ true)) }
+{
+    let mut rest = text;
+    let mut begins_name = true;
+    while !rest.is_empty() {
+        match first_piece(rest, begins_name, ignores_case) {
+            Ok(step) => {
+                rest = step.rest;
+                begins_name = step.begins_name;
+                match pieces.push(step.piece) {
+                    Ok(()) => {}
+                    Err(_) => return Err(GlobError::OutOfMemory),
+                }
+            }
+            Err(cause) => return Err(GlobError::Malformed(cause)),
+        }
+    }
+    Ok(())
+}
+
+// The piece that a text begins with, or why there is none.
+fn first_piece(text: &[u8], begins_name: bool, ignores_case: bool) -> Result<Step<'_>, &'static str>
+    requires { text.now ≢ [] }
+    ensures ok { IfOk result (λ step. IsPieceText ignores_case begins_name text.now step.piece
+        step.begins_name step.rest.now) }
+    ensures err { OnErr result (has_brackets text.now ≡ true) }
+{
+    if begins_with(text, b'[') {
+        class_step(text, ignores_case)
+    } else if has_stars(text) {
+        Ok(star_step(text))
+    } else {
+        read_piece(text, begins_name, ignores_case)
+    }
+}
+
+// A step after a class.
+fn class_step(text: &[u8], ignores_case: bool) -> Result<Step<'_>, &'static str>
+    requires { begins_with 91 text.now ≡ true }
+    ensures { (begins : Bool) → IfOk result (λ step. IsPieceText ignores_case begins text.now
+        step.piece step.begins_name step.rest.now) }
+{
+    let class = read_class(tail(text), ignores_case)?;
+    Ok(Step {
+        piece: Piece::One(class.set),
+        rest: class.rest,
+        begins_name: false,
+    })
+}
+
+// Whether a text begins with three stars, of which the first is no part of a whole name.
+fn has_stars(text: &[u8]) -> bool
+    ensures { result ≡ has_stars text.now }
+{
+    match text {
+        [first, second, third, ..] => *first == b'*' && *second == b'*' && *third == b'*',
+        _ => false,
+    }
+}
+
+// A step after the first of some stars.
+fn star_step(text: &[u8]) -> Step<'_>
+    requires { has_stars text.now ≡ true }
+    ensures { (ignores_case begins : Bool) → IsPieceText ignores_case begins text.now
+        result.piece result.begins_name result.rest.now }
+{
+    Step {
+        piece: Piece::Many(name_bytes()),
+        rest: tail(text),
+        begins_name: false,
+    }
+}
+
+// The bytes that a name may have.
+fn name_bytes() -> ByteSet
+    ensures { IsSet result is_name_byte }
+{
+    let mut set = ByteSet::full();
+    set.remove(b'/');
+    set
+}
+
+fn has_braces(text: &[u8]) -> bool
+    ensures { result ≡ has_braces text.now }
+{
+    text.iter().any(|byte| is_brace(*byte))
+}
+
+fn is_brace(byte: u8) -> bool
+    ensures { result ≡ is_brace byte }
+{
+    byte == b'{' || byte == b'}'
+}
