@@ -5,3 +5,4 @@ pub mod FileTypes
 pub mod Globs
 pub mod Limits
 pub mod Orders
+pub mod Walks

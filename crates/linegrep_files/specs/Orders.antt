@@ -1,6 +1,9 @@
 -- In which order files are found.
-use Rattle.std.specs.Prelude.{ℕ, Bool, true, false, ◌||◌, List, None, Option, Some, codes}
+use Rattle.std.specs.Prelude.{ℕ, Bool, true, false, ◌||◌, ◌&&◌, not, if◌then◌else◌, List, None, Option, Some, codes}
 use Rattle.std.specs.Borrow.{Bor}
+use Rattle.std.specs.Cmp.Lexicographic.{slice_cmp}
+use Rattle.std.specs.Ordering.{nat_cmp}
+use Rattle.std.specs.declared.cmp.Ordering.{Ordering}
 use Rattle.std.specs.Str.{bytes_eq}
 use Rattle.linegrep_files.specs.declared.order.Order.{Order}
 use Rattle.linegrep_files.specs.declared.order.SortKey.{SortKey}
@@ -19,3 +22,8 @@ abbrev pub names_time : Option (Bor (List ℕ)) → Bool
 names_time None = false
 names_time (Some name) = bytes_eq name.now (codes "modified") || bytes_eq name.now (codes "accessed")
     || bytes_eq name.now (codes "created")
+
+-- how two paths are sorted: by their bytes, or if the order of paths is reversed the other way round
+abbrev pub order_of : Order → List ℕ → List ℕ → Ordering
+order_of order one other = if order.is_reversed && not (is_by_time order)
+    then slice_cmp nat_cmp other one else slice_cmp nat_cmp one other

@@ -1,6 +1,6 @@
 //! In which order files are found.
 ghost use Rattle.std.specs.Prelude.{◌≡◌, false, true, OnErr};
-ghost use Rattle.linegrep_files.specs.Orders.{is_by_time, names_time};
+ghost use Rattle.linegrep_files.specs.Orders.{is_by_time, names_time, order_of};
 
 use crate::failures::Failure;
 use std::cmp::Ordering;
@@ -82,11 +82,13 @@ impl Order {
     }
 
     /// How two paths of one folder are sorted.
-    pub fn compare_paths(&self, one: &str, other: &str) -> Ordering {
+    pub fn compare_paths(&self, one: &str, other: &str) -> Ordering
+        ensures { result ≡ order_of self.now one.now other.now }
+    {
         if self.is_reversed && !self.is_by_time() {
-            other.cmp(one)
+            other.cmp(&one)
         } else {
-            one.cmp(other)
+            one.cmp(&other)
         }
     }
 

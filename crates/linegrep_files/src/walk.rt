@@ -1,5 +1,12 @@
 //! The files of a folder and of the folders in it.
+ghost use Rattle.std.specs.Prelude.{◌≡◌, [], false, IfOk, IfSome, OnOk, string_bytes};
+ghost use Rattle.linegrep_files.specs.Choices.{IsChosen};
+ghost use Rattle.linegrep_files.specs.Orders.{is_by_time};
+ghost use Rattle.linegrep_files.specs.Walks.{IsNameVisited, IsPopped, IsPushed, is_folder, joined};
+ghost use Rattle.linegrep_files.specs.Walks.{needs_slash, path_of};
+
 use crate::choices::Choices;
+use crate::class::is_empty;
 use crate::file_id::FileId;
 use crate::limits::Limits;
 use crate::order::{Dated, Order};
@@ -72,7 +79,9 @@ impl<'r> Walk<'r> {
     }
 
     /// The next to be visited, or `None` at the end.
-    pub fn pop(&mut self) -> Option<Entry> {
+    pub fn pop(&mut self) -> Option<Entry>
+        ensures { IfSome result (IsPopped self.old self.new) }
+    {
         if self.is_out_of_memory {
             return None;
         }
@@ -83,7 +92,10 @@ impl<'r> Walk<'r> {
     }
 
     // The next of the files that are sorted by a time.
-    fn pop_dated(&mut self) -> Option<Entry> {
+    fn pop_dated(&mut self) -> Option<Entry>
+        ensures file { IfSome result (λ entry. is_folder entry ≡ false) }
+        ensures pending { self.new.pending.items ≡ self.old.pending.items }
+    {
         if !self.is_sorted {
             let order = self.route.order;
             self.dated
@@ -200,19 +212,29 @@ impl<'r> Walk<'r> {
         choices: &mut Choices<'_>,
         folder: &str,
         name: &str,
-    ) -> Result<(), AllocError> {
+    ) -> Result<(), AllocError>
+        ensures { OnOk result
+            (IsNameVisited self.old choices.old folder.now name.now self.new) }
+    {
         let path = self.join(folder, name)?;
-        match self.entry(path, choices.limits()) {
-            Some(entry) if is_chosen(choices, &entry, name)? => self.push_found(entry),
-            _ => {}
+        let Some(entry) = self.entry(path, choices.limits()) else {
+            return Ok(());
+        };
+        if is_chosen(choices, &entry, name)? {
+            self.push_found(entry);
         }
         Ok(())
     }
 
     // Adds what was found. A file that is sorted by a time is visited after what isn't.
-    fn push_found(&mut self, entry: Entry) {
+    fn push_found(&mut self, entry: Entry)
+        ensures { is_by_time self.old.route.order ≡ false → IsPushed self.old entry self.new }
+    {
+        if !self.route.order.is_by_time() {
+            return self.push(entry);
+        }
         match entry {
-            Entry::File(path) if self.route.order.is_by_time() => self.push_dated(path),
+            Entry::File(path) => self.push_dated(path),
             entry => self.push(entry),
         }
     }
@@ -232,14 +254,18 @@ impl<'r> Walk<'r> {
         }
     }
 
-    fn push(&mut self, entry: Entry) {
+    fn push(&mut self, entry: Entry)
+        ensures { IsPushed self.old entry self.new }
+    {
         if self.pending.push(entry).is_err() {
             self.is_out_of_memory = true;
         }
     }
 
     // What is at a path, unless it is neither a file nor a folder, or not within limits.
-    fn entry(&self, path: String, limits: Limits) -> Option<Entry> {
+    fn entry(&self, path: String, limits: Limits) -> Option<Entry>
+        ensures { IfSome result (λ entry. path_of entry ≡ string_bytes path) }
+    {
         match self.metadata(path.as_str()) {
             Ok(metadata) if metadata.is_dir() => {
                 if limits.allows_folder(self.rt, &metadata, self.root_of(path.as_str())) {
@@ -273,7 +299,9 @@ impl<'r> Walk<'r> {
     }
 
     // The folder at a path, which can't be read if it is a link to a folder that it is in.
-    fn folder(&self, path: String, metadata: &Metadata) -> Entry {
+    fn folder(&self, path: String, metadata: &Metadata) -> Entry
+        ensures { path_of result ≡ string_bytes path }
+    {
         if self.is_link(path.as_str()) && self.is_loop(path.as_str(), FileId::of_any(metadata)) {
             let error = io::Error::new(io::ErrorKind::FilesystemLoop, IS_LOOP);
             Entry::Unread(path, error)
@@ -315,10 +343,12 @@ impl<'r> Walk<'r> {
     }
 
     // The path of a name in a folder.
-    fn join(&self, folder: &str, name: &str) -> Result<String, AllocError> {
+    fn join(&self, folder: &str, name: &str) -> Result<String, AllocError>
+        ensures { IfOk result (λ path. string_bytes path ≡ joined folder.now name.now) }
+    {
         let mut path = String::from_str(self.rt.alloc(), folder)?;
-        if !folder.is_empty() && !folder.ends_with('/') {
-            path.push('/')?;
+        if needs_slash(folder.as_bytes()) {
+            path.push_str("/")?;
         }
         path.push_str(name)?;
         Ok(path)
@@ -332,7 +362,9 @@ impl<'r> Walk<'r> {
 }
 
 impl Entry {
-    fn path(&self) -> &str {
+    fn path(&self) -> &str
+        ensures { result.now ≡ path_of self.now }
+    {
         match self {
             Entry::File(path) => path.as_str(),
             Entry::Folder(path) => path.as_str(),
@@ -342,8 +374,29 @@ impl Entry {
 }
 
 // Whether what has a name in a folder is to be visited.
-fn is_chosen(choices: &mut Choices<'_>, entry: &Entry, name: &str) -> Result<bool, AllocError> {
-    choices.is_chosen(entry.path(), name, matches!(entry, Entry::Folder(_)))
+fn is_chosen(choices: &mut Choices<'_>, entry: &Entry, name: &str) -> Result<bool, AllocError>
+    ensures { IfOk result
+        (IsChosen choices.old (path_of entry.now) name.now (is_folder entry.now)) }
+{
+    choices.is_chosen(entry.path(), name, is_folder(entry))
+}
+
+fn is_folder(entry: &Entry) -> bool
+    ensures { result ≡ is_folder entry.now }
+{
+    match entry {
+        Entry::File(_) => false,
+        Entry::Folder(_) => true,
+        Entry::Unread(..) => false,
+    }
+}
+
+// Whether a slash is between the path of a folder and a name.
+fn needs_slash(folder: &[u8]) -> bool
+    ensures { result ≡ needs_slash folder.now }
+{
+    let count = folder.len();
+    !is_empty(folder) && !(count > 0 && folder[count - 1] == b'/')
 }
 
 // The name of a folder for the system, which has none for an empty path.
