@@ -7,19 +7,24 @@ use Rattle.std.specs.declared.io.ErrorKind.TheVariants.{Other}
 use Rattle.grep_searcher.specs.declared.SearchError.{SearchError}
 use Rattle.grep_searcher.specs.declared.SearchError.TheVariants.{Io}
 use Rattle.linegrep_cli.specs.declared.printers.Printer.{Printer}
-use Rattle.linegrep_cli.specs.declared.printers.Printer.TheVariants.{Json, Lines, Parts, Summary}
+use Rattle.linegrep_cli.specs.declared.printers.Printer.TheVariants.{Json, Lines, Parts, ReplacedLines}
+use Rattle.linegrep_cli.specs.declared.printers.Printer.TheVariants.{ReplacedParts, Summary}
 
 -- the writer of a printer
-abbrev pub writer_of : {W : Type 0} → Printer W → W
+abbrev pub writer_of : {M W : Type 0} → Printer M W → W
 writer_of (Lines printer) = printer.writer
 writer_of (Parts printer) = printer.writer
+writer_of (ReplacedLines printer) = printer.writer
+writer_of (ReplacedParts printer) = printer.writer
 writer_of (Summary printer) = printer.writer
 writer_of (Json run) = run.printer.writer
 
 -- it failed
-abbrev pub has_failed : {W : Type 0} → Printer W → Bool
+abbrev pub has_failed : {M W : Type 0} → Printer M W → Bool
 has_failed (Lines printer) = printer.has_failed
 has_failed (Parts printer) = printer.has_failed
+has_failed (ReplacedLines printer) = printer.has_failed
+has_failed (ReplacedParts printer) = printer.has_failed
 has_failed (Summary printer) = printer.has_failed
 has_failed (Json run) = run.printer.has_failed
 

@@ -16,3 +16,4 @@ pub mod RunScopes
 pub mod SearcherOptions
 pub mod SeparatorOptions
 pub mod WholeRuns
+pub mod TemplateOptions

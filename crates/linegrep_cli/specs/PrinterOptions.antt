@@ -11,6 +11,7 @@ use Rattle.grep_printer.specs.declared.config.Config.{Config}
 use Rattle.grep_printer.specs.declared.config.SearchSeparator.{SearchSeparator}
 use Rattle.grep_printer.specs.declared.config.SearchSeparator.TheVariants.{Blank, Groups, Nothing}
 use Rattle.grep_printer.specs.declared.printer.Printer.{Printer as Writer}
+use Rattle.grep_printer.specs.declared.replaced_format.ReplacedFormat.{ReplacedFormat}
 use Rattle.grep_printer.specs.declared.separators.Separators.{Separators}
 use Rattle.grep_printer.specs.declared.summary_builder.SummaryConfig.{SummaryConfig}
 use Rattle.grep_printer.specs.declared.summary_builder.SummaryKind.{SummaryKind}
@@ -20,6 +21,7 @@ use Rattle.grep_printer.specs.declared.summary_builder.SummaryKind.TheVariants.{
 use Rattle.grep_printer.specs.declared.summary_builder.SummaryKind.TheVariants.{PathWithoutMatch}
 use Rattle.grep_printer.specs.declared.summary_builder.SummaryKind.TheVariants.{Quiet as silent}
 use Rattle.grep_printer.specs.VimgrepTexts.{vimgrep_config}
+use Rattle.grep_replace.specs.declared.template.Template.{Template}
 use Rattle.linegrep_cli.specs.OptionMeanings.{after_lines, before_lines, shows_columns}
 use Rattle.linegrep_cli.specs.OptionUses.{has}
 use Rattle.linegrep_cli.specs.declared.option_id.OptionId.TheVariants.{BlockBuffered, ByteOffset}
@@ -35,7 +37,8 @@ use Rattle.linegrep_cli.specs.declared.option_id.OptionId.TheVariants.{OnlyMatch
 use Rattle.linegrep_cli.specs.declared.option_id.OptionId.TheVariants.{Trim, Vimgrep, WithFilename}
 use Rattle.linegrep_cli.specs.declared.options.Options.{Options}
 use Rattle.linegrep_cli.specs.declared.printers.Printer.{Printer}
-use Rattle.linegrep_cli.specs.declared.printers.Printer.TheVariants.{Lines, Parts, Summary}
+use Rattle.linegrep_cli.specs.declared.printers.Printer.TheVariants.{Lines, Parts, ReplacedLines, ReplacedParts}
+use Rattle.linegrep_cli.specs.declared.printers.Printer.TheVariants.{Summary}
 use Rattle.linegrep_cli.specs.declared.printers.Printer.TheVariants.{Json as Messages}
 
 -- lines or matches are counted
@@ -155,8 +158,8 @@ pub record IsNew {F W : Type 0} (options : Options) (writer : W) (printer : Writ
 
 -- the printer is the one that options ask for, by line or across lines, with some colors and
 -- separators
-abbrev pub IsPrinterFor : {W : Type 0} → Options → Bool → Option (Bor Separators) → W → ColorSpecs
-    → Printer W → Type 0
+abbrev pub IsPrinterFor : {M W : Type 0} → Options → Bool → Option (Bor Separators) → W → ColorSpecs
+    → Printer M W → Type 0
 IsPrinterFor options is_across separators writer colors (Lines printer) =
     (summary_kind options is_across ≡ None) × (has options Json ≡ false)
     × (is_vimgrep options ≡ false)
@@ -172,11 +175,41 @@ IsPrinterFor options is_across separators writer colors (Summary printer) =
 IsPrinterFor options is_across separators writer colors (Messages run) =
     (summary_kind options is_across ≡ None) × (has options Json ≡ true)
     × (run.printer.format.always_begin_end ≡ false) × IsNew options writer run.printer
+IsPrinterFor options is_across separators writer colors printer = ⊥
 
--- the printer is the one that options ask for, with the colors that they ask for and some separators
-abbrev pub IsPrinterOf : {W : Type 0} → Options → Bool → Option (Bor Separators) → W → Printer W
+-- so with the colors that they ask for: a printer that writes matches as they are
+abbrev pub IsPlainPrinter : {M W : Type 0} → Options → Bool → Option (Bor Separators) → W → Printer M W
     → Type 0
-IsPrinterOf options is_across separators writer printer = (colors : ColorSpecs)
+IsPlainPrinter options is_across separators writer printer = (colors : ColorSpecs)
     × IfSome (known_colors (color_choice options) options.streams.is_terminal)
     (λ known. colors ≡ known)
     × IsPrinterFor options is_across separators writer colors printer
+
+-- a printer is another one, but that each match is replaced by a template, for the groups that a
+-- matcher finds
+pub record IsReplacing {F M W : Type 0} (matcher : M) (template : Bor Template) (old : Writer F W)
+    (new : Writer (ReplacedFormat F M) W) : Type 0 where
+  pub asks : new.format.matcher ≡ matcher
+  pub template_is : new.format.template.now ≡ template.now
+  pub format : new.format.format ≡ old.format
+  pub writer : new.writer ≡ old.writer
+  pub pending : pending_bytes new.pending ≡ pending_bytes old.pending
+  pub has_written : new.has_written ≡ old.has_written
+  pub has_failed : new.has_failed ≡ old.has_failed
+  pub room : new.room ≡ old.room
+
+-- so is the printer of a run, if it writes lines
+abbrev pub IsReplaced : {M W : Type 0} → M → Bor Template → Printer M W → Printer M W → Type 0
+IsReplaced matcher template (Lines old) (ReplacedLines new) = IsReplacing matcher template old new
+IsReplaced matcher template (Parts old) (ReplacedParts new) = IsReplacing matcher template old new
+IsReplaced matcher template old new = new ≡ old
+
+-- the printer is the one that options ask for, with some separators, and if there is a template with
+-- each match replaced
+abbrev pub IsPrinterOf : {M W : Type 0} → Options → Bool → Option (Bor Separators) → M
+    → Option (Bor Template) → W → Printer M W → Type 0
+IsPrinterOf options is_across separators matcher None writer printer =
+    IsPlainPrinter options is_across separators writer printer
+IsPrinterOf {M} {W} options is_across separators matcher (Some template) writer printer =
+    (plain : Printer M W) × IsPlainPrinter options is_across separators writer plain
+    × IsReplaced matcher template plain printer

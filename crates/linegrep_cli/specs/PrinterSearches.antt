@@ -11,6 +11,7 @@ use Rattle.grep_searcher.specs.Plans.{SearcherState}
 use Rattle.grep_searcher.specs.Source.{ReadResult}
 use Rattle.grep_searcher.specs.declared.SearchError.{SearchError}
 use Rattle.grep_searcher.specs.declared.SearchError.TheVariants.{Io}
+use Rattle.grep_printer.specs.ReplacedTexts.{replaced_rules}
 use Rattle.grep_printer.specs.StandardTexts.{standard_rules}
 use Rattle.grep_printer.specs.SummaryTexts.{summary_rules}
 use Rattle.grep_printer.specs.VimgrepTexts.{vimgrep_rules}
@@ -18,21 +19,28 @@ use Rattle.grep_printer.specs.declared.printer.Printer.{Printer as Writer}
 use Rattle.linegrep_cli.specs.JsonRuns.{AreTotalsPut, IsJsonWritten}
 use Rattle.linegrep_cli.specs.PrintedSearches.{IsPrintedBy}
 use Rattle.linegrep_cli.specs.declared.printers.Printer.{Printer}
-use Rattle.linegrep_cli.specs.declared.printers.Printer.TheVariants.{Json, Lines, Parts, Summary}
+use Rattle.linegrep_cli.specs.declared.printers.Printer.TheVariants.{Json, Lines, Parts, ReplacedLines}
+use Rattle.linegrep_cli.specs.declared.printers.Printer.TheVariants.{ReplacedParts, Summary}
 use Rattle.linegrep_cli.specs.declared.printers.Searched.{Searched}
 
 module _ {M W E : Type 0} (output : E → Option (List ℕ)) (facts : M → MatcherFacts E)
-    (first_at : M → List ℕ → ℕ → Option (ℕ × ℕ)) (write_step : W → OutputCall → W → Type 0)
-    {R : Type 0} (remaining : R → Option (List ℕ)) (read_step : R → ReadResult → R → Type 0)
+    (first_at : M → List ℕ → ℕ → Option (ℕ × ℕ)) (groups_at : M → List ℕ → ℕ → List (Option (ℕ × ℕ)))
+    (write_step : W → OutputCall → W → Type 0) {R : Type 0} (remaining : R → Option (List ℕ)) (read_step : R → ReadResult → R → Type 0)
     (state : SearcherState) (matcher : M) (path : Option (Bor (List ℕ))) where
   -- what a search of a source writes, by what is written of searches
-  abbrev pub IsSearchWritten : R → Printer W → Searched → R → Printer W → Type 0
+  abbrev pub IsSearchWritten : R → Printer M W → Searched → R → Printer M W → Type 0
   IsSearchWritten reader (Lines old) searched reader' (Lines new) =
       IsPrintedBy standard_rules output facts first_at write_step remaining read_step state matcher
       path reader old searched reader' new
   IsSearchWritten reader (Parts old) searched reader' (Parts new) =
       IsPrintedBy vimgrep_rules output facts first_at write_step remaining read_step state matcher
       path reader old searched reader' new
+  IsSearchWritten reader (ReplacedLines old) searched reader' (ReplacedLines new) =
+      IsPrintedBy (replaced_rules standard_rules groups_at (λ m. (facts m).meaning)) output facts
+      first_at write_step remaining read_step state matcher path reader old searched reader' new
+  IsSearchWritten reader (ReplacedParts old) searched reader' (ReplacedParts new) =
+      IsPrintedBy (replaced_rules vimgrep_rules groups_at (λ m. (facts m).meaning)) output facts
+      first_at write_step remaining read_step state matcher path reader old searched reader' new
   IsSearchWritten reader (Summary old) searched reader' (Summary new) =
       IsPrintedBy summary_rules output facts first_at write_step remaining read_step state matcher
       path reader old searched reader' new
@@ -51,28 +59,31 @@ module _ {W : Type 0} (write_step : W → OutputCall → W → Type 0) where
     pub has_written : new.has_written ≡ old.has_written
     pub has_failed : new.has_failed ≡ (if is_ok result then old.has_failed else true)
 
+module _ {M W : Type 0} (write_step : W → OutputCall → W → Type 0) where
   -- so does the printer of a run
-  abbrev pub IsFlushed : Printer W → Result (Unit {0}) Error → Printer W → Type 0
-  IsFlushed (Lines old) result (Lines new) = IsWriterFlushed old result new
-  IsFlushed (Parts old) result (Parts new) = IsWriterFlushed old result new
-  IsFlushed (Summary old) result (Summary new) = IsWriterFlushed old result new
-  IsFlushed (Json old) result (Json new) = IsWriterFlushed old.printer result new.printer
+  abbrev pub IsFlushed : Printer M W → Result (Unit {0}) Error → Printer M W → Type 0
+  IsFlushed (Lines old) result (Lines new) = IsWriterFlushed write_step old result new
+  IsFlushed (Parts old) result (Parts new) = IsWriterFlushed write_step old result new
+  IsFlushed (ReplacedLines old) result (ReplacedLines new) = IsWriterFlushed write_step old result new
+  IsFlushed (ReplacedParts old) result (ReplacedParts new) = IsWriterFlushed write_step old result new
+  IsFlushed (Summary old) result (Summary new) = IsWriterFlushed write_step old result new
+  IsFlushed (Json old) result (Json new) = IsWriterFlushed write_step old.printer result new.printer
       × (new ≡ record old { printer = new.printer })
   IsFlushed old result new = ⊥
 
   -- the message about all searches comes after those of the searches, and nothing otherwise
-  abbrev pub HasTotals : Printer W → Result (Unit {0}) (SearchError Global) → Printer W → Type 0
+  abbrev pub HasTotals : Printer M W → Result (Unit {0}) (SearchError Global) → Printer M W → Type 0
   HasTotals (Json old) result (Json new) =
       (elapsed : ℕ) × AreTotalsPut write_step old.printer old.stats elapsed result new.printer
       × (new ≡ record old { printer = new.printer })
   HasTotals old result new = (result ≡ Ok tt) × (new ≡ old)
 
   -- the totals of all searches come, and all is written and flushed
-  pub data IsFinished (old : Printer W) : Result (Unit {0}) (SearchError Global) → Printer W
+  pub data IsFinished (old : Printer M W) : Result (Unit {0}) (SearchError Global) → Printer M W
       → Type 0 where
-    of_totals : {e : SearchError Global} {new : Printer W} → HasTotals old (Err e) new
+    of_totals : {e : SearchError Global} {new : Printer M W} → HasTotals old (Err e) new
         → IsFinished old (Err e) new
-    of_flush : (mid : Printer W) {new : Printer W} → HasTotals old (Ok tt) mid → IsFlushed mid (Ok tt) new
+    of_flush : (mid : Printer M W) {new : Printer M W} → HasTotals old (Ok tt) mid → IsFlushed mid (Ok tt) new
         → IsFinished old (Ok tt) new
-    of_failed_flush : {error : Error} (mid : Printer W) {new : Printer W} → HasTotals old (Ok tt) mid
+    of_failed_flush : {error : Error} (mid : Printer M W) {new : Printer M W} → HasTotals old (Ok tt) mid
         → IsFlushed mid (Err error) new → IsFinished old (Err (Io error)) new

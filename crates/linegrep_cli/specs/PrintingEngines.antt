@@ -35,7 +35,8 @@ IsWrittenResult (Ok u) result = result ≡ Ok tt
 IsWrittenResult (Err e) result = (error : Error) × (result ≡ Err error) × IsWrittenError e error
 
 module _ {F M R W X E : Type 0} (output : E → Option (List ℕ)) (facts : M → MatcherFacts E)
-    (first_at : M → List ℕ → ℕ → Option (ℕ × ℕ)) (write_step : W → OutputCall → W → Type 0)
+    (first_at : M → List ℕ → ℕ → Option (ℕ × ℕ)) (groups_at : M → List ℕ → ℕ → List (Option (ℕ × ℕ)))
+    (write_step : W → OutputCall → W → Type 0)
     (file_remaining : F → Option (List ℕ)) (remaining : R → Option (List ℕ))
     (read_step : R → ReadResult → R → Type 0) where
   -- a file is searched, or else standard input: with the engine's settings and matcher, and what its
@@ -44,7 +45,7 @@ module _ {F M R W X E : Type 0} (output : E → Option (List ℕ)) (facts : M �
       (old : PrintingEngine F M R W X) (searched : Searched) (new : PrintingEngine F M R W X)
       : Type 0 where
     pub left : Haystack F R
-    pub written : IsSearchWritten output facts first_at write_step
+    pub written : IsSearchWritten output facts first_at groups_at write_step
         (remaining_of file_remaining remaining) (IsPulled file_remaining remaining read_step)
         old.searcher old.matcher path (record { file = file; reader = old.haystack.reader })
         old.printer searched left new.printer
@@ -61,7 +62,7 @@ module _ {F M R W X E : Type 0} (output : E → Option (List ℕ)) (facts : M �
     pub line : Bor (List ℕ)
     pub left : Bor (List ℕ)
     pub is_line : line.now ≡ 10 ∷ []
-    pub written : IsSearchWritten output facts first_at write_step (λ s. Some s.now)
+    pub written : IsSearchWritten output facts first_at groups_at write_step (λ s. Some s.now)
         IsLineRead old.searcher old.matcher (Some path) line
         old.printer searched left new.printer
     pub settings : new.searcher.settings ≡ old.searcher.settings

@@ -1,5 +1,5 @@
 -- When a run is refused, and what is said of it.
-use Rattle.std.specs.Prelude.{◌≡◌, ◌≢◌, ℕ, Bool, true, if◌then◌else◌, List, [], None, Option, Result}
+use Rattle.std.specs.Prelude.{◌≡◌, ◌≢◌, ℕ, Bool, true, if◌then◌else◌, List, [], length, None, Option, Result}
 use Rattle.std.specs.Prelude.{Some, String}
 use Rattle.std.specs.Borrow.{Bor}
 use Rattle.std.specs.Global.{Global}
@@ -11,6 +11,7 @@ use Rattle.grep_regex.specs.declared.error.Error.TheVariants.{Memory}
 use Rattle.linegrep_cli.specs.OptionUses.{has}
 use Rattle.linegrep_cli.specs.PatternOptions.{pattern_options, pattern_texts}
 use Rattle.linegrep_cli.specs.SearcherOptions.{refuses_label}
+use Rattle.linegrep_cli.specs.TemplateOptions.{may_refuse_template}
 use Rattle.linegrep_cli.specs.WholeRuns.{IsRefused}
 use Rattle.linegrep_cli.specs.declared.option_id.OptionId.TheVariants.{GlobCaseInsensitive}
 use Rattle.linegrep_cli.specs.declared.option_id.OptionId.TheVariants.{OneFileSystem, Sort, Sortr}
@@ -42,12 +43,13 @@ pub record AreFileOptions (options : Options) (files : FileOptions) : Type 0 whe
   pub system : files.is_one_system ≡ has options OneFileSystem
 
 -- why a run is refused: a label of an encoding that isn't known, patterns that aren't well formed or too
--- large, an order that the system may not have, or what is said of files
+-- large, a template that isn't used so, an order that the system may not have, or what is said of files
 pub data IsCause (options : Options) (patterns : List (String Global)) : Type 0 where
   of_label : refuses_label options ≡ true → IsCause options patterns
   of_pattern : (error : PatternError) → error ≢ Memory
       → IsRefusal (pattern_options options patterns) (pattern_texts options patterns) error
       → IsCause options patterns
+  of_template : may_refuse_template options (length patterns) ≡ true → IsCause options patterns
   of_order : sorts_by_time options ≡ true → IsCause options patterns
   of_files : (files : FileOptions) → AreFileOptions options files → may_be_refused files ≡ true
       → IsCause options patterns

@@ -9,11 +9,13 @@ use Rattle.grep_output.specs.Outputs.{OutputCall}
 use Rattle.grep_printer.specs.declared.separators.Separators.{Separators}
 use Rattle.grep_regex.specs.LiteralViews.{literal_regex}
 use Rattle.grep_regex.specs.NamedViews.{named_regex}
-use Rattle.grep_regex.specs.Views.{regex_first_at, regex_meaning, regex_options, regex_patterns}
+use Rattle.grep_regex.specs.Views.{regex_first_at, regex_groups_at, regex_meaning, regex_options, regex_patterns}
+use Rattle.grep_regex.specs.Views.{regex_whole_at}
 use Rattle.grep_regex.specs.declared.literal_matcher.LiteralRegexMatcher.{LiteralRegexMatcher}
 use Rattle.grep_regex.specs.declared.named.NamedMatcher.{NamedMatcher}
 use Rattle.grep_regex.specs.declared.named.Naming.{Ghosts}
 use Rattle.grep_regex.specs.declared.regex.Regex.{Regex}
+use Rattle.grep_replace.specs.declared.template.Template.{Template}
 use Rattle.grep_searcher.specs.Meanings.{MatcherFacts}
 use Rattle.grep_searcher.specs.Plans.{is_across}
 use Rattle.grep_searcher.specs.Source.{ReadResult}
@@ -27,6 +29,7 @@ use Rattle.linegrep_cli.specs.PrintingEngines.{IsEngineStep}
 use Rattle.linegrep_cli.specs.RunScopes.{IsScopeOf}
 use Rattle.linegrep_cli.specs.SearcherOptions.{searcher_settings}
 use Rattle.linegrep_cli.specs.SeparatorOptions.{AreLent}
+use Rattle.linegrep_cli.specs.TemplateOptions.{IsTemplateLent}
 use Rattle.linegrep_cli.specs.declared.engine.PrintingEngine.{PrintingEngine}
 use Rattle.linegrep_files.specs.declared.file_id.FileId.{FileId}
 use Rattle.linegrep_cli.specs.declared.file_run.Scope.{Scope}
@@ -40,44 +43,47 @@ pub record IsMatcherOf {M E : Type 0} (facts : M → MatcherFacts E)
   pub trusted : (terminator : LineTerminator) → (facts matcher).is_lawful terminator
 
 module _ {F M R W X E : Type 0} (output : E → Option (List ℕ)) (facts : M → MatcherFacts E)
-    (first_at : M → List ℕ → ℕ → Option (ℕ × ℕ)) (write_step : W → OutputCall → W → Type 0)
-    (file_remaining : F → Option (List ℕ)) (remaining : R → Option (List ℕ))
+    (first_at : M → List ℕ → ℕ → Option (ℕ × ℕ)) (groups_at : M → List ℕ → ℕ → List (Option (ℕ × ℕ)))
+    (write_step : W → OutputCall → W → Type 0) (file_remaining : F → Option (List ℕ)) (remaining : R → Option (List ℕ))
     (read_step : R → ReadResult → R → Type 0) (finds : List ℕ → Result Bool Error → Type 0)
     (opens : List ℕ → Result F Error → Type 0) (identifies : F → Option FileId → Type 0) where
   -- the engine that options ask for: it has written nothing yet, and has no file open
-  pub record IsEngineFor (options : Options) (matcher : M) (input : R) (writer : W)
+  pub record IsEngineFor (options : Options) (matcher : M) (template : Option (Bor Template)) (input : R) (writer : W)
       (errors : X) (engine : PrintingEngine F M R W X) : Type 0 where
     pub settings : engine.searcher.settings ≡ searcher_settings options
     pub asks : engine.matcher ≡ matcher
     pub separators : Option (Bor Separators)
     pub lent : AreLent options separators
     pub printer : IsPrinterOf options
-        (is_across (searcher_settings options) (facts matcher).meaning) separators writer
+        (is_across (searcher_settings options) (facts matcher).meaning) separators matcher template writer
         engine.printer
     pub haystack : engine.haystack ≡ record { file = None; reader = input }
     pub says : engine.errors.now ≡ errors
     pub detection : engine.detection ≡ (searcher_settings options).binary_detection
 
-  -- a run with a matcher: over the operands that options have, with the engine that they ask for
-  pub record IsRunWith (options : Options) (matcher : M) (input : R) (writer : W)
+  -- a run with a matcher and a template: over the operands that options have, with the engine that they ask for
+  pub record IsRunWith (options : Options) (matcher : M) (template : Option (Bor Template)) (input : R) (writer : W)
       (errors : X) (status : ℕ) (input' : R) (writer' : W) : Type 0 where
     pub scope : Scope
     pub first : PrintingEngine F M R W X
     pub last : PrintingEngine F M R W X
     pub is_scope : IsScopeOf finds options scope
-    pub begins : IsEngineFor options matcher input writer errors first
+    pub begins : IsEngineFor options matcher template input writer errors first
     pub run : IsRunOver finds opens identifies
-        (IsEngineStep output facts first_at write_step file_remaining remaining read_step)
+        (IsEngineStep output facts first_at groups_at write_step file_remaining remaining read_step)
         (λ engine. has_failed engine.printer) scope (paths_of options) first status last
     pub input_after : input' ≡ last.haystack.reader
     pub writer_after : writer' ≡ writer_of last.printer
 
-  -- a run for a regular expression is one with a matcher of it
+  -- a run for a regular expression is one with a matcher of it, and a template for its groups, if there is one
   pub record IsRunFor (options : Options) (regex : Regex) (input : R) (writer : W)
       (errors : X) (status : ℕ) (input' : R) (writer' : W) : Type 0 where
     pub matcher : M
     pub is_matcher : IsMatcherOf facts first_at regex matcher
-    pub run : IsRunWith options matcher input writer errors status input' writer'
+    pub template : Option (Bor Template)
+    pub is_template : IsTemplateLent options regex template
+    pub groups : (template ≡ None) ⊎ (groups_at matcher ≡ regex_groups_at regex)
+    pub run : IsRunWith options matcher template input writer errors status input' writer'
 
 -- a run that is refused: nothing is read or written
 pub record IsRefused {R W : Type 0} (input : R) (writer : W) (status : ℕ) (input' : R)
@@ -105,6 +111,9 @@ named_facts matcher = record {
 abbrev pub named_first_at : {naming : Ghosts Brand} → Named naming → List ℕ → ℕ → Option (ℕ × ℕ)
 named_first_at matcher = regex_first_at (named_regex matcher.now)
 
+abbrev pub named_groups_at : {naming : Ghosts Brand} → Named naming → List ℕ → ℕ → List (Option (ℕ × ℕ))
+named_groups_at matcher = regex_groups_at (named_regex matcher.now)
+
 -- a matcher of a literal
 abbrev pub Literal : Type 0
 Literal = Bor LiteralRegexMatcher
@@ -120,6 +129,9 @@ literal_facts matcher = record {
 abbrev pub literal_first_at : Literal → List ℕ → ℕ → Option (ℕ × ℕ)
 literal_first_at matcher = regex_first_at (literal_regex matcher.now)
 
+abbrev pub literal_groups_at : Literal → List ℕ → ℕ → List (Option (ℕ × ℕ))
+literal_groups_at matcher = regex_whole_at (literal_regex matcher.now)
+
 -- a whole run, by its options and patterns: they are compiled as the options say, and the run is one
 -- for what they give
 pub record IsWholeRun {F R W X : Type 0} (output : AllocError → Option (List ℕ))
@@ -132,9 +144,9 @@ pub record IsWholeRun {F R W X : Type 0} (output : AllocError → Option (List �
   pub regex : Regex
   pub has_options : regex_options regex ≡ pattern_options options patterns
   pub has_patterns : regex_patterns regex ≡ pattern_texts options patterns
-  pub run : IsRunFor {M = Literal} output literal_facts literal_first_at write_step file_remaining
+  pub run : IsRunFor {M = Literal} output literal_facts literal_first_at literal_groups_at write_step file_remaining
       remaining read_step finds opens identifies options regex input writer errors status input'
       writer'
-      ⊎ IsRunFor {M = Named (naming_of regex)} output named_facts named_first_at write_step
+      ⊎ IsRunFor {M = Named (naming_of regex)} output named_facts named_first_at named_groups_at write_step
       file_remaining remaining read_step finds opens identifies options regex input writer errors
       status input' writer'

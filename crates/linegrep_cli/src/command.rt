@@ -535,6 +535,11 @@ const SEPARATOR_ROWS: &[Row] = &[
 // How it is written, or what in its place.
 const OUTPUT_ROWS: &[Row] = &[
     Row {
+        id: OptionId::Replace,
+        name: "replace",
+        letter: Some('r'),
+    },
+    Row {
         id: OptionId::Color,
         name: "color",
         letter: None,

@@ -9,7 +9,8 @@ use crate::failures::say;
 use crate::haystacks::Haystack;
 use crate::printers::{Printer, Searched};
 use grep_output::Output;
-use grep_searcher::{BinaryDetection, FindAt, SearchError, Searcher, Source};
+use grep_replace::CapturesAt;
+use grep_searcher::{BinaryDetection, SearchError, Searcher, Source};
 use std::io;
 use std::io::Read;
 
@@ -63,7 +64,7 @@ pub struct PrintingEngine<'e, F, M, R, W, E> {
     rt: &'e HostRuntime,
     searcher: Searcher,
     matcher: M,
-    printer: Printer<'e, W>,
+    printer: Printer<'e, M, W>,
     // Standard input, and the file that is searched.
     haystack: Haystack<F, R>,
     errors: &'e mut E,
@@ -77,7 +78,7 @@ impl<'e, F, M, R, W, E> PrintingEngine<'e, F, M, R, W, E> {
         rt: &'e HostRuntime,
         searcher: Searcher,
         matcher: M,
-        printer: Printer<'e, W>,
+        printer: Printer<'e, M, W>,
         input: R,
         errors: &'e mut E,
     ) -> PrintingEngine<'e, F, M, R, W, E>
@@ -107,7 +108,7 @@ impl<'e, F, M, R, W, E> PrintingEngine<'e, F, M, R, W, E> {
     pub fn into_parts(self) -> (R, W)
     where
         F: Drop,
-        M: Drop,
+        M: CapturesAt + Copy,
         ensures input { result.0 ≡ self.entry.haystack.reader }
         ensures writer { result.1 ≡ writer_of self.entry.printer }
     {
@@ -125,7 +126,7 @@ impl<'e, F, M, R, W, E> PrintingEngine<'e, F, M, R, W, E> {
     }
 }
 
-impl<'e, F: Read + Drop, M: FindAt + Copy, R: Source, W: Output, E: Output> PrintingEngine<
+impl<'e, F: Read + Drop, M: CapturesAt + Copy, R: Source, W: Output, E: Output> PrintingEngine<
     'e,
     F,
     M,
@@ -135,7 +136,7 @@ impl<'e, F: Read + Drop, M: FindAt + Copy, R: Source, W: Output, E: Output> Prin
 > {
     // Searches a file, or else standard input, and writes what is found in it.
     fn search(&mut self, file: Option<F>, path: Option<&str>) -> Searched
-        ensures { IsSearched M.Error.output M.facts M.first_at W.step F.remaining R.remaining R.step
+        ensures { IsSearched M.Error.output M.facts M.first_at M.groups_at W.step F.remaining R.remaining R.step
             file path.entry self.old result self.new }
     {
         self.haystack.file = file;
@@ -151,13 +152,13 @@ impl<'e, F: Read + Drop, M: FindAt + Copy, R: Source, W: Output, E: Output> Prin
     }
 }
 
-impl<'e, F: Read + Drop, M: FindAt + Copy, R: Source, W: Output, E: Output> Engine<F>
+impl<'e, F: Read + Drop, M: CapturesAt + Copy, R: Source, W: Output, E: Output> Engine<F>
     for PrintingEngine<'e, F, M, R, W, E> {
     ghost use Rattle.linegrep_cli.specs.EngineSteps.{has_failed};
     ghost use Rattle.linegrep_cli.specs.PrintingEngines.{IsEngineStep};
 
-    ghost step = { IsEngineStep M.Error.output M.facts M.first_at W.step F.remaining R.remaining
-        R.step };
+    ghost step = { IsEngineStep M.Error.output M.facts M.first_at M.groups_at W.step F.remaining
+        R.remaining R.step };
 
     ghost has_failed = { λ engine. has_failed engine.printer };
 

@@ -112,6 +112,8 @@ Output:
       --column               Write the column of the first match
       --vimgrep              Write each match with its line, for lists of places
   -o, --only-matching        Write only the parts of lines that match
+  -r, --replace TEMPLATE     Write TEMPLATE in place of each match, with $1, ${name} and
+                             such for its groups and $$ for a dollar sign
   -M, --max-columns NUM      Write a notice in place of lines of more than NUM bytes;
                              0 is no limit
       --max-columns-preview  Write the first characters of such lines before it

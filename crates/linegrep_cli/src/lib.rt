@@ -24,6 +24,7 @@ mod search;
 mod separators;
 mod settings;
 mod system;
+mod template;
 mod visit;
 mod words;
 

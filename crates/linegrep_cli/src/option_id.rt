@@ -36,6 +36,7 @@ pub enum OptionId {
     Column,
     NoColumn,
     OnlyMatching,
+    Replace,
     Trim,
     NoTrim,
     MaxColumnsPreview,
@@ -148,6 +149,7 @@ pub enum Kind {
     Type,
     Definition,
     Separator,
+    Template,
 }
 
 const MODES: &[OptionId] = &[
@@ -204,6 +206,7 @@ impl OptionId {
             OptionId::ContextSeparator
             | OptionId::FieldContextSeparator
             | OptionId::FieldMatchSeparator => Kind::Separator,
+            OptionId::Replace => Kind::Template,
             OptionId::MaxCount
             | OptionId::MaxColumns
             | OptionId::MaxDepth
@@ -311,8 +314,13 @@ impl Kind {
             Kind::Pattern | Kind::File | Kind::Glob | Kind::Type | Kind::Definition => {
                 ArgAction::Append
             }
-            Kind::Number | Kind::Size | Kind::Label | Kind::Color | Kind::Order | Kind::Separator =>
-                ArgAction::Set,
+            Kind::Number
+            | Kind::Size
+            | Kind::Label
+            | Kind::Color
+            | Kind::Order
+            | Kind::Separator
+            | Kind::Template => ArgAction::Set,
         }
     }
 
@@ -330,6 +338,7 @@ impl Kind {
             Kind::Type => &["TYPE"],
             Kind::Definition => &["DEFINITION"],
             Kind::Separator => &["SEPARATOR"],
+            Kind::Template => &["TEMPLATE"],
         }
     }
 

@@ -116,6 +116,8 @@ pub struct Options<'m, 'w> {
     pub field_context_separator: Option<&'w str>,
     /// What is written after each field of a line of a match, with escapes.
     pub field_match_separator: Option<&'w str>,
+    /// The template of what is written in place of each match.
+    pub replace: Option<&'w str>,
     color: Option<&'w str>,
     encoding: Option<&'w str>,
     /// The globs, which choose among the files of folders.
@@ -156,6 +158,7 @@ impl<'m, 'w> Options<'m, 'w> {
             context_separator: matches.get_str("context-separator"),
             field_context_separator: matches.get_str("field-context-separator"),
             field_match_separator: matches.get_str("field-match-separator"),
+            replace: matches.get_str("replace"),
             color: matches.get_str("color"),
             encoding: matches.get_str("encoding"),
             globs: matches.get_strs("glob"),

@@ -7,17 +7,24 @@ ghost use Rattle.linegrep_cli.specs.PrinterSearches.{HasTotals, IsFinished, IsFl
 use crate::haystacks::{end, search};
 use crate::json_run::JsonRun;
 use grep_output::Output;
-use grep_printer::{Format, Standard, Summary, Vimgrep};
+use grep_printer::{
+    Format, ReplacedFormat, Standard, StandardFormat, Summary, Vimgrep, VimgrepFormat,
+};
+use grep_replace::CapturesAt;
 use grep_searcher::{FindAt, SearchError, Searcher, Source};
 use std::io;
 
 /// What writes what is found.
 #[derive(Drop)]
-pub enum Printer<'c, W> {
+pub enum Printer<'c, M, W> {
     /// Writes lines.
     Lines(Standard<'c, W>),
     /// Writes of each part that matches the line.
     Parts(Vimgrep<'c, W>),
+    /// Writes lines in which each match is replaced, by the groups that a matcher finds.
+    ReplacedLines(grep_printer::Printer<ReplacedFormat<'c, StandardFormat<'c>, M>, W>),
+    /// Writes such a line for each match.
+    ReplacedParts(grep_printer::Printer<ReplacedFormat<'c, VimgrepFormat<'c>, M>, W>),
     /// Writes a count or a path for each file, or nothing.
     Summary(Summary<W>),
     /// Writes messages in JSON.
@@ -33,7 +40,7 @@ pub struct Searched {
     pub result: Result<(), SearchError>,
 }
 
-impl<'c, W> Printer<'c, W> {
+impl<'c, M: CapturesAt + Copy, W> Printer<'c, M, W> {
     /// The writer back, without what isn't written yet: nothing right after a `flush`.
     pub fn into_writer(self) -> W
         ensures { result ≡ writer_of self.entry }
@@ -41,15 +48,17 @@ impl<'c, W> Printer<'c, W> {
         match self {
             Printer::Lines(printer) => printer.into_parts().0,
             Printer::Parts(printer) => printer.into_parts().0,
+            Printer::ReplacedLines(printer) => printer.into_parts().0,
+            Printer::ReplacedParts(printer) => printer.into_parts().0,
             Printer::Summary(printer) => printer.into_parts().0,
             Printer::Json(run) => run.into_writer(),
         }
     }
 }
 
-impl<'c, W: Output> Printer<'c, W> {
+impl<'c, M: CapturesAt + Copy, W: Output> Printer<'c, M, W> {
     /// Searches a haystack, and writes what is found in it, with a path if there is one.
-    pub fn search<M: FindAt + Copy, H: Source>(
+    pub fn search<H: Source>(
         &mut self,
         rt: &HostRuntime,
         searcher: &mut Searcher,
@@ -58,12 +67,14 @@ impl<'c, W: Output> Printer<'c, W> {
         path: Option<&str>,
     ) -> Searched
         ensures settings { searcher.new.settings ≡ searcher.old.settings }
-        ensures written { IsSearchWritten M.Error.output M.facts M.first_at W.step H.remaining H.step
+        ensures written { IsSearchWritten M.Error.output M.facts M.first_at M.groups_at W.step H.remaining H.step
             searcher.old matcher path.entry haystack.old self.old result haystack.new self.new }
     {
         match self {
             Printer::Lines(printer) => print(printer, searcher, matcher, haystack, path),
             Printer::Parts(printer) => print(printer, searcher, matcher, haystack, path),
+            Printer::ReplacedLines(printer) => print(printer, searcher, matcher, haystack, path),
+            Printer::ReplacedParts(printer) => print(printer, searcher, matcher, haystack, path),
             Printer::Summary(printer) => print(printer, searcher, matcher, haystack, path),
             Printer::Json(run) => run.search(rt, searcher, matcher, haystack, path),
         }
@@ -76,6 +87,8 @@ impl<'c, W: Output> Printer<'c, W> {
         match self {
             Printer::Lines(printer) => printer.has_failed(),
             Printer::Parts(printer) => printer.has_failed(),
+            Printer::ReplacedLines(printer) => printer.has_failed(),
+            Printer::ReplacedParts(printer) => printer.has_failed(),
             Printer::Summary(printer) => printer.has_failed(),
             Printer::Json(run) => run.has_failed(),
         }
@@ -102,7 +115,7 @@ impl<'c, W: Output> Printer<'c, W> {
     {
         match self {
             Printer::Json(run) => run.write_totals(rt),
-            Printer::Lines(_) | Printer::Parts(_) | Printer::Summary(_) => Ok(()),
+            _ => Ok(()),
         }
     }
 
@@ -113,6 +126,8 @@ impl<'c, W: Output> Printer<'c, W> {
         match self {
             Printer::Lines(printer) => printer.flush(),
             Printer::Parts(printer) => printer.flush(),
+            Printer::ReplacedLines(printer) => printer.flush(),
+            Printer::ReplacedParts(printer) => printer.flush(),
             Printer::Summary(printer) => printer.flush(),
             Printer::Json(run) => run.flush(),
         }

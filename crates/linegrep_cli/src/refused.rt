@@ -7,7 +7,6 @@ const NO_ENGINE: &str = "there is no engine with look-around or backreferences";
 /// Why an option of ripgrep can't be used, in one line, if it is one.
 pub fn reason(option: &str) -> Option<&'static str> {
     match option {
-        "-r" | "--replace" => Some("what matches is written as it is, and can't be replaced"),
         "-z" | "--search-zip" | "--pre" | "--pre-glob" | "--hostname-bin" => Some(NO_PROGRAM),
         "-P" | "--pcre2" | "--engine" | "--auto-hybrid-regex" | "--pcre2-version" => {
             Some(NO_ENGINE)

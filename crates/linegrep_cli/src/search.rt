@@ -6,8 +6,9 @@ ghost use Rattle.linegrep_cli.specs.PatternOptions.{pattern_options, pattern_tex
 ghost use Rattle.linegrep_cli.specs.Refusals.{IsCause, IsRefusedFor, IsSaid};
 ghost use Rattle.linegrep_cli.specs.SearcherOptions.{searcher_settings};
 ghost use Rattle.linegrep_cli.specs.SeparatorOptions.{AreLent, IsSeparators};
+ghost use Rattle.linegrep_cli.specs.TemplateOptions.{IsTemplate, IsTemplateLent};
 ghost use Rattle.linegrep_cli.specs.WholeRuns.{IsRunFor, IsRunWith, IsWholeRun};
-ghost use Rattle.linegrep_cli.specs.WholeRuns.{literal_facts, literal_first_at};
+ghost use Rattle.linegrep_cli.specs.WholeRuns.{literal_facts, literal_first_at, literal_groups_at};
 ghost use Rattle.linegrep_files.specs.Failures.{has_cause, text_of};
 
 use crate::engine::PrintingEngine;
@@ -19,9 +20,11 @@ use crate::patterns::compile;
 use crate::separators::separators;
 use crate::settings::{build_printer, build_searcher};
 use crate::system::System;
+use crate::template::template;
 use grep_output::Output;
 use grep_printer::Separators;
 use grep_regex::{NamedMatcher, Naming, Regex};
+use grep_replace::{CapturesAt, Template};
 use grep_searcher::{FindAt, Matcher, Searcher, Source};
 use linegrep_files::Choices;
 use std::alloc::AllocError;
@@ -63,6 +66,7 @@ struct Prepared<'r> {
     regex: Regex,
     choices: Choices<'r>,
     separators: Option<Separators>,
+    template: Option<Template>,
 }
 
 // What the options ask a search to be made with. An error is that of a setting, of a pattern that
@@ -80,12 +84,18 @@ fn prepare<'r>(
         regex_patterns prepared.regex ≡ pattern_texts options.now patterns.now) }
     ensures separators { IfOk result (λ prepared.
         IsSeparators options.now prepared.separators) }
+    ensures template { IfOk result (λ prepared.
+        IsTemplate options.now prepared.regex prepared.template) }
     ensures refused { IfErr result (λ failure. has_cause failure ≡ true
         → IsCause options.now patterns.now) }
 {
     let searcher = build_searcher(rt.alloc(), options)?;
     let regex = match compile(rt.alloc(), options, patterns) {
         Ok(regex) => regex,
+        Err(failure) => return Err(failure),
+    };
+    let template = match template(rt.alloc(), options, &regex, patterns.len()) {
+        Ok(template) => template,
         Err(failure) => return Err(failure),
     };
     options.order().check(rt)?;
@@ -99,6 +109,7 @@ fn prepare<'r>(
             regex,
             choices,
             separators,
+            template,
         }),
         Err(_) => Err(Failure::out_of_memory()),
     }
@@ -131,6 +142,7 @@ pub fn search_all<S: System, R: Source + Drop, W: Output + Drop, E: Output>(
                 regex,
                 mut choices,
                 separators,
+                template,
             } = prepared;
             search_named::<Brand, S, R, W, E>(
                 rt,
@@ -140,6 +152,7 @@ pub fn search_all<S: System, R: Source + Drop, W: Output + Drop, E: Output>(
                 searcher,
                 &mut choices,
                 separators.as_ref(),
+                template.as_ref(),
                 input,
                 output,
                 errors,
@@ -149,8 +162,8 @@ pub fn search_all<S: System, R: Source + Drop, W: Output + Drop, E: Output>(
     }
 }
 
-// Searches for a compiled expression: by the matcher of a literal, if it is one, and otherwise by one
-// that `N` names, no call of which compares texts.
+// Searches for a compiled expression: by the matcher of a literal, if it is one and matches aren't
+// replaced, and otherwise by one that `N` names, no call of which compares texts.
 fn search_named<'r, N: Naming, S: System, R: Source + Drop, W: Output + Drop, E: Output>(
     rt: &'r HostRuntime,
     system: &'r S,
@@ -159,6 +172,7 @@ fn search_named<'r, N: Naming, S: System, R: Source + Drop, W: Output + Drop, E:
     searcher: Searcher,
     choices: &mut Choices<'r>,
     separators: Option<&Separators>,
+    template: Option<&Template>,
     input: R,
     output: W,
     errors: &mut E,
@@ -167,32 +181,38 @@ where
     requires named { IsNamed N.options N.patterns regex.now }
     requires settings { searcher.settings ≡ searcher_settings options.now }
     requires lent { AreLent options.now separators }
+    requires template { IsTemplateLent options.now regex.now template }
     ensures { ((patterns : List (String Global)) → IsRefusedFor E.step options.now patterns input
         output errors.old result.status result.input result.output errors.new)
-        ⊎ (IsRunFor ⟦<AllocError as Display>⟧.output literal_facts literal_first_at W.step
-        S.File.remaining R.remaining R.step (S.finds system.now) (S.opens system.now)
+        ⊎ (IsRunFor ⟦<AllocError as Display>⟧.output literal_facts literal_first_at
+        literal_groups_at W.step S.File.remaining R.remaining R.step (S.finds system.now) (S.opens system.now)
         (S.identifies system.now) options.now regex.now input output errors.old result.status
         result.input result.output
         ⊎ IsRunFor ⟦<AllocError as Display>⟧.output ⟦<&'static NamedMatcher<'static, N> as Matcher>⟧.facts
-        ⟦<&'static NamedMatcher<'static, N> as FindAt>⟧.first_at W.step S.File.remaining R.remaining R.step
+        ⟦<&'static NamedMatcher<'static, N> as FindAt>⟧.first_at
+        ⟦<&'static NamedMatcher<'static, N> as CapturesAt>⟧.groups_at W.step S.File.remaining R.remaining R.step
         (S.finds system.now) (S.opens system.now) (S.identifies system.now) options.now regex.now
         input output errors.old result.status result.input result.output) }
 {
-    if let Some(matcher) = regex.literal_matcher() {
-        return search_with(
-            rt, system, options, &matcher, searcher, choices, separators, input, output, errors,
-        );
+    if template.is_none() {
+        if let Some(matcher) = regex.literal_matcher() {
+            return search_with(
+                rt, system, options, &matcher, searcher, choices, separators, template, input,
+                output, errors,
+            );
+        }
     }
     match regex.named_matcher::<N>(rt.alloc()) {
         Ok(matcher) => search_with(
-            rt, system, options, &matcher, searcher, choices, separators, input, output, errors,
+            rt, system, options, &matcher, searcher, choices, separators, template, input, output,
+            errors,
         ),
         Err(_) => Ended::refused(errors, &Failure::out_of_memory(), input, output),
     }
 }
 
 // Searches with a matcher what the options choose.
-fn search_with<'r, M: FindAt + Copy, S: System, R: Source + Drop, W: Output + Drop, E: Output>(
+fn search_with<'r, M: CapturesAt + Copy, S: System, R: Source + Drop, W: Output + Drop, E: Output>(
     rt: &'r HostRuntime,
     system: &'r S,
     options: &Options<'_, '_>,
@@ -200,19 +220,23 @@ fn search_with<'r, M: FindAt + Copy, S: System, R: Source + Drop, W: Output + Dr
     searcher: Searcher,
     choices: &mut Choices<'r>,
     separators: Option<&Separators>,
+    template: Option<&Template>,
     input: R,
     output: W,
     errors: &mut E,
 ) -> Ended<R, W>
     requires settings { searcher.settings ≡ searcher_settings options.now }
     requires lent { AreLent options.now separators }
-    ensures { IsRunWith M.Error.output M.facts M.first_at W.step S.File.remaining R.remaining R.step
-        (S.finds system.now) (S.opens system.now) (S.identifies system.now) options.now matcher input
-        output errors.old result.status result.input result.output }
+    ensures { IsRunWith M.Error.output M.facts M.first_at M.groups_at W.step S.File.remaining
+        R.remaining R.step (S.finds system.now) (S.opens system.now) (S.identifies system.now)
+        options.now matcher template.entry input output errors.old result.status result.input
+        result.output }
 {
     let scope = Scope::new(system, options);
     let is_across = searcher.multi_line_with_matcher(matcher);
-    let printer = build_printer(rt, options, is_across, separators, output);
+    let printer = build_printer(
+        rt, options, is_across, separators, matcher, template, output,
+    );
     let mut engine: PrintingEngine<'_, S::File, M, R, W, E> = PrintingEngine::new(
         rt, searcher, matcher, printer, input, errors,
     );

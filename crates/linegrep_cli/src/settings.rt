@@ -3,7 +3,8 @@ ghost use Rattle.std.specs.Prelude.{◌≡◌, ◌⊎◌, false, true, if◌then
 ghost use Rattle.linegrep_cli.specs.OptionMeanings.{after_lines, before_lines, shows_columns};
 ghost use Rattle.linegrep_cli.specs.OptionMeanings.{shows_numbers};
 ghost use Rattle.linegrep_cli.specs.OptionUses.{has};
-ghost use Rattle.linegrep_cli.specs.PrinterOptions.{IsPrinterOf, column_limit, line_settings};
+ghost use Rattle.linegrep_cli.specs.PrinterOptions.{IsPlainPrinter, IsPrinterOf, IsReplaced};
+ghost use Rattle.linegrep_cli.specs.PrinterOptions.{column_limit, line_settings};
 ghost use Rattle.linegrep_cli.specs.PrinterOptions.{path_terminator_of, separator_of, shows_headings};
 ghost use Rattle.linegrep_cli.specs.PrinterOptions.{summary_settings};
 ghost use Rattle.linegrep_cli.specs.SearcherOptions.{IsLabelError, detection_of};
@@ -24,6 +25,7 @@ use grep_printer::{
     ColorSpecs, JsonBuilder, SearchSeparator, Separators, StandardBuilder, SummaryBuilder,
     SummaryKind,
 };
+use grep_replace::Template;
 use grep_searcher::{ConfigError, Encoding, Searcher, SearcherBuilder};
 use std::alloc::Global;
 
@@ -125,15 +127,54 @@ fn looks_for_mark(label: Option<&str>) -> bool
 }
 
 /// The printer that the options ask for, which writes to `writer` what searches find, by line or
-/// across lines. A terminal gets headings, and colors.
-pub fn build_printer<'c, W: Output>(
+/// across lines. If there is a template, each match is replaced by it, for the groups that the matcher
+/// finds. A terminal gets headings, and colors.
+pub fn build_printer<'c, M: Copy, W: Output>(
+    rt: &HostRuntime,
+    options: &Options<'_, '_>,
+    is_across: bool,
+    separators: Option<&'c Separators>,
+    matcher: M,
+    template: Option<&'c Template>,
+    writer: W,
+) -> Printer<'c, M, W>
+    ensures { IsPrinterOf options.now is_across separators.entry matcher template.entry writer
+        result }
+{
+    let printer = plain_printer(rt, options, is_across, separators, writer);
+    match template {
+        None => printer,
+        Some(template) => replacing(printer, matcher, template),
+    }
+}
+
+// The printer with each match replaced by a template, if it writes lines.
+fn replacing<'c, M: Copy, W>(
+    printer: Printer<'c, M, W>,
+    matcher: M,
+    template: &'c Template,
+) -> Printer<'c, M, W>
+    ensures { IsReplaced matcher template.entry printer.entry result }
+{
+    match printer {
+        Printer::Lines(printer) => Printer::ReplacedLines(printer.replacing(matcher, template)),
+        Printer::Parts(printer) => Printer::ReplacedParts(printer.replacing(matcher, template)),
+        Printer::ReplacedLines(printer) => Printer::ReplacedLines(printer),
+        Printer::ReplacedParts(printer) => Printer::ReplacedParts(printer),
+        Printer::Summary(printer) => Printer::Summary(printer),
+        Printer::Json(run) => Printer::Json(run),
+    }
+}
+
+// The printer that the options ask for, which writes matches as they are.
+fn plain_printer<'c, M, W: Output>(
     rt: &HostRuntime,
     options: &Options<'_, '_>,
     is_across: bool,
     separators: Option<&'c Separators>,
     writer: W,
-) -> Printer<'c, W>
-    ensures { IsPrinterOf options.now is_across separators.entry writer result }
+) -> Printer<'c, M, W>
+    ensures { IsPlainPrinter options.now is_across separators.entry writer result }
 {
     let is_line_buffered = options.is_line_buffered();
     let colors = color_specs(rt, options.color(), options.streams.is_terminal);

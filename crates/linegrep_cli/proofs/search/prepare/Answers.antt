@@ -1,4 +1,4 @@
-use Rattle.linegrep_cli.specs.Refusals.{of_files, of_pattern}
+use Rattle.linegrep_cli.specs.Refusals.{of_files, of_pattern, of_template}
 use Rattle.linegrep_cli.proofs.search.prepare.Goals as goal
 
 pub returns-in-Err-clause-refused : goal.returns-in-Err-clause-refused
@@ -8,3 +8,6 @@ returns-in-Err-clause-refused c = λ caused.
 pub returns-in-Err-read-clause-refused : goal.returns-in-Err-read-clause-refused
 returns-in-Err-read-clause-refused c = λ caused.
     of_files c.file_options.result c.file_options.ensures (c.in-Err-read.ensures.err caused)
+
+pub returns-in-Err-template-clause-refused : goal.returns-in-Err-template-clause-refused
+returns-in-Err-template-clause-refused c = λ caused. of_template (c.in-Err-template.ensures.refused caused)

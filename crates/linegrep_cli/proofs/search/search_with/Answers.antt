@@ -16,8 +16,9 @@ returns g c = record {
     separators = c.args.separators;
     lent = c.requires.lent;
     printer = subst (λ printer. IsPrinterOf c.args.options.now (is_across (searcher_settings c.args.options.now)
-        (g.M.Matcher.facts c.args.matcher).meaning) c.args.separators c.args.output printer) (sym c.new-engine.ensures.printer)
-        (subst (λ across. IsPrinterOf c.args.options.now across c.args.separators c.args.output c.build_printer-printer.result)
+        (g.M.Matcher.facts c.args.matcher).meaning) c.args.separators c.args.matcher c.args.template c.args.output printer) (sym c.new-engine.ensures.printer)
+        (subst (λ across. IsPrinterOf c.args.options.now across c.args.separators c.args.matcher c.args.template c.args.output
+        c.build_printer-printer.result)
         (c.multi_line_with_matcher-is_across.ensures ∙ ap (λ settings. is_across settings
         (g.M.Matcher.facts c.args.matcher).meaning) c.requires.settings) c.build_printer-printer.ensures);
     haystack = c.new-engine.ensures.haystack;
