@@ -31,6 +31,7 @@ pub(crate) fn matcher_of(regex: &Regex) -> Option<LiteralMatcher<'_>>
 }
 
 // Where a literal first occurs from a position on.
+#[inline(always)]
 pub(crate) fn occurrence(
     literal: &LiteralMatcher<'_>,
     haystack: &[u8],
