@@ -34,8 +34,9 @@ abbrev pub IsPushed : Walk → Entry → Walk → Type 0
 IsPushed old entry new = (new.is_out_of_memory ≡ true)
     ⊎ (new.pending.items ≡ old.pending.items ++ entry ∷ [])
 
--- what a name stands for is to be visited exactly if it is chosen, or where files are sorted by a time
--- nothing is said here; nothing is at the path, or not within limits
+-- If something is found that a name stands for, it is to be visited exactly if it is chosen, at its path;
+-- otherwise nothing is. What the system has there, and whether that is within limits, isn't said, nor
+-- anything where files are sorted by a time.
 abbrev pub IsNameVisited : Walk → Choices → List ℕ → List ℕ → Walk → Type 0
 IsNameVisited old choices folder name new = is_by_time old.route.order ≡ false
     → (found : Option Entry) × MatchOption found (new.pending.items ≡ old.pending.items)
