@@ -19,7 +19,10 @@ pub(crate) fn find_from(finder: &Finder<'_>, haystack: &[u8], start: usize) -> O
 {
     let literal = finder.needle();
     let len = literal.len();
-    if len == 0 || len > LONGEST || haystack.len() - start < len || haystack.len() < WIDTH + len {
+    if haystack.len() - start < len {
+        return None;
+    }
+    if len == 0 || len > LONGEST || haystack.len() < WIDTH + len {
         return find_rest(finder, haystack, start);
     }
     let bytes = ThreeBytes::new(haystack, literal, 0, len / 2, len - 1);

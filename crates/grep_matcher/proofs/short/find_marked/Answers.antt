@@ -1,4 +1,4 @@
-use Rattle.std.proofs.Common.{◌≡◌, ap, arith, subst, sym, ◌∙◌, true}
+use Rattle.std.proofs.Common.{◌≡◌, arith, subst, sym, ◌∙◌, true}
 use Rattle.std.specs.List.{starts_with}
 use Rattle.std.specs.Prelude.{nat_eq}
 use Rattle.grep_matcher.proofs.FromLemmas.{begins-here, rest-is}
