@@ -1,5 +1,5 @@
 -- Calls in which parts are replaced.
-use Rattle.std.proofs.Common.{◌≡◌, ℕ, ◌+◌, List, [], ◌∷◌, Bool, false, length, refl, ap, sym, ◌∙◌}
+use Rattle.std.proofs.Common.{◌≡◌, ℕ, List, [], ◌∷◌, false, refl, ap, sym, ◌∙◌}
 use Rattle.grep_replace.specs.declared.template.Template.{Template}
 use Rattle.grep_searcher.specs.Meanings.{Meaning}
 use Rattle.grep_searcher.specs.Plans.{Call, Settings, begins, matches, context, breaks, binary_data, finishes}
@@ -9,8 +9,8 @@ use Rattle.std.proofs.Common.{Option, true≢false}
 use Rattle.grep_printer.proofs.ReportLemmas.{reported_bytes-report}
 use Rattle.grep_printer.specs.CallParts.{asked_bytes, asked_start}
 use Rattle.grep_printer.specs.Formats.{PrintedCall, Surroundings, nothing_around}
-use Rattle.grep_printer.specs.ReplacedTexts.{part_text, replaced_by, replaced_bytes, replaced_call, replaced_parts}
-use Rattle.grep_printer.specs.ReplacedTexts.{replaced_report, replacement_at, with_bytes}
+use Rattle.grep_printer.specs.ReplacedTexts.{end_of_line, ended, replaced_by, replaced_bytes, replaced_call}
+use Rattle.grep_printer.specs.ReplacedTexts.{replaced_parts, replaced_report, replacement_at, text_in_place, with_bytes}
 use Rattle.grep_printer.specs.Reports.{call_of, event_call, event_surroundings, reporting_call, surroundings_of}
 use Rattle.grep_printer.specs.declared.format.Event.{Event}
 use Rattle.grep_printer.specs.declared.format.Event.TheVariants.{Report as report_event}
@@ -54,7 +54,7 @@ replacement-is : {M : Type 0} (groups_at : M → List ℕ → ℕ → List (Opti
     (template : Template) (matcher : M) (settings : Settings) (meaning : Meaning) (around : Surroundings) (call : Call)
     → r.template.now ≡ template → r.matcher ≡ matcher → r.asked.now ≡ asked_bytes settings meaning around call
     → r.start ≡ asked_start settings meaning around call
-    → replacement_at groups_at r ≡ part_text template (groups_at matcher) settings meaning around call
+    → replacement_at groups_at r ≡ text_in_place template (groups_at matcher) settings meaning around call
 replacement-is groups_at r template matcher settings meaning around call one two three four =
     rw (one, two, three, four) refl
 
@@ -78,15 +78,16 @@ module _ (template : Template) (groups_at : List ℕ → ℕ → List (Option (�
       report.kind report.number report.offset report.bytes.now part later
 
   -- a report with other bytes and parts is one in which each part is replaced, if these are so
-  report-is : (around : Surroundings) (call : Call) (parts : List (ℕ × ℕ)) (text_at : ℕ → List ℕ)
+  report-is : (around : Surroundings) (call : Call) (parts : List (ℕ × ℕ)) (text_at : ℕ → List ℕ) (end : Option ℕ)
       (call' : Call) (around' : Surroundings) (parts' : List (ℕ × ℕ)) (bytes' : List ℕ)
-      → text_at ≡ part_text template groups_at settings meaning around call → call' ≡ with_bytes call bytes'
-      → bytes' ≡ replaced_bytes text_at (reported_bytes call) 0 parts → around' ≡ nothing_around
+      → text_at ≡ text_in_place template groups_at settings meaning around call → end ≡ end_of_line settings meaning
+      → call' ≡ with_bytes call bytes'
+      → bytes' ≡ ended end (replaced_bytes text_at (reported_bytes call) 0 parts) → around' ≡ nothing_around
       → parts' ≡ replaced_parts text_at 0 0 parts
       → made_call call' around' parts'
       ≡ replaced_report template groups_at settings meaning around call parts
-  report-is around call parts text_at call' around' parts' bytes' text one two three four =
-      rw (one, two, three, four, text) refl
+  report-is around call parts text_at end call' around' parts' bytes' text last one two three four =
+      rw (one, two, three, four, text, last) refl
 
 -- so is what was made of a report by what its parts are replaced by
 pub replaced-is : {M : Type 0} (groups_at : M → List ℕ → ℕ → List (Option (ℕ × ℕ))) (r : Replacement M)
@@ -94,16 +95,17 @@ pub replaced-is : {M : Type 0} (groups_at : M → List ℕ → ℕ → List (Opt
     (parts put : List (ℕ × ℕ)) (bytes : List ℕ) → r.template.now ≡ template → r.matcher ≡ matcher
     → r.asked.now ≡ asked_bytes settings meaning (surroundings_of report) (call_of report)
     → r.start ≡ asked_start settings meaning (surroundings_of report) (call_of report)
+    → r.end ≡ end_of_line settings meaning
     → call_of made ≡ with_bytes (call_of report) bytes → surroundings_of made ≡ nothing_around
-    → bytes ≡ replaced_bytes (replacement_at groups_at r) report.bytes.now 0 parts
+    → bytes ≡ ended r.end (replaced_bytes (replacement_at groups_at r) report.bytes.now 0 parts)
     → put ≡ replaced_parts (replacement_at groups_at r) 0 0 parts
     → made_call (call_of made) (surroundings_of made) put
     ≡ replaced_report template (groups_at matcher) settings meaning (surroundings_of report) (call_of report) parts
-replaced-is groups_at r template matcher settings meaning report made parts put bytes one two three four call around same
-    ranges =
+replaced-is groups_at r template matcher settings meaning report made parts put bytes one two three four last call around
+    same ranges =
     report-is template (groups_at matcher) settings meaning (surroundings_of report) (call_of report) parts
-    (replacement_at groups_at r) (call_of made) (surroundings_of made) put bytes
+    (replacement_at groups_at r) r.end (call_of made) (surroundings_of made) put bytes
     (replacement-is groups_at r template matcher settings meaning (surroundings_of report) (call_of report) one two three
-    four) call
-    (same ∙ ap (λ (b : List ℕ). replaced_bytes (replacement_at groups_at r) b 0 parts)
+    four) last call
+    (same ∙ ap (λ (b : List ℕ). ended r.end (replaced_bytes (replacement_at groups_at r) b 0 parts))
     (sym (reported_bytes-report report.kind report.number report.offset report.bytes.now))) around ranges

@@ -1,8 +1,9 @@
 -- Bytes in which parts are replaced, one part after another.
-use Rattle.std.proofs.Common.{◌≡◌, ℕ, ◌+◌, ◌-◌, ◌≤◌, List, [], ◌∷◌, ◌++◌, length, drop, slice_range, arith, refl, sym}
-use Rattle.std.proofs.Common.{ap, ◌∙◌, append_assoc, append-nil, length-append, length-drop, length-take}
+use Rattle.std.proofs.Common.{◌≡◌, ℕ, ◌+◌, ◌-◌, ◌≤◌, List, [], ◌∷◌, ◌++◌, length, drop, slice_range, take, arith, refl, sym}
+use Rattle.std.proofs.Common.{ap, ◌∙◌, append_assoc, append-nil, length-append, length-drop, length-take, Option, None, Some}
+use Rattle.std.proofs.Math.Seq.{take-length}
 use Rattle.grep_printer.specs.MatchedParts.{AreInOrder}
-use Rattle.grep_printer.specs.ReplacedTexts.{replaced_bytes, replaced_parts}
+use Rattle.grep_printer.specs.ReplacedTexts.{ended, replaced_bytes, replaced_parts}
 
 range-length : (bytes : List ℕ) (from to : ℕ) → from ≤ to → to ≤ length bytes
     → length (slice_range bytes from to) ≡ to - from
@@ -65,14 +66,6 @@ replacing-more text_at bytes parts made put position part later rest between aft
         ≡ replaced_parts text_at 0 0 parts
     there = rw (end, start) (rw is at before.parts_are)
 
--- the rest
-pub replaced-all : (text_at : ℕ → List ℕ) (bytes : List ℕ) (parts : List (ℕ × ℕ)) (made : List ℕ)
-    (put : List (ℕ × ℕ)) (position : ℕ) → IsReplacing text_at bytes parts made put position []
-    → (made ++ drop position bytes ≡ replaced_bytes text_at bytes 0 parts)
-    × (put ≡ replaced_parts text_at 0 0 parts)
-replaced-all text_at bytes parts made put position before =
-    (before.bytes_are, sym (append-nil put) ∙ before.parts_are)
-
 -- what was put in lies in order in what was made of bytes from a position on, after so many others
 parts-in-order : (text_at : ℕ → List ℕ) (bytes : List ℕ) (parts : List (ℕ × ℕ)) (count position high : ℕ)
     → AreInOrder position (length bytes) parts → count + length (replaced_bytes text_at bytes position parts) ≤ high
@@ -91,6 +84,39 @@ parts-in-order text_at bytes (part ∷ later) count position high ordered fits =
           (omega (arith, fits, sized, whole, others)),
     )
 
-pub replaced-in-order : (text_at : ℕ → List ℕ) (bytes : List ℕ) (parts : List (ℕ × ℕ)) → AreInOrder 0 (length bytes) parts
-    → AreInOrder 0 (length (replaced_bytes text_at bytes 0 parts)) (replaced_parts text_at 0 0 parts)
-replaced-in-order text_at bytes parts ordered = parts-in-order text_at bytes parts 0 0 _ ordered (omega arith)
+-- an end makes bytes no shorter
+ended-longer : (end : Option ℕ) (bytes : List ℕ) → length bytes ≤ length (ended end bytes)
+ended-longer None bytes = omega arith
+ended-longer (Some end) [] = omega arith
+ended-longer (Some end) (byte ∷ bytes) = omega arith
+
+replaced-in-order : (end : Option ℕ) (text_at : ℕ → List ℕ) (bytes : List ℕ) (parts : List (ℕ × ℕ))
+    → AreInOrder 0 (length bytes) parts
+    → AreInOrder 0 (length (ended end (replaced_bytes text_at bytes 0 parts))) (replaced_parts text_at 0 0 parts)
+replaced-in-order end text_at bytes parts ordered =
+    let made = replaced_bytes text_at bytes 0 parts in
+    let longer = ended-longer end made in
+    parts-in-order text_at bytes parts 0 0 (length (ended end made)) ordered (omega (arith, longer))
+
+-- with the bytes after the last part, and the end, all is replaced
+pub replaced-all : (end : Option ℕ) (text_at : ℕ → List ℕ) (bytes : List ℕ) (parts : List (ℕ × ℕ)) (made : List ℕ)
+    (put : List (ℕ × ℕ)) (position : ℕ) (rest : List (ℕ × ℕ)) (whole last : List ℕ) → rest ≡ []
+    → IsReplacing text_at bytes parts made put position rest
+    → whole ≡ made ++ take (length bytes - position) (drop position bytes) → last ≡ ended end whole
+    → AreInOrder 0 (length bytes) parts
+    → (last ≡ ended end (replaced_bytes text_at bytes 0 parts)) × (put ≡ replaced_parts text_at 0 0 parts)
+    × AreInOrder 0 (length last) put
+replaced-all end text_at bytes parts made put position rest whole last none before tail ends ordered =
+    (bytes-are, parts-are, rw (bytes-are, parts-are) (replaced-in-order end text_at bytes parts ordered))
+  where
+    left : take (length bytes - position) (drop position bytes) ≡ drop position bytes
+    left = ap (λ n. take n (drop position bytes)) (sym (length-drop position bytes)) ∙ take-length (drop position bytes)
+
+    whole-is : whole ≡ replaced_bytes text_at bytes 0 parts
+    whole-is = tail ∙ (ap (λ b. made ++ b) left ∙ (rw none at before.bytes_are))
+
+    bytes-are : last ≡ ended end (replaced_bytes text_at bytes 0 parts)
+    bytes-are = ends ∙ ap (ended end) whole-is
+
+    parts-are : put ≡ replaced_parts text_at 0 0 parts
+    parts-are = sym (append-nil put) ∙ (rw none at before.parts_are)

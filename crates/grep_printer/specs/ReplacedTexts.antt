@@ -1,9 +1,11 @@
 -- Reports in which each part that matches is replaced.
-use Rattle.std.specs.Prelude.{ℕ, ◌+◌, ◌-◌, true, List, [], ◌∷◌, ◌++◌, drop, length, slice_range, Option}
+use Rattle.std.specs.Prelude.{ℕ, ◌+◌, ◌-◌, true, List, [], ◌∷◌, ◌++◌, drop, length, slice_range}
+use Rattle.std.specs.Prelude.{if◌then◌else◌, Option, None, Some}
 use Rattle.grep_replace.specs.Templates.{group_text, template_text}
 use Rattle.grep_replace.specs.declared.template.Template.{Template}
+use Rattle.grep_searcher.specs.Lines.{byte_of}
 use Rattle.grep_searcher.specs.Meanings.{Meaning}
-use Rattle.grep_searcher.specs.Plans.{Call, Settings, matches, context, reported_bytes}
+use Rattle.grep_searcher.specs.Plans.{Call, Settings, is_across, matches, context, reported_bytes}
 use Rattle.grep_printer.specs.CallParts.{asked_bytes, asked_start}
 use Rattle.grep_printer.specs.Formats.{PrintedCall, Rules, Surroundings, nothing_around}
 use Rattle.grep_printer.specs.declared.replaced.Replacement.{Replacement}
@@ -30,6 +32,18 @@ module _ (text_at : ℕ → List ℕ) where
       (count + (part.0 - position), count + (part.0 - position) + length (text_at part.0))
       ∷ replaced_parts (count + (part.0 - position) + length (text_at part.0)) part.1 later
 
+-- what ends a line that replacing has emptied, if anything does: by line the last byte of the terminator, across lines
+-- nothing
+abbrev pub end_of_line : Settings → Meaning → Option ℕ
+end_of_line settings meaning =
+    if is_across settings meaning then None else Some (byte_of settings.line_terminator)
+
+-- bytes with that end, if none are left
+abbrev pub ended : Option ℕ → List ℕ → List ℕ
+ended None bytes = bytes
+ended (Some end) [] = end ∷ []
+ended (Some end) (byte ∷ bytes) = byte ∷ bytes
+
 -- the call with other bytes in its report
 abbrev pub with_bytes : Call → List ℕ → Call
 with_bytes (matches number offset old) bytes = matches number offset bytes
@@ -41,17 +55,18 @@ module _ (template : Template) (groups_at : List ℕ → ℕ → List (Option (�
     (meaning : Meaning) where
   -- what is written in place of the part at a position of a report: what the template makes of the groups of the match
   -- there, in the bytes about which the matcher was asked
-  abbrev pub part_text : Surroundings → Call → ℕ → List ℕ
-  part_text around call position =
+  abbrev pub text_in_place : Surroundings → Call → ℕ → List ℕ
+  text_in_place around call position =
       template_text template (group_text (asked_bytes settings meaning around call)
       (groups_at (asked_bytes settings meaning around call) (asked_start settings meaning around call + position)))
 
   -- a report in which each part is replaced
   abbrev pub replaced_report : Surroundings → Call → List (ℕ × ℕ) → PrintedCall
   replaced_report around call parts = record {
-    call = with_bytes call (replaced_bytes (part_text around call) (reported_bytes call) 0 parts);
+    call = with_bytes call (ended (end_of_line settings meaning)
+        (replaced_bytes (text_in_place around call) (reported_bytes call) 0 parts));
     around = nothing_around;
-    parts = replaced_parts (part_text around call) 0 0 parts;
+    parts = replaced_parts (text_in_place around call) 0 0 parts;
   }
 
   -- the call as it is printed: a report with parts as they are replaced, and any other call as it is

@@ -2,20 +2,22 @@
 ghost use Rattle.std.specs.Prelude.{◌≡◌, ◌≤◌, ◌+◌, ◌++◌, ◌∷◌, [], length, IfOk, OnOk};
 ghost use Rattle.grep_replace.specs.Groups.{LieWithin};
 ghost use Rattle.grep_printer.specs.MatchedParts.{AreInOrder};
-ghost use Rattle.grep_printer.specs.ReplacedTexts.{replaced_bytes, replaced_parts, replacement_at};
+ghost use Rattle.grep_printer.specs.ReplacedTexts.{ended, replaced_bytes, replaced_parts, replacement_at};
 
 use grep_replace::{CapturesAt, Template};
 use grep_searcher::Match;
 use std::alloc::{AllocError, Global};
 
 // What a part is replaced by: a template, for the groups that a matcher finds in some bytes, in
-// which those of a report begin at a position.
+// which those of a report begin at a position; and the byte that ends a line that is emptied, if
+// any does.
 #[derive(Clone, Copy)]
 pub struct Replacement<'t, 'r, M> {
     pub(crate) template: &'t Template,
     pub(crate) matcher: M,
     pub(crate) asked: &'r [u8],
     pub(crate) start: usize,
+    pub(crate) end: Option<u8>,
 }
 
 // Bytes in which parts are replaced, and where what replaced them is.
@@ -26,7 +28,7 @@ pub struct Replaced {
 }
 
 impl<'t, 'r, M: CapturesAt + Copy> Replacement<'t, 'r, M> {
-    // The bytes of a report in which each part is replaced.
+    // The bytes of a report in which each part is replaced, or their end alone if none are left.
     pub(crate) fn replace(
         &self,
         alloc: Global,
@@ -34,8 +36,8 @@ impl<'t, 'r, M: CapturesAt + Copy> Replacement<'t, 'r, M> {
         parts: &[Match],
     ) -> Result<Replaced, AllocError>
         requires ordered { AreInOrder 0 (length bytes.now) parts.now }
-        ensures bytes { IfOk result (λ replaced. replaced.bytes.items ≡ replaced_bytes
-            (replacement_at M.groups_at self.now) bytes.now 0 parts.now) }
+        ensures bytes { IfOk result (λ replaced. replaced.bytes.items ≡ ended self.now.end
+            (replaced_bytes (replacement_at M.groups_at self.now) bytes.now 0 parts.now)) }
         ensures parts { IfOk result (λ replaced. replaced.parts.items ≡ replaced_parts
             (replacement_at M.groups_at self.now) 0 0 parts.now) }
         ensures ordered { IfOk result (λ replaced.
@@ -56,7 +58,18 @@ impl<'t, 'r, M: CapturesAt + Copy> Replacement<'t, 'r, M> {
             rest = later;
         }
         replaced.bytes.extend_from_slice(&bytes[position..])?;
+        self.end_line(&mut replaced.bytes)?;
         Ok(replaced)
+    }
+
+    // Ends bytes that are emptied.
+    fn end_line(&self, bytes: &mut Vec<u8>) -> Result<(), AllocError>
+        ensures { OnOk result (bytes.new.items ≡ ended self.now.end bytes.old.items) }
+    {
+        match self.end {
+            Some(end) if bytes.is_empty() => Ok(bytes.push(end)?),
+            _ => Ok(()),
+        }
     }
 
     // Pushes what is written in place of the part at a position.

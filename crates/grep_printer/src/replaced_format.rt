@@ -3,7 +3,7 @@ ghost use Rattle.std.specs.Prelude.{◌≡◌, ◌+◌, ◌<◌, ◌^◌, [], fa
 ghost use Rattle.grep_output.specs.PendingTexts.{Adds, pending_bytes};
 ghost use Rattle.grep_printer.specs.CallParts.{asked_bytes, asked_start};
 ghost use Rattle.grep_printer.specs.MatchedParts.{AreInOrder};
-ghost use Rattle.grep_printer.specs.ReplacedTexts.{replaced_report};
+ghost use Rattle.grep_printer.specs.ReplacedTexts.{end_of_line, replaced_report};
 ghost use Rattle.grep_printer.specs.Reports.{IsShown, call_of, surroundings_of};
 
 use crate::format::{Event, Format};
@@ -72,7 +72,7 @@ impl<F, W> Printer<F, W> {
 
 impl<'t, F, M: CapturesAt + Copy> ReplacedFormat<'t, F, M> {
     // What each part of a report is replaced by: the groups are found in the bytes about which the
-    // matcher was asked.
+    // matcher was asked. By line one that is emptied is ended.
     fn replacement<'r, A: Allocator + Copy>(
         &self,
         searcher: &Searcher<A>,
@@ -85,20 +85,25 @@ impl<'t, F, M: CapturesAt + Copy> ReplacedFormat<'t, F, M> {
             (M.facts self.now.matcher).meaning (surroundings_of report.now) (call_of report.now) }
         ensures start { result.start ≡ asked_start searcher.now.settings
             (M.facts self.now.matcher).meaning (surroundings_of report.now) (call_of report.now) }
+        ensures end { result.end ≡ end_of_line searcher.now.settings
+            (M.facts self.now.matcher).meaning }
     {
-        let (asked, start) = if searcher.multi_line_with_matcher(&self.matcher) {
-            (report.shown, report.start)
-        } else {
-            (
-                without_terminator(report.bytes, searcher.line_terminator()),
-                0,
-            )
-        };
+        if searcher.multi_line_with_matcher(&self.matcher) {
+            return Replacement {
+                template: self.template,
+                matcher: self.matcher,
+                asked: report.shown,
+                start: report.start,
+                end: None,
+            };
+        }
+        let terminator = searcher.line_terminator();
         Replacement {
             template: self.template,
             matcher: self.matcher,
-            asked,
-            start,
+            asked: without_terminator(report.bytes, terminator),
+            start: 0,
+            end: Some(terminator.as_byte()),
         }
     }
 }

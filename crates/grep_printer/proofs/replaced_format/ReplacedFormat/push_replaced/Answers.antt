@@ -11,7 +11,8 @@ returns-clause-text g c =
     c.args.self.now.matcher scene.settings (g.M.Matcher.facts c.args.self.now.matcher).meaning c.args.report.now
     c.with_bytes.result c.args.parts.now c.deref-3.result.now c.deref-2.result.now
     c.replacement-replacement.ensures.template c.replacement-replacement.ensures.matcher
-    c.replacement-replacement.ensures.asked c.replacement-replacement.ensures.start c.with_bytes.ensures.call
+    c.replacement-replacement.ensures.asked c.replacement-replacement.ensures.start
+    c.replacement-replacement.ensures.end c.with_bytes.ensures.call
     c.with_bytes.ensures.surroundings (c.deref-2.ensures.value ∙ c.in-Ok.ensures.bytes)
     (c.deref-3.ensures.value ∙ c.in-Ok.ensures.parts) in
     subst (λ printed. Adds c.args.text.now c.push.new.text
@@ -24,7 +25,8 @@ returns-clause-next g c ok =
     c.args.self.now.matcher scene.settings (g.M.Matcher.facts c.args.self.now.matcher).meaning c.args.report.now
     c.with_bytes.result c.args.parts.now c.deref-3.result.now c.deref-2.result.now
     c.replacement-replacement.ensures.template c.replacement-replacement.ensures.matcher
-    c.replacement-replacement.ensures.asked c.replacement-replacement.ensures.start c.with_bytes.ensures.call
+    c.replacement-replacement.ensures.asked c.replacement-replacement.ensures.start
+    c.replacement-replacement.ensures.end c.with_bytes.ensures.call
     c.with_bytes.ensures.surroundings (c.deref-2.ensures.value ∙ c.in-Ok.ensures.bytes)
     (c.deref-3.ensures.value ∙ c.in-Ok.ensures.parts) in
     ap (λ f. record { format = f; matcher = c.args.self.now.matcher; template = c.args.self.now.template })
@@ -38,7 +40,8 @@ returns-clause-goes_on g c ok =
     c.args.self.now.matcher scene.settings (g.M.Matcher.facts c.args.self.now.matcher).meaning c.args.report.now
     c.with_bytes.result c.args.parts.now c.deref-3.result.now c.deref-2.result.now
     c.replacement-replacement.ensures.template c.replacement-replacement.ensures.matcher
-    c.replacement-replacement.ensures.asked c.replacement-replacement.ensures.start c.with_bytes.ensures.call
+    c.replacement-replacement.ensures.asked c.replacement-replacement.ensures.start
+    c.replacement-replacement.ensures.end c.with_bytes.ensures.call
     c.with_bytes.ensures.surroundings (c.deref-2.ensures.value ∙ c.in-Ok.ensures.bytes)
     (c.deref-3.ensures.value ∙ c.in-Ok.ensures.parts) in
     subst (λ printed. c.push.result ≡ g.F.Format.rules.goes_on c.args.self.now.format scene printed) made

@@ -1,4 +1,4 @@
-use Rattle.std.proofs.Common.{◌≡◌, ◌∙◌, sym, true≢false}
+use Rattle.std.proofs.Common.{◌∙◌, sym, true≢false}
 use Rattle.grep_printer.proofs.ReplacedCallLemmas.{event-replaced}
 use Rattle.grep_printer.proofs.replaced_format.ReplacedFormatFormat.push.Goals as goal
 
