@@ -1,9 +1,8 @@
 -- Digits that are put into a text at a position.
-use Rattle.std.proofs.Common.{◌≡◌, ℕ, ◌+◌, ◌/◌, ◌%◌, ◌^◌, ◌<◌, ◌≤◌, List, [], ◌∷◌, ◌++◌, length, take, set, decimal}
-use Rattle.std.proofs.Common.{arith, rules, refl, sym, ap, ◌∙◌, subst, append_assoc}
+use Rattle.std.proofs.Common.{◌≡◌, ℕ, ◌+◌, ◌/◌, ◌%◌, ◌^◌, ◌<◌, ◌≤◌, List, [], ◌∷◌, ◌++◌, length, take, decimal}
+use Rattle.std.proofs.Common.{sym, ap, ◌∙◌, subst, append_assoc}
 use Rattle.std.proofs.Math.Seq.{take-append-add}
-use Rattle.std.proofs.lemmas.List.{length-take-le, take-append-le, take_more_set}
-use Rattle.std.proofs.lemmas.Slice.{overwrites, take-put_mid}
+use Rattle.std.proofs.lemmas.List.{length-take-le, take-append-le}
 use borrow.Rule.Slice.PartMut.{put_mid, post_of}
 use Rattle.itoa.proofs.Decimal.{pair, decimal_pair}
 

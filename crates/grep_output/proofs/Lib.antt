@@ -1,3 +1,4 @@
 pub mod DigitLemmas
 pub mod OutputLemmas
 pub mod PendingLemmas
+pub mod ReferenceLemmas

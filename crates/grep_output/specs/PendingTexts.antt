@@ -4,11 +4,10 @@ use Rattle.std.specs.declared.io.Error.{Error}
 use Rattle.grep_output.specs.Outputs.{OutputCall, FailsToWrite, WritesAll, flushes}
 
 -- texts that aren't written yet, the last of which is being made piece by piece: the others, that
--- one, for how many bytes there is memory, and whether memory was out for it
+-- one, and whether memory was out for it
 pub record PendingText : Type 0 where
   pub before : List ℕ
   pub text : List ℕ
-  pub capacity : ℕ
   pub has_failed : Bool
 
 -- their bytes

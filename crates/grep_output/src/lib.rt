@@ -10,7 +10,7 @@ mod output;
 mod pending;
 mod writing;
 
-pub use numeral::{MARKED_LEN, Numeral};
+pub use numeral::{MARKED_LEN, Numeral, write_number};
 pub use output::{Output, write_all};
 pub use pending::Pending;
 pub use writing::{LastCall, Writing};

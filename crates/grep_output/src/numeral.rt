@@ -1,8 +1,11 @@
 //! Numbers in decimal, put into a text one after another.
 ghost use Rattle.std.specs.Prelude.{◌≡◌, ◌+◌, ◌/◌, ◌%◌, ◌<◌, ◌≤◌, ◌^◌, [], ◌∷◌, ◌++◌, length, take};
 ghost use Rattle.std.specs.Prelude.{decimal};
+ghost use Rattle.grep_output.specs.Outputs.{Writes};
 
+use crate::output::{Output, write_all};
 use itoa::write_digits;
+use std::io;
 use std::marker::Model;
 
 /// How many bytes a number of 64 bits and its mark take at most.
@@ -83,6 +86,15 @@ impl Numeral {
         self.digits[..HUNDREDS_LEN - start].copy_from_slice(&text[start..]);
         self.hundreds = hundreds;
     }
+}
+
+/// Writes a number in decimal, and a mark. An error is one of `write_all`.
+pub fn write_number<W: Output>(writer: &mut W, number: u64, mark: u8) -> io::Result<()>
+    ensures { Writes W.step writer.old (decimal number ++ mark ∷ []) result writer.new }
+{
+    let mut text = [0; MARKED_LEN];
+    let len = Numeral::new().put(number, mark, &mut text, 0);
+    write_all(writer, &text[..len])
 }
 
 // Puts a number below 100 and a mark.

@@ -37,6 +37,24 @@ pub trait Output {
         → Appends (contents s) (contents t) (taken_by call) };
 }
 
+/// A reference is the output that it refers to: each call is that output's, and it stays a reference
+/// to that output.
+impl<W: Output> Output for &mut W {
+    ghost contents = { λ s. W.contents s.now };
+
+    ghost step = { λ s call t. (t.ghost_name ≡ s.ghost_name) × W.step s.now call t.now };
+
+    ghost grows = { λ s t call h. W.grows s.now t.now call h.1 };
+
+    fn write(&mut self, buffer: &[u8]) -> io::Result<usize> {
+        (**self).write(buffer)
+    }
+
+    fn flush(&mut self) -> io::Result<()> {
+        (**self).flush()
+    }
+}
+
 /// Writes all of `buffer`, by as many writes as it takes. One that is interrupted is made again.
 ///
 /// On an error some first bytes of `buffer` are written, and no call follows the one that failed.

@@ -1,6 +1,6 @@
 //! Texts that are kept before they are written.
-ghost use Rattle.std.specs.Prelude.{◌≡◌, ◌++◌, ◌+◌, ◌<◌, ◌≤◌, ◌∷◌, [], decimal, drop, false, length};
-ghost use Rattle.std.specs.Prelude.{take, true};
+ghost use Rattle.std.specs.Prelude.{◌≡◌, ◌++◌, ◌+◌, ◌-◌, ◌<◌, ◌≤◌, ◌∷◌, [], decimal, drop, false};
+ghost use Rattle.std.specs.Prelude.{MatchBool, length, take, true, vec_capacity};
 ghost use Rattle.grep_output.specs.Outputs.{Writes};
 ghost use Rattle.grep_output.specs.PendingTexts.{Adds, pending_bytes};
 
@@ -22,10 +22,9 @@ pub struct Pending {
     alloc: Global,
 }
 
-/// A clause sees the texts before, the one that is being made, for how many bytes there is memory,
-/// and whether memory was out.
+/// A clause sees the texts before, the one that is being made, and whether memory was out for it.
 impl Model for Pending {
-    ghost use Rattle.std.specs.Prelude.{◌≤◌, drop, length, take, vec_capacity};
+    ghost use Rattle.std.specs.Prelude.{◌≤◌, drop, length, take};
     ghost use Rattle.grep_output.specs.PendingTexts.{PendingText};
 
     ghost Value = { PendingText };
@@ -33,7 +32,6 @@ impl Model for Pending {
     ghost view = { λ p. record {
       before = take p.start p.bytes.items;
       text = drop p.start p.bytes.items;
-      capacity = vec_capacity p.bytes;
       has_failed = p.has_failed;
     } };
 
@@ -80,16 +78,35 @@ impl Pending {
         self.has_failed = false;
     }
 
-    /// Pushes some bytes. It fails only where there was no room for them, so that memory was asked
-    /// for.
+    /// Drops the text that is being made, and goes on with the one before it, of `len` bytes, for
+    /// which memory was out or not. The caller ensures that there are as many bytes.
+    pub fn reopen(&mut self, len: usize, has_failed: bool)
+        requires { len ≤ length self.old.before }
+        ensures before { self.new.before
+            ≡ take (length self.old.before - len) self.old.before }
+        ensures text { self.new.text ≡ drop (length self.old.before - len) self.old.before }
+        ensures has_failed { self.new.has_failed ≡ has_failed }
+    {
+        self.bytes.truncate(self.start);
+        self.start -= len;
+        self.has_failed = has_failed;
+    }
+
+    /// Has the text that is being made fail, as where memory is out for what it is made of.
+    pub fn fail(&mut self)
+        ensures before { self.new.before ≡ self.old.before }
+        ensures has_failed { self.new.has_failed ≡ true }
+    {
+        self.has_failed = true;
+    }
+
+    /// Pushes some bytes.
     #[inline(always)]
     pub fn push(&mut self, bytes: &[u8])
-        ensures adds { Adds self.old self.new bytes.now }
-        ensures fails { self.old.has_failed ≡ false → self.new.has_failed ≡ true
-            → self.old.capacity < length (pending_bytes self.old) + length bytes.now }
+        ensures { Adds self.old self.new bytes.now }
     {
         if !self.has_failed {
-            self.has_failed = self.bytes.extend_from_slice(bytes).is_err();
+            self.has_failed = !appends(&mut self.bytes, bytes);
         }
     }
 
@@ -173,4 +190,15 @@ impl Pending {
         self.start = start;
         self.has_failed = has_failed;
     }
+}
+
+// Appends bytes, and returns whether it did. It fails only where there is no room for them, so that
+// memory was asked for: then nothing is appended.
+#[inline(always)]
+fn appends(bytes: &mut Vec<u8>, more: &[u8]) -> bool
+    ensures { MatchBool result (bytes.new.items ≡ bytes.old.items ++ more.now)
+        ((bytes.new.items ≡ bytes.old.items)
+        × (vec_capacity bytes.old < length bytes.old.items + length more.now)) }
+{
+    bytes.extend_from_slice(more).is_ok()
 }

@@ -11,7 +11,7 @@ use Rattle.grep_printer.proofs.ReportLemmas.{reported_bytes-report}
 use Rattle.grep_printer.proofs.SuccessiveLemmas.{parts-below}
 use Rattle.grep_printer.specs.CallParts.{HasParts, asked_bytes, asked_start}
 use Rattle.grep_printer.specs.CallParts.{parts_of_call, shown_bytes, shown_start}
-use Rattle.grep_printer.specs.Formats.{Surroundings, nothing_around}
+use Rattle.grep_printer.specs.Formats.{Surroundings}
 use Rattle.grep_printer.specs.JsonLaws.{IsWordRange}
 use Rattle.grep_printer.specs.MatchedParts.{first_from, parts_in}
 use Rattle.grep_printer.specs.Reports.{IsAround, IsShownAs, call_of, event_call, reporting_call}

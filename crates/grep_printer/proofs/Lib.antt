@@ -1,3 +1,5 @@
+pub mod BareTextLemmas
+pub mod BareWriteLemmas
 pub mod CallPartLemmas
 pub mod ColorLemmas
 pub mod JsonBytesLemmas
@@ -8,6 +10,7 @@ pub mod PlainLineLemmas
 pub mod PlanCountLemmas
 pub mod PlanWordLemmas
 mod PreviewLemmas
+pub mod PrintedSearchLemmas
 pub mod PushLemmas
 pub mod ReadBackLemmas
 pub mod ReplacedCallLemmas
@@ -21,5 +24,6 @@ pub mod SuccessiveLemmas
 pub mod TakenCallLemmas
 pub mod TakenLineLemmas
 pub mod TextLemmas
+pub mod UnkeptLemmas
 pub mod VimgrepLemmas
 pub mod WalkLemmas

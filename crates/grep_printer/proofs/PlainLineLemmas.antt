@@ -8,13 +8,13 @@ use Rattle.std.proofs.lemmas.List.Sums.{sum_by-cons}
 use Rattle.std.specs.List.{concat, count_by, flat_map}
 use Rattle.std.specs.Borrow.{Bor}
 use Rattle.std.specs.Option.{is_none}
-use Rattle.std.specs.Prelude.{Bool, false, true, ◌&&◌, ◌||◌, ◌==◌, if◌then◌else◌, cond, max, min, nat_lt, not, Option, None, Some, slice_range}
+use Rattle.std.specs.Prelude.{Bool, false, true, ◌||◌, if◌then◌else◌, cond, max, min, nat_lt, not, Option, None, Some, slice_range}
 use Rattle.grep_matcher.proofs.LineLemmas.{lines-end, lines-inner, lines-joined}
 use Rattle.grep_matcher.specs.Lines.{lines, onto_first}
 use Rattle.grep_searcher.specs.Lines.{strip}
 use Rattle.grep_printer.specs.MatchedParts.{AreInOrder, ends_after}
 use Rattle.grep_printer.specs.ColoredTexts.{line_color, matched_color, path_color}
-use Rattle.grep_printer.specs.LineTexts.{end_byte, is_plain, line_text, lines_text, mark_after, mark_byte, mark_of, missing_end}
+use Rattle.grep_printer.specs.LineTexts.{end_byte, is_plain, line_text, lines_text, mark_after, mark_byte, missing_end}
 use Rattle.grep_printer.specs.LineTexts.{next_number, number_field, path_field, place_after, plain_line, plain_lines, plain_part}
 use Rattle.grep_printer.specs.LineTexts.{shown_line}
 use Rattle.grep_printer.specs.Reports.{HasPlainParts, call_of, report_place, reporting_call}
@@ -43,17 +43,17 @@ module _ (t : ℕ) where
   missing-none = let same = eq-eqb t t refl in simp same refl
 
   -- the first line of some bytes, and that all lines are those bytes, with the terminator at the end
-  record AreEnded (b : ℕ) (bytes : List ℕ) : Type 0 where
-    byte : ℕ
-    line : List ℕ
-    later : List (List ℕ)
-    is : lines t (b ∷ bytes) ≡ (byte ∷ line) ∷ later
-    whole : flat_map ended ((byte ∷ line) ∷ later) ≡ ended (b ∷ bytes)
+  pub record AreEnded (b : ℕ) (bytes : List ℕ) : Type 0 where
+    pub byte : ℕ
+    pub line : List ℕ
+    pub later : List (List ℕ)
+    pub is : lines t (b ∷ bytes) ≡ (byte ∷ line) ∷ later
+    pub whole : flat_map ended ((byte ∷ line) ∷ later) ≡ ended (b ∷ bytes)
 
   only : (b : ℕ) → lines t (b ∷ []) ≡ (b ∷ []) ∷ [] → AreEnded b []
   only b is = record { byte = b; line = []; later = []; is = is; whole = append-nil (ended (b ∷ [])) }
 
-  all-ended : (b : ℕ) (bytes : List ℕ) → AreEnded b bytes
+  pub all-ended : (b : ℕ) (bytes : List ℕ) → AreEnded b bytes
   all-ended b [] =
       ⊎_elim (λ same. only b (lines-end t b [] same)) (λ other. only b (lines-inner t b [] other)) (cases_eq b t)
   all-ended b (c ∷ bytes) = more (all-ended c bytes)
@@ -116,7 +116,7 @@ module _ (t mark : ℕ) (whole : List ℕ) where
         ∙ (ap (λ ls. text ++ plain_lines t mark number ls) (sym is) ∙ are.pushed);
   }
 
-none-is : {X : Type 0} → (o : Option X) → is_none o ≡ true → o ≡ None
+pub none-is : {X : Type 0} → (o : Option X) → is_none o ≡ true → o ≡ None
 none-is None none = refl
 none-is (Some x) none = absurd cc
 
@@ -132,17 +132,17 @@ offset-none true offset none = absurd cc
 offset-none false offset none = refl
 
 -- settings by which lines are written as they are
-record ArePlain (config : Config) (path : Option (Bor (List ℕ))) : Type 0 where
-  paths : (config.heading || is_none path) ≡ true
-  columns : not config.column ≡ true
-  offsets : not config.byte_offset ≡ true
-  limits : is_none config.max_columns ≡ true
-  numbers : is_none (line_color config.color_specs) ≡ true
-  matched : is_none (matched_color config.color_specs) ≡ true
-  indented : not config.trim_ascii ≡ true
-  apart : is_none config.separators ≡ true
+pub record ArePlain (config : Config) (path : Option (Bor (List ℕ))) : Type 0 where
+  pub paths : (config.heading || is_none path) ≡ true
+  pub columns : not config.column ≡ true
+  pub offsets : not config.byte_offset ≡ true
+  pub limits : is_none config.max_columns ≡ true
+  pub numbers : is_none (line_color config.color_specs) ≡ true
+  pub matched : is_none (matched_color config.color_specs) ≡ true
+  pub indented : not config.trim_ascii ≡ true
+  pub apart : is_none config.separators ≡ true
 
-are_plain : (config : Config) (path : Option (Bor (List ℕ))) → is_plain config path ≡ true → ArePlain config path
+pub are_plain : (config : Config) (path : Option (Bor (List ℕ))) → is_plain config path ≡ true → ArePlain config path
 are_plain config path plain =
     let y = and_parts _ (is_none config.separators) plain in
     let z = and_parts _ (not config.trim_ascii) y.0 in
@@ -168,7 +168,7 @@ column-none layout (part ∷ later) none = offset-none layout.config.column (par
 
 module _ (layout : Layout) (kind : LineKind) (plain : is_plain layout.config layout.path ≡ true) where
   -- a line that is written as it is
-  line-plain : (place : Place) (parts : List (ℕ × ℕ)) (line : List ℕ) → place.column ≡ None
+  pub line-plain : (place : Place) (parts : List (ℕ × ℕ)) (line : List ℕ) → place.column ≡ None
       → line_text layout kind place parts line ≡ plain_line (end_byte layout) (mark_byte kind) place.number line
   unfolding shown_line
   line-plain place parts line column =
@@ -194,7 +194,7 @@ module _ (layout : Layout) (kind : LineKind) (plain : is_plain layout.config lay
       ) refl
 
   -- such lines
-  lines-plain : (place : Place) (parts : List (ℕ × ℕ)) (ls : List (List ℕ)) → place.column ≡ None
+  pub lines-plain : (place : Place) (parts : List (ℕ × ℕ)) (ls : List (List ℕ)) → place.column ≡ None
       → lines_text layout kind place parts ls ≡ plain_lines (end_byte layout) (mark_byte kind) place.number ls
   lines-plain place parts [] column = refl
   lines-plain place parts (line ∷ later) column =

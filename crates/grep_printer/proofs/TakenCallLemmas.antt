@@ -1,6 +1,6 @@
 -- A sink of a printer that keeps the texts of lines at once, against its calls one after another.
 use Rattle.std.proofs.Common.{◌≡◌, ◌∙◌, ℕ, suc, ◌+◌, true, false, not, ◌&&◌, ◌||◌}
-use Rattle.std.proofs.Common.{List, [], ◌∷◌, ◌++◌, length, Option, Err, ap, arith, inl, inr, ◌<◌}
+use Rattle.std.proofs.Common.{List, [], ◌∷◌, ◌++◌, length, Option, ap, arith, inl, ◌<◌}
 use Rattle.std.proofs.Common.{refl, sym, subst, append_assoc, length-append}
 use Rattle.std.proofs.Math.Bool.{or_assoc}
 use Rattle.std.proofs.lemmas.List.{append-nil}
@@ -10,7 +10,7 @@ use Rattle.grep_output.specs.Outputs.{OutputCall, WritesAll}
 use Rattle.grep_output.specs.PendingTexts.{pending_bytes}
 use Rattle.grep_matcher.specs.Meanings.{MatcherFacts}
 use Rattle.grep_searcher.specs.MatchedLines.{calls_of_match, calls_of_lines}
-use Rattle.grep_searcher.specs.Plans.{AreMade, Call, Planned, Settings, Steps, all_true, failed}
+use Rattle.grep_searcher.specs.Plans.{AreMade, Call, Planned, Settings, all_true}
 use Rattle.grep_searcher.specs.Plans.{matches, planned}
 use Rattle.grep_report.specs.SinkReports.{MatchReport, match_bytes}
 use Rattle.grep_lines.proofs.LineRangeLemmas.{some-lines}
@@ -176,13 +176,3 @@ module _ {F M W E : Type 0} (rules : Rules F) (output : E → Option (List ℕ))
       (lines-kept old new m.line_number 0 m.offset found.0 found.1 text format
       (subst (λ ls. AreTexts rules (scene_of old settings) old.format
       (calls_of_lines m.line_number 0 m.offset ls) text format) found.2 texts) kept)
-
--- the lines of a match fail if the call of any line does
-pub match-failed : {S E : Type 0} (step : Steps S E) (settings : Settings) (old new : S) (e : E)
-    (m : MatchReport) → 0 < length (match_bytes m)
-    → ((call : Call) → step old settings call (Err e) new)
-    → AreMade step settings old (calls_of_match m) (failed e) new
-match-failed step settings old new e m some fails =
-    let found = some-lines m.terminator (match_bytes m) some in
-    subst (λ ls. AreMade step settings old (calls_of_lines m.line_number 0 m.offset ls) (failed e) new)
-    (sym found.2) (inr (inr (e, refl, fails _)))

@@ -41,6 +41,9 @@ pub record Rules (F : Type 0) : Type 0 where
   pub goes_on : F → Scene → PrintedCall → Bool
   -- whether the calls so far are what a search looks for
   pub has_match : F → Bool
+  -- whether nothing is written but lines as they are, each after its number alone, and what is
+  -- between their groups
+  pub is_bare : F → Scene → Bool
 
 -- whether there is any text
 abbrev pub is_text : List ℕ → Bool

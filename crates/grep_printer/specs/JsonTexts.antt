@@ -108,6 +108,7 @@ json_rules = record {
   };
   goes_on = λ format scene printed. true;
   has_match = λ format. format.progress.has_match;
+  is_bare = λ format scene. false;
 }
 
 -- whether a search has ended of which something was written

@@ -1,3 +1,4 @@
+pub mod BareTexts
 pub mod CallParts
 pub mod ColorRuns
 pub mod ColoredTexts
@@ -12,6 +13,7 @@ pub mod LineTexts
 pub mod MatchedParts
 pub mod PartTexts
 pub mod PlanCounts
+pub mod PrintedSearches
 pub mod PrinterSteps
 pub mod Pushes
 pub mod ReplacedTexts

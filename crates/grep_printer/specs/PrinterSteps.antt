@@ -1,5 +1,5 @@
 -- What the sink of a printer does at a call of a search, and in a whole search, of any format.
-use Rattle.std.specs.Prelude.{◌≡◌, ◌⊎◌, ℕ, Bool, true, ◌&&◌, ◌||◌, List, [], ◌∷◌, ◌++◌}
+use Rattle.std.specs.Prelude.{◌≡◌, ◌⊎◌, ℕ, Bool, false, true, ◌&&◌, ◌||◌, List, [], ◌∷◌, ◌++◌}
 use Rattle.std.specs.Prelude.{Option, Result, Ok, Err}
 use Rattle.std.specs.Global.{Global}
 use Rattle.std.specs.declared.io.Error.{Error}
@@ -81,15 +81,17 @@ module _ {F M W E : Type 0} (rules : Rules F) (output : E → Option (List ℕ))
     pub format : new.format ≡ rules.next old.format (scene_of old settings) printed
     pub has_failed : new.printer.now.has_failed ≡ true
 
-  -- the writer had no call, and there was no memory, or the matcher failed where the parts of a
-  -- report were looked for
+  -- the writer had no call, and there was no memory, for the parts or for a text that isn't of lines
+  -- alone, or the matcher failed where the parts of a report were looked for
   pub record FailsBefore (old : PrinterSink F M W) (settings : Settings) (call : Call)
       (e : SearchError Global) (new : PrinterSink F M W) : Type 0 where
     pub unwritten : new.printer.now.writer ≡ old.printer.now.writer
     pub pending : pending_bytes new.printer.now.pending ≡ pending_bytes old.printer.now.pending
     pub format : new.format ≡ old.format
     pub has_failed : new.printer.now.has_failed ≡ old.printer.now.has_failed
-    pub cause : IsOutOfMemory e
+    pub cause : (IsOutOfMemory e
+        × (((has_match settings call && rules.asks old.format call) ≡ true)
+        ⊎ (rules.is_bare old.format (scene_of old settings) ≡ false)))
         ⊎ (((has_match settings call && rules.asks old.format call) ≡ true)
         × FailsAtParts Shown output (facts old.matcher) settings call e)
 

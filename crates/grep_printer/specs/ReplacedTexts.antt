@@ -1,5 +1,5 @@
 -- Reports in which each part that matches is replaced.
-use Rattle.std.specs.Prelude.{ℕ, ◌+◌, ◌-◌, true, List, [], ◌∷◌, ◌++◌, drop, length, slice_range}
+use Rattle.std.specs.Prelude.{false, ℕ, ◌+◌, ◌-◌, true, List, [], ◌∷◌, ◌++◌, drop, length, slice_range}
 use Rattle.std.specs.Prelude.{if◌then◌else◌, Option, None, Some}
 use Rattle.grep_replace.specs.Templates.{group_text, template_text}
 use Rattle.grep_replace.specs.declared.template.Template.{Template}
@@ -96,4 +96,5 @@ replaced_rules rules groups_at meaning_of = record {
   goes_on = λ format scene printed. rules.goes_on format.format scene (replaced_call format.template.now
       (groups_at format.matcher) scene.settings (meaning_of format.matcher) printed);
   has_match = λ format. rules.has_match format.format;
+  is_bare = λ format scene. false;
 }

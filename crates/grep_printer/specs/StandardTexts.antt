@@ -1,6 +1,6 @@
 -- The text that a standard printer writes for the calls of a search.
 use Rattle.std.specs.Prelude.{ℕ, Bool, true, false, not, ◌&&◌, ◌||◌, if◌then◌else◌}
-use Rattle.std.specs.Prelude.{List, [], ◌∷◌, ◌++◌, codes, decimal, Option, Some, None}
+use Rattle.std.specs.Prelude.{List, [], ◌++◌, codes, decimal, Option, Some, None}
 use Rattle.std.specs.Prelude.{is_some}
 use Rattle.std.specs.Borrow.{Bor}
 use Rattle.grep_searcher.specs.Plans.{Call, begins, matches, context, breaks, binary_data}
@@ -9,6 +9,7 @@ use Rattle.grep_searcher.specs.BinaryDetections.{convert_byte_of}
 use Rattle.grep_searcher.specs.declared.BinaryDetection.{BinaryDetection}
 use Rattle.grep_searcher.specs.declared.BinaryDetection.TheVariants.{None as no_detection, Quit}
 use Rattle.grep_searcher.specs.declared.BinaryDetection.TheVariants.{Convert}
+use Rattle.grep_printer.specs.BareTexts.{is_bare}
 use Rattle.grep_printer.specs.ColoredTexts.{colored, matched_color, path_color}
 use Rattle.grep_printer.specs.Formats.{Rules, Scene}
 use Rattle.grep_printer.specs.LineTexts.{break_text, end_byte, opening_text}
@@ -149,4 +150,5 @@ standard_rules = record {
   goes_on = λ format scene printed.
       goes_on format.progress scene.settings.binary_detection printed.call;
   has_match = λ format. format.progress.has_match;
+  is_bare = λ format scene. is_bare format.config scene;
 }

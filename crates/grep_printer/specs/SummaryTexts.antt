@@ -155,4 +155,5 @@ summary_rules = record {
   };
   goes_on = λ format scene printed. sums_on format.config.kind printed.call;
   has_match = λ format. has_found format.config.kind format.counts.match_count;
+  is_bare = λ format scene. false;
 }

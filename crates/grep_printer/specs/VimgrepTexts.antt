@@ -72,4 +72,5 @@ vimgrep_rules = record {
       record { lines = standard_rules.next format.lines scene printed };
   goes_on = λ format scene printed. standard_rules.goes_on format.lines scene printed;
   has_match = λ format. standard_rules.has_match format.lines;
+  is_bare = λ format scene. false;
 }

@@ -1,11 +1,12 @@
 //! What a printer writes of the calls of a search.
 ghost use Rattle.std.specs.Prelude.{◌≡◌, ◌+◌, ◌<◌, ◌≤◌, ◌^◌, [], ℕ, Option, true, false, length};
-ghost use Rattle.std.specs.Prelude.{IfSome, MatchOption};
+ghost use Rattle.std.specs.Prelude.{IfSome, MatchOption, not, ◌||◌};
 ghost use Rattle.grep_searcher.specs.Plans.{finishes, reported_bytes};
 ghost use Rattle.grep_searcher.specs.SearchLaws.{is_report};
 ghost use Rattle.grep_report.specs.SinkReports.{match_bytes};
 ghost use Rattle.grep_searcher.specs.Lines.{byte_of};
 ghost use Rattle.grep_searcher.specs.MatchedLines.{calls_of_match};
+ghost use Rattle.grep_printer.specs.BareTexts.{bare_text};
 ghost use Rattle.grep_printer.specs.Formats.{AreTexts, PrintedCall, Rules, Scene};
 ghost use Rattle.grep_printer.specs.MatchedParts.{AreInOrder};
 ghost use Rattle.grep_output.specs.PendingTexts.{Adds, pending_bytes};
@@ -72,6 +73,16 @@ pub trait Format: Copy {
     fn has_match(&self) -> bool
         ensures { result ≡ rules.has_match self.now };
 
+    /// Whether nothing is written but lines as they are, each after its number alone, and what is
+    /// between their groups: then a call's text is written where there is no memory for it, too.
+    fn is_bare<A: Allocator + Copy>(&self, searcher: &Searcher<A>, path: Option<&str>) -> bool
+        ensures value { result ≡ rules.is_bare self.now
+            (record { path = path.entry; settings = searcher.now.settings }) }
+        ensures text { result ≡ true → (printed : PrintedCall) → printed.parts ≡ []
+            → rules.text self.now
+            (record { path = path.entry; settings = searcher.now.settings }) printed
+            ≡ bare_text (byte_of searcher.now.settings.line_terminator) printed.call };
+
     /// Pushes the text of a call to a text that is empty, and returns whether the search goes on.
     /// If memory is out, the text has failed.
     fn push<A: Allocator + Copy>(
@@ -89,10 +100,14 @@ pub trait Format: Copy {
         ensures text { Adds text.old text.new (rules.text self.old
             (record { path = path.entry; settings = searcher.now.settings })
             (record { call = event_call event.now; around = event_surroundings event.now; parts = parts.now })) }
-        ensures next { text.new.has_failed ≡ false → self.new ≡ rules.next self.old
+        ensures next { (not text.new.has_failed || rules.is_bare self.old
+            (record { path = path.entry; settings = searcher.now.settings })) ≡ true
+            → self.new ≡ rules.next self.old
             (record { path = path.entry; settings = searcher.now.settings })
             (record { call = event_call event.now; around = event_surroundings event.now; parts = parts.now }) }
-        ensures goes_on { text.new.has_failed ≡ false → result ≡ rules.goes_on self.old
+        ensures goes_on { (not text.new.has_failed || rules.is_bare self.old
+            (record { path = path.entry; settings = searcher.now.settings })) ≡ true
+            → result ≡ rules.goes_on self.old
             (record { path = path.entry; settings = searcher.now.settings })
             (record { call = event_call event.now; around = event_surroundings event.now; parts = parts.now }) };
 

@@ -220,6 +220,10 @@ impl Format for JsonFormat {
         self.progress.has_match
     }
 
+    fn is_bare<A: Allocator + Copy>(&self, _searcher: &Searcher<A>, _path: Option<&str>) -> bool {
+        false
+    }
+
     fn push<A: Allocator + Copy>(
         &mut self,
         text: &mut Pending,

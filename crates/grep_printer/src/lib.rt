@@ -6,6 +6,7 @@
 //! The printers follow those of ripgrep's crate grep-printer.
 #![tactic(auto)]
 
+mod bare;
 mod binary_messages;
 mod colors;
 mod config;
@@ -18,6 +19,7 @@ pub mod laws;
 mod messages;
 mod parts;
 mod plain;
+mod printed_search;
 mod printer;
 mod replaced;
 mod replaced_format;
@@ -34,6 +36,7 @@ pub use colors::ColorSpecs;
 pub use config::{SearchSeparator, StandardBuilder};
 pub use format::Format;
 pub use json_printer::{Json, JsonBuilder, JsonFormat, JsonSink};
+pub use printed_search::search;
 pub use printer::{Printer, PrinterSink};
 pub use replaced_format::ReplacedFormat;
 pub use separators::Separators;

@@ -52,7 +52,7 @@ impl<'c> Config<'c> {
     // Whether lines, or parts in their place, are written as they are, each after its number alone:
     // without other fields, limit and colors, not trimmed, and with the usual separators.
     #[inline(always)]
-    fn is_plain(&self, path: Option<&str>) -> bool
+    pub(crate) fn is_plain(&self, path: Option<&str>) -> bool
         ensures { result ≡ is_plain self.now path.entry }
     {
         (self.heading || path.is_none())

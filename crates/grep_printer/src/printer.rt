@@ -1,12 +1,14 @@
 //! A printer of any format, and the sink of one search after another.
 ghost use Rattle.std.specs.Prelude.{◌≡◌, ◌⊎◌, ◌+◌, ◌<◌, ◌^◌, ◌&&◌, ◌||◌, [], true, false, IfErr};
-ghost use Rattle.std.specs.Prelude.{OnErr, OnOk};
+ghost use Rattle.std.specs.Prelude.{Err, MatchResult, Ok, OnErr, OnOk, ◌++◌};
+ghost use Rattle.grep_output.specs.Outputs.{Writes};
 ghost use Rattle.std.specs.Prelude.{MatchBool, if◌then◌else◌, is_ok, length};
 ghost use Rattle.grep_output.specs.PendingTexts.{Flushes, Puts, PutsAll, pending_bytes};
 ghost use Rattle.grep_report.specs.SinkReports.{match_bytes};
 ghost use Rattle.grep_searcher.specs.Plans.{reported_bytes};
 ghost use Rattle.grep_searcher.specs.SearchErrors.{IsOutOfMemory};
 ghost use Rattle.grep_searcher.specs.SinkArguments.{match_call};
+ghost use Rattle.grep_printer.specs.BareTexts.{bare_text};
 ghost use Rattle.grep_printer.specs.CallParts.{FailsAtParts, around_match, has_match};
 ghost use Rattle.grep_printer.specs.Formats.{is_text};
 ghost use Rattle.grep_printer.specs.MatchedParts.{AreInOrder};
@@ -14,6 +16,7 @@ ghost use Rattle.grep_printer.specs.PrinterSteps.{HasFound, IsPreparing, PrintsC
 ghost use Rattle.grep_printer.specs.PrinterSteps.{PrintsShown};
 ghost use Rattle.grep_printer.specs.Reports.{FitsEvent, IsAround, IsShownEvent, event_call, event_surroundings};
 
+use crate::bare::write_call;
 use crate::format::{Event, Format};
 use crate::parts::find_report_parts;
 use crate::report::{Report, finish_of};
@@ -150,6 +153,23 @@ impl<F, W: Output> Printer<F, W> {
         flushed
     }
 
+    /// Writes what isn't written yet, and doesn't flush the writer. An error is one of `flush`.
+    pub fn write_pending(&mut self) -> io::Result<()>
+        ensures written { Writes W.step self.old.writer (pending_bytes self.old.pending) result
+            self.new.writer }
+        ensures emptied { pending_bytes self.new.pending ≡ [] }
+        ensures format { self.new.format ≡ self.old.format }
+        ensures has_written { self.new.has_written ≡ self.old.has_written }
+        ensures has_failed { self.new.has_failed
+            ≡ (if is_ok result then self.old.has_failed else true) }
+    {
+        let written = self.pending.write_to(&mut self.writer);
+        if written.is_err() {
+            self.has_failed = true;
+        }
+        written
+    }
+
     // Writes what isn't written yet, and flushes the writer.
     fn write_and_flush(&mut self) -> io::Result<()>
         ensures flushed { Flushes W.step self.old.writer (pending_bytes self.old.pending) result
@@ -185,6 +205,47 @@ impl<F, W: Output> Printer<F, W> {
         }
         self.has_written = self.has_written || self.pending.text_len() > 0;
         true
+    }
+
+    // Writes what is kept, and then the text of a call of which lines alone are written.
+    #[inline(never)]
+    fn write_unkept(&mut self, terminator: u8, event: &Event<'_>) -> io::Result<()>
+        ensures written { Writes W.step self.old.writer (pending_bytes self.old.pending
+            ++ bare_text terminator (event_call event.now)) result self.new.writer }
+        ensures emptied { pending_bytes self.new.pending ≡ [] }
+        ensures format { self.new.format ≡ self.old.format }
+        ensures has_written { self.new.has_written ≡ (self.old.has_written
+            || (is_ok result && is_text (bare_text terminator (event_call event.now)))) }
+        ensures has_failed { self.new.has_failed
+            ≡ (if is_ok result then self.old.has_failed else true) }
+    {
+        match self.write_kept_and_call(terminator, event) {
+            Ok(has_text) => {
+                self.has_written = self.has_written || has_text;
+                Ok(())
+            }
+            Err(error) => {
+                self.has_failed = true;
+                Err(error)
+            }
+        }
+    }
+
+    // Writes what is kept and the text of a call, and returns whether the call has any.
+    fn write_kept_and_call(&mut self, terminator: u8, event: &Event<'_>) -> io::Result<bool>
+        ensures written { MatchResult result
+            (λ has_text. (has_text ≡ is_text (bare_text terminator (event_call event.now)))
+            × Writes W.step self.old.writer (pending_bytes self.old.pending
+            ++ bare_text terminator (event_call event.now)) (Ok tt) self.new.writer)
+            (λ error. Writes W.step self.old.writer (pending_bytes self.old.pending
+            ++ bare_text terminator (event_call event.now)) (Err error) self.new.writer) }
+        ensures emptied { pending_bytes self.new.pending ≡ [] }
+        ensures format { self.new.format ≡ self.old.format }
+        ensures has_written { self.new.has_written ≡ self.old.has_written }
+        ensures has_failed { self.new.has_failed ≡ self.old.has_failed }
+    {
+        self.pending.write_to(&mut self.writer)?;
+        write_call(&mut self.writer, terminator, event)
     }
 
     // Ends the text at hand: it is kept, or it and those before it are written.
@@ -288,6 +349,33 @@ impl<'s, F: Format, M: FindAt, W: Output> PrinterSink<'s, F, M, W> {
         self.printer.parts.clear();
     }
 
+    // Has the parts of a call's report at hand that match, where they are asked for, and else none.
+    #[inline(always)]
+    fn prepare_parts<A: Allocator + Copy>(
+        &mut self,
+        searcher: &Searcher<A>,
+        event: &Event<'_>,
+    ) -> Result<(), SearchError>
+        requires shown { IsShownEvent event.now }
+        ensures same { IsPreparing self.old self.new }
+        ensures parts { OnOk result (HasFound F.rules (IsAround event.now) M.facts M.first_at
+            self.old searcher.now.settings self.old.format
+            (record { call = event_call event.now; around = event_surroundings event.now; parts = self.new.printer.now.parts.items })) }
+        ensures ordered { OnOk result (AreInOrder 0 (length (reported_bytes (event_call event.now)))
+            self.new.printer.now.parts.items) }
+        ensures error { IfErr result (λ e. ((has_match searcher.now.settings (event_call event.now)
+            && F.rules.asks self.old.format (event_call event.now)) ≡ true)
+            × (IsOutOfMemory e
+            ⊎ FailsAtParts (IsAround event.now) M.Error.output (M.facts self.old.matcher)
+            searcher.now.settings (event_call event.now) e)) }
+    {
+        if self.asks(searcher, event) {
+            return self.find_parts(searcher, event);
+        }
+        self.clear_parts(searcher, event);
+        Ok(())
+    }
+
     // Prints a call, and returns whether the search goes on. It is inlined, so that each method
     // knows which call it prints; where nothing can fail, no room for an error is copied.
     #[inline(always)]
@@ -304,13 +392,9 @@ impl<'s, F: Format, M: FindAt, W: Output> PrinterSink<'s, F, M, W> {
         ensures step { PrintsCall F.rules M.Error.output M.facts M.first_at W.step
             self.old searcher.now.settings (event_call event.now) result self.new }
     {
-        if self.asks(searcher, event) {
-            match self.find_parts(searcher, event) {
-                Ok(()) => {}
-                Err(error) => return Err(error),
-            }
-        } else {
-            self.clear_parts(searcher, event);
+        match self.prepare_parts(searcher, event) {
+            Ok(()) => {}
+            Err(error) => return Err(error),
         }
         let before = self.format;
         let printer = &mut *self.printer;
@@ -319,6 +403,13 @@ impl<'s, F: Format, M: FindAt, W: Output> PrinterSink<'s, F, M, W> {
         let goes_on = self.format.push(text, searcher, self.path, event, parts);
         if printer.pending.has_failed() {
             printer.pending.cancel();
+            if printer.parts.is_empty() && before.is_bare(searcher, self.path) {
+                let terminator = searcher.line_terminator().as_byte();
+                match printer.write_unkept(terminator, event) {
+                    Ok(()) => return Ok(goes_on),
+                    Err(error) => return Err(SearchError::Io(error)),
+                }
+            }
             self.format = before;
             return Err(SearchError::from(AllocError));
         }
@@ -362,8 +453,8 @@ impl<'s, F: Format, M: FindAt, W: Output> Sink for PrinterSink<'s, F, M, W> {
         self.print(searcher, &Event::Report(Report::of_match(found)))
     }
 
-    /// Keeps the texts of lines, if the format pushes them at once, and where less text is kept than
-    /// is written at once. It writes nothing.
+    /// Keeps the texts of lines, if the format pushes them at once, where there is memory for them
+    /// and less text is kept than is written at once. It writes nothing.
     fn matched_lines<A: Allocator + Copy>(
         &mut self,
         searcher: &Searcher<A>,
@@ -375,13 +466,14 @@ impl<'s, F: Format, M: FindAt, W: Output> Sink for PrinterSink<'s, F, M, W> {
         let before = self.format;
         let printer = &mut *self.printer;
         let text = &mut printer.pending;
+        let (len, has_failed) = (text.text_len(), text.has_failed());
         if !self.format.push_lines(text, searcher, self.path, lines) {
             return Ok(false);
         }
         if printer.pending.has_failed() {
-            printer.pending.cancel();
+            printer.pending.reopen(len, has_failed);
             self.format = before;
-            return Err(SearchError::from(AllocError));
+            return Ok(false);
         }
         printer.has_written = printer.has_written || printer.pending.text_len() > 0;
         Ok(true)

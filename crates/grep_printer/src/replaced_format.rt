@@ -132,6 +132,10 @@ impl<'t, F: Format, M: CapturesAt + Copy> Format for ReplacedFormat<'t, F, M> {
         self.format.has_match()
     }
 
+    fn is_bare<A: Allocator + Copy>(&self, _searcher: &Searcher<A>, _path: Option<&str>) -> bool {
+        false
+    }
+
     fn push<A: Allocator + Copy>(
         &mut self,
         text: &mut Pending,

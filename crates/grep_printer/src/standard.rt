@@ -181,6 +181,10 @@ impl<'c> Format for StandardFormat<'c> {
         self.progress.has_match
     }
 
+    fn is_bare<A: Allocator + Copy>(&self, searcher: &Searcher<A>, path: Option<&str>) -> bool {
+        self.config.is_bare(searcher, path)
+    }
+
     #[inline(always)]
     fn push<A: Allocator + Copy>(
         &mut self,

@@ -100,6 +100,10 @@ impl Format for SummaryFormat {
         self.config.kind.has_found(self.counts.match_count)
     }
 
+    fn is_bare<A: Allocator + Copy>(&self, _searcher: &Searcher<A>, _path: Option<&str>) -> bool {
+        false
+    }
+
     #[inline(always)]
     fn push<A: Allocator + Copy>(
         &mut self,

@@ -72,6 +72,10 @@ impl<'c> Format for VimgrepFormat<'c> {
         self.lines.has_match()
     }
 
+    fn is_bare<A: Allocator + Copy>(&self, _searcher: &Searcher<A>, _path: Option<&str>) -> bool {
+        false
+    }
+
     fn push<A: Allocator + Copy>(
         &mut self,
         text: &mut Pending,

@@ -1,3 +1,2 @@
 pub mod CapitalLemmas
 pub mod OperandLemmas
-pub mod PrintedSearchLemmas

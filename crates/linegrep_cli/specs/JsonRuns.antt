@@ -15,7 +15,7 @@ use Rattle.grep_printer.specs.declared.json_printer.JsonFormat.{JsonFormat}
 use Rattle.grep_printer.specs.declared.printer.Printer.{Printer}
 use Rattle.grep_printer.specs.declared.printer.PrinterSink.{PrinterSink}
 use Rattle.grep_printer.specs.declared.stats.Stats.{Stats}
-use Rattle.linegrep_cli.specs.PrintedSearches.{IsSearchPrinted, IsSinkFor}
+use Rattle.grep_printer.specs.PrintedSearches.{IsSearchPrinted, IsSinkFor}
 use Rattle.linegrep_cli.specs.declared.json_run.JsonRun.{JsonRun}
 use Rattle.linegrep_cli.specs.declared.printers.Searched.{Searched}
 

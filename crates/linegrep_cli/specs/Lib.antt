@@ -6,7 +6,6 @@ pub mod OperandRuns
 pub mod OptionMeanings
 pub mod OptionUses
 pub mod PatternOptions
-pub mod PrintedSearches
 pub mod PrinterOptions
 pub mod PrinterSearches
 pub mod PrintingEngines

@@ -11,17 +11,35 @@ use Rattle.grep_searcher.specs.Plans.{SearcherState}
 use Rattle.grep_searcher.specs.Source.{ReadResult}
 use Rattle.grep_searcher.specs.declared.SearchError.{SearchError}
 use Rattle.grep_searcher.specs.declared.SearchError.TheVariants.{Io}
+use Rattle.grep_printer.specs.Formats.{Rules}
+use Rattle.grep_printer.specs.PrintedSearches.{IsSearchPrinted, IsSinkFor}
 use Rattle.grep_printer.specs.ReplacedTexts.{replaced_rules}
 use Rattle.grep_printer.specs.StandardTexts.{standard_rules}
 use Rattle.grep_printer.specs.SummaryTexts.{summary_rules}
 use Rattle.grep_printer.specs.VimgrepTexts.{vimgrep_rules}
 use Rattle.grep_printer.specs.declared.printer.Printer.{Printer as Writer}
+use Rattle.grep_printer.specs.declared.printer.PrinterSink.{PrinterSink}
 use Rattle.linegrep_cli.specs.JsonRuns.{AreTotalsPut, IsJsonWritten}
-use Rattle.linegrep_cli.specs.PrintedSearches.{IsPrintedBy}
 use Rattle.linegrep_cli.specs.declared.printers.Printer.{Printer}
 use Rattle.linegrep_cli.specs.declared.printers.Printer.TheVariants.{Json, Lines, Parts, ReplacedLines}
 use Rattle.linegrep_cli.specs.declared.printers.Printer.TheVariants.{ReplacedParts, Summary}
 use Rattle.linegrep_cli.specs.declared.printers.Searched.{Searched}
+
+module _ {F M W E : Type 0} (rules : Rules F) (output : E → Option (List ℕ))
+    (facts : M → MatcherFacts E) (first_at : M → List ℕ → ℕ → Option (ℕ × ℕ))
+    (write_step : W → OutputCall → W → Type 0) {R : Type 0} (remaining : R → Option (List ℕ))
+    (read_step : R → ReadResult → R → Type 0) (state : SearcherState) where
+  -- a printer printed what a search of a source reports to its sink, and it is known whether that
+  -- found what it is for
+  pub record IsPrintedBy (matcher : M) (path : Option (Bor (List ℕ))) (reader : R)
+      (old : Writer F W) (searched : Searched) (reader' : R) (new : Writer F W) : Type 0 where
+    pub begun : PrinterSink F M W
+    pub ended : PrinterSink F M W
+    pub begins : IsSinkFor rules old matcher path begun
+    pub searches : IsSearchPrinted rules output facts first_at write_step remaining read_step state
+        reader begun searched.result reader' ended
+    pub has_match : searched.has_match ≡ rules.has_match ended.format
+    pub ends : ended.printer.now ≡ new
 
 module _ {M W E : Type 0} (output : E → Option (List ℕ)) (facts : M → MatcherFacts E)
     (first_at : M → List ℕ → ℕ → Option (ℕ × ℕ)) (groups_at : M → List ℕ → ℕ → List (Option (ℕ × ℕ)))

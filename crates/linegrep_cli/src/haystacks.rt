@@ -1,12 +1,9 @@
 //! What is searched.
 ghost use Rattle.std.specs.Prelude.{◌≡◌};
-ghost use Rattle.linegrep_cli.specs.PrintedSearches.{IsSearchPrinted};
 
 use grep_output::Output;
 use grep_printer::{Format, PrinterSink};
-use grep_searcher::laws::inputs_are_searched;
-use grep_searcher::{FindAt, SearchError, Searcher, Source};
-use std::alloc::Global;
+use grep_searcher::{FindAt, Source};
 use std::io;
 use std::io::Read;
 
@@ -38,23 +35,6 @@ impl<F: Read, R: Source> Source for Haystack<F, R> {
             None => self.reader.pull(buffer),
         }
     }
-}
-
-/// Searches what a source gives with the matcher of a printer's sink, to which it reports.
-pub fn search<F: Format, M: FindAt + Copy, H: Source, W: Output>(
-    searcher: &mut Searcher,
-    matcher: M,
-    haystack: &mut H,
-    sink: &mut PrinterSink<'_, F, M, W>,
-) -> Result<(), SearchError>
-    requires { sink.old.matcher ≡ matcher }
-    ensures settings { searcher.new.settings ≡ searcher.old.settings }
-    ensures printer { sink.new.printer.ghost_name ≡ sink.old.printer.ghost_name }
-    ensures printed { IsSearchPrinted F.rules M.Error.output M.facts M.first_at W.step H.remaining
-        H.step searcher.old haystack.old sink.old result haystack.new sink.new }
-{
-    inputs_are_searched::<Global, M, H, PrinterSink<'_, F, M, W>>(sink);
-    searcher.search_reader(matcher, haystack, sink)
 }
 
 /// Ends a sink, and says whether its search found what it is for.

@@ -3,10 +3,10 @@ ghost use Rattle.std.specs.Prelude.{◌≡◌, ℕ};
 ghost use Rattle.linegrep_cli.specs.JsonRuns.{AreCounted, AreTotalsPut, IsEndPut, IsJsonWritten};
 ghost use Rattle.linegrep_cli.specs.PrinterSearches.{IsWriterFlushed};
 
-use crate::haystacks::{end, search};
+use crate::haystacks::end;
 use crate::printers::Searched;
 use grep_output::Output;
-use grep_printer::{Json, JsonSink, Stats};
+use grep_printer::{Json, JsonSink, Stats, search};
 use grep_searcher::{FindAt, SearchError, Searcher, Source};
 use std::io;
 use std::time::{Duration, Instant};

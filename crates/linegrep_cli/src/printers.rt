@@ -1,14 +1,14 @@
 //! What writes what is found.
 ghost use Rattle.std.specs.Prelude.{◌≡◌};
 ghost use Rattle.linegrep_cli.specs.EngineSteps.{has_failed, writer_of};
-ghost use Rattle.linegrep_cli.specs.PrintedSearches.{IsPrintedBy};
+ghost use Rattle.linegrep_cli.specs.PrinterSearches.{IsPrintedBy};
 ghost use Rattle.linegrep_cli.specs.PrinterSearches.{HasTotals, IsFinished, IsFlushed, IsSearchWritten};
 
-use crate::haystacks::{end, search};
+use crate::haystacks::end;
 use crate::json_run::JsonRun;
 use grep_output::Output;
 use grep_printer::{
-    Format, ReplacedFormat, Standard, StandardFormat, Summary, Vimgrep, VimgrepFormat,
+    Format, ReplacedFormat, Standard, StandardFormat, Summary, Vimgrep, VimgrepFormat, search,
 };
 use grep_replace::CapturesAt;
 use grep_searcher::{FindAt, SearchError, Searcher, Source};

@@ -3,11 +3,11 @@ use Rattle.grep_printer.proofs.fields.push_counted.Goals as goal
 
 pub returns : goal.returns
 returns c = (
-  c.push-2.ensures.adds.0 ∙ (c.push_number.ensures.0 ∙ c.push.ensures.adds.0),
+  c.push-2.ensures.0 ∙ (c.push_number.ensures.0 ∙ c.push.ensures.0),
   λ made.
-      let third = c.push-2.ensures.adds.1 made in
+      let third = c.push-2.ensures.1 made in
       let second = c.push_number.ensures.1 third.0 in
-      let first = c.push.ensures.adds.1 second.0 in
+      let first = c.push.ensures.1 second.0 in
       let old : List ℕ = c.args.text.now.text in
       let start : List ℕ = c.args.before.now in
       let digits : List ℕ = decimal c.args.count in

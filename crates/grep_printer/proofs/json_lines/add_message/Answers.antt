@@ -25,9 +25,9 @@ returns c =
     let back = c.put_back.ensures.text
     ∙ (ap (λ n. drop n c.into_inner.result.items) start
     ∙ (ap (drop (length before)) all ∙ drop-append_seam before (text ++ printed))) in (
-      c.push.ensures.adds.0 ∙ front,
+      c.push.ensures.0 ∙ front,
       λ made.
-          let last = c.push.ensures.adds.1 made in
+          let last = c.push.ensures.1 made in
           let message = c.push_message.ensures.1 (sym c.put_back.ensures.has_failed ∙ last.0) in (
             sym c.has_failed.ensures ∙ message.0,
             last.1 ∙ (ap (λ (t : List ℕ). t ++ 10 ∷ []) back

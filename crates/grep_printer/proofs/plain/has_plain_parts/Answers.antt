@@ -1,4 +1,4 @@
-use Rattle.std.proofs.Common.{◌≡◌, ◌<◌, length, rules, sym, ◌∙◌}
+use Rattle.std.proofs.Common.{length, rules}
 use Rattle.grep_searcher.specs.Lines.{strip}
 use Rattle.grep_printer.proofs.PlainLineLemmas.{ordered-by}
 use Rattle.grep_printer.proofs.plain.has_plain_parts.Goals as goal

@@ -1,4 +1,4 @@
-use Rattle.std.proofs.Common.{◌≡◌, ◌∙◌, ap, subst}
+use Rattle.std.proofs.Common.{◌≡◌, ◌∙◌, ◌||◌, ap, not, subst}
 use Rattle.grep_output.specs.PendingTexts.{Adds}
 use Rattle.grep_printer.proofs.ReplacedCallLemmas.{replaced-is}
 use Rattle.grep_printer.specs.Formats.{Scene}
@@ -31,7 +31,7 @@ returns-clause-next g c ok =
     (c.deref-3.ensures.value ∙ c.in-Ok.ensures.parts) in
     ap (λ f. record { format = f; matcher = c.args.self.now.matcher; template = c.args.self.now.template })
     (subst (λ printed. c.push.new.self ≡ g.F.Format.rules.next c.args.self.now.format scene printed) made
-    (c.push.ensures.next ok))
+    (c.push.ensures.next (ap (λ b. not b || g.F.Format.rules.is_bare c.args.self.now.format scene) ok)))
 
 pub returns-clause-goes_on : goal.returns-clause-goes_on
 returns-clause-goes_on g c ok =
@@ -45,4 +45,4 @@ returns-clause-goes_on g c ok =
     c.with_bytes.ensures.surroundings (c.deref-2.ensures.value ∙ c.in-Ok.ensures.bytes)
     (c.deref-3.ensures.value ∙ c.in-Ok.ensures.parts) in
     subst (λ printed. c.push.result ≡ g.F.Format.rules.goes_on c.args.self.now.format scene printed) made
-    (c.push.ensures.goes_on ok)
+    (c.push.ensures.goes_on (ap (λ b. not b || g.F.Format.rules.is_bare c.args.self.now.format scene) ok))

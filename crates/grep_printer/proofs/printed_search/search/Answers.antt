@@ -1,5 +1,5 @@
-use Rattle.linegrep_cli.proofs.PrintedSearchLemmas.{search-printed, search-same}
-use Rattle.linegrep_cli.proofs.haystacks.search.Goals as goal
+use Rattle.grep_printer.proofs.PrintedSearchLemmas.{search-printed, search-same}
+use Rattle.grep_printer.proofs.printed_search.search.Goals as goal
 
 pub returns-clause-printer : goal.returns-clause-printer
 returns-clause-printer g c =

@@ -18,8 +18,8 @@ use Rattle.grep_searcher.specs.Source.{ReadResult}
 use Rattle.grep_searcher.specs.declared.ConfigError.{ConfigError}
 use Rattle.grep_searcher.specs.declared.SearchError.{SearchError}
 use Rattle.grep_searcher.specs.declared.SearchError.TheVariants.{Io}
-use Rattle.linegrep_cli.specs.PrintedSearches.{IsInputPrinted, IsSearchPrinted, IsSourcePrinted, PrintsFirst}
-use Rattle.linegrep_cli.specs.PrintedSearches.{PrintsPlan, of_input, of_matcher, of_plan, of_reading, search_errors}
+use Rattle.grep_printer.specs.PrintedSearches.{IsInputPrinted, IsSearchPrinted, IsSourcePrinted, PrintsFirst}
+use Rattle.grep_printer.specs.PrintedSearches.{PrintsPlan, of_input, of_matcher, of_plan, of_reading, search_errors}
 
 module _ {F M W E : Type 0} (rules : Rules F) (output : E → Option (List ℕ)) (facts : M → MatcherFacts E)
     (first_at : M → List ℕ → ℕ → Option (ℕ × ℕ)) (write_step : W → OutputCall → W → Type 0) where

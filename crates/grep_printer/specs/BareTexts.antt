@@ -1,0 +1,33 @@
+-- The text of calls of which lines alone are written, each as it is after its number.
+use Rattle.std.specs.Prelude.{ℕ, Bool, false, true, not, ◌&&◌, List, [], ◌∷◌}
+use Rattle.std.specs.Option.{is_none}
+use Rattle.grep_searcher.specs.BinaryDetections.{convert_byte_of, quit_byte_of}
+use Rattle.grep_searcher.specs.Lines.{lines}
+use Rattle.grep_searcher.specs.Plans.{Call, breaks, context, matches}
+use Rattle.grep_printer.specs.Formats.{Scene}
+use Rattle.grep_printer.specs.LineTexts.{is_plain, plain_line, plain_lines}
+use Rattle.grep_printer.specs.declared.config.Config.{Config}
+use Rattle.grep_printer.specs.declared.config.SearchSeparator.{SearchSeparator}
+use Rattle.grep_printer.specs.declared.config.SearchSeparator.TheVariants.{Blank, Groups, Nothing}
+
+-- whether nothing is written between two searches
+abbrev pub is_nothing : SearchSeparator → Bool
+is_nothing Nothing = true
+is_nothing Blank = false
+is_nothing Groups = false
+
+-- whether nothing is written but lines as they are, each after its number alone, and what is
+-- between their groups: no path, no parts, nothing between searches, and nothing of binary bytes
+abbrev pub is_bare : Config → Scene → Bool
+is_bare config scene =
+    is_plain config scene.path && is_none scene.path && not config.only_matching
+    && is_nothing config.separator && is_none (convert_byte_of scene.settings.binary_detection)
+    && is_none (quit_byte_of scene.settings.binary_detection)
+
+-- the text of a call then
+abbrev pub bare_text : ℕ → Call → List ℕ
+bare_text terminator (matches number offset bytes) =
+    plain_lines terminator 58 number (lines terminator bytes)
+bare_text terminator (context kind number offset line) = plain_line terminator 45 number line
+bare_text terminator breaks = 45 ∷ 45 ∷ terminator ∷ []
+bare_text terminator call = []
