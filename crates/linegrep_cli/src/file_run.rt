@@ -309,7 +309,7 @@ impl<'r, S: System> Run<'r, S> {
             (S.identifies self.now.system.now) E.step E.has_failed self.now.scope engine.old total
             engine.new × EndsAs total result }
     {
-        let mut walk = Walk::new(self.rt, self.scope.route, folder);
+        let mut walk = Walk::new(self.rt, self.system, self.scope.route, folder);
         let mut total = Visit::none();
         for _ in 0..u64::MAX {
             match walk.pop() {
@@ -331,7 +331,7 @@ impl<'r, S: System> Run<'r, S> {
         &self,
         engine: &mut E,
         choices: &mut Choices<'r>,
-        walk: &mut Walk<'r>,
+        walk: &mut Walk<'r, S>,
         entry: &Entry,
     ) -> Visit
         ensures { IsEntryVisited (S.opens self.now.system.now) (S.identifies self.now.system.now)

@@ -4,13 +4,13 @@ ghost use Rattle.std.specs.declared.io.Error.{Error};
 ghost use Rattle.linegrep_files.specs.declared.file_id.FileId.{FileId};
 
 use grep_searcher::Open;
-use linegrep_files::FileId;
+use linegrep_files::{FileId, Folders};
 use std::fs::OpenFile;
 use std::rt::Files;
 use std::{fs, io};
 
 /// What opens files by their paths, and knows folders and files. It is given by what it may return.
-pub trait System: Open {
+pub trait System: Open + Folders {
     /// What looking for a folder at a path may return.
     ghost finds: { Self → List ℕ → Result Bool Error → Type 0 };
 

@@ -1,5 +1,8 @@
 pub mod ChoiceLemmas
 pub mod GlobRuleLemmas
+pub mod FoundLemmas
+pub mod PartLemmas
 pub mod PieceLemmas
 pub mod SuffixLemmas
 pub mod TypeLemmas
+pub mod WalkLemmas

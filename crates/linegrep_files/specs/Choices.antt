@@ -69,6 +69,13 @@ pub record SaysTheSame (old new : Choices) : Type 0 where
   pub shows_hidden : new.shows_hidden ≡ old.shows_hidden
   pub ignores : IgnoresTheSame old.ignores new.ignores
 
+-- in a folder choices say the same as outside of it, but for what its ignore files say
+pub record IsWithin (old new : Choices) : Type 0 where
+  pub globs : new.globs ≡ old.globs
+  pub types : new.types ≡ old.types
+  pub limits : new.limits ≡ old.limits
+  pub shows_hidden : new.shows_hidden ≡ old.shows_hidden
+
 -- what options say of files may be refused: one of the globs has brackets, braces or backslashes, types
 -- are named or defined, or a size is given
 abbrev pub may_be_refused : FileOptions → Bool

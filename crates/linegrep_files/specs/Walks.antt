@@ -1,51 +1,118 @@
--- What a walk through folders finds of a name in a folder.
-use Rattle.std.specs.Prelude.{◌≡◌, ◌⊎◌, ℕ, Bool, true, false, not, ◌&&◌, if◌then◌else◌}
-use Rattle.std.specs.Prelude.{List, [], ◌∷◌, ◌++◌, MatchBool, MatchOption, Option, string_bytes}
-use Rattle.grep_ignore.specs.Classes.{is_empty}
-use Rattle.grep_ignore.specs.Lines.{ends_with}
-use Rattle.linegrep_files.specs.Choices.{IsChosen}
-use Rattle.linegrep_files.specs.Orders.{is_by_time}
+-- What a walk through folders finds, in which order.
+use Rattle.std.specs.Prelude.{◌≡◌, ℕ, Bool, true, false, not, ◌++◌, ◌∷◌, [], List, map, filter}
+use Rattle.std.specs.Prelude.{None, Option, Some, Result, Ok, Err, String, Vec, string_bytes}
+use Rattle.std.specs.Borrow.{Bor}
+use Rattle.std.specs.Global.{Global}
+use Rattle.std.specs.List.Sorted.{IsPermutation, IsSortedBy}
+use Rattle.std.specs.Ordering.{is_lt}
+use Rattle.std.specs.declared.io.Error.{Error}
+use Rattle.linegrep_files.specs.Choices.{IsWithin, SaysTheSame}
+use Rattle.linegrep_files.specs.Folders.{AreFound, IsRoot, depth_of, listed_path, name_of, names_of}
+use Rattle.linegrep_files.specs.Folders.{path_of}
+use Rattle.linegrep_files.specs.Limits.{allows_depth}
+use Rattle.linegrep_files.specs.Orders.{is_by_time, order_of}
 use Rattle.linegrep_files.specs.declared.choices.Choices.{Choices}
-use Rattle.linegrep_files.specs.declared.walk.Entry.{Entry}
-use Rattle.linegrep_files.specs.declared.walk.Entry.TheVariants.{File, Folder, Unread}
+use Rattle.linegrep_files.specs.declared.entry.Entry.{Entry}
+use Rattle.linegrep_files.specs.declared.entry.Entry.TheVariants.{File, Folder, Unread}
+use Rattle.linegrep_files.specs.declared.folders.Found.{Found}
+use Rattle.linegrep_files.specs.declared.order.Dated.{Dated}
+use Rattle.linegrep_files.specs.declared.order.Order.{Order}
+use Rattle.linegrep_files.specs.declared.walk.Route.{Route}
 use Rattle.linegrep_files.specs.declared.walk.Walk.{Walk}
 
--- a slash is between the path of a folder and a name
-abbrev pub needs_slash : List ℕ → Bool
-needs_slash folder = not (is_empty folder) && not (ends_with 47 folder)
+-- what is found waits until all is found, if it is a file that is sorted by a time
+abbrev pub waits : Order → Entry → Bool
+waits order (File path) = is_by_time order
+waits order _ = false
 
--- the path of a name in a folder
-abbrev pub joined : List ℕ → List ℕ → List ℕ
-joined folder name = if needs_slash folder then folder ++ 47 ∷ name else folder ++ name
+-- one of what is found in a folder is visited before another
+abbrev pub comes_before : Order → Entry → Entry → Bool
+comes_before order one other = is_lt (order_of order (path_of one) (path_of other))
 
--- the path of what is found, and whether it is a folder
-abbrev pub path_of : Entry → List ℕ
-path_of (File path) = string_bytes path
-path_of (Folder path) = string_bytes path
-path_of (Unread path error) = string_bytes path
+-- a walk asks a system, by a route, from a folder on with a name for the system; nothing is to be visited
+pub record IsWith {S : Type 0} (system : Bor S) (route : Route) (top : String Global) (root : ℕ)
+    (walk : Walk S) : Type 0 where
+  pub system_is : walk.finder.system ≡ system
+  pub links : walk.finder.follows_links ≡ route.follows_links
+  pub order : walk.order ≡ route.order
+  pub top_is : walk.finder.top ≡ top
+  pub root_is : walk.finder.root ≡ root
+  pub pending : walk.pending.items ≡ []
+  pub dated : walk.dated.items ≡ []
 
-abbrev pub is_folder : Entry → Bool
-is_folder (File path) = false
-is_folder (Folder path) = true
-is_folder (Unread path error) = false
+-- a walk begins: its folder is to be visited
+pub record IsBegun {S : Type 0} (system : Bor S) (route : Route) (folder : List ℕ) (walk : Walk S) : Type 0
+  where
+    pub path : String Global
+    pub is : string_bytes path ≡ folder
+    pub system_is : walk.finder.system ≡ system
+    pub links : walk.finder.follows_links ≡ route.follows_links
+    pub order : walk.order ≡ route.order
+    pub top : string_bytes walk.finder.top ≡ name_of folder
+    pub root : IsRoot folder walk.finder.root
+    pub pending : walk.pending.items ≡ Folder path ∷ []
+    pub dated : walk.dated.items ≡ []
 
--- it is to be visited next, unless there is no memory
-abbrev pub IsPushed : Walk → Entry → Walk → Type 0
-IsPushed old entry new = (new.is_out_of_memory ≡ true)
-    ⊎ (new.pending.items ≡ old.pending.items ++ entry ∷ [])
+-- what was found is to be visited next, by the order of paths, with what is visited first last; and the
+-- files that are sorted by a time once nothing else is
+pub record AreAdded {S : Type 0} (old : Walk S) (found : List Entry) (new : Walk S) : Type 0 where
+  pub next : List Entry
+  pub same : IsPermutation (filter (λ entry. not (waits old.order entry)) found) next
+  pub sorted : IsSortedBy (λ one other. comes_before old.order other one) next
+  pub pending : new.pending.items ≡ old.pending.items ++ next
+  pub later : map (λ file. string_bytes file.path) new.dated.items
+      ≡ map (λ file. string_bytes file.path) old.dated.items
+      ++ map path_of (filter (waits old.order) found)
 
--- If something is found that a name stands for, it is to be visited exactly if it is chosen, at its path;
--- otherwise nothing is. What the system has there, and whether that is within limits, isn't said, nor
--- anything where files are sorted by a time.
-abbrev pub IsNameVisited : Walk → Choices → List ℕ → List ℕ → Walk → Type 0
-IsNameVisited old choices folder name new = is_by_time old.route.order ≡ false
-    → (found : Option Entry) × MatchOption found (new.pending.items ≡ old.pending.items)
-    (λ entry. (path_of entry ≡ joined folder name)
-    × ((chosen : Bool) × IsChosen choices (joined folder name) name (is_folder entry) chosen
-    × MatchBool chosen (IsPushed old entry new) (new.pending.items ≡ old.pending.items)))
+-- a walk goes on with what it asks, and with what waits to be visited
+pub record GoesOn {S : Type 0} (old new : Walk S) : Type 0 where
+  pub finder : new.finder ≡ old.finder
+  pub order : new.order ≡ old.order
 
--- what is to be visited next is the last that was added; without one the files follow that are sorted by
--- a time
-abbrev pub IsPopped : Walk → Walk → Entry → Type 0
-IsPopped old new entry = (old.pending.items ≡ new.pending.items ++ entry ∷ [])
-    ⊎ ((old.pending.items ≡ []) × (new.pending.items ≡ []) × (is_folder entry ≡ false))
+-- what is chosen of the names in a folder is added, by what its ignore files say too
+pub record AreNamesAdded {S : Type 0} (looks : S → Bool → List ℕ → Result Found Error → Type 0)
+    (old : Walk S) (choices : Choices) (folder names : List ℕ) (new : Walk S) (inside : Choices) : Type 0
+  where
+    pub within : Choices
+    pub found : List Entry
+    pub are_within : IsWithin choices within
+    pub are_found : AreFound (looks old.finder.system.now) old.finder.follows_links
+        (string_bytes old.finder.top) within.limits within folder (names_of names) found
+    pub are_added : AreAdded old found new
+    pub same : SaysTheSame within inside
+
+-- By what listing folders and looking at paths may return.
+module _ {S : Type 0} (lists : S → List ℕ → Result (Vec ℕ Global) Error → Type 0)
+    (looks : S → Bool → List ℕ → Result Found Error → Type 0) where
+  -- what is in a folder is added to what is to be visited, unless the folder is too deep; or that it
+  -- can't be read. `inside` is what is chosen there
+  pub data IsEntered (old : Walk S) (choices : Choices) (folder : List ℕ) (new : Walk S)
+      (inside : Choices) : Type 0 where
+    of_deep : allows_depth choices.limits (depth_of old.finder.root folder) ≡ false
+        → new.pending ≡ old.pending → new.dated ≡ old.dated → inside ≡ choices
+        → IsEntered old choices folder new inside
+    of_unread : (path : String Global) (error : Error)
+        → allows_depth choices.limits (depth_of old.finder.root folder) ≡ true
+        → lists old.finder.system.now (listed_path folder) (Err error)
+        → string_bytes path ≡ name_of folder
+        → new.pending.items ≡ old.pending.items ++ Unread path error ∷ []
+        → new.dated ≡ old.dated → inside ≡ choices
+        → IsEntered old choices folder new inside
+    of_names : (names : Vec ℕ Global)
+        → allows_depth choices.limits (depth_of old.finder.root folder) ≡ true
+        → lists old.finder.system.now (listed_path folder) (Ok names)
+        → AreNamesAdded looks old choices folder names.items new inside
+        → IsEntered old choices folder new inside
+
+-- what is visited next is the last that was added; without one it is one of the files that are sorted by a
+-- time, each of which is visited once
+pub data IsPopped {S : Type 0} (old : Walk S) : Option Entry → Walk S → Type 0 where
+  of_pending : {new : Walk S} (entry : Entry) → old.is_out_of_memory ≡ false
+      → old.pending.items ≡ new.pending.items ++ entry ∷ [] → new.dated ≡ old.dated → GoesOn old new
+      → IsPopped old (Some entry) new
+  of_dated : {new : Walk S} (file : Dated) → old.is_out_of_memory ≡ false → old.pending.items ≡ []
+      → IsPermutation old.dated.items (new.dated.items ++ file ∷ []) → new.pending.items ≡ []
+      → GoesOn old new → IsPopped old (Some (File file.path)) new
+  of_end : {new : Walk S} → old.is_out_of_memory ≡ false → old.pending.items ≡ []
+      → old.dated.items ≡ [] → IsPopped old None new
+  of_memory : {new : Walk S} → old.is_out_of_memory ≡ true → IsPopped old None new

@@ -1,7 +1,7 @@
 //! Which of the files and folders of a folder are visited.
 ghost use Rattle.std.specs.Prelude.{◌≡◌, false, true, IfErr, IfOk};
-ghost use Rattle.linegrep_files.specs.Choices.{AreChoices, IsChosen, IsUnmatchedChosen, SaysTheSame};
-ghost use Rattle.linegrep_files.specs.Choices.{is_shown, may_be_refused};
+ghost use Rattle.linegrep_files.specs.Choices.{AreChoices, IsChosen, IsUnmatchedChosen, IsWithin};
+ghost use Rattle.linegrep_files.specs.Choices.{SaysTheSame, is_shown, may_be_refused};
 ghost use Rattle.linegrep_files.specs.Failures.{has_cause};
 
 use crate::class::begins_with;
@@ -60,7 +60,9 @@ impl<'r> Choices<'r> {
     }
 
     /// Goes on in a folder with some names, which is at a path below the folder that is searched.
-    pub fn enter(&mut self, folder: &str, below: &str, names: &[u8]) -> Result<(), AllocError> {
+    pub fn enter(&mut self, folder: &str, below: &str, names: &[u8]) -> Result<(), AllocError>
+        ensures { IsWithin self.old self.new }
+    {
         self.ignores.enter(folder, below, names)
     }
 

@@ -7,9 +7,12 @@
 mod braces;
 mod choices;
 mod class;
+mod entry;
 mod failures;
 mod file_id;
 mod file_options;
+mod finder;
+mod folders;
 mod git_settings;
 mod glob;
 mod globs;
@@ -22,11 +25,13 @@ mod walk;
 mod words;
 
 pub use choices::Choices;
+pub use entry::Entry;
 pub use failures::Failure;
 pub use file_id::FileId;
 pub use file_options::{FileOptions, TypeOptions, Values};
+pub use folders::{Folders, Found, Kind};
 pub use ignores::Sources;
 pub use order::{Order, SortKey};
 pub use types::type_list;
-pub use walk::{Entry, Route, Walk};
+pub use walk::{Route, Walk};
 pub use words::{NOT_UTF8, escape, shown};

@@ -3,11 +3,8 @@ ghost use Rattle.std.specs.Prelude.{◌≡◌, true, IfOk, OnErr, is_some};
 ghost use Rattle.linegrep_files.specs.Limits.{AreLimits, allows_depth, allows_size};
 
 use crate::failures::Failure;
-use crate::file_id::FileId;
 use crate::file_options::FileOptions;
 use std::alloc::Global;
-use std::fs;
-use std::fs::Metadata;
 
 const NO_SIZE: &str = "a size is a number of bytes, or one with K, M or G after it";
 
@@ -50,12 +47,8 @@ impl Limits {
         }
     }
 
-    /// Whether a file isn't too large.
-    pub fn allows_file(&self, file: &Metadata) -> bool {
-        self.allows_size(file.len())
-    }
-
-    fn allows_size(&self, size: u64) -> bool
+    /// Whether a file of a size isn't too large.
+    pub fn allows_size(&self, size: u64) -> bool
         ensures { result ≡ allows_size self.now size }
     {
         match self.max_size {
@@ -64,15 +57,11 @@ impl Limits {
         }
     }
 
-    /// Whether a folder is on the file system of another, which is at a path, or may be elsewhere.
-    pub fn allows_folder(&self, rt: &HostRuntime, folder: &Metadata, root: &str) -> bool {
-        if !self.is_one_system {
-            return true;
-        }
-        match fs::metadata(rt, root) {
-            Ok(root) => FileId::of_any(folder).is_beside(FileId::of_any(&root)),
-            Err(_) => true,
-        }
+    /// Whether folders of other file systems are left out.
+    pub fn is_one_system(&self) -> bool
+        ensures { result ≡ self.now.is_one_system }
+    {
+        self.is_one_system
     }
 }
 

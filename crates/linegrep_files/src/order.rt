@@ -109,7 +109,9 @@ impl Order {
     }
 
     /// The file at a path with the time that it is sorted by, which was found after some others.
-    pub fn date(&self, rt: &HostRuntime, path: String, place: usize) -> Dated {
+    pub fn date(&self, rt: &HostRuntime, path: String, place: usize) -> Dated
+        ensures { result.path ≡ path }
+    {
         let time = self.time(rt, path.as_str()).ok();
         Dated { path, time, place }
     }

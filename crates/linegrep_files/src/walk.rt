@@ -1,37 +1,21 @@
 //! The files of a folder and of the folders in it.
-ghost use Rattle.std.specs.Prelude.{◌≡◌, [], false, IfOk, IfSome, OnOk, string_bytes};
-ghost use Rattle.linegrep_files.specs.Choices.{IsChosen};
+ghost use Rattle.std.specs.Prelude.{◌≡◌, ◌++◌, ◌∷◌, [], false, true, OnOk, not, filter, map};
+ghost use Rattle.std.specs.Prelude.{IfOk, IfSome, String, string_bytes};
+ghost use Rattle.std.specs.Global.{Global};
+ghost use Rattle.std.specs.List.Sorted.{IsPermutation, IsSortedBy};
+ghost use Rattle.linegrep_files.specs.Folders.{is_folder, path_of};
 ghost use Rattle.linegrep_files.specs.Orders.{is_by_time};
-ghost use Rattle.linegrep_files.specs.Walks.{IsNameVisited, IsPopped, IsPushed, is_folder, joined};
-ghost use Rattle.linegrep_files.specs.Walks.{needs_slash, path_of};
+ghost use Rattle.linegrep_files.specs.Walks.{AreAdded, AreNamesAdded, GoesOn, IsBegun, IsEntered};
+ghost use Rattle.linegrep_files.specs.Walks.{IsPopped, IsWith, comes_before, waits};
+ghost use Rattle.linegrep_files.specs.declared.entry.Entry.TheVariants.{Folder, Unread};
 
 use crate::choices::Choices;
-use crate::class::is_empty;
-use crate::file_id::FileId;
-use crate::limits::Limits;
+use crate::entry::Entry;
+use crate::finder::{Finder, listed_path, name_of, root_of};
+use crate::folders::Folders;
 use crate::order::{Dated, Order};
-use crate::words::{NOT_UTF8, escape};
 use std::alloc::AllocError;
-use std::fs::Metadata;
-use std::io::Read;
-use std::rt::Files;
-use std::{fs, io, str};
-
-// For how many bytes of names there is room when a folder is read.
-const ROOM: usize = 8192;
-
-const IS_LOOP: &str = "it is a link to a folder that it is in";
-
-/// What is found in folders.
-#[derive(Drop)]
-pub enum Entry {
-    /// A file, by its path.
-    File(String),
-    /// A folder, by its path.
-    Folder(String),
-    /// What can't be read: a path, as a word of `words`, and why.
-    Unread(String, io::Error),
-}
+use std::io;
 
 /// How a walk goes through folders.
 #[derive(Clone, Copy)]
@@ -45,11 +29,10 @@ pub struct Route {
 /// A walk through a folder and the folders in it, which finds the regular files that are chosen. It
 /// ends early if it is out of memory.
 #[derive(Drop)]
-pub struct Walk<'r> {
+pub struct Walk<'r, S> {
     rt: &'r HostRuntime,
-    route: Route,
-    // How many bytes the path of its folder has, without a slash at the end.
-    root: usize,
+    finder: Finder<'r, S>,
+    order: Order,
     // What is still to be visited, the next last.
     pending: Vec<Entry>,
     // The files that were found, if they are sorted by a time: those to be visited once nothing else
@@ -59,347 +42,239 @@ pub struct Walk<'r> {
     is_out_of_memory: bool,
 }
 
-impl<'r> Walk<'r> {
-    /// A walk through the folder at a path, or through the current one if the path is empty.
-    pub fn new(rt: &'r HostRuntime, route: Route, folder: &str) -> Walk<'r> {
-        let mut walk = Walk {
+impl<'r, S: Folders> Walk<'r, S> {
+    /// A walk through the folder at a path, or through the current one if the path is empty, as a
+    /// system has it.
+    pub fn new(rt: &'r HostRuntime, system: &'r S, route: Route, folder: &str) -> Walk<'r, S>
+        ensures { result.is_out_of_memory ≡ false → IsBegun system.entry route folder.now result }
+    {
+        match String::from_str(rt.alloc(), name_of(folder)) {
+            Ok(top) => {
+                let mut walk = Walk::with(rt, system, route, top, root_of(folder.as_bytes()));
+                match walk.begin(folder) {
+                    Ok(()) => {}
+                    Err(_) => walk.is_out_of_memory = true,
+                }
+                walk
+            }
+            Err(_) => {
+                let mut walk = Walk::with(rt, system, route, String::new(rt.alloc()), 0);
+                walk.is_out_of_memory = true;
+                walk
+            }
+        }
+    }
+
+    // A walk for which nothing is to be visited yet, below a folder with a name for the system.
+    fn with(
+        rt: &'r HostRuntime,
+        system: &'r S,
+        route: Route,
+        top: String,
+        root: usize,
+    ) -> Walk<'r, S>
+        ensures { IsWith system.entry route top root result }
+    {
+        Walk {
             rt,
-            route,
-            root: folder.trim_end_matches('/').len(),
+            finder: Finder::new(rt.alloc(), system, route.follows_links, top, root),
+            order: route.order,
             pending: Vec::new(rt.alloc()),
             dated: Vec::new(rt.alloc()),
             is_sorted: false,
             is_out_of_memory: false,
-        };
-        match String::from_str(rt.alloc(), folder) {
-            Ok(path) => walk.push(Entry::Folder(path)),
-            Err(_) => walk.is_out_of_memory = true,
         }
-        walk
+    }
+
+    // Adds the folder that the walk begins with.
+    fn begin(&mut self, folder: &str) -> Result<(), AllocError>
+        ensures pending { OnOk result ((path : String Global) × (string_bytes path ≡ folder.now)
+            × (self.new.pending.items ≡ self.old.pending.items ++ Folder path ∷ [])) }
+        ensures dated { self.new.dated ≡ self.old.dated }
+        ensures on { GoesOn self.old self.new }
+    {
+        let path = String::from_str(self.rt.alloc(), folder)?;
+        Ok(self.pending.push(Entry::Folder(path))?)
     }
 
     /// The next to be visited, or `None` at the end.
     pub fn pop(&mut self) -> Option<Entry>
-        ensures { IfSome result (IsPopped self.old self.new) }
+        ensures { IsPopped self.old result self.new }
     {
         if self.is_out_of_memory {
             return None;
         }
+        if self.pending.is_empty() {
+            return self.pop_dated();
+        }
         match self.pending.pop() {
             Some(entry) => Some(entry),
-            None => self.pop_dated(),
+            None => None,
         }
     }
 
     // The next of the files that are sorted by a time.
     fn pop_dated(&mut self) -> Option<Entry>
-        ensures file { IfSome result (λ entry. is_folder entry ≡ false) }
-        ensures pending { self.new.pending.items ≡ self.old.pending.items }
+        requires memory { self.old.is_out_of_memory ≡ false }
+        requires pending { self.old.pending.items ≡ [] }
+        ensures { IsPopped self.old result self.new }
     {
-        if !self.is_sorted {
-            let order = self.route.order;
-            self.dated
-                .sort_unstable_by(|a, b| order.compare_times(b, a));
-            self.is_sorted = true;
-        }
+        self.sort_dated();
         match self.dated.pop() {
             Some(file) => Some(Entry::File(file.path)),
             None => None,
         }
     }
 
+    // Puts those of the files first that are visited last.
+    fn sort_dated(&mut self)
+        ensures dated { IsPermutation self.old.dated.items self.new.dated.items }
+        ensures same { self.new.pending ≡ self.old.pending }
+        ensures memory { self.new.is_out_of_memory ≡ self.old.is_out_of_memory }
+        ensures on { GoesOn self.old self.new }
+    {
+        if self.is_sorted {
+            return;
+        }
+        let order = self.order;
+        self.dated
+            .sort_unstable_by(|a, b| order.compare_times(b, a));
+        self.is_sorted = true;
+    }
+
     /// Whether it ended early.
-    pub fn is_out_of_memory(&self) -> bool {
+    pub fn is_out_of_memory(&self) -> bool
+        ensures { result ≡ self.now.is_out_of_memory }
+    {
         self.is_out_of_memory
     }
 
     /// Adds what a folder holds and is chosen, or that the folder can't be read. Nothing is added of a
     /// folder that is too deep.
-    pub fn enter(&mut self, choices: &mut Choices<'_>, folder: &str) {
-        if !choices.limits().allows_depth(self.depth(folder)) {
-            return;
-        }
-        let start = self.pending.len();
-        match self.read_folder(choices, folder) {
+    pub fn enter(&mut self, choices: &mut Choices<'_>, folder: &str)
+        ensures entered { self.new.is_out_of_memory ≡ false
+            → IsEntered S.lists S.looks self.old choices.old folder.now self.new choices.new }
+        ensures on { GoesOn self.old self.new }
+    {
+        match self.try_enter(choices, folder) {
             Ok(()) => {}
-            Err(error) if error.kind() == io::ErrorKind::OutOfMemory => {
-                self.is_out_of_memory = true;
-            }
-            Err(error) => self.push_unread(name_of(folder), error),
-        }
-        self.sort_from(start);
-    }
-
-    // Adds what a folder holds and is chosen.
-    fn read_folder(&mut self, choices: &mut Choices<'_>, folder: &str) -> io::Result<()> {
-        let names = self.names(folder)?;
-        choices.enter(folder, self.below(folder), names.as_slice())?;
-        for name in names.split(|byte| *byte == 0) {
-            if !matches!(name, b"" | b"." | b"..") {
-                self.push_bytes(choices, folder, name)?;
-            }
-        }
-        Ok(())
-    }
-
-    // The path of a folder from the walk's own on.
-    fn below<'f>(&self, folder: &'f str) -> &'f str {
-        folder
-            .get(self.root..)
-            .unwrap_or("")
-            .trim_start_matches('/')
-    }
-
-    // How many folders below the walk's own a folder is.
-    fn depth(&self, folder: &str) -> usize {
-        self.below(folder)
-            .split('/')
-            .filter(|name| !name.is_empty())
-            .count()
-    }
-
-    // The names in a folder, each with a NUL at its end.
-    fn names(&self, folder: &str) -> io::Result<Vec<u8>> {
-        let path = self.join(name_of(folder), "")?;
-        let mut names = Vec::new(self.rt.alloc());
-        let mut room = vec![in self.rt.alloc(); 0u8; ROOM]?;
-        let mut dir = self.rt.open_dir(path.as_str())?;
-        for _ in 0..u64::MAX {
-            match dir.read(room.as_mut_slice())? {
-                0 => break,
-                count => names.extend_from_slice(&room[..count])?,
-            }
-        }
-        Ok(names)
-    }
-
-    // Adds what has a name in a folder, or that the name isn't UTF-8, if it is to be visited.
-    fn push_bytes(
-        &mut self,
-        choices: &mut Choices<'_>,
-        folder: &str,
-        name: &[u8],
-    ) -> Result<(), AllocError> {
-        match str::from_utf8(name) {
-            Ok(name) => self.push_name(choices, folder, name)?,
-            Err(_) if choices.is_name_chosen(name)? => self.push_escaped(folder, name),
-            Err(_) => {}
-        }
-        Ok(())
-    }
-
-    // Adds that a name in a folder isn't UTF-8.
-    fn push_escaped(&mut self, folder: &str, name: &[u8]) {
-        let error = io::Error::new(io::ErrorKind::InvalidFilename, NOT_UTF8);
-        match self.join_escaped(folder, name) {
-            Ok(path) => self.push(Entry::Unread(path, error)),
             Err(_) => self.is_out_of_memory = true,
         }
     }
 
-    // Puts the last name of those that were added from a place on first.
-    fn sort_from(&mut self, start: usize) {
-        let order = self.route.order;
-        if let Some(found) = self.pending.as_mut_slice().get_mut(start..) {
-            found.sort_unstable_by(|a, b| order.compare_paths(b.path(), a.path()));
+    fn try_enter(&mut self, choices: &mut Choices<'_>, folder: &str) -> Result<(), AllocError>
+        ensures entered { OnOk result (IsEntered S.lists S.looks self.old choices.old folder.now
+            self.new choices.new) }
+        ensures on { GoesOn self.old self.new }
+    {
+        if !choices.limits().allows_depth(self.finder.depth(folder)) {
+            return Ok(());
+        }
+        let path = listed_path(self.rt.alloc(), folder)?;
+        match self.finder.names(path.as_str()) {
+            Ok(names) => {
+                self.add_names(choices, folder, names.as_slice())?;
+                Ok(())
+            }
+            Err(error) if error.kind() == io::ErrorKind::OutOfMemory => Err(AllocError),
+            Err(error) => {
+                self.push_unread(name_of(folder), error)?;
+                Ok(())
+            }
         }
     }
 
-    // Adds what has a name in a folder, if it is to be visited. What can't be looked at is left out
-    // like a file.
-    fn push_name(
+    // Adds what is chosen of the names in a folder that each end in a NUL.
+    fn add_names(
         &mut self,
         choices: &mut Choices<'_>,
         folder: &str,
-        name: &str,
+        names: &[u8],
     ) -> Result<(), AllocError>
-        ensures { OnOk result
-            (IsNameVisited self.old choices.old folder.now name.now self.new) }
+        ensures added { OnOk result (AreNamesAdded S.looks self.old choices.old folder.now names.now
+            self.new choices.new) }
+        ensures on { GoesOn self.old self.new }
     {
-        let path = self.join(folder, name)?;
-        let Some(entry) = self.entry(path, choices.limits()) else {
-            return Ok(());
-        };
-        if is_chosen(choices, &entry, name)? {
-            self.push_found(entry);
-        }
+        choices.enter(folder, self.finder.below(folder), names)?;
+        let found = self.finder.found(choices, folder, names)?;
+        self.add(found)?;
         Ok(())
     }
 
-    // Adds what was found. A file that is sorted by a time is visited after what isn't.
-    fn push_found(&mut self, entry: Entry)
-        ensures { is_by_time self.old.route.order ≡ false → IsPushed self.old entry self.new }
+    // Adds what was found in a folder.
+    fn add(&mut self, found: Vec<Entry>) -> Result<(), AllocError>
+        ensures added { OnOk result (AreAdded self.old found.items self.new) }
+        ensures on { GoesOn self.old self.new }
     {
-        if !self.route.order.is_by_time() {
-            return self.push(entry);
+        let mut next = self.date_files(found)?;
+        sort(&mut next, self.order);
+        self.pending.append(&mut next)
+    }
+
+    // Dates the files of what was found that are sorted by a time, and gives the others.
+    fn date_files(&mut self, found: Vec<Entry>) -> Result<Vec<Entry>, AllocError>
+        ensures next { IfOk result (λ next. next.items
+            ≡ filter (λ entry. not (waits self.old.order entry)) found.items) }
+        ensures later { OnOk result (map (λ file. string_bytes file.path) self.new.dated.items
+            ≡ map (λ file. string_bytes file.path) self.old.dated.items
+            ++ map path_of (filter (waits self.old.order) found.items)) }
+        ensures pending { self.new.pending ≡ self.old.pending }
+        ensures on { GoesOn self.old self.new }
+    {
+        if !self.order.is_by_time() {
+            return Ok(found);
         }
+        let mut next = Vec::new(self.rt.alloc());
+        for entry in found {
+            self.date(&mut next, entry)?;
+        }
+        Ok(next)
+    }
+
+    // Dates what was found, if it is a file, or adds it to what is visited next.
+    fn date(&mut self, next: &mut Vec<Entry>, entry: Entry) -> Result<(), AllocError>
+        requires { is_by_time self.old.order ≡ true }
+        ensures next { OnOk result (next.new.items ≡ next.old.items
+            ++ filter (λ entry. not (waits self.old.order entry)) (entry ∷ [])) }
+        ensures later { OnOk result (map (λ file. string_bytes file.path) self.new.dated.items
+            ≡ map (λ file. string_bytes file.path) self.old.dated.items
+            ++ map path_of (filter (waits self.old.order) (entry ∷ []))) }
+        ensures pending { self.new.pending ≡ self.old.pending }
+        ensures on { GoesOn self.old self.new }
+    {
         match entry {
             Entry::File(path) => self.push_dated(path),
-            entry => self.push(entry),
+            Entry::Folder(path) => Ok(next.push(Entry::Folder(path))?),
+            Entry::Unread(path, error) => Ok(next.push(Entry::Unread(path, error))?),
         }
     }
 
-    fn push_dated(&mut self, path: String) {
+    fn push_dated(&mut self, path: String) -> Result<(), AllocError>
+        ensures later { OnOk result (map (λ file. string_bytes file.path) self.new.dated.items
+            ≡ map (λ file. string_bytes file.path) self.old.dated.items ++ string_bytes path ∷ []) }
+        ensures pending { self.new.pending ≡ self.old.pending }
+        ensures on { GoesOn self.old self.new }
+    {
         let place = self.dated.len();
-        let file = self.route.order.date(self.rt, path, place);
-        if self.dated.push(file).is_err() {
-            self.is_out_of_memory = true;
-        }
+        let file = self.order.date(self.rt, path, place);
+        Ok(self.dated.push(file)?)
     }
 
-    fn push_unread(&mut self, folder: &str, error: io::Error) {
-        match String::from_str(self.rt.alloc(), folder) {
-            Ok(name) => self.push(Entry::Unread(name, error)),
-            Err(_) => self.is_out_of_memory = true,
-        }
-    }
-
-    fn push(&mut self, entry: Entry)
-        ensures { IsPushed self.old entry self.new }
+    fn push_unread(&mut self, folder: &str, error: io::Error) -> Result<(), AllocError>
+        ensures pending { OnOk result ((path : String Global) × (string_bytes path ≡ folder.now)
+            × (self.new.pending.items ≡ self.old.pending.items ++ Unread path error ∷ [])) }
+        ensures dated { self.new.dated ≡ self.old.dated }
+        ensures on { GoesOn self.old self.new }
     {
-        if self.pending.push(entry).is_err() {
-            self.is_out_of_memory = true;
-        }
-    }
-
-    // What is at a path, unless it is neither a file nor a folder, or not within limits.
-    fn entry(&self, path: String, limits: Limits) -> Option<Entry>
-        ensures { IfSome result (λ entry. path_of entry ≡ string_bytes path) }
-    {
-        match self.metadata(path.as_str()) {
-            Ok(metadata) if metadata.is_dir() => {
-                if limits.allows_folder(self.rt, &metadata, self.root_of(path.as_str())) {
-                    Some(self.folder(path, &metadata))
-                } else {
-                    None
-                }
-            }
-            Ok(metadata) if metadata.is_file() && limits.allows_file(&metadata) => {
-                Some(Entry::File(path))
-            }
-            Ok(_) => None,
-            Err(error) => Some(Entry::Unread(path, error)),
-        }
-    }
-
-    // The name for the system of the walk's own folder, which a path begins with.
-    fn root_of<'f>(&self, path: &'f str) -> &'f str {
-        match path.get(..self.root) {
-            Some("") | None => if path.starts_with('/') { "/" } else { "." },
-            Some(root) => root,
-        }
-    }
-
-    fn metadata(&self, path: &str) -> io::Result<Metadata> {
-        if self.route.follows_links {
-            fs::metadata(self.rt, path)
-        } else {
-            fs::symlink_metadata(self.rt, path)
-        }
-    }
-
-    // The folder at a path, which can't be read if it is a link to a folder that it is in.
-    fn folder(&self, path: String, metadata: &Metadata) -> Entry
-        ensures { path_of result ≡ string_bytes path }
-    {
-        if self.is_link(path.as_str()) && self.is_loop(path.as_str(), FileId::of_any(metadata)) {
-            let error = io::Error::new(io::ErrorKind::FilesystemLoop, IS_LOOP);
-            Entry::Unread(path, error)
-        } else {
-            Entry::Folder(path)
-        }
-    }
-
-    // Whether there is a link at a path that was followed.
-    fn is_link(&self, path: &str) -> bool {
-        if !self.route.follows_links {
-            return false;
-        }
-        match fs::symlink_metadata(self.rt, path) {
-            Ok(metadata) => metadata.is_symlink(),
-            Err(_) => false,
-        }
-    }
-
-    // Whether one of the folders that a path goes through is that of an id, from the walk's own on.
-    fn is_loop(&self, path: &str, id: FileId) -> bool {
-        if self.root == 0 && self.is_at(".", id) {
-            return true;
-        }
-        for (at, letter) in path.char_indices() {
-            if letter == '/' && at >= self.root && self.is_at(path.get(..at).unwrap_or(""), id) {
-                return true;
-            }
-        }
-        false
-    }
-
-    // Whether the folder at a path is that of an id.
-    fn is_at(&self, path: &str, id: FileId) -> bool {
-        match fs::metadata(self.rt, path) {
-            Ok(metadata) => FileId::of_any(&metadata).is(id),
-            Err(_) => false,
-        }
-    }
-
-    // The path of a name in a folder.
-    fn join(&self, folder: &str, name: &str) -> Result<String, AllocError>
-        ensures { IfOk result (λ path. string_bytes path ≡ joined folder.now name.now) }
-    {
-        let mut path = String::from_str(self.rt.alloc(), folder)?;
-        if needs_slash(folder.as_bytes()) {
-            path.push_str("/")?;
-        }
-        path.push_str(name)?;
-        Ok(path)
-    }
-
-    // The path of a name in a folder, if the name isn't UTF-8, as a word.
-    fn join_escaped(&self, folder: &str, name: &[u8]) -> Result<String, AllocError> {
-        let name = escape(self.rt.alloc(), name)?;
-        self.join(folder, name.as_str())
+        let name = String::from_str(self.rt.alloc(), folder)?;
+        Ok(self.pending.push(Entry::Unread(name, error))?)
     }
 }
 
-impl Entry {
-    fn path(&self) -> &str
-        ensures { result.now ≡ path_of self.now }
-    {
-        match self {
-            Entry::File(path) => path.as_str(),
-            Entry::Folder(path) => path.as_str(),
-            Entry::Unread(path, _) => path.as_str(),
-        }
-    }
-}
-
-// Whether what has a name in a folder is to be visited.
-fn is_chosen(choices: &mut Choices<'_>, entry: &Entry, name: &str) -> Result<bool, AllocError>
-    ensures { IfOk result
-        (IsChosen choices.old (path_of entry.now) name.now (is_folder entry.now)) }
+// Puts what is visited first last.
+fn sort(found: &mut Vec<Entry>, order: Order)
+    ensures same { IsPermutation found.old.items found.new.items }
+    ensures sorted { IsSortedBy (λ one other. comes_before order other one) found.new.items }
 {
-    choices.is_chosen(entry.path(), name, is_folder(entry))
-}
-
-fn is_folder(entry: &Entry) -> bool
-    ensures { result ≡ is_folder entry.now }
-{
-    match entry {
-        Entry::File(_) => false,
-        Entry::Folder(_) => true,
-        Entry::Unread(..) => false,
-    }
-}
-
-// Whether a slash is between the path of a folder and a name.
-fn needs_slash(folder: &[u8]) -> bool
-    ensures { result ≡ needs_slash folder.now }
-{
-    let count = folder.len();
-    !is_empty(folder) && !(count > 0 && folder[count - 1] == b'/')
-}
-
-// The name of a folder for the system, which has none for an empty path.
-fn name_of(folder: &str) -> &str {
-    if folder.is_empty() { "." } else { folder }
+    found.sort_unstable_by(|a, b| order.compare_paths(b.path(), a.path()));
 }

@@ -1,0 +1,60 @@
+-- The order in which what is found is visited, and which of it waits.
+use Rattle.std.proofs.Common.{◌≡◌, ℕ, Bool, true, false, not, ◌&&◌, ◌∷◌, [], List, if◌then◌else◌, refl, sym, ap}
+use Rattle.std.proofs.Common.{◌∙◌, filter, length, arith}
+use Rattle.std.specs.Cmp.{IsStrictWeakOrder}
+use Rattle.std.specs.Cmp.Lexicographic.{nat_list_cmp_total, slice_cmp}
+use Rattle.std.specs.Ordering.{is_lt, nat_cmp}
+use Rattle.std.proofs.lemmas.List.MinMax.{IsStrictWeakOrder-flip, ranks_by}
+use Rattle.std.proofs.lemmas.List.Sorted.{length_permutation}
+use Rattle.std.specs.List.Sorted.{IsPermutation}
+use Rattle.linegrep_files.specs.Folders.{path_of}
+use Rattle.linegrep_files.specs.Limits.{allows_depth}
+use Rattle.linegrep_files.specs.Orders.{is_by_time}
+use Rattle.linegrep_files.specs.Walks.{comes_before, waits}
+use Rattle.linegrep_files.specs.declared.entry.Entry.{Entry}
+use Rattle.linegrep_files.specs.declared.entry.Entry.TheVariants.{File, Folder, Unread}
+use Rattle.linegrep_files.specs.declared.limits.Limits.{Limits}
+use Rattle.linegrep_files.specs.declared.order.Order.{Order}
+
+-- which of two is visited after the other is an order
+pub order-ranks : (order : Order) → IsStrictWeakOrder (λ one other. comes_before order other one)
+order-ranks order = ranks (order.is_reversed && not (is_by_time order))
+  where
+    ranks : (is_reversed : Bool) → IsStrictWeakOrder (λ (one other : Entry). is_lt (if is_reversed
+        then slice_cmp nat_cmp (path_of one) (path_of other)
+        else slice_cmp nat_cmp (path_of other) (path_of one)))
+    ranks true = ranks_by nat_list_cmp_total path_of
+    ranks false = IsStrictWeakOrder-flip _ (ranks_by nat_list_cmp_total path_of)
+
+-- nothing waits unless files are sorted by a time
+none-waits : (order : Order) (entry : Entry) → is_by_time order ≡ false → waits order entry ≡ false
+none-waits order (File path) by_path = by_path
+none-waits order (Folder path) by_path = refl
+none-waits order (Unread path error) by_path = refl
+
+pub all-next : (order : Order) (found : List Entry) → is_by_time order ≡ false
+    → found ≡ filter (λ entry. not (waits order entry)) found
+all-next order [] by_path = refl
+all-next order (entry ∷ later) by_path =
+    rw (none-waits order entry by_path) (ap (λ l. entry ∷ l) (all-next order later by_path))
+
+pub none-later : (order : Order) (found : List Entry) → is_by_time order ≡ false
+    → [] ≡ filter (waits order) found
+none-later order [] by_path = refl
+none-later order (entry ∷ later) by_path =
+    rw (none-waits order entry by_path) (none-later order later by_path)
+
+-- what was sorted is empty if nothing was sorted
+pub none-before : {X : Type 0} (old new : List X) → IsPermutation old new → new ≡ [] → old ≡ []
+none-before {X = X} old new same none =
+    empty old (sym (length_permutation old new same) ∙ ap length none)
+  where
+    empty : (xs : List X) → length xs ≡ 0 → xs ≡ []
+    empty [] none = refl
+    empty (x ∷ xs) none = absurd (omega (arith, none))
+
+-- a folder isn't too deep
+pub isnt-deep : {limits of_choices : Limits} {depth below : ℕ} {allows : Bool} → limits ≡ of_choices
+    → depth ≡ below → allows ≡ allows_depth limits depth → allows ≡ true
+    → allows_depth of_choices below ≡ true
+isnt-deep is_limits is_depth is allows = sym (rw (is_limits, is_depth) at is) ∙ allows

@@ -1,0 +1,15 @@
+use Rattle.std.proofs.Common.{length}
+use Rattle.std.specs.Prelude.{string_bytes}
+use Rattle.linegrep_files.specs.Choices.{SaysTheSame}
+use Rattle.linegrep_files.proofs.FoundLemmas.{GoesOn}
+use Rattle.linegrep_files.proofs.finder.Finder.found.Given as goal
+
+abbrev pub invariant-loop-rest : goal.invariant-loop-rest
+invariant-loop-rest g l = record {
+  same : SaysTheSame l.fn.choices l.choices;
+  on : GoesOn (g.S.Folders.looks l.self.system.now) l.self.follows_links (string_bytes l.self.top)
+      l.fn.choices l.folder l.names l.rest l.found.items;
+}
+
+abbrev pub decreases-loop-rest : goal.decreases-loop-rest
+decreases-loop-rest g l = length l.rest

@@ -1,0 +1,10 @@
+use Rattle.std.proofs.Common.{rules}
+use Rattle.std.proofs.lemmas.Fn.{always_returns_same}
+use Rattle.linegrep_files.specs.Walks.{comes_before}
+use Rattle.linegrep_files.proofs.WalkLemmas.{order-ranks}
+use Rattle.linegrep_files.proofs.walk.sort.Goals as goal
+
+pub returns-clause-sorted : goal.returns-clause-sorted
+returns-clause-sorted c =
+    c.sort_unstable_by.ensures.sorted (λ one other. comes_before c.args.order other one)
+    (order-ranks c.args.order) (always_returns_same _ _ _ (λ a r f called. search rules))

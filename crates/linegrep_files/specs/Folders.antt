@@ -1,0 +1,137 @@
+-- What is found in a folder: of each name that listing it returned, what looking at its path did.
+use Rattle.std.specs.Prelude.{◌≡◌, ◌≢◌, ℕ, Bool, true, false, not, ◌||◌, ◌&&◌, ◌==◌, if◌then◌else◌}
+use Rattle.std.specs.Prelude.{List, [], ◌∷◌, ◌++◌, None, Option, Some, Result, Ok, Err, String, codes, string_bytes}
+use Rattle.std.specs.Prelude.{◌+◌, ◌<◌, ◌≤◌, drop, filter, length, slice_index}
+use Rattle.std.specs.Global.{Global}
+use Rattle.std.specs.IoError.{error_kind}
+use Rattle.std.specs.List.{slice_split}
+use Rattle.std.specs.Str.{IsUtf8, bytes_eq}
+use Rattle.std.specs.declared.io.Error.{Error}
+use Rattle.std.specs.declared.io.ErrorKind.TheVariants.{FilesystemLoop, InvalidFilename}
+use Rattle.grep_ignore.specs.Classes.{is_empty}
+use Rattle.grep_ignore.specs.Lines.{ends_with}
+use Rattle.linegrep_files.specs.Choices.{IsChosen, IsUnmatchedChosen}
+use Rattle.linegrep_files.specs.FileIds.{is_beside}
+use Rattle.linegrep_files.specs.Limits.{allows_size}
+use Rattle.linegrep_files.specs.declared.choices.Choices.{Choices}
+use Rattle.linegrep_files.specs.declared.entry.Entry.{Entry}
+use Rattle.linegrep_files.specs.declared.entry.Entry.TheVariants.{File, Folder, Unread}
+use Rattle.linegrep_files.specs.declared.file_id.FileId.{FileId}
+use Rattle.linegrep_files.specs.declared.folders.Found.{Found}
+use Rattle.linegrep_files.specs.declared.folders.Kind.TheVariants.{File as IsFile, Folder as IsFolder}
+use Rattle.linegrep_files.specs.declared.limits.Limits.{Limits}
+
+-- the parts of a text between one byte and the next, without empty ones
+abbrev pub parts_of : ℕ → List ℕ → List (List ℕ)
+parts_of end text = filter (λ part. not (is_empty part)) (slice_split (λ byte. byte == end) text)
+
+-- a name isn't that of the folder itself, nor of the one that it is in
+abbrev pub is_name : List ℕ → Bool
+is_name name = not (bytes_eq name (codes ".") || bytes_eq name (codes ".."))
+
+-- the names of what is in a folder, by a listing in which each ends in a NUL
+abbrev pub names_of : List ℕ → List (List ℕ)
+names_of listing = filter is_name (parts_of 0 listing)
+
+-- how many bytes a path has without the slashes at its end
+pub record IsRoot (path : List ℕ) (root : ℕ) : Type 0 where
+  pub within : root ≤ length path
+  pub slashes : (k : ℕ) → root ≤ k → k < length path → slice_index path k ≡ 47
+  pub other : (k : ℕ) → root ≡ k + 1 → slice_index path k ≢ 47
+
+-- how many folders below the walk's own a folder is, the path of which has so many bytes
+abbrev pub depth_of : ℕ → List ℕ → ℕ
+depth_of root folder = length (parts_of 47 (drop root folder))
+
+-- a slash is between the path of a folder and a name
+abbrev pub needs_slash : List ℕ → Bool
+needs_slash folder = not (is_empty folder) && not (ends_with 47 folder)
+
+-- the path of a name in a folder
+abbrev pub joined : List ℕ → List ℕ → List ℕ
+joined folder name = if needs_slash folder then folder ++ 47 ∷ name else folder ++ name
+
+-- the name of a folder for the system, which has none for an empty path
+abbrev pub name_of : List ℕ → List ℕ
+name_of folder = if is_empty folder then codes "." else folder
+
+-- the path at which a folder is listed
+abbrev pub listed_path : List ℕ → List ℕ
+listed_path folder = joined (name_of folder) []
+
+-- the path of what is found, and whether it is a folder
+abbrev pub path_of : Entry → List ℕ
+path_of (File path) = string_bytes path
+path_of (Folder path) = string_bytes path
+path_of (Unread path error) = string_bytes path
+
+abbrev pub is_folder : Entry → Bool
+is_folder (File path) = false
+is_folder (Folder path) = true
+is_folder (Unread path error) = false
+
+-- a folder at a path, or that it can't be read, as a link that was followed and leads to a folder that it
+-- is in
+abbrev pub IsFolderAt : Bool → List ℕ → Entry → Type 0
+IsFolderAt follows path (File text) = ⊥
+IsFolderAt follows path (Folder text) = string_bytes text ≡ path
+IsFolderAt follows path (Unread text error) = (follows ≡ true) × (string_bytes text ≡ path)
+    × (error_kind error ≡ FilesystemLoop)
+
+-- By what looking at paths may return, with whether links are followed; `top` is the path of the walk's
+-- own folder.
+module _ (looks : Bool → List ℕ → Result Found Error → Type 0) (follows : Bool) (top : List ℕ)
+    (limits : Limits) where
+  -- a folder may be entered, by the file system that it is on: that of the walk's own, unless that isn't
+  -- asked or can't be told
+  pub data MayEnter (id : FileId) : Bool → Type 0 where
+    of_any : limits.is_one_system ≡ false → MayEnter id true
+    of_system : (found : Found) → limits.is_one_system ≡ true → looks true top (Ok found)
+        → MayEnter id (is_beside id found.id)
+    of_untold : (error : Error) → limits.is_one_system ≡ true → looks true top (Err error)
+        → MayEnter id true
+
+  -- what is found at a path by what looking at it returned: a regular file that isn't too large, a folder
+  -- that may be entered, or that it can't be read. A link that was followed can't be if it leads to a
+  -- folder that it is in
+  pub data IsAt (path : List ℕ) : Option Entry → Type 0 where
+    of_file : (found : Found) (text : String Global) → looks follows path (Ok found)
+        → found.kind ≡ IsFile → allows_size limits found.size ≡ true → string_bytes text ≡ path
+        → IsAt path (Some (File text))
+    of_folder : (found : Found) (entry : Entry) → looks follows path (Ok found)
+        → found.kind ≡ IsFolder → MayEnter found.id true → IsFolderAt follows path entry
+        → IsAt path (Some entry)
+    of_unread : (text : String Global) (error : Error) → looks follows path (Err error)
+        → string_bytes text ≡ path → IsAt path (Some (Unread text error))
+    of_large : (found : Found) → looks follows path (Ok found) → found.kind ≡ IsFile
+        → allows_size limits found.size ≡ false → IsAt path None
+    of_elsewhere : (found : Found) → looks follows path (Ok found) → found.kind ≡ IsFolder
+        → MayEnter found.id false → IsAt path None
+    of_other : (found : Found) → looks follows path (Ok found) → found.kind ≢ IsFile
+        → found.kind ≢ IsFolder → IsAt path None
+
+  -- what is found that a name in a folder stands for: what is at its path, if that is chosen; or if the
+  -- name isn't UTF-8 and is chosen, that it can't be read
+  pub data IsFound (choices : Choices) (folder name : List ℕ) : Option Entry → Type 0 where
+    of_nothing : IsUtf8 name → IsAt (joined folder name) None → IsFound choices folder name None
+    of_chosen : (entry : Entry) → IsUtf8 name → IsAt (joined folder name) (Some entry)
+        → IsChosen choices (joined folder name) name (is_folder entry) true
+        → IsFound choices folder name (Some entry)
+    of_left_out : (entry : Entry) → IsUtf8 name → IsAt (joined folder name) (Some entry)
+        → IsChosen choices (joined folder name) name (is_folder entry) false
+        → IsFound choices folder name None
+    of_escaped : (text : String Global) (error : Error) → (IsUtf8 name → ⊥)
+        → IsUnmatchedChosen choices name false true true → error_kind error ≡ InvalidFilename
+        → IsFound choices folder name (Some (Unread text error))
+    of_unescaped : (IsUtf8 name → ⊥) → IsUnmatchedChosen choices name false true false
+        → IsFound choices folder name None
+
+  -- what is found of some names, in their order: each once
+  pub data AreFound (choices : Choices) (folder : List ℕ) : List (List ℕ) → List Entry → Type 0 where
+    no_name : AreFound choices folder [] []
+    found_name : (name : List ℕ) (names : List (List ℕ)) (entry : Entry) (entries : List Entry)
+        → IsFound choices folder name (Some entry) → AreFound choices folder names entries
+        → AreFound choices folder (name ∷ names) (entry ∷ entries)
+    other_name : (name : List ℕ) (names : List (List ℕ)) (entries : List Entry)
+        → IsFound choices folder name None → AreFound choices folder names entries
+        → AreFound choices folder (name ∷ names) entries

@@ -1,0 +1,40 @@
+//! What is found in folders.
+ghost use Rattle.std.specs.Prelude.{◌≡◌};
+ghost use Rattle.linegrep_files.specs.Folders.{is_folder, path_of};
+
+use std::io;
+
+/// What is found in folders.
+#[derive(Drop)]
+pub enum Entry {
+    /// A file, by its path.
+    File(String),
+    /// A folder, by its path.
+    Folder(String),
+    /// What can't be read: a path, as a word of `words`, and why.
+    Unread(String, io::Error),
+}
+
+impl Entry {
+    /// The path.
+    pub fn path(&self) -> &str
+        ensures { result.now ≡ path_of self.now }
+    {
+        match self {
+            Entry::File(path) => path.as_str(),
+            Entry::Folder(path) => path.as_str(),
+            Entry::Unread(path, _) => path.as_str(),
+        }
+    }
+
+    /// Whether it is a folder.
+    pub fn is_folder(&self) -> bool
+        ensures { result ≡ is_folder self.now }
+    {
+        match self {
+            Entry::File(_) => false,
+            Entry::Folder(_) => true,
+            Entry::Unread(..) => false,
+        }
+    }
+}

@@ -1,0 +1,368 @@
+//! What is found in folders of what their names stand for.
+ghost use Rattle.std.specs.Prelude.{◌≡◌, ◌≢◌, ◌<◌, [], ◌∷◌, if◌then◌else◌, length, IfOk, IfSome};
+ghost use Rattle.std.specs.Prelude.{Ok, drop, string_bytes, true};
+ghost use Rattle.std.specs.Str.{IsUtf8};
+ghost use Rattle.linegrep_files.specs.Choices.{IsChosen, SaysTheSame};
+ghost use Rattle.grep_ignore.specs.Classes.{is_empty};
+ghost use Rattle.linegrep_files.specs.Folders.{AreFound, IsAt, IsFolderAt, IsFound, IsRoot};
+ghost use Rattle.linegrep_files.specs.Folders.{MayEnter, depth_of, is_name, joined, listed_path, name_of, names_of, needs_slash};
+ghost use Rattle.linegrep_files.specs.Folders.{parts_of, path_of};
+
+use crate::choices::Choices;
+use crate::class::is_empty;
+use crate::entry::Entry;
+use crate::file_id::FileId;
+use crate::folders::{Folders, Found, Kind};
+use crate::limits::Limits;
+use crate::words::{NOT_UTF8, escape};
+use std::alloc::{AllocError, Global};
+use std::{io, str};
+
+const IS_LOOP: &str = "it is a link to a folder that it is in";
+
+/// What finds the files and the folders that are chosen.
+#[derive(Drop)]
+pub struct Finder<'r, S> {
+    alloc: Global,
+    system: &'r S,
+    // Whether links are followed, and not left out.
+    follows_links: bool,
+    // The name of the walk's own folder for the system.
+    top: String,
+    // How many bytes the path of that has, without a slash at the end.
+    root: usize,
+}
+
+impl<'r, S: Folders> Finder<'r, S> {
+    /// What finds the files and the folders that are below one with a name for the system, the path of
+    /// which has so many bytes.
+    pub fn new(
+        alloc: Global,
+        system: &'r S,
+        follows_links: bool,
+        top: String,
+        root: usize,
+    ) -> Finder<'r, S>
+        ensures system { result.system ≡ system.entry }
+        ensures links { result.follows_links ≡ follows_links }
+        ensures top { result.top ≡ top }
+        ensures root { result.root ≡ root }
+    {
+        Finder {
+            alloc,
+            system,
+            follows_links,
+            top,
+            root,
+        }
+    }
+
+    /// How many folders below the walk's own a folder is.
+    pub fn depth(&self, folder: &str) -> usize
+        ensures { result ≡ depth_of self.now.root folder.now }
+    {
+        let mut depth = 0;
+        let mut rest = after(folder.as_bytes(), self.root);
+        while !is_empty(rest) {
+            let (name, later) = split_part(rest, b'/');
+            rest = later;
+            if is_empty(name) {
+                continue;
+            }
+            depth += 1;
+        }
+        depth
+    }
+
+    /// The path of a folder from the walk's own on.
+    pub fn below<'f>(&self, folder: &'f str) -> &'f str {
+        folder
+            .get(self.root..)
+            .unwrap_or("")
+            .trim_start_matches('/')
+    }
+
+    /// The names in a folder, each with a NUL at its end.
+    pub fn names(&self, path: &str) -> io::Result<Vec<u8>>
+        ensures { S.lists self.now.system.now path.now result }
+    {
+        self.system.names(self.alloc, path)
+    }
+
+    /// What is found of some names in a folder that each end in a NUL, in their order.
+    pub fn found(
+        &self,
+        choices: &mut Choices<'_>,
+        folder: &str,
+        names: &[u8],
+    ) -> Result<Vec<Entry>, AllocError>
+        ensures found { IfOk result (λ found. AreFound (S.looks self.now.system.now)
+            self.now.follows_links (string_bytes self.now.top) choices.old.limits choices.old
+            folder.now (names_of names.now) found.items) }
+        ensures same { SaysTheSame choices.old choices.new }
+    {
+        let mut found = Vec::new(self.alloc);
+        let mut rest = names;
+        while !is_empty(rest) {
+            let (name, later) = split_part(rest, b'\0');
+            rest = later;
+            if is_empty(name) || !is_name(name) {
+                continue;
+            }
+            match self.find(choices, folder, name)? {
+                Some(entry) => found.push(entry)?,
+                None => {}
+            }
+        }
+        Ok(found)
+    }
+
+    // What is found that a name in a folder stands for.
+    fn find(
+        &self,
+        choices: &mut Choices<'_>,
+        folder: &str,
+        name: &[u8],
+    ) -> Result<Option<Entry>, AllocError>
+        ensures found { IfOk result (IsFound (S.looks self.now.system.now) self.now.follows_links
+            (string_bytes self.now.top) choices.old.limits choices.old folder.now name.now) }
+        ensures same { SaysTheSame choices.old choices.new }
+    {
+        match str::from_utf8(name) {
+            Ok(name) => self.find_named(choices, folder, name),
+            Err(_) => self.find_escaped(choices, folder, name),
+        }
+    }
+
+    // What is found that a name in a folder stands for, which is UTF-8.
+    fn find_named(
+        &self,
+        choices: &mut Choices<'_>,
+        folder: &str,
+        name: &str,
+    ) -> Result<Option<Entry>, AllocError>
+        requires { IsUtf8 name.now }
+        ensures found { IfOk result (IsFound (S.looks self.now.system.now) self.now.follows_links
+            (string_bytes self.now.top) choices.old.limits choices.old folder.now name.now) }
+        ensures same { SaysTheSame choices.old choices.new }
+    {
+        let path = join(self.alloc, folder, name)?;
+        match self.entry(path, choices.limits()) {
+            Some(entry) => {
+                if choices.is_chosen(entry.path(), name, entry.is_folder())? {
+                    return Ok(Some(entry));
+                }
+                return Ok(None);
+            }
+            None => return Ok(None),
+        }
+    }
+
+    // What is found that a name in a folder stands for, which isn't UTF-8.
+    fn find_escaped(
+        &self,
+        choices: &mut Choices<'_>,
+        folder: &str,
+        name: &[u8],
+    ) -> Result<Option<Entry>, AllocError>
+        requires { IsUtf8 name.now → ⊥ }
+        ensures found { IfOk result (IsFound (S.looks self.now.system.now) self.now.follows_links
+            (string_bytes self.now.top) choices.old.limits choices.old folder.now name.now) }
+        ensures same { SaysTheSame choices.old choices.new }
+    {
+        if choices.is_name_chosen(name)? {
+            let word = escape(self.alloc, name)?;
+            let path = join(self.alloc, folder, word.as_str())?;
+            let error = io::Error::new(io::ErrorKind::InvalidFilename, NOT_UTF8);
+            return Ok(Some(Entry::Unread(path, error)));
+        }
+        Ok(None)
+    }
+
+    // What is at a path, unless it is neither a file nor a folder, or not within limits.
+    fn entry(&self, path: String, limits: Limits) -> Option<Entry>
+        ensures at { IsAt (S.looks self.now.system.now) self.now.follows_links
+            (string_bytes self.now.top) limits (string_bytes path) result }
+        ensures path { IfSome result (λ entry. path_of entry ≡ string_bytes path) }
+    {
+        match self.system.look(path.as_str(), self.follows_links) {
+            Ok(found) => self.entry_of(path, found, limits),
+            Err(error) => Some(Entry::Unread(path, error)),
+        }
+    }
+
+    // What was found at a path, if it is within limits.
+    fn entry_of(&self, path: String, found: Found, limits: Limits) -> Option<Entry>
+        requires { S.looks self.now.system.now self.now.follows_links (string_bytes path)
+            (Ok found) }
+        ensures at { IsAt (S.looks self.now.system.now) self.now.follows_links
+            (string_bytes self.now.top) limits (string_bytes path) result }
+        ensures path { IfSome result (λ entry. path_of entry ≡ string_bytes path) }
+    {
+        match found.kind {
+            Kind::File => {
+                if limits.allows_size(found.size) {
+                    return Some(Entry::File(path));
+                }
+                return None;
+            }
+            Kind::Folder => {
+                if self.may_enter(found.id, limits) {
+                    return Some(self.folder(path, found.id));
+                }
+                return None;
+            }
+            Kind::Link => return None,
+            Kind::Other => return None,
+        }
+    }
+
+    // Whether a folder may be entered, by the file system that it is on.
+    fn may_enter(&self, id: FileId, limits: Limits) -> bool
+        ensures { MayEnter (S.looks self.now.system.now) self.now.follows_links
+            (string_bytes self.now.top) limits id result }
+    {
+        if !limits.is_one_system() {
+            return true;
+        }
+        match self.system.look(self.top.as_str(), true) {
+            Ok(top) => id.is_beside(top.id),
+            Err(_) => true,
+        }
+    }
+
+    // The folder at a path, which can't be read if it is a link to a folder that it is in.
+    fn folder(&self, path: String, id: FileId) -> Entry
+        ensures { IsFolderAt self.now.follows_links (string_bytes path) result }
+    {
+        if self.is_link(path.as_str()) && self.is_loop(path.as_str(), id) {
+            let error = io::Error::new(io::ErrorKind::FilesystemLoop, IS_LOOP);
+            return Entry::Unread(path, error);
+        }
+        Entry::Folder(path)
+    }
+
+    // Whether there is a link at a path that was followed.
+    fn is_link(&self, path: &str) -> bool
+        ensures { result ≡ true → self.now.follows_links ≡ true }
+    {
+        if !self.follows_links {
+            return false;
+        }
+        match self.system.look(path, false) {
+            Ok(found) => matches!(found.kind, Kind::Link),
+            Err(_) => false,
+        }
+    }
+
+    // Whether one of the folders that a path goes through is that of an id, from the walk's own on.
+    fn is_loop(&self, path: &str, id: FileId) -> bool {
+        if self.root == 0 && self.is_at(".", id) {
+            return true;
+        }
+        for (at, letter) in path.char_indices() {
+            if letter == '/' && at >= self.root && self.is_at(path.get(..at).unwrap_or(""), id) {
+                return true;
+            }
+        }
+        false
+    }
+
+    // Whether the folder at a path is that of an id.
+    fn is_at(&self, path: &str, id: FileId) -> bool {
+        match self.system.look(path, true) {
+            Ok(found) => found.id.is(id),
+            Err(_) => false,
+        }
+    }
+}
+
+/// The path of a name in a folder. An error is one of being out of memory.
+pub fn join(alloc: Global, folder: &str, name: &str) -> Result<String, AllocError>
+    ensures { IfOk result (λ path. string_bytes path ≡ joined folder.now name.now) }
+{
+    let mut path = String::from_str(alloc, folder)?;
+    if needs_slash(folder.as_bytes()) {
+        path.push_str("/")?;
+    }
+    path.push_str(name)?;
+    Ok(path)
+}
+
+/// The path at which a folder is listed. An error is one of being out of memory.
+pub fn listed_path(alloc: Global, folder: &str) -> Result<String, AllocError>
+    ensures { IfOk result (λ path. string_bytes path ≡ listed_path folder.now) }
+{
+    join(alloc, name_of(folder), "")
+}
+
+/// The name of a folder for the system, which has none for an empty path.
+pub fn name_of(folder: &str) -> &str
+    ensures { result.now ≡ name_of folder.now }
+{
+    if is_empty(folder.as_bytes()) {
+        "."
+    } else {
+        folder
+    }
+}
+
+/// How many bytes a path has without the slashes at its end.
+pub fn root_of(path: &[u8]) -> usize
+    ensures { IsRoot path.now result }
+{
+    let mut root = path.len();
+    while root > 0 {
+        if path[root - 1] != b'/' {
+            return root;
+        }
+        root -= 1;
+    }
+    root
+}
+
+// Whether a slash is between the path of a folder and a name.
+fn needs_slash(folder: &[u8]) -> bool
+    ensures { result ≡ needs_slash folder.now }
+{
+    let count = folder.len();
+    !is_empty(folder) && !(count > 0 && folder[count - 1] == b'/')
+}
+
+// The part of a text before the first of a byte, or all of it, and what follows that.
+fn split_part(text: &[u8], end: u8) -> (&[u8], &[u8])
+    ensures split { parts_of end text.now ≡ (if is_empty result.0.now then parts_of end result.1.now
+        else result.0.now ∷ parts_of end result.1.now) }
+    ensures shorter { text.now ≢ [] → length result.1.now < length text.now }
+{
+    let mut at = 0;
+    while at < text.len() {
+        if text[at] == end {
+            return (&text[..at], &text[at + 1..]);
+        }
+        at += 1;
+    }
+    (text, &[])
+}
+
+// What of a path is after some bytes.
+fn after(path: &[u8], start: usize) -> &[u8]
+    ensures { result.now ≡ drop start path.now }
+{
+    if start < path.len() {
+        &path[start..]
+    } else {
+        &[]
+    }
+}
+
+// Whether a name isn't that of a folder itself, nor of the one that it is in.
+fn is_name(name: &[u8]) -> bool
+    ensures { result ≡ is_name name.now }
+{
+    match name {
+        b"." => false,
+        b".." => false,
+        _ => true,
+    }
+}

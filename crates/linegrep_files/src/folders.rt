@@ -1,0 +1,108 @@
+//! What a walk asks of the system: what a folder holds, and what is at a path.
+ghost use Rattle.std.specs.Prelude.{ℕ, Bool, List, Result, Vec};
+ghost use Rattle.std.specs.Global.{Global};
+ghost use Rattle.std.specs.declared.io.Error.{Error};
+ghost use Rattle.linegrep_files.specs.declared.folders.Found.{Found};
+
+use crate::file_id::FileId;
+use std::alloc::Global;
+use std::fs::Metadata;
+use std::io::Read;
+use std::rt::Files;
+use std::{fs, io};
+
+// For how many bytes of names there is room when a folder is read.
+const ROOM: usize = 8192;
+
+/// What there is at a path.
+#[derive(Clone, Copy)]
+pub enum Kind {
+    /// A regular file.
+    File,
+    /// A folder.
+    Folder,
+    /// A link, unless it is followed.
+    Link,
+    /// Anything else, as a pipe or a device.
+    Other,
+}
+
+/// What is found at a path.
+#[derive(Clone, Copy)]
+pub struct Found {
+    /// What there is.
+    pub kind: Kind,
+    /// How many bytes it has.
+    pub size: u64,
+    /// Which file or folder of the system it is.
+    pub id: FileId,
+}
+
+/// What lists folders and looks at paths. It is given by what it may return.
+pub trait Folders {
+    /// What listing the folder at a path may return: the names in it, each with a NUL at its end.
+    ghost lists: { Self → List ℕ → Result (Vec ℕ Global) Error → Type 0 };
+
+    /// What looking at a path may return, by whether a link there is followed.
+    ghost looks: { Self → Bool → List ℕ → Result Found Error → Type 0 };
+
+    /// The names in the folder at a path, each with a NUL at its end. An error is the system's own,
+    /// or one of being out of memory.
+    fn names(&self, alloc: Global, path: &str) -> io::Result<Vec<u8>>
+        ensures { lists self.now path.now result };
+
+    /// What there is at a path. An error is the system's own.
+    fn look(&self, path: &str, follows_links: bool) -> io::Result<Found>
+        ensures { looks self.now follows_links path.now result };
+}
+
+/// The system. What it may return isn't known.
+impl<R: Files> Folders for R {
+    ghost lists = { λ _ _ _. Unit {0} };
+
+    ghost looks = { λ _ _ _ _. Unit {0} };
+
+    fn names(&self, alloc: Global, path: &str) -> io::Result<Vec<u8>> {
+        let mut names = Vec::new(alloc);
+        let mut room = vec![in alloc; 0u8; ROOM]?;
+        let mut dir = self.open_dir(path)?;
+        for _ in 0..u64::MAX {
+            match dir.read(room.as_mut_slice())? {
+                0 => break,
+                count => names.extend_from_slice(&room[..count])?,
+            }
+        }
+        Ok(names)
+    }
+
+    fn look(&self, path: &str, follows_links: bool) -> io::Result<Found> {
+        let metadata = if follows_links {
+            fs::metadata(self, path)
+        } else {
+            fs::symlink_metadata(self, path)
+        };
+        match metadata {
+            Ok(metadata) => Ok(Found::of(&metadata)),
+            Err(error) => Err(error),
+        }
+    }
+}
+
+impl Found {
+    fn of(metadata: &Metadata) -> Found {
+        let kind = if metadata.is_dir() {
+            Kind::Folder
+        } else if metadata.is_file() {
+            Kind::File
+        } else if metadata.is_symlink() {
+            Kind::Link
+        } else {
+            Kind::Other
+        };
+        Found {
+            kind,
+            size: metadata.len(),
+            id: FileId::of_any(metadata),
+        }
+    }
+}
