@@ -1,5 +1,6 @@
 pub mod EngineCalls
 pub mod EngineSteps
+pub mod FileChoices
 pub mod Haystacks
 pub mod JsonRuns
 pub mod OperandRuns

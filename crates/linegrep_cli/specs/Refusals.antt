@@ -1,20 +1,19 @@
 -- When a run is refused, and what is said of it.
-use Rattle.std.specs.Prelude.{◌≡◌, ◌≢◌, ℕ, Bool, true, if◌then◌else◌, List, [], length, None, Option, Result}
-use Rattle.std.specs.Prelude.{Some, String}
-use Rattle.std.specs.Borrow.{Bor}
+use Rattle.std.specs.Prelude.{◌≡◌, ◌≢◌, ℕ, Bool, true, if◌then◌else◌, List, length, None, Result}
+use Rattle.std.specs.Prelude.{String}
 use Rattle.std.specs.Global.{Global}
 use Rattle.std.specs.declared.io.Error.{Error}
 use Rattle.grep_output.specs.Outputs.{OutputCall, Writes}
 use Rattle.grep_regex.specs.Refusals.{IsRefusal}
 use Rattle.grep_regex.specs.declared.error.Error.{Error as PatternError}
 use Rattle.grep_regex.specs.declared.error.Error.TheVariants.{Memory}
+use Rattle.linegrep_cli.specs.FileChoices.{AreFileOptions}
 use Rattle.linegrep_cli.specs.OptionUses.{has}
 use Rattle.linegrep_cli.specs.PatternOptions.{pattern_options, pattern_texts}
 use Rattle.linegrep_cli.specs.SearcherOptions.{refuses_label}
 use Rattle.linegrep_cli.specs.TemplateOptions.{may_refuse_template}
 use Rattle.linegrep_cli.specs.WholeRuns.{IsRefused}
-use Rattle.linegrep_cli.specs.declared.option_id.OptionId.TheVariants.{GlobCaseInsensitive}
-use Rattle.linegrep_cli.specs.declared.option_id.OptionId.TheVariants.{OneFileSystem, Sort, Sortr}
+use Rattle.linegrep_cli.specs.declared.option_id.OptionId.TheVariants.{Sort, Sortr}
 use Rattle.linegrep_cli.specs.declared.options.Options.{Options}
 use Rattle.linegrep_files.specs.Choices.{may_be_refused}
 use Rattle.linegrep_files.specs.Failures.{has_cause, text_of}
@@ -26,21 +25,6 @@ use Rattle.linegrep_files.specs.declared.file_options.FileOptions.{FileOptions}
 abbrev pub sorts_by_time : Options → Bool
 sorts_by_time options = names_time (if has options Sort then options.sort
     else if has options Sortr then options.sortr else None)
-
--- the texts that an option is given
-abbrev pub texts_of : Option (Bor (List (Bor (List ℕ)))) → List (Bor (List ℕ))
-texts_of None = []
-texts_of (Some texts) = texts.now
-
--- what options say of which files of folders are searched
-pub record AreFileOptions (options : Options) (files : FileOptions) : Type 0 where
-  pub globs : files.globs.now ≡ texts_of options.globs
-  pub iglobs : files.iglobs.now ≡ texts_of options.iglobs
-  pub glob_case : files.ignores_glob_case ≡ has options GlobCaseInsensitive
-  pub types : files.types ≡ options.types
-  pub depth : files.max_depth ≡ options.max_depth
-  pub size : files.max_filesize ≡ options.max_filesize
-  pub system : files.is_one_system ≡ has options OneFileSystem
 
 -- why a run is refused: a label of an encoding that isn't known, patterns that aren't well formed or too
 -- large, a template that isn't used so, an order that the system may not have, or what is said of files

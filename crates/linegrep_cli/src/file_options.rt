@@ -1,6 +1,6 @@
 //! What the options say of which files of folders are searched.
 ghost use Rattle.std.specs.Prelude.{◌≡◌};
-ghost use Rattle.linegrep_cli.specs.Refusals.{AreFileOptions, texts_of};
+ghost use Rattle.linegrep_cli.specs.FileChoices.{AreFileOptions, sources_of, texts_of};
 
 use crate::option_id::OptionId;
 use crate::options::Options;
@@ -61,7 +61,9 @@ pub fn file_options<'m, 'w>(options: &Options<'m, 'w>) -> FileOptions<'m, 'w>
 }
 
 // Which ignore files are read.
-fn sources(options: &Options<'_, '_>) -> Sources {
+fn sources(options: &Options<'_, '_>) -> Sources
+    ensures { result ≡ sources_of options.now }
+{
     let git = options.reads(OptionId::IgnoreVcs, OptionId::NoIgnoreVcs);
     Sources {
         dot: options.reads(OptionId::IgnoreDot, OptionId::NoIgnoreDot),

@@ -1,5 +1,6 @@
 //! The options of the command line.
 ghost use Rattle.std.specs.Prelude.{◌≡◌, ◌&&◌, None, if◌then◌else◌, option_map};
+ghost use Rattle.linegrep_cli.specs.FileChoices.{ignore_files_of, last_of_both, reads, shows_hidden};
 ghost use Rattle.linegrep_cli.specs.OptionMeanings.{after_lines, before_lines, context_lines};
 ghost use Rattle.linegrep_cli.specs.OptionMeanings.{paths_of, searches_input, shows_columns, shows_numbers};
 ghost use Rattle.linegrep_cli.specs.OptionMeanings.{value_of};
@@ -185,19 +186,27 @@ impl<'m, 'w> Options<'m, 'w> {
 
     /// Whether ignore files of a kind are read, which one option asks for and another doesn't. The last
     /// of these and of those about all kinds decides.
-    pub fn reads(&self, option: OptionId, opposite: OptionId) -> bool {
+    pub fn reads(&self, option: OptionId, opposite: OptionId) -> bool
+        ensures { result ≡ reads self.now option opposite }
+    {
         let asked = self.last_of_both(option, OptionId::Ignore);
         let refused = self.last_of_both(opposite, OptionId::NoIgnore);
         asked >= refused && asked >= self.uses.last_of(OptionId::Unrestricted)
     }
 
     // The place of the last use of either of two options, or 0.
-    fn last_of_both(&self, one: OptionId, other: OptionId) -> usize {
-        self.uses.last_of(one).max(self.uses.last_of(other))
+    fn last_of_both(&self, one: OptionId, other: OptionId) -> usize
+        ensures { result ≡ last_of_both self.now one other }
+    {
+        let one = self.uses.last_of(one);
+        let other = self.uses.last_of(other);
+        if one < other { other } else { one }
     }
 
     /// The paths of ignore files that are named.
-    pub fn ignore_files(&self) -> &'m [&'w str] {
+    pub fn ignore_files(&self) -> &'m [&'w str]
+        ensures { result.now ≡ ignore_files_of self.now }
+    {
         match self.ignore_files {
             Some(files) if !self.has(OptionId::NoIgnoreFiles) => files,
             _ => &[],
@@ -218,7 +227,9 @@ impl<'m, 'w> Options<'m, 'w> {
     }
 
     /// Whether hidden files of folders are searched.
-    pub fn shows_hidden(&self) -> bool {
+    pub fn shows_hidden(&self) -> bool
+        ensures { result ≡ shows_hidden self.now }
+    {
         self.has(OptionId::Hidden)
             || self.unrestricted > 1
                 && self.uses.last_of(OptionId::NoHidden) < self.uses.last_of(OptionId::Unrestricted)

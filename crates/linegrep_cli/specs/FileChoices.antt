@@ -1,0 +1,70 @@
+-- What options say of which files of folders are searched.
+use Rattle.std.specs.Prelude.{◌≡◌, ℕ, Bool, ◌&&◌, ◌||◌, not, if◌then◌else◌, List, [], None, Option, Some}
+use Rattle.std.specs.Prelude.{nat_le, nat_lt}
+use Rattle.std.specs.Borrow.{Bor}
+use Rattle.linegrep_cli.specs.OptionUses.{has, last_use}
+use Rattle.linegrep_cli.specs.declared.option_id.OptionId.{OptionId}
+use Rattle.linegrep_cli.specs.declared.option_id.OptionId.TheVariants.{GlobCaseInsensitive, Hidden, Ignore}
+use Rattle.linegrep_cli.specs.declared.option_id.OptionId.TheVariants.{IgnoreDot, IgnoreExclude}
+use Rattle.linegrep_cli.specs.declared.option_id.OptionId.TheVariants.{IgnoreFileCaseInsensitive, IgnoreGlobal}
+use Rattle.linegrep_cli.specs.declared.option_id.OptionId.TheVariants.{IgnoreParent, IgnoreVcs, NoHidden}
+use Rattle.linegrep_cli.specs.declared.option_id.OptionId.TheVariants.{NoIgnore, NoIgnoreDot, NoIgnoreExclude}
+use Rattle.linegrep_cli.specs.declared.option_id.OptionId.TheVariants.{NoIgnoreFiles, NoIgnoreGlobal}
+use Rattle.linegrep_cli.specs.declared.option_id.OptionId.TheVariants.{NoIgnoreParent, NoIgnoreVcs}
+use Rattle.linegrep_cli.specs.declared.option_id.OptionId.TheVariants.{NoRequireGit, OneFileSystem}
+use Rattle.linegrep_cli.specs.declared.option_id.OptionId.TheVariants.{Unrestricted}
+use Rattle.linegrep_cli.specs.declared.options.Options.{Options}
+use Rattle.linegrep_files.specs.declared.file_options.FileOptions.{FileOptions}
+use Rattle.linegrep_files.specs.declared.ignores.Sources.{Sources}
+
+-- the texts that an option is given
+abbrev pub texts_of : Option (Bor (List (Bor (List ℕ)))) → List (Bor (List ℕ))
+texts_of None = []
+texts_of (Some texts) = texts.now
+
+-- the place of the last use of either of two options, or 0
+abbrev pub last_of_both : Options → OptionId → OptionId → ℕ
+last_of_both options one other =
+    if nat_lt (last_use options.uses one) (last_use options.uses other)
+    then last_use options.uses other else last_use options.uses one
+
+-- ignore files of a kind are read: what says so last, of these or of all, isn't before what says no last
+abbrev pub reads : Options → OptionId → OptionId → Bool
+reads options asked refused =
+    nat_le (last_of_both options refused NoIgnore) (last_of_both options asked Ignore)
+    && nat_le (last_use options.uses Unrestricted) (last_of_both options asked Ignore)
+
+-- which ignore files are read, and how
+abbrev pub sources_of : Options → Sources
+sources_of options = record {
+  dot = reads options IgnoreDot NoIgnoreDot;
+  git = reads options IgnoreVcs NoIgnoreVcs;
+  exclude = reads options IgnoreVcs NoIgnoreVcs && reads options IgnoreExclude NoIgnoreExclude;
+  global = reads options IgnoreVcs NoIgnoreVcs && reads options IgnoreGlobal NoIgnoreGlobal;
+  parents = reads options IgnoreParent NoIgnoreParent;
+  needs_repository = not (has options NoRequireGit);
+  ignores_case = has options IgnoreFileCaseInsensitive;
+}
+
+-- those that are named
+abbrev pub ignore_files_of : Options → List (Bor (List ℕ))
+ignore_files_of options = if has options NoIgnoreFiles then [] else texts_of options.ignore_files
+
+-- hidden files and folders are searched: an option says so, or `-u` does that is given twice, and
+-- nothing after it says no
+abbrev pub shows_hidden : Options → Bool
+shows_hidden options = has options Hidden || (nat_lt 1 options.unrestricted
+    && nat_lt (last_use options.uses NoHidden) (last_use options.uses Unrestricted))
+
+-- what options say of which files of folders are searched
+pub record AreFileOptions (options : Options) (files : FileOptions) : Type 0 where
+  pub globs : files.globs.now ≡ texts_of options.globs
+  pub iglobs : files.iglobs.now ≡ texts_of options.iglobs
+  pub glob_case : files.ignores_glob_case ≡ has options GlobCaseInsensitive
+  pub types : files.types ≡ options.types
+  pub depth : files.max_depth ≡ options.max_depth
+  pub size : files.max_filesize ≡ options.max_filesize
+  pub system : files.is_one_system ≡ has options OneFileSystem
+  pub sources : files.sources ≡ sources_of options
+  pub ignore_files : files.ignore_files.now ≡ ignore_files_of options
+  pub hidden : files.shows_hidden ≡ shows_hidden options
