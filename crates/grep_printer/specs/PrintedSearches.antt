@@ -19,6 +19,7 @@ use Rattle.grep_searcher.specs.declared.SearchError.TheVariants.{Config, Io}
 use Rattle.grep_printer.specs.CallParts.{Anything}
 use Rattle.grep_printer.specs.Formats.{AllGoOn, AreAlong, PrintedCall, Rules}
 use Rattle.grep_printer.specs.PrinterSteps.{FailsAlongPlan, HasFound, PrintsAll, scene_of}
+use Rattle.grep_printer.specs.declared.printed_search.Searched.{Searched}
 use Rattle.grep_printer.specs.declared.printer.Printer.{Printer}
 use Rattle.grep_printer.specs.declared.printer.PrinterSink.{PrinterSink}
 
@@ -124,3 +125,14 @@ module _ {F M W E : Type 0} (rules : Rules F) (output : E → Option (List ℕ))
         IsUnlessRefusedBy (search_errors output) (facts old.matcher) state.settings old result new
         (reader' ≡ reader) (IsSourcePrinted reader old result reader' new)
         (refusal_of state.settings (facts old.matcher).meaning)
+
+    -- so a printer printed what a search of a source reports to its sink, and it is known whether
+    -- that found what it is for
+    pub record IsPrintedBy (matcher : M) (path : Option (Bor (List ℕ))) (reader : R)
+        (old : Printer F W) (searched : Searched) (reader' : R) (new : Printer F W) : Type 0 where
+      pub begun : PrinterSink F M W
+      pub ended : PrinterSink F M W
+      pub begins : IsSinkFor rules old matcher path begun
+      pub searches : IsSearchPrinted reader begun searched.result reader' ended
+      pub has_match : searched.has_match ≡ rules.has_match ended.format
+      pub ends : ended.printer.now ≡ new

@@ -36,7 +36,7 @@ pub use colors::ColorSpecs;
 pub use config::{SearchSeparator, StandardBuilder};
 pub use format::Format;
 pub use json_printer::{Json, JsonBuilder, JsonFormat, JsonSink};
-pub use printed_search::search;
+pub use printed_search::{Searched, search};
 pub use printer::{Printer, PrinterSink};
 pub use replaced_format::ReplacedFormat;
 pub use separators::Separators;

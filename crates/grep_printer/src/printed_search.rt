@@ -1,9 +1,9 @@
 //! Searches of which a printer writes the reports.
 ghost use Rattle.std.specs.Prelude.{◌≡◌};
-ghost use Rattle.grep_printer.specs.PrintedSearches.{IsSearchPrinted};
+ghost use Rattle.grep_printer.specs.PrintedSearches.{IsPrintedBy, IsSearchPrinted};
 
 use crate::format::Format;
-use crate::printer::PrinterSink;
+use crate::printer::{Printer, PrinterSink};
 use grep_output::Output;
 use grep_searcher::laws::inputs_are_searched;
 use grep_searcher::{FindAt, SearchError, Searcher, Source};
@@ -26,4 +26,42 @@ pub fn search<F: Format, M: FindAt + Copy, H: Source, W: Output>(
 {
     inputs_are_searched::<Global, M, H, PrinterSink<'_, F, M, W>>(sink);
     searcher.search_reader(matcher, haystack, sink)
+}
+
+/// What came of one search.
+#[derive(Drop)]
+pub struct Searched {
+    /// Whether it found what it is for: a match, or what the printer's builder says.
+    pub has_match: bool,
+    /// Why it ended early, if it did.
+    pub result: Result<(), SearchError>,
+}
+
+impl<F: Format, W: Output> Printer<F, W> {
+    /// Searches what a source gives, and writes what is reported, or keeps it. The path, if there is
+    /// one, is what the format writes of it.
+    pub fn search<M: FindAt + Copy, H: Source>(
+        &mut self,
+        searcher: &mut Searcher,
+        matcher: M,
+        path: Option<&str>,
+        haystack: &mut H,
+    ) -> Searched
+        ensures settings { searcher.new.settings ≡ searcher.old.settings }
+        ensures printed { IsPrintedBy F.rules M.Error.output M.facts M.first_at W.step H.remaining
+            H.step searcher.old matcher path.entry haystack.old self.old result haystack.new self.new }
+    {
+        let mut sink = self.sink(matcher, path);
+        let result = search(searcher, matcher, haystack, &mut sink);
+        let has_match = end(sink);
+        Searched { has_match, result }
+    }
+}
+
+// Ends a sink, and returns whether its search found what it is for.
+fn end<F: Format, M: FindAt + Copy, W: Output>(sink: PrinterSink<'_, F, M, W>) -> bool
+    ensures left { sink.exit.0.now ≡ sink.entry.printer.now }
+    ensures has_match { result ≡ F.rules.has_match sink.entry.format }
+{
+    sink.has_match()
 }

@@ -1,7 +1,7 @@
 //! A printer of any format, and the sink of one search after another.
 ghost use Rattle.std.specs.Prelude.{◌≡◌, ◌⊎◌, ◌+◌, ◌<◌, ◌^◌, ◌&&◌, ◌||◌, [], true, false, IfErr};
 ghost use Rattle.std.specs.Prelude.{Err, MatchResult, Ok, OnErr, OnOk, ◌++◌};
-ghost use Rattle.grep_output.specs.Outputs.{Writes};
+ghost use Rattle.grep_output.specs.Outputs.{Writes, flushes};
 ghost use Rattle.std.specs.Prelude.{MatchBool, if◌then◌else◌, is_ok, length};
 ghost use Rattle.grep_output.specs.PendingTexts.{Flushes, Puts, PutsAll, pending_bytes};
 ghost use Rattle.grep_report.specs.SinkReports.{match_bytes};
@@ -168,6 +168,22 @@ impl<F, W: Output> Printer<F, W> {
             self.has_failed = true;
         }
         written
+    }
+
+    /// Flushes the writer. What isn't written yet stays so. An error is the writer's own.
+    pub fn flush_writer(&mut self) -> io::Result<()>
+        ensures flushed { W.step self.old.writer (flushes result) self.new.writer }
+        ensures pending { self.new.pending ≡ self.old.pending }
+        ensures format { self.new.format ≡ self.old.format }
+        ensures has_written { self.new.has_written ≡ self.old.has_written }
+        ensures has_failed { self.new.has_failed
+            ≡ (if is_ok result then self.old.has_failed else true) }
+    {
+        let flushed = self.writer.flush();
+        if flushed.is_err() {
+            self.has_failed = true;
+        }
+        flushed
     }
 
     // Writes what isn't written yet, and flushes the writer.
