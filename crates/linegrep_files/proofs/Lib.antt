@@ -1,8 +1,10 @@
 pub mod ChoiceLemmas
 pub mod GlobRuleLemmas
 pub mod FoundLemmas
+pub mod IgnoreFileLemmas
 pub mod PartLemmas
 pub mod PieceLemmas
 pub mod SuffixLemmas
+pub mod TreeLemmas
 pub mod TypeLemmas
 pub mod WalkLemmas

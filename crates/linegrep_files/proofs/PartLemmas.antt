@@ -6,8 +6,10 @@ use Rattle.std.specs.List.{All, slice_split}
 use Rattle.std.proofs.lemmas.List.{drop_more, take_more, take_all, take-append-drop}
 use Rattle.std.proofs.lemmas.List.Elements.{All-append}
 use Rattle.std.proofs.lemmas.List.Splits.{slice_split_at, slice_split_none}
-use Rattle.grep_ignore.specs.Classes.{is_empty}
-use Rattle.linegrep_files.specs.Folders.{parts_of}
+use Rattle.std.proofs.lemmas.Bool.{false≢true}
+use Rattle.grep_ignore.specs.Classes.{begins_with, is_empty}
+use Rattle.linegrep_files.specs.Folders.{without_slashes}
+use Rattle.linegrep_files.specs.Paths.{parts_of}
 
 -- no byte up to a position ends a part
 abbrev pub NoneEnds : ℕ → List ℕ → Type 0
@@ -55,3 +57,13 @@ parts-whole end text at all none =
 -- all that is after a position
 pub rest-is : (text : List ℕ) (at : ℕ) → take (length text - at) (drop at text) ≡ drop at text
 rest-is text at = take_all (length text - at) (drop at text) (omega (arith, length-drop at text))
+
+-- a text without the slashes at its start: of one that begins with one, and of one that doesn't
+pub slash-next : (text rest : List ℕ) → begins_with 47 text ≡ true → rest ≡ drop 1 text
+    → without_slashes rest ≡ without_slashes text
+slash-next [] rest begins is = absurd (false≢true begins)
+slash-next (byte ∷ more) rest begins is = rw begins (ap without_slashes is)
+
+pub slash-none : (text : List ℕ) → begins_with 47 text ≡ false → text ≡ without_slashes text
+slash-none [] other = refl
+slash-none (byte ∷ more) other = rw other refl

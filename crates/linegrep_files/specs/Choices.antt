@@ -2,13 +2,17 @@
 -- files types.
 use Rattle.std.specs.Prelude.{◌≡◌, ℕ, ◌-◌, Bool, true, false, not, ◌||◌, if◌then◌else◌, List}
 use Rattle.std.specs.Prelude.{◌++◌, length, MatchBool, None, Option, Some, is_some, slice_get}
+use Rattle.std.specs.Prelude.{Result, Vec}
+use Rattle.std.specs.Global.{Global}
 use Rattle.std.specs.Option.{option_or}
+use Rattle.std.specs.declared.io.Error.{Error}
 use Rattle.grep_ignore.specs.Classes.{begins_with}
 use Rattle.grep_ignore.specs.Decisions.{is_kept}
 use Rattle.grep_ignore.specs.Layers.{IsFirst}
 use Rattle.grep_ignore.specs.declared.rules.Decision.{Decision}
 use Rattle.linegrep_files.specs.FileTypes.{AreNoTypes, IsTypeChoice, are_none}
 use Rattle.linegrep_files.specs.Globs.{AreGlobs, IsGlobChoice, may_be_malformed_in, is_chosen}
+use Rattle.linegrep_files.specs.IgnoreFiles.{AreWithin}
 use Rattle.linegrep_files.specs.Limits.{AreLimits}
 use Rattle.linegrep_files.specs.declared.choices.Choices.{Choices}
 use Rattle.linegrep_files.specs.declared.file_options.FileOptions.{FileOptions}
@@ -69,12 +73,15 @@ pub record SaysTheSame (old new : Choices) : Type 0 where
   pub shows_hidden : new.shows_hidden ≡ old.shows_hidden
   pub ignores : IgnoresTheSame old.ignores new.ignores
 
--- in a folder choices say the same as outside of it, but for what its ignore files say
-pub record IsWithin (old new : Choices) : Type 0 where
+-- in a folder with some names, at a path below the one that is searched, choices say the same, but for
+-- the ignore files that count there, by what reading files may return
+pub record IsWithin (reads : List ℕ → Result (Vec ℕ Global) Error → Type 0) (folder below names : List ℕ)
+    (old new : Choices) : Type 0 where
   pub globs : new.globs ≡ old.globs
   pub types : new.types ≡ old.types
   pub limits : new.limits ≡ old.limits
   pub shows_hidden : new.shows_hidden ≡ old.shows_hidden
+  pub ignores : AreWithin reads folder below names old.ignores new.ignores
 
 -- what options say of files may be refused: one of the globs has brackets, braces or backslashes, types
 -- are named or defined, or a size is given

@@ -1,18 +1,17 @@
 -- What is found in a folder: of each name that listing it returned, what looking at its path did.
-use Rattle.std.specs.Prelude.{◌≡◌, ◌≢◌, ℕ, Bool, true, false, not, ◌||◌, ◌&&◌, ◌==◌, if◌then◌else◌}
-use Rattle.std.specs.Prelude.{List, [], ◌∷◌, ◌++◌, None, Option, Some, Result, Ok, Err, String, codes, string_bytes}
+use Rattle.std.specs.Prelude.{◌≡◌, ◌≢◌, ℕ, Bool, true, false, not, ◌||◌, ◌==◌, if◌then◌else◌}
+use Rattle.std.specs.Prelude.{List, [], ◌∷◌, None, Option, Some, Result, Ok, Err, String, codes, string_bytes}
 use Rattle.std.specs.Prelude.{◌+◌, ◌<◌, ◌≤◌, drop, filter, length, slice_index}
 use Rattle.std.specs.Global.{Global}
 use Rattle.std.specs.IoError.{error_kind}
-use Rattle.std.specs.List.{slice_split}
 use Rattle.std.specs.Str.{IsUtf8, bytes_eq}
 use Rattle.std.specs.declared.io.Error.{Error}
 use Rattle.std.specs.declared.io.ErrorKind.TheVariants.{FilesystemLoop, InvalidFilename}
 use Rattle.grep_ignore.specs.Classes.{is_empty}
-use Rattle.grep_ignore.specs.Lines.{ends_with}
 use Rattle.linegrep_files.specs.Choices.{IsChosen, IsUnmatchedChosen}
 use Rattle.linegrep_files.specs.FileIds.{is_beside}
 use Rattle.linegrep_files.specs.Limits.{allows_size}
+use Rattle.linegrep_files.specs.Paths.{joined, parts_of}
 use Rattle.linegrep_files.specs.declared.choices.Choices.{Choices}
 use Rattle.linegrep_files.specs.declared.entry.Entry.{Entry}
 use Rattle.linegrep_files.specs.declared.entry.Entry.TheVariants.{File, Folder, Unread}
@@ -20,10 +19,6 @@ use Rattle.linegrep_files.specs.declared.file_id.FileId.{FileId}
 use Rattle.linegrep_files.specs.declared.folders.Found.{Found}
 use Rattle.linegrep_files.specs.declared.folders.Kind.TheVariants.{File as IsFile, Folder as IsFolder}
 use Rattle.linegrep_files.specs.declared.limits.Limits.{Limits}
-
--- the parts of a text between one byte and the next, without empty ones
-abbrev pub parts_of : ℕ → List ℕ → List (List ℕ)
-parts_of end text = filter (λ part. not (is_empty part)) (slice_split (λ byte. byte == end) text)
 
 -- a name isn't that of the folder itself, nor of the one that it is in
 abbrev pub is_name : List ℕ → Bool
@@ -39,17 +34,17 @@ pub record IsRoot (path : List ℕ) (root : ℕ) : Type 0 where
   pub slashes : (k : ℕ) → root ≤ k → k < length path → slice_index path k ≡ 47
   pub other : (k : ℕ) → root ≡ k + 1 → slice_index path k ≢ 47
 
+-- the path of a folder below the walk's own, the path of which has so many bytes
+abbrev pub without_slashes : List ℕ → List ℕ
+without_slashes [] = []
+without_slashes (byte ∷ rest) = if byte == 47 then without_slashes rest else byte ∷ rest
+
+abbrev pub below_of : ℕ → List ℕ → List ℕ
+below_of root folder = without_slashes (drop root folder)
+
 -- how many folders below the walk's own a folder is, the path of which has so many bytes
 abbrev pub depth_of : ℕ → List ℕ → ℕ
 depth_of root folder = length (parts_of 47 (drop root folder))
-
--- a slash is between the path of a folder and a name
-abbrev pub needs_slash : List ℕ → Bool
-needs_slash folder = not (is_empty folder) && not (ends_with 47 folder)
-
--- the path of a name in a folder
-abbrev pub joined : List ℕ → List ℕ → List ℕ
-joined folder name = if needs_slash folder then folder ++ 47 ∷ name else folder ++ name
 
 -- the name of a folder for the system, which has none for an empty path
 abbrev pub name_of : List ℕ → List ℕ

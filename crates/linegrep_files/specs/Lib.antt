@@ -4,6 +4,9 @@ pub mod FileIds
 pub mod FileTypes
 pub mod Folders
 pub mod Globs
+pub mod IgnoreFiles
 pub mod Limits
 pub mod Orders
+pub mod Paths
+pub mod Trees
 pub mod Walks

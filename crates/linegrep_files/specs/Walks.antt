@@ -7,7 +7,7 @@ use Rattle.std.specs.List.Sorted.{IsPermutation, IsSortedBy}
 use Rattle.std.specs.Ordering.{is_lt}
 use Rattle.std.specs.declared.io.Error.{Error}
 use Rattle.linegrep_files.specs.Choices.{IsWithin, SaysTheSame}
-use Rattle.linegrep_files.specs.Folders.{AreFound, IsRoot, depth_of, listed_path, name_of, names_of}
+use Rattle.linegrep_files.specs.Folders.{AreFound, IsRoot, below_of, depth_of, listed_path, name_of, names_of}
 use Rattle.linegrep_files.specs.Folders.{path_of}
 use Rattle.linegrep_files.specs.Limits.{allows_depth}
 use Rattle.linegrep_files.specs.Orders.{is_by_time, order_of}
@@ -71,11 +71,12 @@ pub record GoesOn {S : Type 0} (old new : Walk S) : Type 0 where
 
 -- what is chosen of the names in a folder is added, by what its ignore files say too
 pub record AreNamesAdded {S : Type 0} (looks : S → Bool → List ℕ → Result Found Error → Type 0)
-    (old : Walk S) (choices : Choices) (folder names : List ℕ) (new : Walk S) (inside : Choices) : Type 0
+    (reads : S → List ℕ → Result (Vec ℕ Global) Error → Type 0) (old : Walk S) (choices : Choices) (folder names : List ℕ) (new : Walk S) (inside : Choices) : Type 0
   where
     pub within : Choices
     pub found : List Entry
-    pub are_within : IsWithin choices within
+    pub are_within : IsWithin (reads old.finder.system.now) folder (below_of old.finder.root folder)
+        names choices within
     pub are_found : AreFound (looks old.finder.system.now) old.finder.follows_links
         (string_bytes old.finder.top) within.limits within folder (names_of names) found
     pub are_added : AreAdded old found new
@@ -83,7 +84,8 @@ pub record AreNamesAdded {S : Type 0} (looks : S → Bool → List ℕ → Resul
 
 -- By what listing folders and looking at paths may return.
 module _ {S : Type 0} (lists : S → List ℕ → Result (Vec ℕ Global) Error → Type 0)
-    (looks : S → Bool → List ℕ → Result Found Error → Type 0) where
+    (looks : S → Bool → List ℕ → Result Found Error → Type 0)
+    (reads : S → List ℕ → Result (Vec ℕ Global) Error → Type 0) where
   -- what is in a folder is added to what is to be visited, unless the folder is too deep; or that it
   -- can't be read. `inside` is what is chosen there
   pub data IsEntered (old : Walk S) (choices : Choices) (folder : List ℕ) (new : Walk S)
@@ -101,7 +103,7 @@ module _ {S : Type 0} (lists : S → List ℕ → Result (Vec ℕ Global) Error 
     of_names : (names : Vec ℕ Global)
         → allows_depth choices.limits (depth_of old.finder.root folder) ≡ true
         → lists old.finder.system.now (listed_path folder) (Ok names)
-        → AreNamesAdded looks old choices folder names.items new inside
+        → AreNamesAdded looks reads old choices folder names.items new inside
         → IsEntered old choices folder new inside
 
 -- what is visited next is the last that was added; without one it is one of the files that are sorted by a

@@ -1,5 +1,5 @@
 //! Which of the files and folders of a folder are visited.
-ghost use Rattle.std.specs.Prelude.{◌≡◌, false, true, IfErr, IfOk};
+ghost use Rattle.std.specs.Prelude.{◌≡◌, false, true, IfErr, IfOk, OnOk};
 ghost use Rattle.linegrep_files.specs.Choices.{AreChoices, IsChosen, IsUnmatchedChosen, IsWithin};
 ghost use Rattle.linegrep_files.specs.Choices.{SaysTheSame, is_shown, may_be_refused};
 ghost use Rattle.linegrep_files.specs.Failures.{has_cause};
@@ -7,6 +7,7 @@ ghost use Rattle.linegrep_files.specs.Failures.{has_cause};
 use crate::class::begins_with;
 use crate::failures::Failure;
 use crate::file_options::FileOptions;
+use crate::folders::Folders;
 use crate::globs::{Choice, Globs};
 use crate::ignores::Ignores;
 use crate::limits::Limits;
@@ -59,11 +60,20 @@ impl<'r> Choices<'r> {
         self.ignores.begin(folder)
     }
 
-    /// Goes on in a folder with some names, which is at a path below the folder that is searched.
-    pub fn enter(&mut self, folder: &str, below: &str, names: &[u8]) -> Result<(), AllocError>
-        ensures { IsWithin self.old self.new }
+    /// Goes on in a folder with some names, which is at a path below the folder that is searched, as a
+    /// system has it.
+    pub fn enter<S: Folders>(
+        &mut self,
+        system: &S,
+        folder: &str,
+        below: &[u8],
+        names: &[u8],
+    ) -> Result<(), AllocError>
+        ensures { OnOk result (IsWithin (S.reads system.now) folder.now below.now names.now self.old
+            self.new) }
     {
-        self.ignores.enter(folder, below, names)
+        self.ignores.enter(system, folder, below, names)?;
+        Ok(())
     }
 
     /// How far the walk goes.

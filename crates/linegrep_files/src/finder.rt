@@ -5,15 +5,17 @@ ghost use Rattle.std.specs.Str.{IsUtf8};
 ghost use Rattle.linegrep_files.specs.Choices.{IsChosen, SaysTheSame};
 ghost use Rattle.grep_ignore.specs.Classes.{is_empty};
 ghost use Rattle.linegrep_files.specs.Folders.{AreFound, IsAt, IsFolderAt, IsFound, IsRoot};
-ghost use Rattle.linegrep_files.specs.Folders.{MayEnter, depth_of, is_name, joined, listed_path, name_of, names_of, needs_slash};
-ghost use Rattle.linegrep_files.specs.Folders.{parts_of, path_of};
+ghost use Rattle.linegrep_files.specs.Folders.{MayEnter, below_of, depth_of, is_name, listed_path, name_of, names_of};
+ghost use Rattle.linegrep_files.specs.Folders.{path_of};
+ghost use Rattle.linegrep_files.specs.Paths.{joined};
 
 use crate::choices::Choices;
-use crate::class::is_empty;
+use crate::class::{begins_with, is_empty, tail};
 use crate::entry::Entry;
 use crate::file_id::FileId;
 use crate::folders::{Folders, Found, Kind};
 use crate::limits::Limits;
+use crate::paths::{join, split_part};
 use crate::words::{NOT_UTF8, escape};
 use std::alloc::{AllocError, Global};
 use std::{io, str};
@@ -74,12 +76,22 @@ impl<'r, S: Folders> Finder<'r, S> {
         depth
     }
 
+    /// What it asks.
+    pub fn system(&self) -> &'r S
+        ensures { result ≡ self.now.system }
+    {
+        self.system
+    }
+
     /// The path of a folder from the walk's own on.
-    pub fn below<'f>(&self, folder: &'f str) -> &'f str {
-        folder
-            .get(self.root..)
-            .unwrap_or("")
-            .trim_start_matches('/')
+    pub fn below<'f>(&self, folder: &'f str) -> &'f [u8]
+        ensures { result.now ≡ below_of self.now.root folder.now }
+    {
+        let mut below = after(folder.as_bytes(), self.root);
+        while begins_with(below, b'/') {
+            below = tail(below);
+        }
+        below
     }
 
     /// The names in a folder, each with a NUL at its end.
@@ -277,18 +289,6 @@ impl<'r, S: Folders> Finder<'r, S> {
     }
 }
 
-/// The path of a name in a folder. An error is one of being out of memory.
-pub fn join(alloc: Global, folder: &str, name: &str) -> Result<String, AllocError>
-    ensures { IfOk result (λ path. string_bytes path ≡ joined folder.now name.now) }
-{
-    let mut path = String::from_str(alloc, folder)?;
-    if needs_slash(folder.as_bytes()) {
-        path.push_str("/")?;
-    }
-    path.push_str(name)?;
-    Ok(path)
-}
-
 /// The path at which a folder is listed. An error is one of being out of memory.
 pub fn listed_path(alloc: Global, folder: &str) -> Result<String, AllocError>
     ensures { IfOk result (λ path. string_bytes path ≡ listed_path folder.now) }
@@ -319,30 +319,6 @@ pub fn root_of(path: &[u8]) -> usize
         root -= 1;
     }
     root
-}
-
-// Whether a slash is between the path of a folder and a name.
-fn needs_slash(folder: &[u8]) -> bool
-    ensures { result ≡ needs_slash folder.now }
-{
-    let count = folder.len();
-    !is_empty(folder) && !(count > 0 && folder[count - 1] == b'/')
-}
-
-// The part of a text before the first of a byte, or all of it, and what follows that.
-fn split_part(text: &[u8], end: u8) -> (&[u8], &[u8])
-    ensures split { parts_of end text.now ≡ (if is_empty result.0.now then parts_of end result.1.now
-        else result.0.now ∷ parts_of end result.1.now) }
-    ensures shorter { text.now ≢ [] → length result.1.now < length text.now }
-{
-    let mut at = 0;
-    while at < text.len() {
-        if text[at] == end {
-            return (&text[..at], &text[at + 1..]);
-        }
-        at += 1;
-    }
-    (text, &[])
 }
 
 // What of a path is after some bytes.

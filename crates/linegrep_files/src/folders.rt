@@ -6,7 +6,7 @@ ghost use Rattle.linegrep_files.specs.declared.folders.Found.{Found};
 
 use crate::file_id::FileId;
 use std::alloc::Global;
-use std::fs::Metadata;
+use std::fs::{File, Metadata};
 use std::io::Read;
 use std::rt::Files;
 use std::{fs, io};
@@ -46,6 +46,9 @@ pub trait Folders {
     /// What looking at a path may return, by whether a link there is followed.
     ghost looks: { Self → Bool → List ℕ → Result Found Error → Type 0 };
 
+    /// What reading the file at a path may return.
+    ghost reads: { Self → List ℕ → Result (Vec ℕ Global) Error → Type 0 };
+
     /// The names in the folder at a path, each with a NUL at its end. An error is the system's own,
     /// or one of being out of memory.
     fn names(&self, alloc: Global, path: &str) -> io::Result<Vec<u8>>
@@ -54,6 +57,10 @@ pub trait Folders {
     /// What there is at a path. An error is the system's own.
     fn look(&self, path: &str, follows_links: bool) -> io::Result<Found>
         ensures { looks self.now follows_links path.now result };
+
+    /// What the file at a path has. An error is the system's own, or one of being out of memory.
+    fn read(&self, alloc: Global, path: &str) -> io::Result<Vec<u8>>
+        ensures { reads self.now path.now result };
 }
 
 /// The system. What it may return isn't known.
@@ -61,6 +68,8 @@ impl<R: Files> Folders for R {
     ghost lists = { λ _ _ _. Unit {0} };
 
     ghost looks = { λ _ _ _ _. Unit {0} };
+
+    ghost reads = { λ _ _ _. Unit {0} };
 
     fn names(&self, alloc: Global, path: &str) -> io::Result<Vec<u8>> {
         let mut names = Vec::new(alloc);
@@ -85,6 +94,13 @@ impl<R: Files> Folders for R {
             Ok(metadata) => Ok(Found::of(&metadata)),
             Err(error) => Err(error),
         }
+    }
+
+    fn read(&self, alloc: Global, path: &str) -> io::Result<Vec<u8>> {
+        let mut contents = Vec::new(alloc);
+        let mut file = File::open(self, path)?;
+        file.read_to_end(&mut contents)?;
+        Ok(contents)
     }
 }
 

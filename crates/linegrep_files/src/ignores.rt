@@ -1,9 +1,19 @@
 //! The ignore files that count in a folder, and what they say of what is in it.
-ghost use Rattle.std.specs.Prelude.{◌≡◌, IfOk};
+ghost use Rattle.std.specs.Prelude.{◌≡◌, ◌&&◌, ◌||◌, ◌++◌, ◌∷◌, [], ℕ, IfOk, List, OnOk, filter};
+ghost use Rattle.std.specs.Prelude.{if◌then◌else◌, length, nat_lt, MatchBool};
+ghost use Rattle.std.specs.Str.{bytes_eq};
+ghost use Rattle.grep_ignore.specs.declared.layers.Origin.TheVariants.{GitExclude};
 ghost use Rattle.linegrep_files.specs.Choices.{IgnoresTheSame, IsIgnoreDecision, repository_of};
+ghost use Rattle.linegrep_files.specs.IgnoreFiles.{AreFilesRead, AreRulesAdded, AreWithin, HasPlace};
+ghost use Rattle.linegrep_files.specs.IgnoreFiles.{HasSource, IsFileRead, depth_in, is_idle, is_top};
+ghost use Rattle.linegrep_files.specs.IgnoreFiles.{marks_of, path_below, with_mark};
+ghost use Rattle.linegrep_files.specs.Paths.{joined};
 
+use crate::class::is_empty;
 use crate::failures::Failure;
+use crate::folders::Folders;
 use crate::git_settings;
+use crate::paths::{join, split_part};
 use grep_ignore::{Decision, Layer, Layers, Misread, Origin, Rules};
 use std::alloc::AllocError;
 use std::{env, fs, io, str};
@@ -29,12 +39,16 @@ pub struct Sources {
 
 impl Sources {
     // Whether any is read.
-    fn has_any(&self) -> bool {
+    fn has_any(&self) -> bool
+        ensures { result ≡ (self.now.dot || self.now.git || self.now.exclude || self.now.global) }
+    {
         self.dot || self.has_git()
     }
 
     // Whether any of git's is read.
-    fn has_git(&self) -> bool {
+    fn has_git(&self) -> bool
+        ensures { result ≡ (self.now.git || self.now.exclude || self.now.global) }
+    {
         self.git || self.exclude || self.global
     }
 }
@@ -60,7 +74,9 @@ const ANY_MARKS: Marks = Marks {
 
 impl Marks {
     /// Those among names that end in a NUL each.
-    pub fn read(names: &[u8]) -> Marks {
+    pub fn read(names: &[u8]) -> Marks
+        ensures { result ≡ marks_of names.now }
+    {
         let mut marks = Marks {
             has_rgignore: false,
             has_ignore: false,
@@ -68,24 +84,43 @@ impl Marks {
             has_git: false,
             has_jj: false,
         };
-        for name in names.split(|byte| *byte == 0) {
-            if name.starts_with(b".") {
-                marks.add(name);
-            }
+        let mut rest = names;
+        while !is_empty(rest) {
+            let (name, later) = split_part(rest, b'\0');
+            rest = later;
+            marks.add(name);
         }
         marks
     }
 
-    fn add(&mut self, name: &[u8]) {
-        match name {
-            b".rgignore" => self.has_rgignore = true,
-            b".ignore" => self.has_ignore = true,
-            b".gitignore" => self.has_gitignore = true,
-            b".git" => self.has_git = true,
-            b".jj" => self.has_jj = true,
-            _ => {}
-        }
+    // Whether the folder is the top of a repository.
+    fn is_top(&self) -> bool
+        ensures { result ≡ is_top self.now }
+    {
+        self.has_git || self.has_jj
     }
+
+    fn add(&mut self, name: &[u8])
+        ensures { self.new ≡ with_mark self.old name.now }
+    {
+        self.has_rgignore = self.has_rgignore || is_same(name, b".rgignore");
+        self.has_ignore = self.has_ignore || is_same(name, b".ignore");
+        self.has_gitignore = self.has_gitignore || is_same(name, b".gitignore");
+        self.has_git = self.has_git || is_same(name, b".git");
+        self.has_jj = self.has_jj || is_same(name, b".jj");
+    }
+}
+
+fn both(one: bool, other: bool) -> bool
+    ensures { result ≡ (one && other) }
+{
+    one && other
+}
+
+fn is_same(name: &[u8], other: &[u8]) -> bool
+    ensures { result ≡ bytes_eq name.now other.now }
+{
+    name == other
 }
 
 /// The ignore files that count in a folder.
@@ -130,7 +165,7 @@ impl<'r> Ignores<'r> {
             warnings: Vec::new(rt.alloc()),
         };
         for path in paths {
-            ignores.add_file(Origin::Named, 0, path, true)?;
+            ignores.add_file(rt, Origin::Named, 0, path, true)?;
         }
         if sources.global {
             ignores.add_global()?;
@@ -181,37 +216,67 @@ impl<'r> Ignores<'r> {
             self.repositories.push(depth)?;
         }
         if self.sources.parents {
-            self.add_files(folder, ANY_MARKS)?;
+            self.add_files(self.rt, folder, ANY_MARKS)?;
         }
         Ok(())
     }
 
     /// Goes on in a folder with some names, which is at a path below the folder that is searched: what
-    /// its files say. `folder` is its path for the system.
-    pub fn enter(&mut self, folder: &str, below: &str, names: &[u8]) -> Result<(), AllocError> {
+    /// its files say, as a system has them. `folder` is its path for that.
+    pub fn enter<S: Folders>(
+        &mut self,
+        system: &S,
+        folder: &str,
+        below: &[u8],
+        names: &[u8],
+    ) -> Result<(), AllocError>
+        ensures { OnOk result (AreWithin (S.reads system.now) folder.now below.now names.now self.old
+            self.new) }
+    {
         if self.is_idle() {
             return Ok(());
         }
+        self.go_below(below)?;
+        let marks = Marks::read(names);
+        self.leave(marks.is_top())?;
+        self.add_files(system, folder, marks)?;
+        Ok(())
+    }
+
+    // Goes to the folder at a path below the one that is searched.
+    fn go_below(&mut self, below: &[u8]) -> Result<(), AllocError>
+        ensures path { OnOk result (self.new.path.items ≡ path_below self.old below.now) }
+        ensures place { HasSource self.old self.new }
+        ensures layers { self.new.layers ≡ self.old.layers }
+        ensures repositories { self.new.repositories ≡ self.old.repositories }
+    {
         self.path.truncate(self.root.saturating_add(1));
-        if !below.is_empty() {
-            self.path.extend_from_slice(below.as_bytes())?;
+        if !is_empty(below) {
+            self.path.extend_from_slice(below)?;
             self.path.push(b'/')?;
         }
+        Ok(())
+    }
+
+    // Leaves the folders that the folder isn't in, which may be the top of a repository.
+    fn leave(&mut self, is_top: bool) -> Result<(), AllocError>
+        ensures layers { self.new.layers
+            ≡ filter (λ layer. nat_lt layer.depth (depth_in self.old.path.items)) self.old.layers }
+        ensures repositories { OnOk result (self.new.repositories.items
+            ≡ (if is_top then filter (λ top. nat_lt top (depth_in self.old.path.items))
+            self.old.repositories.items ++ depth_in self.old.path.items ∷ []
+            else filter (λ top. nat_lt top (depth_in self.old.path.items))
+            self.old.repositories.items)) }
+        ensures place { HasSource self.old self.new }
+        ensures path { self.new.path ≡ self.old.path }
+    {
         let depth = self.depth();
         self.layers.leave(depth);
-        for _ in 0..self.repositories.len() {
-            match self.repositories.last() {
-                Some(last) if *last >= depth => {
-                    self.repositories.pop();
-                }
-                _ => break,
-            }
-        }
-        let marks = Marks::read(names);
-        if marks.has_git || marks.has_jj {
+        retain_above(&mut self.repositories, depth);
+        if is_top {
             self.repositories.push(depth)?;
         }
-        self.add_files(folder, marks)
+        Ok(())
     }
 
     /// What the files say of a name in the folder.
@@ -247,7 +312,9 @@ impl<'r> Ignores<'r> {
     }
 
     // Whether nothing is read.
-    fn is_idle(&self) -> bool {
+    fn is_idle(&self) -> bool
+        ensures { result ≡ is_idle self.now }
+    {
         !self.has_named && !self.sources.has_any()
     }
 
@@ -271,45 +338,83 @@ impl<'r> Ignores<'r> {
     }
 
     // How many folders the folder is in, and one more.
-    fn depth(&self) -> usize {
+    fn depth(&self) -> usize
+        ensures { result ≡ depth_in self.now.path.items }
+    {
         self.path.iter().filter(|byte| **byte == b'/').count()
     }
 
     // Adds the rules of the files that are in the folder, which has some names and a path for the
     // system.
-    fn add_files(&mut self, folder: &str, marks: Marks) -> Result<(), AllocError> {
+    fn add_files<S: Folders>(
+        &mut self,
+        system: &S,
+        folder: &str,
+        marks: Marks,
+    ) -> Result<(), AllocError>
+        ensures files { OnOk result (AreFilesRead (S.reads system.now) self.old.sources marks
+            (depth_in self.old.path.items) (length self.old.path.items) folder.now self.old.layers
+            self.new.layers) }
+        ensures place { HasPlace self.old self.new }
+    {
         let depth = self.depth();
-        if marks.has_git && self.sources.exclude {
-            self.add_exclude(depth, folder)?;
-        }
-        if marks.has_gitignore && self.sources.git {
-            self.add_in(Origin::GitIgnore, depth, folder, ".gitignore")?;
-        }
-        if marks.has_ignore && self.sources.dot {
-            self.add_in(Origin::Ignore, depth, folder, ".ignore")?;
-        }
-        if marks.has_rgignore && self.sources.dot {
-            self.add_in(Origin::RgIgnore, depth, folder, ".rgignore")?;
-        }
+        let sources = self.sources;
+        self.add_exclude(system, both(marks.has_git, sources.exclude), depth, folder)?;
+        self.add_in(
+            system,
+            both(marks.has_gitignore, sources.git),
+            Origin::GitIgnore,
+            depth,
+            folder,
+            ".gitignore",
+        )?;
+        self.add_in(
+            system,
+            both(marks.has_ignore, sources.dot),
+            Origin::Ignore,
+            depth,
+            folder,
+            ".ignore",
+        )?;
+        self.add_in(
+            system,
+            both(marks.has_rgignore, sources.dot),
+            Origin::RgIgnore,
+            depth,
+            folder,
+            ".rgignore",
+        )?;
         Ok(())
     }
 
     // Whether a folder has something with a name.
     fn has(&self, folder: &str, name: &str) -> Result<bool, AllocError> {
-        let path = join(self.rt, folder, name)?;
+        let path = join(self.rt.alloc(), folder, name)?;
         Ok(fs::metadata(self.rt, path.as_str()).is_ok())
     }
 
-    // Adds the rules of a file of a folder, if it is there.
-    fn add_in(
+    // Adds the rules of a file of a folder, if it is there and is read.
+    fn add_in<S: Folders>(
         &mut self,
+        system: &S,
+        is_read: bool,
         origin: Origin,
         depth: usize,
         folder: &str,
         name: &str,
-    ) -> Result<(), AllocError> {
-        let path = join(self.rt, folder, name)?;
-        self.add_file(origin, depth, path.as_str(), false)
+    ) -> Result<(), AllocError>
+        ensures file { OnOk result (MatchBool is_read (IsFileRead (S.reads system.now)
+            self.old.sources.ignores_case origin depth (length self.old.path.items)
+            (joined folder.now name.now) self.old.layers self.new.layers)
+            (self.new.layers ≡ self.old.layers)) }
+        ensures place { HasPlace self.old self.new }
+    {
+        if !is_read {
+            return Ok(());
+        }
+        let path = join(self.rt.alloc(), folder, name)?;
+        self.add_file(system, origin, depth, path.as_str(), false)?;
+        Ok(())
     }
 
     // Adds the rules of the user's file for all repositories, if it is there: that which git's settings
@@ -320,11 +425,11 @@ impl<'r> Ignores<'r> {
         let home = home.as_str();
         let config = config.as_str();
         match self.excludes_file(home, home, ".gitconfig")? {
-            Some(path) => self.add_file(Origin::GitGlobal, 0, path.as_str(), false),
+            Some(path) => self.add_file(self.rt, Origin::GitGlobal, 0, path.as_str(), false),
             None => match self.excludes_file(home, config, "git/config")? {
-                Some(path) => self.add_file(Origin::GitGlobal, 0, path.as_str(), false),
+                Some(path) => self.add_file(self.rt, Origin::GitGlobal, 0, path.as_str(), false),
                 None if config.is_empty() => Ok(()),
-                None => self.add_in(Origin::GitGlobal, 0, config, "git/ignore"),
+                None => self.add_in(self.rt, true, Origin::GitGlobal, 0, config, "git/ignore"),
             },
         }
     }
@@ -340,7 +445,7 @@ impl<'r> Ignores<'r> {
         if folder.is_empty() {
             return Ok(None);
         }
-        let path = join(self.rt, folder, name)?;
+        let path = join(self.rt.alloc(), folder, name)?;
         let Ok(contents) = fs::read(self.rt, path.as_str()) else {
             return Ok(None);
         };
@@ -350,44 +455,102 @@ impl<'r> Ignores<'r> {
         }
     }
 
-    // Adds the rules of the exclude file of the repository at a folder, if it is there.
-    fn add_exclude(&mut self, depth: usize, folder: &str) -> Result<(), AllocError> {
-        match repository_folder(self.rt, folder)? {
-            Some(folder) => {
-                self.add_in(Origin::GitExclude, depth, folder.as_str(), "info/exclude")
-            }
-            None => self.add_in(Origin::GitExclude, depth, folder, ".git/info/exclude"),
+    // Adds the rules of the exclude file of the repository at a folder, if it is there and is read.
+    fn add_exclude<S: Folders>(
+        &mut self,
+        system: &S,
+        is_read: bool,
+        depth: usize,
+        folder: &str,
+    ) -> Result<(), AllocError>
+        ensures file { OnOk result (MatchBool is_read ((path : List ℕ)
+            × IsFileRead (S.reads system.now) self.old.sources.ignores_case GitExclude depth
+            (length self.old.path.items) path self.old.layers self.new.layers)
+            (self.new.layers ≡ self.old.layers)) }
+        ensures place { HasPlace self.old self.new }
+    {
+        if !is_read {
+            return Ok(());
         }
+        let path = exclude_path(self.rt, folder)?;
+        self.add_file(system, Origin::GitExclude, depth, path.as_str(), false)?;
+        Ok(())
     }
 
     // Adds the rules of the file at a path, or what is wrong with it. A file that needn't be there may
     // be absent.
-    fn add_file(
+    fn add_file<S: Folders>(
         &mut self,
+        system: &S,
         origin: Origin,
         depth: usize,
         path: &str,
         is_needed: bool,
-    ) -> Result<(), AllocError> {
-        match fs::read(self.rt, path) {
-            Ok(contents) => self.add_rules(origin, depth, path, contents.as_slice()),
-            Err(error) if error.kind() == io::ErrorKind::OutOfMemory => Err(AllocError),
-            Err(error) if is_needed || !is_absent(&error) => {
-                self.warnings
-                    .push(Failure::of_cause(self.rt.alloc(), path, &error))?;
+    ) -> Result<(), AllocError>
+        ensures file { OnOk result (IsFileRead (S.reads system.now) self.old.sources.ignores_case
+            origin depth (length self.old.path.items) path.now self.old.layers self.new.layers) }
+        ensures place { HasPlace self.old self.new }
+    {
+        match system.read(self.rt.alloc(), path) {
+            Ok(contents) => {
+                self.add_rules(origin, depth, path, contents.as_slice())?;
                 Ok(())
             }
-            Err(_) => Ok(()),
+            Err(error) if error.kind() == io::ErrorKind::OutOfMemory => Err(AllocError),
+            Err(error) => {
+                self.warn_unread(path, &error, is_needed)?;
+                Ok(())
+            }
         }
     }
 
+    // Adds why the file at a path can't be read, unless it needn't be there and isn't.
+    fn warn_unread(
+        &mut self,
+        path: &str,
+        error: &io::Error,
+        is_needed: bool,
+    ) -> Result<(), AllocError>
+        ensures layers { self.new.layers ≡ self.old.layers }
+        ensures place { HasPlace self.old self.new }
+    {
+        if is_needed || !is_absent(error) {
+            return self.warn(Failure::of_cause(self.rt.alloc(), path, error));
+        }
+        Ok(())
+    }
+
+    // Adds what is wrong.
+    fn warn(&mut self, failure: Failure) -> Result<(), AllocError>
+        ensures layers { self.new.layers ≡ self.old.layers }
+        ensures place { HasPlace self.old self.new }
+    {
+        Ok(self.warnings.push(failure)?)
+    }
+
+    // Adds what is wrong with lines of a file at a path.
+    fn warn_of(&mut self, path: &str, misread: &[Misread]) -> Result<(), AllocError>
+        ensures layers { self.new.layers ≡ self.old.layers }
+        ensures place { HasPlace self.old self.new }
+    {
+        for line in misread {
+            self.warn(misread_failure(self.rt, path, line))?;
+        }
+        Ok(())
+    }
+
+    // Adds the rules of the lines of a file at a path.
     fn add_rules(
         &mut self,
         origin: Origin,
         depth: usize,
         path: &str,
         contents: &[u8],
-    ) -> Result<(), AllocError> {
+    ) -> Result<(), AllocError>
+        ensures rules { OnOk result (AreRulesAdded self.old.sources.ignores_case origin depth
+            (length self.old.path.items) contents.now self.old.layers self.new.layers) }
+        ensures place { HasPlace self.old self.new }
+    {
         let mut rules = Rules::new(self.rt.alloc());
         let mut misread = Vec::new(self.rt.alloc());
         rules.add_lines(
@@ -396,9 +559,7 @@ impl<'r> Ignores<'r> {
             self.sources.ignores_case,
             &mut misread,
         )?;
-        for line in &misread {
-            self.warnings.push(misread_failure(self.rt, path, line))?;
-        }
+        self.warn_of(path, misread.as_slice())?;
         if rules.is_empty() {
             return Ok(());
         }
@@ -407,8 +568,15 @@ impl<'r> Ignores<'r> {
             depth,
             start: self.path.len(),
             rules,
-        })
+        })?;
+        Ok(())
     }
+}
+
+fn retain_above(repositories: &mut Vec<usize>, depth: usize)
+    ensures { repositories.new.items ≡ filter (λ top. nat_lt top depth) repositories.old.items }
+{
+    repositories.retain(|top| *top < depth);
 }
 
 // How many bytes of the path of a folder are before what is in the current one, or if it isn't in that
@@ -449,7 +617,7 @@ fn config_folder(rt: &HostRuntime, home: &str) -> Result<String, AllocError> {
     if !folder.is_empty() || home.is_empty() {
         return Ok(folder);
     }
-    join(rt, home, ".config")
+    join(rt.alloc(), home, ".config")
 }
 
 // The path that a setting names, which may begin at a folder that a tilde stands for.
@@ -458,15 +626,23 @@ fn in_home(rt: &HostRuntime, home: &str, path: &[u8]) -> Result<Option<String>, 
         return Ok(None);
     };
     Ok(Some(match path.strip_prefix("~/") {
-        Some(rest) => join(rt, home, rest)?,
+        Some(rest) => join(rt.alloc(), home, rest)?,
         None => String::from_str(rt.alloc(), path)?,
     }))
+}
+
+// The path of the exclude file of the repository at a folder.
+fn exclude_path(rt: &HostRuntime, folder: &str) -> Result<String, AllocError> {
+    match repository_folder(rt, folder)? {
+        Some(folder) => join(rt.alloc(), folder.as_str(), "info/exclude"),
+        None => join(rt.alloc(), folder, ".git/info/exclude"),
+    }
 }
 
 // The path of the folder that a file in place of `.git` stands for, or if several worktrees share
 // one the path of that. There is none if `.git` is a folder itself.
 fn repository_folder(rt: &HostRuntime, folder: &str) -> Result<Option<String>, AllocError> {
-    let path = join(rt, folder, ".git")?;
+    let path = join(rt.alloc(), folder, ".git")?;
     let Some(named) = read_text(rt, path.as_str()) else {
         return Ok(None);
     };
@@ -474,7 +650,7 @@ fn repository_folder(rt: &HostRuntime, folder: &str) -> Result<Option<String>, A
         return Ok(None);
     };
     let named = resolve(rt, folder, named)?;
-    let path = join(rt, named.as_str(), "commondir")?;
+    let path = join(rt.alloc(), named.as_str(), "commondir")?;
     Ok(Some(match read_text(rt, path.as_str()) {
         Some(shared) => resolve(rt, named.as_str(), shared.as_str().trim_ascii())?,
         None => named,
@@ -494,16 +670,6 @@ fn resolve(rt: &HostRuntime, folder: &str, path: &str) -> Result<String, AllocEr
     if path.starts_with('/') {
         String::from_str(rt.alloc(), path)
     } else {
-        join(rt, folder, path)
+        join(rt.alloc(), folder, path)
     }
-}
-
-// The path of a name in a folder.
-fn join(rt: &HostRuntime, folder: &str, name: &str) -> Result<String, AllocError> {
-    let mut path = String::from_str(rt.alloc(), folder)?;
-    if !folder.is_empty() && !folder.ends_with('/') {
-        path.push('/')?;
-    }
-    path.push_str(name)?;
-    Ok(path)
 }

@@ -153,7 +153,7 @@ impl<'r, S: Folders> Walk<'r, S> {
     /// folder that is too deep.
     pub fn enter(&mut self, choices: &mut Choices<'_>, folder: &str)
         ensures entered { self.new.is_out_of_memory ≡ false
-            → IsEntered S.lists S.looks self.old choices.old folder.now self.new choices.new }
+            → IsEntered S.lists S.looks S.reads self.old choices.old folder.now self.new choices.new }
         ensures on { GoesOn self.old self.new }
     {
         match self.try_enter(choices, folder) {
@@ -163,7 +163,7 @@ impl<'r, S: Folders> Walk<'r, S> {
     }
 
     fn try_enter(&mut self, choices: &mut Choices<'_>, folder: &str) -> Result<(), AllocError>
-        ensures entered { OnOk result (IsEntered S.lists S.looks self.old choices.old folder.now
+        ensures entered { OnOk result (IsEntered S.lists S.looks S.reads self.old choices.old folder.now
             self.new choices.new) }
         ensures on { GoesOn self.old self.new }
     {
@@ -191,11 +191,16 @@ impl<'r, S: Folders> Walk<'r, S> {
         folder: &str,
         names: &[u8],
     ) -> Result<(), AllocError>
-        ensures added { OnOk result (AreNamesAdded S.looks self.old choices.old folder.now names.now
+        ensures added { OnOk result (AreNamesAdded S.looks S.reads self.old choices.old folder.now names.now
             self.new choices.new) }
         ensures on { GoesOn self.old self.new }
     {
-        choices.enter(folder, self.finder.below(folder), names)?;
+        choices.enter(
+            self.finder.system(),
+            folder,
+            self.finder.below(folder),
+            names,
+        )?;
         let found = self.finder.found(choices, folder, names)?;
         self.add(found)?;
         Ok(())

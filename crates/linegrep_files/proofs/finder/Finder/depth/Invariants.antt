@@ -1,5 +1,5 @@
 use Rattle.std.proofs.Common.{◌≡◌, ◌≤◌, ◌+◌, length, drop}
-use Rattle.linegrep_files.specs.Folders.{parts_of}
+use Rattle.linegrep_files.specs.Paths.{parts_of}
 use Rattle.linegrep_files.proofs.finder.Finder.depth.Given as goal
 
 abbrev pub invariant-loop-rest : goal.invariant-loop-rest

@@ -1,7 +1,7 @@
 use Rattle.std.proofs.Common.{◌+◌, arith}
 use Rattle.std.proofs.lemmas.Bool.{eq-eqb, ne_eqb}
 use Rattle.linegrep_files.proofs.PartLemmas.{none-ends, parts-at, parts-whole, rest-is}
-use Rattle.linegrep_files.proofs.finder.split_part.Goals as goal
+use Rattle.linegrep_files.proofs.paths.split_part.Goals as goal
 
 pub returns-then-text-at-clause-split : goal.returns-then-text-at-clause-split
 returns-then-text-at-clause-split c =

@@ -1,6 +1,6 @@
 use Rattle.std.proofs.Common.{length, ◌-◌, ◌≤◌, take}
 use Rattle.linegrep_files.proofs.PartLemmas.{NoneEnds}
-use Rattle.linegrep_files.proofs.finder.split_part.Given as goal
+use Rattle.linegrep_files.proofs.paths.split_part.Given as goal
 
 abbrev pub invariant-loop-at : goal.invariant-loop-at
 invariant-loop-at l = record {

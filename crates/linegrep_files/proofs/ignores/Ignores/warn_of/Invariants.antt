@@ -1,0 +1,9 @@
+use Rattle.std.proofs.Common.{◌≡◌}
+use Rattle.linegrep_files.specs.IgnoreFiles.{HasPlace}
+use Rattle.linegrep_files.proofs.ignores.Ignores.warn_of.Given as goal
+
+abbrev pub invariant-loop-line : goal.invariant-loop-line
+invariant-loop-line l = record {
+  layers : l.self.layers ≡ l.fn.self.layers;
+  place : HasPlace l.fn.self l.self;
+}

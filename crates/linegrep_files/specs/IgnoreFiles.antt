@@ -1,0 +1,133 @@
+-- Which ignore files count in a folder, and in which order: those of the folders that it is in, with its
+-- own, by what reading each returned.
+use Rattle.std.specs.Prelude.{◌≡◌, ◌≢◌, ℕ, ◌+◌, Bool, ◌&&◌, ◌||◌, ◌++◌, ◌∷◌, ◌==◌, [], List, length, take, codes}
+use Rattle.std.specs.Prelude.{not, if◌then◌else◌, MatchBool, Result, Ok, Err, Vec, filter, nat_lt}
+use Rattle.std.specs.Global.{Global}
+use Rattle.std.specs.List.{list_any}
+use Rattle.std.specs.Str.{bytes_eq}
+use Rattle.std.specs.declared.io.Error.{Error}
+use Rattle.grep_ignore.specs.Classes.{is_empty}
+use Rattle.grep_ignore.specs.Layers.{IsInserted}
+use Rattle.grep_ignore.specs.Lines.{AreOfLines, lines_of}
+use Rattle.grep_ignore.specs.declared.layers.Layer.{Layer}
+use Rattle.grep_ignore.specs.declared.layers.Origin.{Origin}
+use Rattle.grep_ignore.specs.declared.layers.Origin.TheVariants.{GitExclude, GitIgnore, Ignore, RgIgnore}
+use Rattle.grep_ignore.specs.declared.rules.Misread.{Misread}
+use Rattle.grep_ignore.specs.declared.rules.Rule.{Rule}
+use Rattle.linegrep_files.specs.Paths.{joined, parts_of}
+use Rattle.linegrep_files.specs.declared.ignores.Ignores.{Ignores}
+use Rattle.linegrep_files.specs.declared.ignores.Marks.{Marks}
+use Rattle.linegrep_files.specs.declared.ignores.Sources.{Sources}
+
+-- a listing has a name
+abbrev pub has_name : List ℕ → List ℕ → Bool
+has_name name listing = list_any (λ part. bytes_eq part name) (parts_of 0 listing)
+
+-- which names of interest a listing has
+abbrev pub marks_of : List ℕ → Marks
+marks_of listing = record {
+  has_rgignore = has_name (codes ".rgignore") listing;
+  has_ignore = has_name (codes ".ignore") listing;
+  has_gitignore = has_name (codes ".gitignore") listing;
+  has_git = has_name (codes ".git") listing;
+  has_jj = has_name (codes ".jj") listing;
+}
+
+-- a folder with such names is the top of a repository
+abbrev pub is_top : Marks → Bool
+is_top marks = marks.has_git || marks.has_jj
+
+-- a name is marked too, if it is one of those
+abbrev pub with_mark : Marks → List ℕ → Marks
+with_mark marks name = record {
+  has_rgignore = marks.has_rgignore || bytes_eq name (codes ".rgignore");
+  has_ignore = marks.has_ignore || bytes_eq name (codes ".ignore");
+  has_gitignore = marks.has_gitignore || bytes_eq name (codes ".gitignore");
+  has_git = marks.has_git || bytes_eq name (codes ".git");
+  has_jj = marks.has_jj || bytes_eq name (codes ".jj");
+}
+
+-- how many folders a folder is in, and one more, by its path with a slash at its end
+abbrev pub depth_in : List ℕ → ℕ
+depth_in path = length (filter (λ byte. byte == 47) path)
+
+-- the path of a folder at a path below the one that is searched, with a slash at its end
+abbrev pub path_below : Ignores → List ℕ → List ℕ
+path_below ignores below = if is_empty below then take (ignores.root + 1) ignores.path.items
+    else take (ignores.root + 1) ignores.path.items ++ below ++ 47 ∷ []
+
+-- no ignore file is read
+abbrev pub is_idle : Ignores → Bool
+is_idle ignores = not (ignores.has_named || ignores.sources.dot || ignores.sources.git
+    || ignores.sources.exclude || ignores.sources.global)
+
+-- which files are read stays, and where the folder is
+pub record HasSource (old new : Ignores) : Type 0 where
+  pub sources : new.sources ≡ old.sources
+  pub named : new.has_named ≡ old.has_named
+  pub start : new.start ≡ old.start
+  pub root : new.root ≡ old.root
+
+pub record HasPlace (old new : Ignores) : Type 0 where
+  pub source : HasSource old new
+  pub path : new.path ≡ old.path
+  pub repositories : new.repositories ≡ old.repositories
+
+-- the rules of the lines of a file count, if it has some, as those of a folder of a depth, the path of
+-- which has so many bytes
+pub record AreRulesAdded (ignores_case : Bool) (origin : Origin) (depth start : ℕ) (contents : List ℕ)
+    (old new : List Layer) : Type 0 where
+  pub rules : List Rule
+  pub faults : List Misread
+  pub are : AreOfLines ignores_case 1 (lines_of contents) rules faults
+  pub none : rules ≡ [] → new ≡ old
+  pub some : rules ≢ []
+      → IsInserted old (record { origin = origin; depth = depth; start = start; rules = rules }) new
+
+-- By what reading a file may return.
+module _ (reads : List ℕ → Result (Vec ℕ Global) Error → Type 0) where
+  -- the file at a path was read, and the rules of its lines count
+  pub data IsFileRead (ignores_case : Bool) (origin : Origin) (depth start : ℕ) (path : List ℕ)
+      (old : List Layer) : List Layer → Type 0 where
+    of_unread : (error : Error) → reads path (Err error)
+        → IsFileRead ignores_case origin depth start path old old
+    of_lines : {new : List Layer} (contents : Vec ℕ Global) → reads path (Ok contents)
+        → AreRulesAdded ignores_case origin depth start contents.items old new
+        → IsFileRead ignores_case origin depth start path old new
+
+  -- the files of a folder were read that it has and that are asked for
+  pub record AreFilesRead (sources : Sources) (marks : Marks) (depth start : ℕ) (folder : List ℕ)
+      (old new : List Layer) : Type 0 where
+    pub with_exclude : List Layer
+    pub with_git : List Layer
+    pub with_ignore : List Layer
+    pub exclude : MatchBool (marks.has_git && sources.exclude) ((path : List ℕ)
+        × IsFileRead sources.ignores_case GitExclude depth start path old with_exclude)
+        (with_exclude ≡ old)
+    pub git : MatchBool (marks.has_gitignore && sources.git)
+        (IsFileRead sources.ignores_case GitIgnore depth start (joined folder (codes ".gitignore"))
+        with_exclude with_git) (with_git ≡ with_exclude)
+    pub ignore : MatchBool (marks.has_ignore && sources.dot)
+        (IsFileRead sources.ignores_case Ignore depth start (joined folder (codes ".ignore"))
+        with_git with_ignore) (with_ignore ≡ with_git)
+    pub rgignore : MatchBool (marks.has_rgignore && sources.dot)
+        (IsFileRead sources.ignores_case RgIgnore depth start (joined folder (codes ".rgignore"))
+        with_ignore new) (new ≡ with_ignore)
+
+  -- in a folder with some names, at a path below the one that is searched, the files count that did in the
+  -- folders that it is in, and its own. It is in the repositories that they are in, or is one's top
+  pub record AreOfFolder (folder below names : List ℕ) (old new : Ignores) : Type 0 where
+    pub source : HasSource old new
+    pub path : new.path.items ≡ path_below old below
+    pub repositories : new.repositories.items ≡ (if is_top (marks_of names)
+        then filter (λ top. nat_lt top (depth_in new.path.items)) old.repositories.items
+        ++ depth_in new.path.items ∷ []
+        else filter (λ top. nat_lt top (depth_in new.path.items)) old.repositories.items)
+    pub layers : AreFilesRead old.sources (marks_of names) (depth_in new.path.items)
+        (length new.path.items) folder
+        (filter (λ layer. nat_lt layer.depth (depth_in new.path.items)) old.layers) new.layers
+
+  -- unless no ignore file is read
+  abbrev pub AreWithin : List ℕ → List ℕ → List ℕ → Ignores → Ignores → Type 0
+  AreWithin folder below names old new =
+      MatchBool (is_idle old) (new ≡ old) (AreOfFolder folder below names old new)
