@@ -1,6 +1,6 @@
 //! A format of which each part that matches is replaced.
 ghost use Rattle.std.specs.Prelude.{◌≡◌, ◌+◌, ◌<◌, ◌^◌, [], false, true, length};
-ghost use Rattle.grep_output.specs.PendingTexts.{Adds, pending_bytes};
+ghost use Rattle.grep_output.specs.PendingTexts.{Adds};
 ghost use Rattle.grep_printer.specs.CallParts.{asked_bytes, asked_start};
 ghost use Rattle.grep_printer.specs.MatchedParts.{AreInOrder};
 ghost use Rattle.grep_printer.specs.ReplacedTexts.{end_of_line, replaced_report};
@@ -190,7 +190,7 @@ impl<'t, F: Format, M: CapturesAt + Copy> ReplacedFormat<'t, F, M> {
         let replaced = match replacement.replace(text.allocator(), report.bytes, parts) {
             Ok(replaced) if fits(report.offset, &replaced.bytes) => replaced,
             _ => {
-                fail(text);
+                text.fail();
                 return true;
             }
         };
@@ -205,14 +205,4 @@ fn fits(offset: u64, bytes: &[u8]) -> bool
     ensures { result ≡ true → offset + length bytes.now < 2 ^ 64 }
 {
     offset.checked_add(bytes.len() as u64).is_some()
-}
-
-// Notes that a text has failed.
-fn fail(text: &mut Pending)
-    ensures before { text.new.before ≡ text.old.before }
-    ensures has_failed { text.new.has_failed ≡ true }
-{
-    let start = text.len() - text.text_len();
-    let bytes = text.take_out();
-    text.put_back(bytes, start, true)
 }

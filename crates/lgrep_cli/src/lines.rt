@@ -1,10 +1,8 @@
-//! Lines and numbers, each written at once.
-ghost use Rattle.std.specs.Prelude.{◌≡◌, ◌∷◌, ◌++◌, [], decimal};
+//! Lines that are written at once.
 ghost use Rattle.lgrep_cli.specs.PrintedTexts.{ended_line, numbered_line};
 ghost use Rattle.grep_output.specs.Outputs.{Writes};
 
-use grep_output::{Output, write_all};
-use itoa::write_digits;
+use grep_output::{Output, write_all, write_number};
 use std::io;
 
 // Writes a line after its number, if it has one, and a mark.
@@ -20,16 +18,6 @@ pub(crate) fn write_line<W: Output>(
         write_number(writer, number, mark)?;
     }
     write_ended(writer, line)
-}
-
-// Writes a number and a mark.
-pub(crate) fn write_number<W: Output>(writer: &mut W, number: u64, mark: u8) -> io::Result<()>
-    ensures { Writes W.step writer.old (decimal number ++ mark ∷ []) result writer.new }
-{
-    // A number of 64 bits has 20 digits at most.
-    let mut text = [mark; 21];
-    let start = write_digits(number, &mut text, 20);
-    write_all(writer, &text[start..])
 }
 
 // Writes a line, and a line feed if it has none.

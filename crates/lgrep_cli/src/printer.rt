@@ -1,7 +1,6 @@
 //! The sink that puts together the text of what is reported.
 //!
-//! A printer of grep_printer asks for memory in the middle of a search; a run is out of memory only
-//! before anything is read, so this one writes a line piece by piece where there is no room for it.
+//! A printer of grep_printer owns its writer, and a run is lent one.
 ghost use Rattle.std.specs.Prelude.{◌≡◌, [], true, false, Ok, Err, MatchResult};
 ghost use Rattle.grep_matcher.specs.Lines.{lines};
 ghost use Rattle.lgrep_cli.specs.PrintedTexts.{match_text, next_number};

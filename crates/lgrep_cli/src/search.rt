@@ -9,12 +9,11 @@ ghost use Rattle.grep_output.specs.Outputs.{Writes};
 ghost use Rattle.lgrep_cli.specs.ProgramRuns.{IsPrinted, IsFailure, IsProgramRun, IsPathRun};
 ghost use Rattle.lgrep_cli.specs.ProgramRuns.{IsRunAt};
 
-use crate::lines::write_number;
 use crate::options::Options;
 use crate::pending::Pending;
 use crate::printer::Printer;
 use grep_matcher::LiteralMatcher;
-use grep_output::Output;
+use grep_output::{Output, write_number};
 use grep_searcher::laws::{
     inputs_are_searched, matches_are_matched_lines, numbers_change_no_count, reader_searches_run,
     runs_count_matches,
