@@ -1,6 +1,6 @@
 //! A format of which each part that matches is replaced.
 ghost use Rattle.std.specs.Prelude.{◌≡◌, ◌+◌, ◌<◌, ◌^◌, [], false, true, length};
-ghost use Rattle.grep_output.specs.PendingTexts.{Adds};
+ghost use Rattle.grep_output.specs.PendingTexts.{Adds, pending_bytes};
 ghost use Rattle.grep_printer.specs.CallParts.{asked_bytes, asked_start};
 ghost use Rattle.grep_printer.specs.MatchedParts.{AreInOrder};
 ghost use Rattle.grep_printer.specs.ReplacedTexts.{end_of_line, replaced_report};
