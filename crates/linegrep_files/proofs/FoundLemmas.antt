@@ -7,10 +7,12 @@ use Rattle.std.specs.declared.io.Error.{Error}
 use Rattle.std.proofs.lemmas.Bool.{false≢true, true≢false}
 use Rattle.std.proofs.lemmas.List.{append-nil}
 use Rattle.grep_ignore.specs.Classes.{is_empty}
-use Rattle.linegrep_files.specs.Choices.{IsChosen, IsUnmatchedChosen, SaysTheSame, of_exclusion, of_glob}
+use Rattle.linegrep_files.specs.Choices.{IsChosen, IsUnmatchedChosen, SaysTheSame, of_exclusion}
+use Rattle.linegrep_files.specs.Choices.{of_glob}
 use Rattle.linegrep_files.specs.Choices.{is_shown, of_unmatched}
 use Rattle.linegrep_files.specs.Folders.{AreFound, IsAt, IsFound, found_name, is_name, names_of}
-use Rattle.linegrep_files.specs.Folders.{of_chosen, of_escaped, of_left_out, of_nothing, of_unescaped}
+use Rattle.linegrep_files.specs.Folders.{of_chosen, of_escaped, of_left_out, of_nothing}
+use Rattle.linegrep_files.specs.Folders.{of_unescaped}
 use Rattle.linegrep_files.specs.Folders.{is_folder, no_name, other_name, path_of}
 use Rattle.linegrep_files.specs.Paths.{joined, parts_of}
 use Rattle.std.specs.Str.{IsUtf8}

@@ -1,16 +1,21 @@
 -- Which names of interest a listing has.
-use Rattle.std.proofs.Common.{◌≡◌, ℕ, Bool, true, false, ◌||◌, ◌&&◌, ◌++◌, MatchBool, filter, length, nat_lt, List, [], ◌∷◌, refl, sym, ap, subst, ◌∙◌, if◌then◌else◌, codes}
+use Rattle.std.proofs.Common.{◌≡◌, ℕ, Bool, true, false, ◌||◌, ◌&&◌, ◌++◌, MatchBool, filter}
+use Rattle.std.proofs.Common.{length, nat_lt, List, [], ◌∷◌, refl, sym, ap, subst, ◌∙◌}
+use Rattle.std.proofs.Common.{if◌then◌else◌, codes}
 use Rattle.std.specs.List.{list_any}
 use Rattle.std.specs.Str.{bytes_eq}
 use Rattle.std.proofs.lemmas.Bool.{false≢true}
 use Rattle.grep_ignore.specs.Classes.{is_empty}
-use Rattle.linegrep_files.specs.IgnoreFiles.{AreFilesRead, AreWithin, HasPlace, HasSource, IsFileRead}
-use Rattle.linegrep_files.specs.IgnoreFiles.{depth_in, has_name, is_idle, is_top, marks_of, path_below}
+use Rattle.linegrep_files.specs.IgnoreFiles.{AreFilesRead, AreWithin, HasPlace, HasSource}
+use Rattle.linegrep_files.specs.IgnoreFiles.{IsFileRead}
+use Rattle.linegrep_files.specs.IgnoreFiles.{depth_in, has_name, is_idle, is_top, marks_of}
+use Rattle.linegrep_files.specs.IgnoreFiles.{path_below}
 use Rattle.linegrep_files.specs.IgnoreFiles.{with_mark}
 use Rattle.linegrep_files.specs.declared.ignores.Ignores.{Ignores}
 use Rattle.grep_ignore.specs.declared.layers.Layer.{Layer}
 use Rattle.grep_ignore.specs.declared.layers.Origin.{Origin}
-use Rattle.grep_ignore.specs.declared.layers.Origin.TheVariants.{GitExclude, GitIgnore, Ignore, RgIgnore}
+use Rattle.grep_ignore.specs.declared.layers.Origin.TheVariants.{GitExclude, GitIgnore, Ignore}
+use Rattle.grep_ignore.specs.declared.layers.Origin.TheVariants.{RgIgnore}
 use Rattle.std.specs.Prelude.{Result, Vec}
 use Rattle.std.specs.Global.{Global}
 use Rattle.std.specs.declared.io.Error.{Error}

@@ -1,6 +1,7 @@
 -- The texts of pieces of a glob, one after another.
 use Rattle.std.proofs.Common.{◌≡◌, ℕ, ◌<◌, Bool, true, false, ap, sym, ◌∙◌, replicate}
-use Rattle.std.proofs.Common.{List, [], ◌∷◌, ◌++◌, length, refl, subst, arith, length-append, inl, inr}
+use Rattle.std.proofs.Common.{List, [], ◌∷◌, ◌++◌, length, refl, subst, arith, length-append, inl}
+use Rattle.std.proofs.Common.{inr}
 use Rattle.std.proofs.Common.{append_assoc}
 use Rattle.std.proofs.lemmas.Bool.{false≢true, or_right}
 use Rattle.std.specs.List.{list_any}
@@ -12,7 +13,8 @@ use Rattle.grep_ignore.proofs.GlobLemmas.{piece-shorter as ignore-shorter}
 use Rattle.grep_ignore.specs.declared.glob.Step.{Step}
 use Rattle.grep_ignore.specs.declared.wildcards.Piece.{Piece}
 use Rattle.grep_ignore.specs.declared.wildcards.Piece.TheVariants.{Folders, Many, One}
-use Rattle.linegrep_files.specs.Globs.{ArePieceTexts, IsPieceText, has_brackets, has_stars, of_class, of_other, of_stars}
+use Rattle.linegrep_files.specs.Globs.{ArePieceTexts, IsPieceText, has_brackets, has_stars}
+use Rattle.linegrep_files.specs.Globs.{of_class, of_other, of_stars}
 
 -- the text of a piece after those of some others
 pub texts-more : (ignores begins : Bool) (text : List ℕ) (pieces : List Piece) (middle : Bool) (mid : List ℕ)

@@ -1,5 +1,6 @@
 -- Texts that end in others.
-use Rattle.std.proofs.Common.{◌≡◌, ℕ, ◌-◌, List, ◌++◌, ◌∙◌, ap, sym, drop, take, append_assoc, subst}
+use Rattle.std.proofs.Common.{◌≡◌, ℕ, ◌-◌, List, ◌++◌, ◌∙◌, ap, sym, drop, take, append_assoc}
+use Rattle.std.proofs.Common.{subst}
 use Rattle.std.proofs.Common.{arith, length, length-drop}
 use Rattle.std.proofs.lemmas.List.{take-append-drop, take_all}
 use Rattle.std.specs.Prelude.{Err, IfOk, Ok, Result}

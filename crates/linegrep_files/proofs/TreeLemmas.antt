@@ -1,5 +1,6 @@
 -- What a walk visits is what is visited of its folder.
-use Rattle.std.proofs.Common.{◌≡◌, ℕ, Bool, false, ◌++◌, ◌∷◌, ◌∙◌, [], List, reverse, refl, sym, ap, subst}
+use Rattle.std.proofs.Common.{◌≡◌, ℕ, Bool, false, ◌++◌, ◌∷◌, ◌∙◌, [], List, reverse, refl, sym, ap}
+use Rattle.std.proofs.Common.{subst}
 use Rattle.std.proofs.Common.{append_assoc, append-nil, filter, length, map, arith}
 use Rattle.std.proofs.lemmas.Bool.{true≢false}
 use Rattle.std.specs.Borrow.{Bor}
@@ -11,9 +12,12 @@ use Rattle.std.proofs.lemmas.List.Sorted.{length_permutation}
 use Rattle.std.specs.declared.io.Error.{Error}
 use Rattle.linegrep_files.specs.Folders.{path_of}
 use Rattle.linegrep_files.specs.Orders.{is_by_time}
-use Rattle.linegrep_files.specs.Trees.{AreVisited, IsFolderOf, IsWalked, is_deep, is_names, is_unread}
-use Rattle.linegrep_files.specs.Trees.{next_entry, next_folder, no_entry, no_visit, of_file, of_folder}
-use Rattle.linegrep_files.specs.Walks.{IsBegun, IsEntered, IsPopped, of_dated, of_deep, of_end, of_memory}
+use Rattle.linegrep_files.specs.Trees.{AreVisited, IsFolderOf, IsWalked, is_deep, is_names}
+use Rattle.linegrep_files.specs.Trees.{is_unread}
+use Rattle.linegrep_files.specs.Trees.{next_entry, next_folder, no_entry, no_visit, of_file}
+use Rattle.linegrep_files.specs.Trees.{of_folder}
+use Rattle.linegrep_files.specs.Walks.{IsBegun, IsEntered, IsPopped, of_dated, of_deep, of_end}
+use Rattle.linegrep_files.specs.Walks.{of_memory}
 use Rattle.linegrep_files.specs.Walks.{of_names, of_pending, of_unread, waits}
 use Rattle.linegrep_files.specs.declared.walk.Route.{Route}
 use Rattle.linegrep_files.specs.declared.walk.Walk.{Walk}

@@ -1,5 +1,5 @@
--- Which of the files and folders of a folder are visited: globs decide first, then ignore files, and of
--- files types.
+-- Which of the files and folders of a folder are visited: globs decide first, then ignore files,
+-- and of files types.
 use Rattle.std.specs.Prelude.{◌≡◌, ℕ, ◌-◌, Bool, true, false, not, ◌||◌, if◌then◌else◌, List}
 use Rattle.std.specs.Prelude.{◌++◌, length, MatchBool, None, Option, Some, is_some, slice_get}
 use Rattle.std.specs.Prelude.{Result, Vec}
@@ -73,8 +73,8 @@ pub record SaysTheSame (old new : Choices) : Type 0 where
   pub shows_hidden : new.shows_hidden ≡ old.shows_hidden
   pub ignores : IgnoresTheSame old.ignores new.ignores
 
--- in a folder with some names, at a path below the one that is searched, choices say the same, but for
--- the ignore files that count there, by what reading files may return
+-- in a folder with some names, at a path below the one that is searched, choices say the same, but
+-- for the ignore files that count there, by what reading files may return
 pub record IsWithin (reads : List ℕ → Result (Vec ℕ Global) Error → Type 0) (folder below names : List ℕ)
     (old new : Choices) : Type 0 where
   pub globs : new.globs ≡ old.globs
@@ -83,8 +83,8 @@ pub record IsWithin (reads : List ℕ → Result (Vec ℕ Global) Error → Type
   pub shows_hidden : new.shows_hidden ≡ old.shows_hidden
   pub ignores : AreWithin reads folder below names old.ignores new.ignores
 
--- what options say of files may be refused: one of the globs has brackets, braces or backslashes, types
--- are named or defined, or a size is given
+-- what options say of files may be refused: one of the globs has brackets, braces or backslashes,
+-- types are named or defined, or a size is given
 abbrev pub may_be_refused : FileOptions → Bool
 may_be_refused options = may_be_malformed_in options.globs.now || may_be_malformed_in options.iglobs.now
     || not (are_none options.types) || is_some options.max_filesize

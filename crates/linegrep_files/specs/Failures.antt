@@ -1,5 +1,6 @@
 -- What goes wrong.
-use Rattle.std.specs.Prelude.{ℕ, Bool, List, None, Option, Some, String, codes, is_some, string_bytes}
+use Rattle.std.specs.Prelude.{ℕ, Bool, List, None, Option, Some, String, codes, is_some}
+use Rattle.std.specs.Prelude.{string_bytes}
 use Rattle.std.specs.Global.{Global}
 use Rattle.linegrep_files.specs.declared.failures.Failure.{Failure}
 

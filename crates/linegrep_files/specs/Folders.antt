@@ -1,6 +1,7 @@
 -- What is found in a folder: of each name that listing it returned, what looking at its path did.
 use Rattle.std.specs.Prelude.{◌≡◌, ◌≢◌, ℕ, Bool, true, false, not, ◌||◌, ◌==◌, if◌then◌else◌}
-use Rattle.std.specs.Prelude.{List, [], ◌∷◌, None, Option, Some, Result, Ok, Err, String, codes, string_bytes}
+use Rattle.std.specs.Prelude.{List, [], ◌∷◌, None, Option, Some, Result, Ok, Err, String, codes}
+use Rattle.std.specs.Prelude.{string_bytes}
 use Rattle.std.specs.Prelude.{◌+◌, ◌<◌, ◌≤◌, drop, filter, length, slice_index}
 use Rattle.std.specs.Global.{Global}
 use Rattle.std.specs.IoError.{error_kind}
@@ -17,7 +18,8 @@ use Rattle.linegrep_files.specs.declared.entry.Entry.{Entry}
 use Rattle.linegrep_files.specs.declared.entry.Entry.TheVariants.{File, Folder, Unread}
 use Rattle.linegrep_files.specs.declared.file_id.FileId.{FileId}
 use Rattle.linegrep_files.specs.declared.folders.Found.{Found}
-use Rattle.linegrep_files.specs.declared.folders.Kind.TheVariants.{File as IsFile, Folder as IsFolder}
+use Rattle.linegrep_files.specs.declared.folders.Kind.TheVariants.{File as IsFile}
+use Rattle.linegrep_files.specs.declared.folders.Kind.TheVariants.{Folder as IsFolder}
 use Rattle.linegrep_files.specs.declared.limits.Limits.{Limits}
 
 -- a name isn't that of the folder itself, nor of the one that it is in
@@ -65,20 +67,20 @@ is_folder (File path) = false
 is_folder (Folder path) = true
 is_folder (Unread path error) = false
 
--- a folder at a path, or that it can't be read, as a link that was followed and leads to a folder that it
--- is in
+-- a folder at a path, or that it can't be read, as a link that was followed and leads to a folder
+-- that it is in
 abbrev pub IsFolderAt : Bool → List ℕ → Entry → Type 0
 IsFolderAt follows path (File text) = ⊥
 IsFolderAt follows path (Folder text) = string_bytes text ≡ path
 IsFolderAt follows path (Unread text error) = (follows ≡ true) × (string_bytes text ≡ path)
     × (error_kind error ≡ FilesystemLoop)
 
--- By what looking at paths may return, with whether links are followed; `top` is the path of the walk's
--- own folder.
+-- By what looking at paths may return, with whether links are followed; `top` is the path of the
+-- walk's own folder.
 module _ (looks : Bool → List ℕ → Result Found Error → Type 0) (follows : Bool) (top : List ℕ)
     (limits : Limits) where
-  -- a folder may be entered, by the file system that it is on: that of the walk's own, unless that isn't
-  -- asked or can't be told
+  -- a folder may be entered, by the file system that it is on: that of the walk's own, unless that
+  -- isn't asked or can't be told
   pub data MayEnter (id : FileId) : Bool → Type 0 where
     of_any : limits.is_one_system ≡ false → MayEnter id true
     of_system : (found : Found) → limits.is_one_system ≡ true → looks true top (Ok found)
@@ -86,9 +88,9 @@ module _ (looks : Bool → List ℕ → Result Found Error → Type 0) (follows 
     of_untold : (error : Error) → limits.is_one_system ≡ true → looks true top (Err error)
         → MayEnter id true
 
-  -- what is found at a path by what looking at it returned: a regular file that isn't too large, a folder
-  -- that may be entered, or that it can't be read. A link that was followed can't be if it leads to a
-  -- folder that it is in
+  -- what is found at a path by what looking at it returned: a regular file that isn't too large, a
+  -- folder that may be entered, or that it can't be read. A link that was followed can't be if it
+  -- leads to a folder that it is in
   pub data IsAt (path : List ℕ) : Option Entry → Type 0 where
     of_file : (found : Found) (text : String Global) → looks follows path (Ok found)
         → found.kind ≡ IsFile → allows_size limits found.size ≡ true → string_bytes text ≡ path
@@ -105,8 +107,8 @@ module _ (looks : Bool → List ℕ → Result Found Error → Type 0) (follows 
     of_other : (found : Found) → looks follows path (Ok found) → found.kind ≢ IsFile
         → found.kind ≢ IsFolder → IsAt path None
 
-  -- what is found that a name in a folder stands for: what is at its path, if that is chosen; or if the
-  -- name isn't UTF-8 and is chosen, that it can't be read
+  -- what is found that a name in a folder stands for: what is at its path, if that is chosen; or if
+  -- the name isn't UTF-8 and is chosen, that it can't be read
   pub data IsFound (choices : Choices) (folder name : List ℕ) : Option Entry → Type 0 where
     of_nothing : IsUtf8 name → IsAt (joined folder name) None → IsFound choices folder name None
     of_chosen : (entry : Entry) → IsUtf8 name → IsAt (joined folder name) (Some entry)

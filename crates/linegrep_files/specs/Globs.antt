@@ -1,6 +1,9 @@
--- Which paths globs match, and what several of them say of a path: the last that matches it decides.
-use Rattle.std.specs.Prelude.{◌≡◌, ℕ, ◌+◌, ◌<◌, ◌≤◌, ◌⊎◌, Bool, true, false, ◌||◌, ◌&&◌, ◌==◌, if◌then◌else◌}
-use Rattle.std.specs.Prelude.{List, [], ◌∷◌, ◌++◌, length, codes, drop, slice_index_or, not, MatchBool}
+-- Which paths globs match, and what several of them say of a path: the last that matches it
+-- decides.
+use Rattle.std.specs.Prelude.{◌≡◌, ℕ, ◌+◌, ◌<◌, ◌≤◌, ◌⊎◌, Bool, true, false, ◌||◌, ◌&&◌, ◌==◌}
+use Rattle.std.specs.Prelude.{if◌then◌else◌}
+use Rattle.std.specs.Prelude.{List, [], ◌∷◌, ◌++◌, length, codes, drop, slice_index_or, not}
+use Rattle.std.specs.Prelude.{MatchBool}
 use Rattle.std.specs.Borrow.{Bor}
 use Rattle.std.specs.List.{list_all, list_any}
 use Rattle.std.specs.Str.{bytes_eq}
@@ -16,7 +19,8 @@ use Rattle.linegrep_files.specs.declared.globs.Choice.TheVariants.{Chosen, LeftO
 use Rattle.linegrep_files.specs.declared.globs.GlobRule.{GlobRule}
 use Rattle.linegrep_files.specs.declared.globs.Globs.{Globs}
 
--- what is chosen or left out is visited or not, and what nothing is said about as what is said besides
+-- what is chosen or left out is visited or not, and what nothing is said about as what is said
+-- besides
 abbrev pub is_chosen : Choice → Bool → Bool
 is_chosen Chosen unmatched = true
 is_chosen LeftOut unmatched = false
@@ -78,9 +82,10 @@ has_stars text = begins_with 42 text && begins_with 42 (drop 1 text) && begins_w
 abbrev pub IsSuffix : List ℕ → List ℕ → Type 0
 IsSuffix text rest = (front : List ℕ) × (text ≡ front ++ rest)
 
--- A text without braces begins with the text of a piece, and goes on with a rest: a class in brackets,
--- which is one byte of a set; a star before two more, which are no whole name; or as in a line of an
--- ignore file. `begins` says whether a name begins where the text does, and `next` where the rest does.
+-- A text without braces begins with the text of a piece, and goes on with a rest: a class in
+-- brackets, which is one byte of a set; a star before two more, which are no whole name; or as in a
+-- line of an ignore file. `begins` says whether a name begins where the text does, and `next` where
+-- the rest does.
 pub data IsPieceText (ignores_case begins : Bool) (text : List ℕ) : Piece → Bool → List ℕ → Type 0 where
   of_class : (set : List Bool) (class rest : List ℕ) → text ≡ 91 ∷ class → IsSuffix class (93 ∷ rest)
       → IsPieceText ignores_case begins text (One set) false rest
@@ -136,8 +141,9 @@ said_glob text = if bytes_eq text (codes "!") then codes "!*" else text
 abbrev pub glob_text : List ℕ → List ℕ
 glob_text text = path_glob (glob_of (said_glob text))
 
--- the glob of a text: an exclamation mark leaves paths out, a slash at the end means folders alone, and
--- without another slash it is about names in any folder. What it matches is said of one without braces
+-- the glob of a text: an exclamation mark leaves paths out, a slash at the end means folders alone,
+-- and without another slash it is about names in any folder. What it matches is said of one without
+-- braces
 pub record IsGlobRule (ignores_case : Bool) (text : List ℕ) (rule : GlobRule) : Type 0 where
   pub exclusion : rule.is_exclusion ≡ keeps_of (said_glob text)
   pub folders : rule.names_folders ≡ names_folders_of (said_glob text)

@@ -1,6 +1,7 @@
--- Which ignore files count in a folder, and in which order: those of the folders that it is in, with its
--- own, by what reading each returned.
-use Rattle.std.specs.Prelude.{◌≡◌, ◌≢◌, ℕ, ◌+◌, Bool, ◌&&◌, ◌||◌, ◌++◌, ◌∷◌, ◌==◌, [], List, length, take, codes}
+-- Which ignore files count in a folder, and in which order: those of the folders that it is in,
+-- with its own, by what reading each returned.
+use Rattle.std.specs.Prelude.{◌≡◌, ◌≢◌, ℕ, ◌+◌, Bool, ◌&&◌, ◌||◌, ◌++◌, ◌∷◌, ◌==◌, [], List, length}
+use Rattle.std.specs.Prelude.{take, codes}
 use Rattle.std.specs.Prelude.{not, if◌then◌else◌, MatchBool, Result, Ok, Err, Vec, filter, nat_lt}
 use Rattle.std.specs.Global.{Global}
 use Rattle.std.specs.List.{list_any}
@@ -11,7 +12,8 @@ use Rattle.grep_ignore.specs.Layers.{IsInserted}
 use Rattle.grep_ignore.specs.Lines.{AreOfLines, lines_of}
 use Rattle.grep_ignore.specs.declared.layers.Layer.{Layer}
 use Rattle.grep_ignore.specs.declared.layers.Origin.{Origin}
-use Rattle.grep_ignore.specs.declared.layers.Origin.TheVariants.{GitExclude, GitIgnore, Ignore, RgIgnore}
+use Rattle.grep_ignore.specs.declared.layers.Origin.TheVariants.{GitExclude, GitIgnore, Ignore}
+use Rattle.grep_ignore.specs.declared.layers.Origin.TheVariants.{RgIgnore}
 use Rattle.grep_ignore.specs.declared.rules.Misread.{Misread}
 use Rattle.grep_ignore.specs.declared.rules.Rule.{Rule}
 use Rattle.linegrep_files.specs.Paths.{joined, parts_of}
@@ -73,8 +75,8 @@ pub record HasPlace (old new : Ignores) : Type 0 where
   pub path : new.path ≡ old.path
   pub repositories : new.repositories ≡ old.repositories
 
--- the rules of the lines of a file count, if it has some, as those of a folder of a depth, the path of
--- which has so many bytes
+-- the rules of the lines of a file count, if it has some, as those of a folder of a depth, the path
+-- of which has so many bytes
 pub record AreRulesAdded (ignores_case : Bool) (origin : Origin) (depth start : ℕ) (contents : List ℕ)
     (old new : List Layer) : Type 0 where
   pub rules : List Rule
@@ -114,8 +116,9 @@ module _ (reads : List ℕ → Result (Vec ℕ Global) Error → Type 0) where
         (IsFileRead sources.ignores_case RgIgnore depth start (joined folder (codes ".rgignore"))
         with_ignore new) (new ≡ with_ignore)
 
-  -- in a folder with some names, at a path below the one that is searched, the files count that did in the
-  -- folders that it is in, and its own. It is in the repositories that they are in, or is one's top
+  -- in a folder with some names, at a path below the one that is searched, the files count that did
+  -- in the folders that it is in, and its own. It is in the repositories that they are in, or is
+  -- one's top
   pub record AreOfFolder (folder below names : List ℕ) (old new : Ignores) : Type 0 where
     pub source : HasSource old new
     pub path : new.path.items ≡ path_below old below

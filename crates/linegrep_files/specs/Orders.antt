@@ -1,5 +1,6 @@
 -- In which order files are found.
-use Rattle.std.specs.Prelude.{ℕ, Bool, true, false, ◌||◌, ◌&&◌, not, if◌then◌else◌, List, None, Option, Some, codes}
+use Rattle.std.specs.Prelude.{ℕ, Bool, true, false, ◌||◌, ◌&&◌, not, if◌then◌else◌, List, None}
+use Rattle.std.specs.Prelude.{Option, Some, codes}
 use Rattle.std.specs.Borrow.{Bor}
 use Rattle.std.specs.Cmp.Lexicographic.{slice_cmp}
 use Rattle.std.specs.Ordering.{nat_cmp}
@@ -23,7 +24,8 @@ names_time None = false
 names_time (Some name) = bytes_eq name.now (codes "modified") || bytes_eq name.now (codes "accessed")
     || bytes_eq name.now (codes "created")
 
--- how two paths are sorted: by their bytes, or if the order of paths is reversed the other way round
+-- how two paths are sorted: by their bytes, or if the order of paths is reversed the other way
+-- round
 abbrev pub order_of : Order → List ℕ → List ℕ → Ordering
 order_of order one other = if order.is_reversed && not (is_by_time order)
     then slice_cmp nat_cmp other one else slice_cmp nat_cmp one other

@@ -6,7 +6,8 @@ use Rattle.std.specs.Global.{Global}
 use Rattle.std.specs.List.Sorted.{IsPermutation, IsSortedBy}
 use Rattle.std.specs.declared.io.Error.{Error}
 use Rattle.linegrep_files.specs.Choices.{IsWithin, SaysTheSame}
-use Rattle.linegrep_files.specs.Folders.{AreFound, below_of, depth_of, is_folder, listed_path, name_of, names_of}
+use Rattle.linegrep_files.specs.Folders.{AreFound, below_of, depth_of, is_folder, listed_path}
+use Rattle.linegrep_files.specs.Folders.{name_of, names_of}
 use Rattle.linegrep_files.specs.Limits.{allows_depth}
 use Rattle.linegrep_files.specs.Orders.{is_by_time}
 use Rattle.linegrep_files.specs.Walks.{GoesOn, IsBegun, IsEntered, IsPopped, comes_before, waits}
@@ -23,8 +24,8 @@ use Rattle.linegrep_files.specs.declared.walk.Walk.{Walk}
 module _ {S : Type 0} (lists : S → List ℕ → Result (Vec ℕ Global) Error → Type 0)
     (looks : S → Bool → List ℕ → Result Found Error → Type 0)
     (reads : S → List ℕ → Result (Vec ℕ Global) Error → Type 0) where
-  -- what is in a folder, in order: what is found of its names and doesn't wait, by what is chosen there;
-  -- nothing if it is too deep; or that it can't be read
+  -- what is in a folder, in order: what is found of its names and doesn't wait, by what is chosen
+  -- there; nothing if it is too deep; or that it can't be read
   pub data IsFolderOf (finder : Finder S) (order : Order) (choices : Choices) (folder : List ℕ) :
       List Entry → Choices → Type 0 where
     is_deep : allows_depth choices.limits (depth_of finder.root folder) ≡ false
@@ -44,8 +45,8 @@ module _ {S : Type 0} (lists : S → List ℕ → Result (Vec ℕ Global) Error 
         → IsSortedBy (λ one other. comes_before order other one) next → SaysTheSame within inside
         → IsFolderOf finder order choices folder (reverse next) inside
 
-  -- what is visited of some entries, in their order: each one itself, and right after a folder what is
-  -- visited of what is in it
+  -- what is visited of some entries, in their order: each one itself, and right after a folder what
+  -- is visited of what is in it
   pub data AreVisited (finder : Finder S) (order : Order) :
       Choices → List Entry → List Entry → Choices → Type 0 where
     no_entry : (choices : Choices) → AreVisited finder order choices [] [] choices
@@ -58,7 +59,8 @@ module _ {S : Type 0} (lists : S → List ℕ → Result (Vec ℕ Global) Error 
         → AreVisited finder order mid later visited after
         → AreVisited finder order choices (Folder path ∷ later) (Folder path ∷ (below ++ visited)) after
 
-  -- what was visited of a walk so far, by its calls: what was popped, each folder of which was entered
+  -- what was visited of a walk so far, by its calls: what was popped, each folder of which was
+  -- entered
   pub data IsWalked (begun : Walk S) (choices : Choices) : List Entry → Walk S → Choices → Type 0 where
     no_visit : IsWalked begun choices [] begun choices
     of_file : {visited : List Entry} {walk new : Walk S} {inside : Choices} (entry : Entry)
@@ -70,8 +72,8 @@ module _ {S : Type 0} (lists : S → List ℕ → Result (Vec ℕ Global) Error 
         → IsEntered lists looks reads popped inside (string_bytes path) new within
         → GoesOn popped new → IsWalked begun choices (visited ++ Folder path ∷ []) new within
 
-  -- what was visited of a walk so far, and what is visited of what is still pending, is what is visited of
-  -- what was pending at its start
+  -- what was visited of a walk so far, and what is visited of what is still pending, is what is
+  -- visited of what was pending at its start
   abbrev pub WalksVisit : Type 0
   WalksVisit = (begun walk : Walk S) (choices inside after : Choices) (visited rest : List Entry)
       → is_by_time begun.order ≡ false → begun.dated.items ≡ []

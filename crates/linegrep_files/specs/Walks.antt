@@ -7,7 +7,8 @@ use Rattle.std.specs.List.Sorted.{IsPermutation, IsSortedBy}
 use Rattle.std.specs.Ordering.{is_lt}
 use Rattle.std.specs.declared.io.Error.{Error}
 use Rattle.linegrep_files.specs.Choices.{IsWithin, SaysTheSame}
-use Rattle.linegrep_files.specs.Folders.{AreFound, IsRoot, below_of, depth_of, listed_path, name_of, names_of}
+use Rattle.linegrep_files.specs.Folders.{AreFound, IsRoot, below_of, depth_of, listed_path, name_of}
+use Rattle.linegrep_files.specs.Folders.{names_of}
 use Rattle.linegrep_files.specs.Folders.{path_of}
 use Rattle.linegrep_files.specs.Limits.{allows_depth}
 use Rattle.linegrep_files.specs.Orders.{is_by_time, order_of}
@@ -29,7 +30,8 @@ waits order _ = false
 abbrev pub comes_before : Order → Entry → Entry → Bool
 comes_before order one other = is_lt (order_of order (path_of one) (path_of other))
 
--- a walk asks a system, by a route, from a folder on with a name for the system; nothing is to be visited
+-- a walk asks a system, by a route, from a folder on with a name for the system; nothing is to be
+-- visited
 pub record IsWith {S : Type 0} (system : Bor S) (route : Route) (top : String Global) (root : ℕ)
     (walk : Walk S) : Type 0 where
   pub system_is : walk.finder.system ≡ system
@@ -53,8 +55,8 @@ pub record IsBegun {S : Type 0} (system : Bor S) (route : Route) (folder : List 
     pub pending : walk.pending.items ≡ Folder path ∷ []
     pub dated : walk.dated.items ≡ []
 
--- what was found is to be visited next, by the order of paths, with what is visited first last; and the
--- files that are sorted by a time once nothing else is
+-- what was found is to be visited next, by the order of paths, with what is visited first last; and
+-- the files that are sorted by a time once nothing else is
 pub record AreAdded {S : Type 0} (old : Walk S) (found : List Entry) (new : Walk S) : Type 0 where
   pub next : List Entry
   pub same : IsPermutation (filter (λ entry. not (waits old.order entry)) found) next
@@ -86,8 +88,8 @@ pub record AreNamesAdded {S : Type 0} (looks : S → Bool → List ℕ → Resul
 module _ {S : Type 0} (lists : S → List ℕ → Result (Vec ℕ Global) Error → Type 0)
     (looks : S → Bool → List ℕ → Result Found Error → Type 0)
     (reads : S → List ℕ → Result (Vec ℕ Global) Error → Type 0) where
-  -- what is in a folder is added to what is to be visited, unless the folder is too deep; or that it
-  -- can't be read. `inside` is what is chosen there
+  -- what is in a folder is added to what is to be visited, unless the folder is too deep; or that
+  -- it can't be read. `inside` is what is chosen there
   pub data IsEntered (old : Walk S) (choices : Choices) (folder : List ℕ) (new : Walk S)
       (inside : Choices) : Type 0 where
     of_deep : allows_depth choices.limits (depth_of old.finder.root folder) ≡ false
@@ -106,8 +108,8 @@ module _ {S : Type 0} (lists : S → List ℕ → Result (Vec ℕ Global) Error 
         → AreNamesAdded looks reads old choices folder names.items new inside
         → IsEntered old choices folder new inside
 
--- what is visited next is the last that was added; without one it is one of the files that are sorted by a
--- time, each of which is visited once
+-- what is visited next is the last that was added; without one it is one of the files that are
+-- sorted by a time, each of which is visited once
 pub data IsPopped {S : Type 0} (old : Walk S) : Option Entry → Walk S → Type 0 where
   of_pending : {new : Walk S} (entry : Entry) → old.is_out_of_memory ≡ false
       → old.pending.items ≡ new.pending.items ++ entry ∷ [] → new.dated ≡ old.dated → GoesOn old new

@@ -1,5 +1,5 @@
-//! The braces of a glob: the texts without them that it stands for, each with one of their choices in
-//! their place.
+//! The braces of a glob: the texts without them that it stands for, each with one of their choices
+//! in their place.
 use crate::class::read_class;
 use grep_ignore::GlobError;
 use std::alloc::{AllocError, Global};

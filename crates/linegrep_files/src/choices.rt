@@ -27,8 +27,8 @@ pub struct Choices<'r> {
 }
 
 impl<'r> Choices<'r> {
-    /// What the options say. An error is that a glob, a type or a size isn't well formed, or that there
-    /// is no memory.
+    /// What the options say. An error is that a glob, a type or a size isn't well formed, or that
+    /// there is no memory.
     pub fn read(rt: &'r HostRuntime, options: &FileOptions<'_, '_>) -> Result<Choices<'r>, Failure>
         ensures ok { IfOk result (AreChoices options.now) }
         ensures err { IfErr result (λ failure. has_cause failure ≡ true
@@ -60,8 +60,8 @@ impl<'r> Choices<'r> {
         self.ignores.begin(folder)
     }
 
-    /// Goes on in a folder with some names, which is at a path below the folder that is searched, as a
-    /// system has it.
+    /// Goes on in a folder with some names, which is at a path below the folder that is searched,
+    /// as a system has it.
     pub fn enter<S: Folders>(
         &mut self,
         system: &S,
@@ -83,9 +83,9 @@ impl<'r> Choices<'r> {
         self.limits
     }
 
-    /// Whether the file or the folder with a name in the folder is visited, which is at a path: globs
-    /// decide first, then ignore files, and of files types. What none says anything about is visited
-    /// unless it is hidden, or if hidden ones are too.
+    /// Whether the file or the folder with a name in the folder is visited, which is at a path:
+    /// globs decide first, then ignore files, and of files types. What none says anything about is
+    /// visited unless it is hidden, or if hidden ones are too.
     pub fn is_chosen(&mut self, path: &str, name: &str, is_folder: bool) -> Result<bool, AllocError>
         ensures chosen { IfOk result (IsChosen self.old path.now name.now is_folder) }
         ensures same { SaysTheSame self.old self.new }

@@ -26,10 +26,10 @@ const UNCLOSED: &str = "a bracket isn't closed";
 
 const REVERSED: &str = "a range ends before it begins";
 
-/// Reads a class of which the opening bracket is left out. An exclamation mark or a caret at its start
-/// means all other bytes. A bracket that comes first is a member, and a dash after a range moves its
-/// end. If `ignores_case` is set, letters of ASCII stand for both cases. An error is that it isn't
-/// closed, or that a range ends before it begins.
+/// Reads a class of which the opening bracket is left out. An exclamation mark or a caret at its
+/// start means all other bytes. A bracket that comes first is a member, and a dash after a range
+/// moves its end. If `ignores_case` is set, letters of ASCII stand for both cases. An error is that
+/// it isn't closed, or that a range ends before it begins.
 pub fn read_class(text: &[u8], ignores_case: bool) -> Result<Class<'_>, &'static str>
     ensures { IfOk result (λ class. IsSuffix text.now (93 ∷ class.rest.now)) }
 {
@@ -71,8 +71,8 @@ fn read_members(text: &[u8], ignores_case: bool) -> Result<Class<'_>, &'static s
     Err(UNCLOSED)
 }
 
-// The member that some members of a class begin with: a byte, or two with a dash between them, which
-// make a range.
+// The member that some members of a class begin with: a byte, or two with a dash between them,
+// which make a range.
 fn read_member(text: &[u8]) -> Result<Member<'_>, &'static str>
     ensures { IfOk result (λ member. IsSuffix text.now member.rest.now) }
 {

@@ -5,7 +5,8 @@ ghost use Rattle.std.specs.Str.{IsUtf8};
 ghost use Rattle.linegrep_files.specs.Choices.{IsChosen, SaysTheSame};
 ghost use Rattle.grep_ignore.specs.Classes.{is_empty};
 ghost use Rattle.linegrep_files.specs.Folders.{AreFound, IsAt, IsFolderAt, IsFound, IsRoot};
-ghost use Rattle.linegrep_files.specs.Folders.{MayEnter, below_of, depth_of, is_name, listed_path, name_of, names_of};
+ghost use Rattle.linegrep_files.specs.Folders.{MayEnter, below_of, depth_of, is_name, listed_path};
+ghost use Rattle.linegrep_files.specs.Folders.{name_of, names_of};
 ghost use Rattle.linegrep_files.specs.Folders.{path_of};
 ghost use Rattle.linegrep_files.specs.Paths.{joined};
 
@@ -36,8 +37,8 @@ pub struct Finder<'r, S> {
 }
 
 impl<'r, S: Folders> Finder<'r, S> {
-    /// What finds the files and the folders that are below one with a name for the system, the path of
-    /// which has so many bytes.
+    /// What finds the files and the folders that are below one with a name for the system, the path
+    /// of which has so many bytes.
     pub fn new(
         alloc: Global,
         system: &'r S,

@@ -1,8 +1,9 @@
 //! Git's settings, as far as ignore files are named by them.
 use std::alloc::{AllocError, Global};
 
-/// The path of the ignore file for all repositories that the contents of a file of settings name, as
-/// it is written there: the last value of `core.excludesFile`. The only error is being out of memory.
+/// The path of the ignore file for all repositories that the contents of a file of settings name,
+/// as it is written there: the last value of `core.excludesFile`. The only error is being out of
+/// memory.
 pub fn excludes_file(alloc: Global, contents: &[u8]) -> Result<Option<Vec<u8>>, AllocError> {
     let mut settings = Settings {
         is_core: false,
@@ -26,8 +27,8 @@ pub fn excludes_file(alloc: Global, contents: &[u8]) -> Result<Option<Vec<u8>>, 
     })
 }
 
-/// Where the folder of a repository is that the contents of a file say which stands in its place, as
-/// in a worktree.
+/// Where the folder of a repository is that the contents of a file say which stands in its place,
+/// as in a worktree.
 pub fn folder_in(contents: &str) -> Option<&str> {
     let folder = contents.strip_prefix("gitdir:")?;
     Some(folder.trim_ascii())
@@ -81,7 +82,8 @@ impl Settings {
         }
     }
 
-    // Adds a name and what is between an equals sign and the end of its line, unless it is a comment.
+    // Adds a name and what is between an equals sign and the end of its line, unless it is a
+    // comment.
     fn add_setting(&mut self, setting: &[u8]) -> Result<(), AllocError> {
         let Some(end) = setting.iter().position(|byte| *byte == b'=') else {
             return Ok(());

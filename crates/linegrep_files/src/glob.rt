@@ -5,7 +5,8 @@ ghost use Rattle.grep_ignore.specs.Classes.{IsSet, begins_with, is_name_byte};
 ghost use Rattle.grep_ignore.specs.Globs.{OnMalformed};
 ghost use Rattle.grep_ignore.specs.declared.wildcards.Piece.{Piece};
 ghost use Rattle.linegrep_files.specs.Globs.{ArePieces, IsGlob, IsGlobOf, IsPieceText, MatchesOne};
-ghost use Rattle.linegrep_files.specs.Globs.{has_braces, has_brackets, has_stars, is_brace, may_be_malformed};
+ghost use Rattle.linegrep_files.specs.Globs.{has_braces, has_brackets, has_stars, is_brace};
+ghost use Rattle.linegrep_files.specs.Globs.{may_be_malformed};
 
 use crate::braces::texts_of;
 use crate::class::{begins_with, read_class, tail};
@@ -20,8 +21,9 @@ pub struct Glob {
 }
 
 impl Glob {
-    /// Reads a glob: one of names in any folder, or of whole paths. Its letters of ASCII match in either
-    /// case if `ignores_case` is set. A text without brackets, braces and backslashes is a glob.
+    /// Reads a glob: one of names in any folder, or of whole paths. Its letters of ASCII match in
+    /// either case if `ignores_case` is set. A text without brackets, braces and backslashes is a
+    /// glob.
     pub fn read(
         alloc: Global,
         text: &[u8],

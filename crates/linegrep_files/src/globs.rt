@@ -4,8 +4,10 @@ ghost use Rattle.std.specs.List.{list_all};
 ghost use Rattle.grep_ignore.specs.Globs.{OnMalformed};
 ghost use Rattle.linegrep_files.specs.Failures.{has_cause};
 ghost use Rattle.linegrep_files.specs.Globs.{AreAdded, AreGlobs, IsAbout, IsAdded, IsGlobChoice};
-ghost use Rattle.linegrep_files.specs.Globs.{IsGlobRule, IsLastChoice, choice_of, glob_text, may_be_malformed};
-ghost use Rattle.linegrep_files.specs.Globs.{may_be_malformed_in, is_chosen, path_from_here, said_glob};
+ghost use Rattle.linegrep_files.specs.Globs.{IsGlobRule, IsLastChoice, choice_of, glob_text};
+ghost use Rattle.linegrep_files.specs.Globs.{may_be_malformed};
+ghost use Rattle.linegrep_files.specs.Globs.{may_be_malformed_in, is_chosen, path_from_here};
+ghost use Rattle.linegrep_files.specs.Globs.{said_glob};
 
 use crate::class::is_empty;
 use crate::failures::Failure;
@@ -25,7 +27,8 @@ pub enum Choice {
 }
 
 impl Choice {
-    /// Whether what is chosen or left out is visited, if what nothing is said about is visited or isn't.
+    /// Whether what is chosen or left out is visited, if what nothing is said about is visited or
+    /// isn't.
     pub fn is_chosen(self, unmatched: bool) -> bool
         ensures { result ≡ is_chosen self unmatched }
     {
@@ -55,9 +58,9 @@ struct GlobRule {
 }
 
 impl Globs {
-    /// Reads globs, of which an empty one is left out. The letters of `iglobs`, which come after the
-    /// others, match in either case, and if `ignores_case` is set those of all. An error is that one
-    /// isn't well formed, or that there is no memory.
+    /// Reads globs, of which an empty one is left out. The letters of `iglobs`, which come after
+    /// the others, match in either case, and if `ignores_case` is set those of all. An error is
+    /// that one isn't well formed, or that there is no memory.
     pub fn read(
         alloc: Global,
         texts: &[&str],
@@ -114,8 +117,8 @@ impl Globs {
     }
 
     /// What the globs say of the file or the folder at a path: the last that matches it decides. If
-    /// none does, a file is left out if there is a glob that asks for files. `row` is room to work in.
-    /// An error is one of being out of memory.
+    /// none does, a file is left out if there is a glob that asks for files. `row` is room to work
+    /// in. An error is one of being out of memory.
     pub fn choice(
         &self,
         row: &mut Vec<bool>,

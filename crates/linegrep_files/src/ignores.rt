@@ -4,8 +4,10 @@ ghost use Rattle.std.specs.Prelude.{if◌then◌else◌, length, nat_lt, MatchBo
 ghost use Rattle.std.specs.Str.{bytes_eq};
 ghost use Rattle.grep_ignore.specs.declared.layers.Origin.TheVariants.{GitExclude};
 ghost use Rattle.linegrep_files.specs.Choices.{IgnoresTheSame, IsIgnoreDecision, repository_of};
-ghost use Rattle.linegrep_files.specs.IgnoreFiles.{AreFilesRead, AreRulesAdded, AreWithin, HasPlace};
-ghost use Rattle.linegrep_files.specs.IgnoreFiles.{HasSource, IsFileRead, depth_in, is_idle, is_top};
+ghost use Rattle.linegrep_files.specs.IgnoreFiles.{AreFilesRead, AreRulesAdded, AreWithin};
+ghost use Rattle.linegrep_files.specs.IgnoreFiles.{HasPlace};
+ghost use Rattle.linegrep_files.specs.IgnoreFiles.{HasSource, IsFileRead, depth_in, is_idle};
+ghost use Rattle.linegrep_files.specs.IgnoreFiles.{is_top};
 ghost use Rattle.linegrep_files.specs.IgnoreFiles.{marks_of, path_below, with_mark};
 ghost use Rattle.linegrep_files.specs.Paths.{joined};
 
@@ -145,8 +147,8 @@ pub struct Ignores<'r> {
 }
 
 impl<'r> Ignores<'r> {
-    /// What the files of some sources say, and those at some paths, of which a later one decides before
-    /// an earlier one. An error is one of being out of memory.
+    /// What the files of some sources say, and those at some paths, of which a later one decides
+    /// before an earlier one. An error is one of being out of memory.
     pub fn read(
         rt: &'r HostRuntime,
         sources: Sources,
@@ -173,8 +175,8 @@ impl<'r> Ignores<'r> {
         Ok(ignores)
     }
 
-    /// Takes up a folder that is searched, which may be the current one, with an empty path: what the
-    /// folders say that it is in.
+    /// Takes up a folder that is searched, which may be the current one, with an empty path: what
+    /// the folders say that it is in.
     pub fn begin(&mut self, folder: &str) -> Result<(), AllocError> {
         self.path.clear();
         self.repositories.clear();
@@ -208,8 +210,8 @@ impl<'r> Ignores<'r> {
         self.set_path(path)
     }
 
-    // Adds what a folder says that the searched one is in. It is in a repository, whether the files of
-    // such folders are read or not.
+    // Adds what a folder says that the searched one is in. It is in a repository, whether the files
+    // of such folders are read or not.
     fn add_parent(&mut self, folder: &str) -> Result<(), AllocError> {
         if self.sources.has_git() && (self.has(folder, ".git")? || self.has(folder, ".jj")?) {
             let depth = self.depth();
@@ -221,8 +223,8 @@ impl<'r> Ignores<'r> {
         Ok(())
     }
 
-    /// Goes on in a folder with some names, which is at a path below the folder that is searched: what
-    /// its files say, as a system has them. `folder` is its path for that.
+    /// Goes on in a folder with some names, which is at a path below the folder that is searched:
+    /// what its files say, as a system has them. `folder` is its path for that.
     pub fn enter<S: Folders>(
         &mut self,
         system: &S,
@@ -230,8 +232,8 @@ impl<'r> Ignores<'r> {
         below: &[u8],
         names: &[u8],
     ) -> Result<(), AllocError>
-        ensures { OnOk result (AreWithin (S.reads system.now) folder.now below.now names.now self.old
-            self.new) }
+        ensures { OnOk result (AreWithin (S.reads system.now) folder.now below.now names.now
+            self.old self.new) }
     {
         if self.is_idle() {
             return Ok(());
@@ -417,8 +419,8 @@ impl<'r> Ignores<'r> {
         Ok(())
     }
 
-    // Adds the rules of the user's file for all repositories, if it is there: that which git's settings
-    // name, or else the one that git has by default.
+    // Adds the rules of the user's file for all repositories, if it is there: that which git's
+    // settings name, or else the one that git has by default.
     fn add_global(&mut self) -> Result<(), AllocError> {
         let home = variable(self.rt, "HOME")?;
         let config = config_folder(self.rt, home.as_str())?;
@@ -434,8 +436,8 @@ impl<'r> Ignores<'r> {
         }
     }
 
-    // The path of the file for all repositories that git's settings name, if they are in a folder and
-    // name one.
+    // The path of the file for all repositories that git's settings name, if they are in a folder
+    // and name one.
     fn excludes_file(
         &self,
         home: &str,
@@ -477,8 +479,8 @@ impl<'r> Ignores<'r> {
         Ok(())
     }
 
-    // Adds the rules of the file at a path, or what is wrong with it. A file that needn't be there may
-    // be absent.
+    // Adds the rules of the file at a path, or what is wrong with it. A file that needn't be there
+    // may be absent.
     fn add_file<S: Folders>(
         &mut self,
         system: &S,
@@ -579,8 +581,8 @@ fn retain_above(repositories: &mut Vec<usize>, depth: usize)
     repositories.retain(|top| *top < depth);
 }
 
-// How many bytes of the path of a folder are before what is in the current one, or if it isn't in that
-// before the first name.
+// How many bytes of the path of a folder are before what is in the current one, or if it isn't in
+// that before the first name.
 fn start_in(folder: &str, current: &str) -> usize {
     match folder.strip_prefix(current) {
         Some(rest) if rest.is_empty() || rest.starts_with('/') => current.len().saturating_add(1),

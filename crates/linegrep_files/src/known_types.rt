@@ -15,7 +15,8 @@ avro: *.avdl, *.avpr, *.avsc
 awk: *.awk
 bat: *.bat
 batch: *.bat
-bazel: *.BUILD, *.bazel, *.bazelrc, *.bzl, BUILD, MODULE.bazel, WORKSPACE, WORKSPACE.bazel, WORKSPACE.bzlmod
+bazel: *.BUILD, *.bazel, *.bazelrc, *.bzl, BUILD, MODULE.bazel, WORKSPACE, WORKSPACE.bazel, \
+WORKSPACE.bzlmod
 bitbake: *.bb, *.bbappend, *.bbclass, *.conf, *.inc
 boxlang: *.bx, *.bxm, *.bxs
 brotli: *.br
@@ -36,7 +37,8 @@ coffeescript: *.coffee
 config: *.cfg, *.conf, *.config, *.ini
 container: *Containerfile*, *Dockerfile*
 coq: *.v
-cpp: *.[ChH], *.[ChH].in, *.[ch]pp, *.[ch]pp.in, *.[ch]xx, *.[ch]xx.in, *.cc, *.cc.in, *.hh, *.hh.in, *.inl
+cpp: *.[ChH], *.[ChH].in, *.[ch]pp, *.[ch]pp.in, *.[ch]xx, *.[ch]xx.in, *.cc, *.cc.in, *.hh, \
+*.hh.in, *.inl
 creole: *.creole
 crystal: *.cr, *.ecr, Projectfile, shard.yml
 cs: *.cs
@@ -105,7 +107,11 @@ kconfig: Kconfig, Kconfig.*
 kotlin: *.kt, *.kts
 lean: *.lean
 less: *.less
-license: *[.-]LICEN[CS]E*, AGPL-*[0-9]*, APACHE-*[0-9]*, BSD-*[0-9]*, CC-BY-*, COPYING, COPYING[.-]*, COPYRIGHT, COPYRIGHT[.-]*, EULA, EULA[.-]*, GFDL-*[0-9]*, GNU-*[0-9]*, GPL-*[0-9]*, LGPL-*[0-9]*, LICEN[CS]E, LICEN[CS]E[.-]*, MIT-*[0-9]*, MPL-*[0-9]*, NOTICE, NOTICE[.-]*, OFL-*[0-9]*, PATENTS, PATENTS[.-]*, UNLICEN[CS]E, UNLICEN[CS]E[.-]*, agpl[.-]*, gpl[.-]*, lgpl[.-]*, licen[cs]e, licen[cs]e.*
+license: *[.-]LICEN[CS]E*, AGPL-*[0-9]*, APACHE-*[0-9]*, BSD-*[0-9]*, CC-BY-*, COPYING, \
+COPYING[.-]*, COPYRIGHT, COPYRIGHT[.-]*, EULA, EULA[.-]*, GFDL-*[0-9]*, GNU-*[0-9]*, GPL-*[0-9]*, \
+LGPL-*[0-9]*, LICEN[CS]E, LICEN[CS]E[.-]*, MIT-*[0-9]*, MPL-*[0-9]*, NOTICE, NOTICE[.-]*, \
+OFL-*[0-9]*, PATENTS, PATENTS[.-]*, UNLICEN[CS]E, UNLICEN[CS]E[.-]*, agpl[.-]*, gpl[.-]*, \
+lgpl[.-]*, licen[cs]e, licen[cs]e.*
 lilypond: *.ily, *.ly
 lisp: *.el, *.jl, *.lisp, *.lsp, *.sc, *.scm
 llvm: *.ll
@@ -115,7 +121,8 @@ lua: *.lua
 lz4: *.lz4
 lzma: *.lzma
 m4: *.ac, *.m4
-make: *.mak, *.mk, Makefile.*, [Gg][Nn][Uu]makefile, [Gg][Nn][Uu]makefile.am, [Gg][Nn][Uu]makefile.in, [Mm]akefile, [Mm]akefile.am, [Mm]akefile.in
+make: *.mak, *.mk, Makefile.*, [Gg][Nn][Uu]makefile, [Gg][Nn][Uu]makefile.am, \
+[Gg][Nn][Uu]makefile.in, [Mm]akefile, [Mm]akefile.am, [Mm]akefile.in
 mako: *.mako, *.mao
 man: *.[0-9][cEFMmpSx], *.[0-9lnpx]
 markdown: *.markdown, *.md, *.mdown, *.mdwn, *.mdx, *.mkd, *.mkdn
@@ -173,7 +180,10 @@ sass: *.sass, *.scss
 scala: *.sbt, *.scala
 scdoc: *.scd, *.scdoc
 seed7: *.s7i, *.sd7
-sh: *.bash, *.bashrc, *.csh, *.cshrc, *.env, *.ksh, *.kshrc, *.sh, *.tcsh, *.zsh, .bash_login, .bash_logout, .bash_profile, .bashrc, .cshrc, .env, .kshrc, .login, .logout, .profile, .tcshrc, .zlogin, .zlogout, .zprofile, .zshenv, .zshrc, bash_login, bash_logout, bash_profile, bashrc, profile, zlogin, zlogout, zprofile, zshenv, zshrc
+sh: *.bash, *.bashrc, *.csh, *.cshrc, *.env, *.ksh, *.kshrc, *.sh, *.tcsh, *.zsh, .bash_login, \
+.bash_logout, .bash_profile, .bashrc, .cshrc, .env, .kshrc, .login, .logout, .profile, .tcshrc, \
+.zlogin, .zlogout, .zprofile, .zshenv, .zshrc, bash_login, bash_logout, bash_profile, bashrc, \
+profile, zlogin, zlogout, zprofile, zshenv, zshrc
 slim: *.skim, *.slim, *.slime
 smarty: *.tpl
 sml: *.sig, *.sml
@@ -189,13 +199,15 @@ svelte: *.svelte, *.svelte.ts
 svg: *.svg
 swift: *.swift
 swig: *.def, *.i
-systemd: *.automount, *.conf, *.device, *.link, *.mount, *.path, *.scope, *.service, *.slice, *.socket, *.swap, *.target, *.timer
+systemd: *.automount, *.conf, *.device, *.link, *.mount, *.path, *.scope, *.service, *.slice, \
+*.socket, *.swap, *.target, *.timer
 taskpaper: *.taskpaper
 tcl: *.tcl
 tex: *.bib, *.cls, *.dtx, *.ins, *.ltx, *.sty, *.tex
 texinfo: *.texi
 textile: *.textile
-tf: *.terraform.lock.hcl, *.terraformrc, *.tf, *.tf.json, *.tfrc, *.tfvars, *.tfvars.json, terraform.rc
+tf: *.terraform.lock.hcl, *.terraformrc, *.tf, *.tf.json, *.tfrc, *.tfvars, *.tfvars.json, \
+terraform.rc
 thrift: *.thrift
 toml: *.toml, Cargo.lock
 ts: *.cts, *.mts, *.ts, *.tsx

@@ -1,5 +1,5 @@
-//! Which files of folders are searched: the walk through a folder, and what globs, ignore files, types
-//! of files, sizes and depths say of what is in it.
+//! Which files of folders are searched: the walk through a folder, and what globs, ignore files,
+//! types of files, sizes and depths say of what is in it.
 //!
 //! `CALLING.md` has an example.
 #![tactic(auto)]

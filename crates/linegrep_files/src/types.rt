@@ -1,6 +1,7 @@
 //! Types of files, which choose among the files of folders by their names.
 ghost use Rattle.std.specs.Prelude.{◌≡◌, ◌↔◌, false, true, if◌then◌else◌, IfErr, IfOk, IsTrue, Ok};
-ghost use Rattle.linegrep_files.specs.FileTypes.{AreNoTypes, Have, IsTypeChoice, are_none, type_choice_of};
+ghost use Rattle.linegrep_files.specs.FileTypes.{AreNoTypes, Have, IsTypeChoice, are_none};
+ghost use Rattle.linegrep_files.specs.FileTypes.{type_choice_of};
 ghost use Rattle.linegrep_files.specs.Failures.{has_cause};
 ghost use Rattle.linegrep_files.specs.declared.types.Types.{Types};
 
@@ -114,7 +115,8 @@ impl Types {
     }
 
     /// What the types say of a file with a name: the last that has it decides. If none does, it is
-    /// left out if one is asked for. `row` is room to work in. An error is one of being out of memory.
+    /// left out if one is asked for. `row` is room to work in. An error is one of being out of
+    /// memory.
     pub fn choice(&self, row: &mut Vec<bool>, name: &[u8]) -> Result<Choice, AllocError>
         ensures { IfOk result (IsTypeChoice self.now name.now) }
     {

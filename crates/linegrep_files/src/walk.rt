@@ -35,8 +35,8 @@ pub struct Walk<'r, S> {
     order: Order,
     // What is still to be visited, the next last.
     pending: Vec<Entry>,
-    // The files that were found, if they are sorted by a time: those to be visited once nothing else
-    // is, and then the next last.
+    // The files that were found, if they are sorted by a time: those to be visited once nothing
+    // else is, and then the next last.
     dated: Vec<Dated>,
     is_sorted: bool,
     is_out_of_memory: bool,
@@ -149,11 +149,12 @@ impl<'r, S: Folders> Walk<'r, S> {
         self.is_out_of_memory
     }
 
-    /// Adds what a folder holds and is chosen, or that the folder can't be read. Nothing is added of a
-    /// folder that is too deep.
+    /// Adds what a folder holds and is chosen, or that the folder can't be read. Nothing is added
+    /// of a folder that is too deep.
     pub fn enter(&mut self, choices: &mut Choices<'_>, folder: &str)
         ensures entered { self.new.is_out_of_memory ≡ false
-            → IsEntered S.lists S.looks S.reads self.old choices.old folder.now self.new choices.new }
+            → IsEntered S.lists S.looks S.reads self.old choices.old folder.now self.new
+            choices.new }
         ensures on { GoesOn self.old self.new }
     {
         match self.try_enter(choices, folder) {
@@ -163,8 +164,8 @@ impl<'r, S: Folders> Walk<'r, S> {
     }
 
     fn try_enter(&mut self, choices: &mut Choices<'_>, folder: &str) -> Result<(), AllocError>
-        ensures entered { OnOk result (IsEntered S.lists S.looks S.reads self.old choices.old folder.now
-            self.new choices.new) }
+        ensures entered { OnOk result (IsEntered S.lists S.looks S.reads self.old choices.old
+            folder.now self.new choices.new) }
         ensures on { GoesOn self.old self.new }
     {
         if !choices.limits().allows_depth(self.finder.depth(folder)) {
@@ -191,8 +192,8 @@ impl<'r, S: Folders> Walk<'r, S> {
         folder: &str,
         names: &[u8],
     ) -> Result<(), AllocError>
-        ensures added { OnOk result (AreNamesAdded S.looks S.reads self.old choices.old folder.now names.now
-            self.new choices.new) }
+        ensures added { OnOk result (AreNamesAdded S.looks S.reads self.old choices.old
+            folder.now names.now self.new choices.new) }
         ensures on { GoesOn self.old self.new }
     {
         choices.enter(
