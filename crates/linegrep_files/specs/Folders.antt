@@ -10,7 +10,7 @@ use Rattle.std.specs.declared.io.Error.{Error}
 use Rattle.std.specs.declared.io.ErrorKind.TheVariants.{FilesystemLoop, InvalidFilename}
 use Rattle.grep_ignore.specs.Classes.{is_empty}
 use Rattle.linegrep_files.specs.Choices.{IsChosen, IsUnmatchedChosen}
-use Rattle.linegrep_files.specs.FileIds.{is_beside}
+use Rattle.linegrep_files.specs.FileIds.{is_beside, is_same_file}
 use Rattle.linegrep_files.specs.Limits.{allows_size}
 use Rattle.linegrep_files.specs.Paths.{joined, parts_of}
 use Rattle.linegrep_files.specs.declared.choices.Choices.{Choices}
@@ -19,7 +19,7 @@ use Rattle.linegrep_files.specs.declared.entry.Entry.TheVariants.{File, Folder, 
 use Rattle.linegrep_files.specs.declared.file_id.FileId.{FileId}
 use Rattle.linegrep_files.specs.declared.folders.Found.{Found}
 use Rattle.linegrep_files.specs.declared.folders.Kind.TheVariants.{File as IsFile}
-use Rattle.linegrep_files.specs.declared.folders.Kind.TheVariants.{Folder as IsFolder}
+use Rattle.linegrep_files.specs.declared.folders.Kind.TheVariants.{Folder as IsFolder, Link as IsLink}
 use Rattle.linegrep_files.specs.declared.limits.Limits.{Limits}
 
 -- a name isn't that of the folder itself, nor of the one that it is in
@@ -67,13 +67,20 @@ is_folder (File path) = false
 is_folder (Folder path) = true
 is_folder (Unread path error) = false
 
--- a folder at a path, or that it can't be read, as a link that was followed and leads to a folder
--- that it is in
-abbrev pub IsFolderAt : Bool → List ℕ → Entry → Type 0
-IsFolderAt follows path (File text) = ⊥
-IsFolderAt follows path (Folder text) = string_bytes text ≡ path
-IsFolderAt follows path (Unread text error) = (follows ≡ true) × (string_bytes text ≡ path)
-    × (error_kind error ≡ FilesystemLoop)
+-- By what looking at paths may return, with whether links are followed.
+module _ (looks : Bool → List ℕ → Result Found Error → Type 0) where
+  -- what has an id is at a path
+  abbrev pub IsElsewhere : FileId → Type 0
+  IsElsewhere id = (path : List ℕ) × (there : Found) × looks true path (Ok there)
+      × (is_same_file there.id id ≡ true)
+
+  -- a link that is followed leads to a folder of an id, which is at another path too
+  pub record LeadsBack (follows : Bool) (path : List ℕ) (id : FileId) : Type 0 where
+    pub follows_links : follows ≡ true
+    pub link : Found
+    pub is_seen : looks false path (Ok link)
+    pub is_link : link.kind ≡ IsLink
+    pub elsewhere : IsElsewhere id
 
 -- By what looking at paths may return, with whether links are followed; `top` is the path of the
 -- walk's own folder.
@@ -88,6 +95,13 @@ module _ (looks : Bool → List ℕ → Result Found Error → Type 0) (follows 
     of_untold : (error : Error) → limits.is_one_system ≡ true → looks true top (Err error)
         → MayEnter id true
 
+  -- a folder of an id at a path, or that it can't be read, as a link that leads back
+  abbrev pub IsFolderAt : List ℕ → FileId → Entry → Type 0
+  IsFolderAt path id (File text) = ⊥
+  IsFolderAt path id (Folder text) = string_bytes text ≡ path
+  IsFolderAt path id (Unread text error) = LeadsBack looks follows path id × (string_bytes text ≡ path)
+      × (error_kind error ≡ FilesystemLoop)
+
   -- what is found at a path by what looking at it returned: a regular file that isn't too large, a
   -- folder that may be entered, or that it can't be read. A link that was followed can't be if it
   -- leads to a folder that it is in
@@ -96,7 +110,7 @@ module _ (looks : Bool → List ℕ → Result Found Error → Type 0) (follows 
         → found.kind ≡ IsFile → allows_size limits found.size ≡ true → string_bytes text ≡ path
         → IsAt path (Some (File text))
     of_folder : (found : Found) (entry : Entry) → looks follows path (Ok found)
-        → found.kind ≡ IsFolder → MayEnter found.id true → IsFolderAt follows path entry
+        → found.kind ≡ IsFolder → MayEnter found.id true → IsFolderAt path found.id entry
         → IsAt path (Some entry)
     of_unread : (text : String Global) (error : Error) → looks follows path (Err error)
         → string_bytes text ≡ path → IsAt path (Some (Unread text error))

@@ -4,7 +4,7 @@ ghost use Rattle.std.specs.Prelude.{Ok, drop, string_bytes, true};
 ghost use Rattle.std.specs.Str.{IsUtf8};
 ghost use Rattle.linegrep_files.specs.Choices.{IsChosen, SaysTheSame};
 ghost use Rattle.grep_ignore.specs.Classes.{is_empty};
-ghost use Rattle.linegrep_files.specs.Folders.{AreFound, IsAt, IsFolderAt, IsFound, IsRoot};
+ghost use Rattle.linegrep_files.specs.Folders.{AreFound, IsAt, IsElsewhere, IsFolderAt, IsFound, IsRoot, LeadsBack};
 ghost use Rattle.linegrep_files.specs.Folders.{MayEnter, below_of, depth_of, is_name, listed_path};
 ghost use Rattle.linegrep_files.specs.Folders.{name_of, names_of};
 ghost use Rattle.linegrep_files.specs.Folders.{path_of};
@@ -221,7 +221,7 @@ impl<'r, S: Folders> Finder<'r, S> {
             }
             Kind::Folder => {
                 if self.may_enter(found.id, limits) {
-                    return Some(self.folder(path, found.id));
+                    return Some(self.folder(path, found.id, limits));
                 }
                 return None;
             }
@@ -245,31 +245,40 @@ impl<'r, S: Folders> Finder<'r, S> {
     }
 
     // The folder at a path, which can't be read if it is a link to a folder that it is in.
-    fn folder(&self, path: String, id: FileId) -> Entry
-        ensures { IsFolderAt self.now.follows_links (string_bytes path) result }
+    fn folder(&self, path: String, id: FileId, limits: Limits) -> Entry
+        ensures { IsFolderAt (S.looks self.now.system.now) self.now.follows_links
+            (string_bytes self.now.top) limits (string_bytes path) id result }
     {
-        if self.is_link(path.as_str()) && self.is_loop(path.as_str(), id) {
+        if self.leads_back(path.as_str(), id) {
             let error = io::Error::new(io::ErrorKind::FilesystemLoop, IS_LOOP);
             return Entry::Unread(path, error);
         }
         Entry::Folder(path)
     }
 
-    // Whether there is a link at a path that was followed.
-    fn is_link(&self, path: &str) -> bool
-        ensures { result ≡ true → self.now.follows_links ≡ true }
+    // Whether there is a link at a path that was followed to a folder of an id that it is in.
+    fn leads_back(&self, path: &str, id: FileId) -> bool
+        ensures { result ≡ true → LeadsBack (S.looks self.now.system.now) self.now.follows_links
+            path.now id }
     {
         if !self.follows_links {
             return false;
         }
         match self.system.look(path, false) {
-            Ok(found) => matches!(found.kind, Kind::Link),
+            Ok(found) => match found.kind {
+                Kind::Link => self.is_loop(path, id),
+                Kind::File => false,
+                Kind::Folder => false,
+                Kind::Other => false,
+            },
             Err(_) => false,
         }
     }
 
     // Whether one of the folders that a path goes through is that of an id, from the walk's own on.
-    fn is_loop(&self, path: &str, id: FileId) -> bool {
+    fn is_loop(&self, path: &str, id: FileId) -> bool
+        ensures { result ≡ true → IsElsewhere (S.looks self.now.system.now) id }
+    {
         if self.root == 0 && self.is_at(".", id) {
             return true;
         }
@@ -282,7 +291,9 @@ impl<'r, S: Folders> Finder<'r, S> {
     }
 
     // Whether the folder at a path is that of an id.
-    fn is_at(&self, path: &str, id: FileId) -> bool {
+    fn is_at(&self, path: &str, id: FileId) -> bool
+        ensures { result ≡ true → IsElsewhere (S.looks self.now.system.now) id }
+    {
         match self.system.look(path, true) {
             Ok(found) => found.id.is(id),
             Err(_) => false,
