@@ -2,6 +2,7 @@ pub mod BareTextLemmas
 pub mod BareWriteLemmas
 pub mod CallPartLemmas
 pub mod ColorLemmas
+pub mod CountedLemmas
 pub mod JsonBytesLemmas
 pub mod FoundPartLemmas
 pub mod LineFeedLemmas

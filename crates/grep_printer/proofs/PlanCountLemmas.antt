@@ -29,7 +29,7 @@ use Rattle.grep_printer.specs.declared.summary.SummaryFormat.{SummaryFormat}
 use Rattle.grep_printer.specs.declared.summary_builder.SummaryConfig.{SummaryConfig}
 
 -- a sum that is capped at each step
-capped-more : (a b : ℕ) → capped_sum (capped a) b ≡ capped (a + b)
+pub capped-more : (a b : ℕ) → capped_sum (capped a) b ≡ capped (a + b)
 capped-more a b = omega arith
 
 -- the line of a message
@@ -38,7 +38,7 @@ unfolding json_line
 text-line j = text-ended (print (json_tokens j)) 10
 
 -- what is made of calls that come after others
-fold-push : {X Y : Type 0} (f : Y → X → Y) (xs : List X) (last : X) (y : Y)
+pub fold-push : {X Y : Type 0} (f : Y → X → Y) (xs : List X) (last : X) (y : Y)
     → fold f y (xs ++ last ∷ []) ≡ f (fold f y xs) last
 fold-push f [] last y = refl
 fold-push f (x ∷ xs) last y = fold-push f xs last (f y x)
@@ -52,7 +52,7 @@ record IsCounted (found lines parts : ℕ) (progress : JsonProgress) (made : Lis
   match_sum : progress.matches ≡ capped parts
 
 -- so many bytes, with a text
-bytes-more : (count : ℕ) (text more : List ℕ) → count ≡ capped (length text)
+pub bytes-more : (count : ℕ) (text more : List ℕ) → count ≡ capped (length text)
     → capped_sum count (length more) ≡ capped (length (text ++ more))
 bytes-more count text more is =
     ap (λ n. capped_sum n (length more)) is ∙ (capped-more (length text) (length more)

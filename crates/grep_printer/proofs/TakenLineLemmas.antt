@@ -260,11 +260,11 @@ pub lines-counted : (scene : Scene) (config : SummaryConfig) (number : Option �
     (calls_of_lines number index offset (line ∷ later)) []
     (record { config = config; counts = with_matches counts (length (line ∷ later)) 0 })
 lines-counted scene config number index offset line [] counts on bare =
-    ([], refl, on, grind arith, (refl, refl))
+    ([], refl, ap (λ b. b || config.counts_all) on, grind arith, (refl, refl))
 lines-counted scene config number index offset line (next ∷ later) counts on bare = (
   [],
   refl,
-  on,
+  ap (λ b. b || config.counts_all) on,
   grind arith,
   subst (λ after. AreTexts summary_rules scene
       (record { config = config; counts = with_matches counts 1 0 })

@@ -1,35 +1,46 @@
 -- Texts in colors: the escapes before and after them, and lines of which the parts that match are
 -- colored.
 use Rattle.std.specs.Prelude.{ℕ, ◌+◌, ◌&&◌, Bool, true, false, nat_le, nat_lt, List, [], ◌∷◌}
-use Rattle.std.specs.Prelude.{◌++◌, codes, Option, Some, None}
+use Rattle.std.specs.Prelude.{◌++◌, codes, Option, Some, None, String}
 use Rattle.std.specs.Borrow.{Bor}
+use Rattle.std.specs.Global.{Global}
 use Rattle.std.specs.List.{list_any}
+use Rattle.std.specs.String.{string_bytes}
 use Rattle.grep_printer.specs.declared.colors.ColorSpecs.{ColorSpecs}
-use Rattle.grep_printer.specs.declared.colors.ColorSpecs.TheVariants.{Plain, Default}
+use Rattle.grep_printer.specs.declared.colors.ColorSpecs.TheVariants.{Chosen, Default, Plain}
 
 -- the escape after which a terminal shows a text without colors
 abbrev pub reset : List ℕ
 reset = 27 ∷ codes "[0m"
 
+-- an escape that is chosen, if one is
+abbrev pub chosen_color : Option (String Global) → Option (List ℕ)
+chosen_color None = None
+chosen_color (Some text) = Some (string_bytes text)
+
 -- the escape before a path, if there are colors: magenta is ripgrep's
 abbrev pub path_color : ColorSpecs → Option (List ℕ)
 path_color Plain = None
 path_color Default = Some (reset ++ 27 ∷ codes "[35m")
+path_color (Chosen texts) = Some (string_bytes texts.now.path)
 
 -- the escape before a line number: green
 abbrev pub line_color : ColorSpecs → Option (List ℕ)
 line_color Plain = None
 line_color Default = Some (reset ++ 27 ∷ codes "[32m")
+line_color (Chosen texts) = Some (string_bytes texts.now.line)
 
 -- the escape before a column or an offset, which changes nothing
 abbrev pub column_color : ColorSpecs → Option (List ℕ)
 column_color Plain = None
 column_color Default = Some reset
+column_color (Chosen texts) = Some (string_bytes texts.now.column)
 
 -- the escape before the bytes of a line that match: bold red
 abbrev pub matched_color : ColorSpecs → Option (List ℕ)
 matched_color Plain = None
 matched_color Default = Some (reset ++ (27 ∷ codes "[1m" ++ 27 ∷ codes "[31m"))
+matched_color (Chosen texts) = chosen_color texts.now.matched
 
 -- the bytes of an escape
 abbrev pub color_of : Option (Bor (List ℕ)) → Option (List ℕ)

@@ -4,6 +4,7 @@ use Rattle.std.specs.Prelude.{ℕ, true, List, Option}
 use Rattle.grep_replace.specs.declared.template.Template.{Template}
 use Rattle.grep_searcher.specs.Meanings.{Meaning}
 use Rattle.grep_searcher.specs.Plans.{Settings, finishes}
+use Rattle.grep_printer.specs.CountedTexts.{counted_rules}
 use Rattle.grep_printer.specs.Formats.{PrintedCall, Rules, Scene}
 use Rattle.grep_printer.specs.JsonTexts.{json_rules}
 use Rattle.grep_printer.specs.ReplacedTexts.{replaced_call, replaced_rules}
@@ -42,3 +43,6 @@ replaced-ends rules groups_at meaning_of ends format scene printed count binary 
     (meaning_of format.matcher) printed) count binary
     (end-stays format.template.now (groups_at format.matcher) scene.settings (meaning_of format.matcher) printed
     count binary is)
+
+pub counted-ends : {F : Type 0} (rules : Rules F) → Ends rules → Ends (counted_rules rules)
+counted-ends rules ends format scene printed count binary is = ends format.format scene printed count binary is

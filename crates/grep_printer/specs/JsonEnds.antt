@@ -1,4 +1,5 @@
--- What a printer of JSON does when it writes a message that is no report.
+-- What a printer does when it writes a text that is that of no call, as a message about all
+-- searches.
 use Rattle.std.specs.Prelude.{◌≡◌, ◌⊎◌, ◌||◌, true, ℕ, List, [], ◌++◌}
 use Rattle.std.specs.Global.{Global}
 use Rattle.std.specs.declared.io.Error.{Error}
@@ -8,12 +9,11 @@ use Rattle.grep_searcher.specs.SearchErrors.{IsOutOfMemory}
 use Rattle.grep_searcher.specs.declared.SearchError.{SearchError}
 use Rattle.grep_searcher.specs.declared.SearchError.TheVariants.{Io}
 use Rattle.grep_printer.specs.Formats.{is_text}
-use Rattle.grep_printer.specs.declared.json_printer.JsonFormat.{JsonFormat}
 use Rattle.grep_printer.specs.declared.printer.Printer.{Printer}
 
-module _ {W : Type 0} (write_step : W → OutputCall → W → Type 0) where
+module _ {F W : Type 0} (write_step : W → OutputCall → W → Type 0) where
   -- a text comes after what is pending, and nothing else
-  pub record PutsText (old : Printer JsonFormat W) (text : List ℕ) (new : Printer JsonFormat W)
+  pub record PutsText (old : Printer F W) (text : List ℕ) (new : Printer F W)
       : Type 0 where
     pub put : PutsAll write_step old.writer (pending_bytes old.pending) text new.writer
         (pending_bytes new.pending)
@@ -22,8 +22,8 @@ module _ {W : Type 0} (write_step : W → OutputCall → W → Type 0) where
     pub has_failed : new.has_failed ≡ old.has_failed
 
   -- the writer failed after some first bytes of what was pending and of a text
-  pub record FailsAtText (old : Printer JsonFormat W) (text : List ℕ) (e : SearchError Global)
-      (new : Printer JsonFormat W) : Type 0 where
+  pub record FailsAtText (old : Printer F W) (text : List ℕ) (e : SearchError Global)
+      (new : Printer F W) : Type 0 where
     pub error : Error
     pub is_io : e ≡ Io error
     pub failed : FailsToWrite write_step old.writer (pending_bytes old.pending ++ text) error new.writer
@@ -31,16 +31,16 @@ module _ {W : Type 0} (write_step : W → OutputCall → W → Type 0) where
     pub has_failed : new.has_failed ≡ true
 
   -- the writer had no call, and there was no memory
-  pub record LacksMemoryForText (old : Printer JsonFormat W) (e : SearchError Global)
-      (new : Printer JsonFormat W) : Type 0 where
+  pub record LacksMemoryForText (old : Printer F W) (e : SearchError Global)
+      (new : Printer F W) : Type 0 where
     pub unwritten : new.writer ≡ old.writer
     pub pending : pending_bytes new.pending ≡ pending_bytes old.pending
     pub has_failed : new.has_failed ≡ old.has_failed
     pub memory : IsOutOfMemory e
 
   -- a text isn't written whole
-  pub record FailsToPutText (old : Printer JsonFormat W) (text : List ℕ) (e : SearchError Global)
-      (new : Printer JsonFormat W) : Type 0 where
+  pub record FailsToPutText (old : Printer F W) (text : List ℕ) (e : SearchError Global)
+      (new : Printer F W) : Type 0 where
     pub format : new.format ≡ old.format
     pub has_written : new.has_written ≡ old.has_written
     pub cause : FailsAtText old text e new ⊎ LacksMemoryForText old e new

@@ -2,6 +2,7 @@ pub mod BareTexts
 pub mod CallParts
 pub mod ColorRuns
 pub mod ColoredTexts
+pub mod CountedTexts
 pub mod FormatEnds
 pub mod Formats
 pub mod JsonEnds

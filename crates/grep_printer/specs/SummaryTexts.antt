@@ -28,6 +28,7 @@ abbrev pub default_summary_config : SummaryConfig
 default_summary_config = record {
   kind = Count;
   exclude_zero = true;
+  counts_all = false;
   path_terminator = None;
   color_specs = Plain;
 }
@@ -119,14 +120,14 @@ counts_parts PathWithMatch = false
 counts_parts PathWithoutMatch = false
 counts_parts Quiet = false
 
--- whether it goes on after a call
-abbrev pub sums_on : SummaryKind → Call → Bool
-sums_on kind begins = true
-sums_on kind (matches number offset bytes) = counts_on kind
-sums_on kind (context which number offset line) = true
-sums_on kind breaks = true
-sums_on kind (binary_data offset) = true
-sums_on kind (finishes count binary) = true
+-- whether it goes on after a call, by whether it does in any case
+abbrev pub sums_on : Bool → SummaryKind → Call → Bool
+sums_on counts_all kind begins = true
+sums_on counts_all kind (matches number offset bytes) = counts_on kind || counts_all
+sums_on counts_all kind (context which number offset line) = true
+sums_on counts_all kind breaks = true
+sums_on counts_all kind (binary_data offset) = true
+sums_on counts_all kind (finishes count binary) = true
 
 -- whether the parts of a call are asked for: those of a match, if they are counted
 abbrev pub asks_to_count : SummaryKind → Call → Bool
@@ -153,7 +154,7 @@ summary_rules = record {
     counts = counts_after format.counts scene.settings.binary_detection printed.call
         (length printed.parts);
   };
-  goes_on = λ format scene printed. sums_on format.config.kind printed.call;
+  goes_on = λ format scene printed. sums_on format.config.counts_all format.config.kind printed.call;
   has_match = λ format. has_found format.config.kind format.counts.match_count;
   is_bare = λ format scene. false;
 }

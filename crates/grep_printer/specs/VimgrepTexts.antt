@@ -18,7 +18,7 @@ use Rattle.grep_printer.specs.declared.vimgrep.VimgrepFormat.{VimgrepFormat}
 
 -- the settings of such a printer: the path is in each line, and the line is written whole
 abbrev pub vimgrep_config : Config → Config
-vimgrep_config config = record config { heading = false; column = true; only_matching = false }
+vimgrep_config config = record config { heading = false; only_matching = false }
 
 -- the number of a line after so many others, by the number of the first; it stays at the greatest
 -- of 64 bits
@@ -28,14 +28,15 @@ number_after (Some number) count = Some (min (number + count) (2 ^ 64 - 1))
 
 -- the layout of the lines, what they belong to, and a report
 module _ (layout : Layout) (kind : LineKind) (offset : ℕ) (bytes : List ℕ) where
-  -- the line in which a part starts, after the line's number, the column of the part in it, and the
-  -- part's offset
+  -- the line in which a part starts, after the line's number, the column of the part in it if
+  -- columns are written, and the part's offset
   abbrev pub part_line : Option ℕ → ℕ × ℕ → List ℕ
   part_line number part =
       line_text layout kind
       (record {
         number = number;
-        column = Some (part.0 - block_start (end_byte layout) bytes (part.0, part.0) + 1);
+        column = if layout.config.column
+            then Some (part.0 - block_start (end_byte layout) bytes (part.0, part.0) + 1) else None;
         offset = offset + part.0;
         start = block_start (end_byte layout) bytes (part.0, part.0);
       })

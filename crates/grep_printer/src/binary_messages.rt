@@ -17,7 +17,7 @@ const MATCHES: &str = "binary file matches (found \"\\0\" byte around offset ";
 // Pushes the message about a binary byte, if one was found.
 pub(crate) fn push_binary_message(
     text: &mut Pending,
-    colors: &ColorSpecs,
+    colors: &ColorSpecs<'_>,
     detection: &BinaryDetection,
     path: Option<&str>,
     offset: Option<u64>,

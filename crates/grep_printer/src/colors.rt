@@ -13,55 +13,77 @@ use grep_searcher::Match;
 // The escape after which a terminal shows a text without colors.
 const RESET: &[u8] = b"\x1b[0m";
 
+/// The escapes before what a printer writes, in place of those of ripgrep.
+#[derive(Debug, Drop)]
+pub struct ColorTexts {
+    /// Before a path.
+    pub path: String,
+    /// Before a line number.
+    pub line: String,
+    /// Before a column, and before an offset.
+    pub column: String,
+    /// Before what matches, if that has a color.
+    pub matched: Option<String>,
+}
+
 /// The colors of what a printer writes: the escape before it, if it has one. After it comes the
 /// escape that ends all of them.
-#[derive(Clone, Copy, Debug, PartialEq, Eq)]
-pub enum ColorSpecs {
+#[derive(Clone, Copy, Debug)]
+pub enum ColorSpecs<'c> {
     /// No colors.
     Plain,
     /// The colors of ripgrep: a path is magenta, a line number green, and what matches bold and
     /// red; a column and an offset have escapes that change nothing.
     Default,
+    /// Others.
+    Chosen(&'c ColorTexts),
 }
 
-impl ColorSpecs {
+impl<'c> ColorSpecs<'c> {
     /// The escape before a path.
-    pub fn path(&self) -> Option<&'static str>
+    pub fn path(&self) -> Option<&'c str>
         ensures { color_of result ≡ path_color self.now }
     {
         match self {
             ColorSpecs::Plain => None,
             ColorSpecs::Default => Some("\x1b[0m\x1b[35m"),
+            ColorSpecs::Chosen(texts) => Some(texts.path.as_str()),
         }
     }
 
     /// The escape before a line number.
-    pub fn line(&self) -> Option<&'static str>
+    pub fn line(&self) -> Option<&'c str>
         ensures { color_of result ≡ line_color self.now }
     {
         match self {
             ColorSpecs::Plain => None,
             ColorSpecs::Default => Some("\x1b[0m\x1b[32m"),
+            ColorSpecs::Chosen(texts) => Some(texts.line.as_str()),
         }
     }
 
     /// The escape before a column, and before an offset.
-    pub fn column(&self) -> Option<&'static str>
+    pub fn column(&self) -> Option<&'c str>
         ensures { color_of result ≡ column_color self.now }
     {
         match self {
             ColorSpecs::Plain => None,
             ColorSpecs::Default => Some("\x1b[0m"),
+            ColorSpecs::Chosen(texts) => Some(texts.column.as_str()),
         }
     }
 
     /// The escape before the bytes of a line that match.
-    pub fn matched(&self) -> Option<&'static str>
+    pub fn matched(&self) -> Option<&'c str>
         ensures { color_of result ≡ matched_color self.now }
     {
         match self {
             ColorSpecs::Plain => None,
             ColorSpecs::Default => Some("\x1b[0m\x1b[1m\x1b[31m"),
+            ColorSpecs::Chosen(texts) => match &texts.matched {
+                Some(text) => Some(text.as_str()),
+                None => None,
+            },
         }
     }
 }

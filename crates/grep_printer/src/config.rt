@@ -32,7 +32,7 @@ pub struct Config<'c> {
     pub(crate) max_columns_preview: bool,
     pub(crate) path_terminator: Option<u8>,
     pub(crate) separator: SearchSeparator,
-    pub(crate) color_specs: ColorSpecs,
+    pub(crate) color_specs: ColorSpecs<'c>,
     pub(crate) trim_ascii: bool,
     pub(crate) separators: Option<&'c Separators>,
 }
@@ -186,9 +186,9 @@ impl<'c> StandardBuilder<'c> {
 
     /// The colors of paths, numbers and matches; none by default. With one for matches the parts of
     /// a match are found, as they are for its column.
-    pub fn color_specs(&mut self, specs: ColorSpecs) -> &mut StandardBuilder<'c>
+    pub fn color_specs(&mut self, specs: ColorSpecs<'c>) -> &mut StandardBuilder<'c>
         ensures reference { result.ghost_name ≡ self.entry.ghost_name }
-        ensures set { result.now ≡ record self.old { color_specs = specs } }
+        ensures set { result.now ≡ record self.old { color_specs = specs.entry } }
     {
         self.config.color_specs = specs;
         self

@@ -1,4 +1,5 @@
 //! What the printers make of a search: each law is the contract of a function that does nothing.
+ghost use Rattle.grep_printer.specs.CountedTexts.{StatsCount};
 ghost use Rattle.grep_printer.specs.JsonLaws.{BeginsTell, MessagesAreReadBack, MessagesTell};
 ghost use Rattle.grep_printer.specs.MatchedParts.{PartsAreSuccessive};
 ghost use Rattle.grep_printer.specs.PlanCounts.{JsonCounts, SummariesCount};
@@ -57,4 +58,10 @@ pub fn searches_are_read_back()
 pub fn matches_are_counted()
     ensures json { JsonCounts }
     ensures summary { SummariesCount }
+{}
+
+/// What a format counts in a search, if it counts: the sums over the matches, the size of the text
+/// that it wrote, and what the search has been through, up to the greatest number of 64 bits.
+pub fn searches_are_counted<F: Format>()
+    ensures { StatsCount F.rules }
 {}

@@ -1,5 +1,5 @@
 //! The parts of messages, as JSON.
-ghost use Rattle.std.specs.Prelude.{◌≡◌, ◌≤◌, ◌+◌, ◌/◌, ◌∷◌, ◌++◌, IfOk, All, codes, length};
+ghost use Rattle.std.specs.Prelude.{◌≡◌, ◌≤◌, ◌∷◌, ◌++◌, IfOk, All, codes, length};
 ghost use Rattle.std.specs.String.{string_bytes};
 ghost use Rattle.base64.specs.Engines.{standard};
 ghost use Rattle.base64.specs.GeneralPurpose.{encode_of};
@@ -13,7 +13,7 @@ ghost use Rattle.grep_printer.specs.JsonPieces.{last_tokens};
 ghost use Rattle.grep_printer.specs.Pushes.{AddsTokens};
 
 use crate::json_text::{JsonText, Piece};
-use crate::stats::Stats;
+use crate::stats::{Stats, microseconds};
 use base64::engine::general_purpose::STANDARD;
 use grep_searcher::Match;
 use simdutf8::basic::from_utf8;
@@ -125,13 +125,6 @@ impl JsonText {
             Piece::Close,
         ])
     }
-}
-
-// The microseconds next to a number of nanoseconds.
-fn microseconds(nanos: u64) -> u64
-    ensures { result ≡ (nanos + 500) / 1000 }
-{
-    nanos / 1000 + (nanos % 1000 + 500) / 1000
 }
 
 // Seconds, of a number of microseconds.

@@ -1,5 +1,5 @@
 //! What was searched, found and written.
-ghost use Rattle.std.specs.Prelude.{◌≡◌};
+ghost use Rattle.std.specs.Prelude.{◌≡◌, ◌+◌, ◌/◌};
 ghost use Rattle.std.specs.Duration.{as_nanos};
 ghost use Rattle.grep_printer.specs.StatsSums.{nanos_of, no_stats, stats_sum};
 
@@ -105,4 +105,11 @@ pub(crate) fn nanoseconds(duration: Duration) -> u64
     ensures { result ≡ nanos_of duration }
 {
     duration.as_nanos().min(u64::MAX as u128) as u64
+}
+
+// The microseconds next to a number of nanoseconds.
+pub(crate) fn microseconds(nanos: u64) -> u64
+    ensures { result ≡ (nanos + 500) / 1000 }
+{
+    nanos / 1000 + (nanos % 1000 + 500) / 1000
 }

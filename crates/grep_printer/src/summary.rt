@@ -16,18 +16,18 @@ use std::alloc::Allocator;
 
 /// A printer of summaries: it writes one line for a search, or none. `sink` gives the sink of one
 /// search after another.
-pub type Summary<W> = Printer<SummaryFormat, W>;
+pub type Summary<'c, W> = Printer<SummaryFormat<'c>, W>;
 
 /// The sink of one search, which counts the matches, and writes the summary when the search ends. A
-/// search of which only the first match counts ends there. A search that a binary byte ended
-/// (`BinaryDetection::Quit`) counts for nothing, as in ripgrep: nothing is written of it, and its
-/// matches don't count.
-pub type SummarySink<'s, M, W> = PrinterSink<'s, SummaryFormat, M, W>;
+/// search of which only the first match counts ends there, unless all are to be counted. A search
+/// that a binary byte ended (`BinaryDetection::Quit`) counts for nothing, as in ripgrep: nothing is
+/// written of it, and its matches don't count.
+pub type SummarySink<'s, 'c, M, W> = PrinterSink<'s, SummaryFormat<'c>, M, W>;
 
 /// The format of summaries: its settings, and what was reported of a search.
 #[derive(Clone, Copy)]
-pub struct SummaryFormat {
-    pub(crate) config: SummaryConfig,
+pub struct SummaryFormat<'c> {
+    pub(crate) config: SummaryConfig<'c>,
     pub(crate) counts: Counts,
 }
 
@@ -58,7 +58,7 @@ impl Counts {
     }
 }
 
-impl SummaryFormat {
+impl<'c> SummaryFormat<'c> {
     // Pushes the summary of a search that has ended.
     fn push_summary(&self, text: &mut Pending, path: Option<&str>, terminator: u8)
         ensures { Adds text.old text.new (finish_text self.now.config.kind self.now.config
@@ -71,7 +71,7 @@ impl SummaryFormat {
     }
 }
 
-impl Format for SummaryFormat {
+impl<'c> Format for SummaryFormat<'c> {
     ghost use Rattle.grep_printer.specs.FormatEnds.{summary-ends};
     ghost use Rattle.grep_printer.specs.SummaryTexts.{summary_rules};
 
@@ -79,7 +79,7 @@ impl Format for SummaryFormat {
 
     ghost ends = { summary-ends };
 
-    fn begun(&self, _has_written: bool) -> SummaryFormat {
+    fn begun(&self, _has_written: bool) -> SummaryFormat<'c> {
         SummaryFormat {
             config: self.config,
             counts: Counts::new(),
@@ -117,7 +117,7 @@ impl Format for SummaryFormat {
             Event::Report(report) => match report.kind {
                 ReportKind::Match => {
                     self.counts.add(1, parts.len() as u64);
-                    return self.config.kind.counts_on();
+                    return self.config.kind.counts_on() || self.config.counts_all;
                 }
                 ReportKind::Context(_) => {}
             },
@@ -161,7 +161,7 @@ fn is_left_out(detection: &BinaryDetection, binary: Option<u64>) -> bool
 // Pushes what is written of a search that found what it is for.
 fn push_found_line(
     text: &mut Pending,
-    config: &SummaryConfig,
+    config: &SummaryConfig<'_>,
     path: Option<&str>,
     terminator: u8,
     counts: &Counts,
@@ -186,7 +186,7 @@ fn push_found_line(
 // Pushes a count after a path, in a line of its own.
 fn push_count_line(
     text: &mut Pending,
-    config: &SummaryConfig,
+    config: &SummaryConfig<'_>,
     path: Option<&str>,
     terminator: u8,
     count: u64,
@@ -199,7 +199,12 @@ fn push_count_line(
 }
 
 // Pushes a path in a line of its own.
-fn push_path_line(text: &mut Pending, config: &SummaryConfig, path: Option<&str>, terminator: u8)
+fn push_path_line(
+    text: &mut Pending,
+    config: &SummaryConfig<'_>,
+    path: Option<&str>,
+    terminator: u8,
+)
     ensures { Adds text.old text.new (path_line config.now path.entry terminator) }
 {
     let mark = config.path_terminator.unwrap_or(terminator);

@@ -61,21 +61,22 @@ impl SummaryKind {
 
 /// How summaries are written.
 #[derive(Clone, Copy, Debug)]
-pub struct SummaryConfig {
+pub struct SummaryConfig<'c> {
     pub(crate) kind: SummaryKind,
     pub(crate) exclude_zero: bool,
+    pub(crate) counts_all: bool,
     pub(crate) path_terminator: Option<u8>,
-    pub(crate) color_specs: ColorSpecs,
+    pub(crate) color_specs: ColorSpecs<'c>,
 }
 
 /// How a printer of summaries writes them. Each setter changes its own setting alone, and returns
 /// the builder.
 #[derive(Debug, Drop)]
-pub struct SummaryBuilder {
-    config: SummaryConfig,
+pub struct SummaryBuilder<'c> {
+    config: SummaryConfig<'c>,
 }
 
-impl Model for SummaryBuilder {
+impl<'c> Model for SummaryBuilder<'c> {
     ghost use Rattle.grep_printer.specs.declared.summary_builder.SummaryConfig.{SummaryConfig};
 
     ghost Value = { SummaryConfig };
@@ -83,16 +84,17 @@ impl Model for SummaryBuilder {
     ghost view = { λ b. b.config };
 }
 
-impl SummaryBuilder {
+impl<'c> SummaryBuilder<'c> {
     /// The default settings: the matches that are reported are counted, a count of zero isn't written,
     /// and nothing is colored.
-    pub fn new() -> SummaryBuilder
+    pub fn new() -> SummaryBuilder<'c>
         ensures { result ≡ default_summary_config }
     {
         SummaryBuilder {
             config: SummaryConfig {
                 kind: SummaryKind::Count,
                 exclude_zero: true,
+                counts_all: false,
                 path_terminator: None,
                 color_specs: ColorSpecs::Plain,
             },
@@ -101,7 +103,7 @@ impl SummaryBuilder {
 
     /// A printer with these settings, which writes to `writer`. It takes memory from `alloc` when
     /// it writes, and when it counts the parts of a match.
-    pub fn build<W>(&self, alloc: Global, writer: W) -> Summary<W>
+    pub fn build<W>(&self, alloc: Global, writer: W) -> Summary<'c, W>
         ensures writer { result.writer ≡ writer }
         ensures pending { pending_bytes result.pending ≡ [] }
         ensures config { result.format.config ≡ self.now }
@@ -116,7 +118,7 @@ impl SummaryBuilder {
     }
 
     /// What is written of a search; by default how many matches were reported.
-    pub fn kind(&mut self, kind: SummaryKind) -> &mut SummaryBuilder
+    pub fn kind(&mut self, kind: SummaryKind) -> &mut SummaryBuilder<'c>
         ensures reference { result.ghost_name ≡ self.entry.ghost_name }
         ensures set { result.now ≡ record self.old { kind = kind } }
     {
@@ -125,7 +127,7 @@ impl SummaryBuilder {
     }
 
     /// Whether nothing is written where a count is zero; so by default.
-    pub fn exclude_zero(&mut self, yes: bool) -> &mut SummaryBuilder
+    pub fn exclude_zero(&mut self, yes: bool) -> &mut SummaryBuilder<'c>
         ensures reference { result.ghost_name ≡ self.entry.ghost_name }
         ensures set { result.now ≡ record self.old { exclude_zero = yes } }
     {
@@ -133,9 +135,19 @@ impl SummaryBuilder {
         self
     }
 
+    /// Whether a search goes on after its first match even where no more are asked for, so that all
+    /// of them can be counted; not by default.
+    pub fn counts_all(&mut self, yes: bool) -> &mut SummaryBuilder<'c>
+        ensures reference { result.ghost_name ≡ self.entry.ghost_name }
+        ensures set { result.now ≡ record self.old { counts_all = yes } }
+    {
+        self.config.counts_all = yes;
+        self
+    }
+
     /// The byte after a path, in place of a colon or of the end of the path's line, as NUL, if
     /// there is one; by default there is none.
-    pub fn path_terminator(&mut self, terminator: Option<u8>) -> &mut SummaryBuilder
+    pub fn path_terminator(&mut self, terminator: Option<u8>) -> &mut SummaryBuilder<'c>
         ensures reference { result.ghost_name ≡ self.entry.ghost_name }
         ensures set { result.now ≡ record self.old { path_terminator = terminator } }
     {
@@ -144,9 +156,9 @@ impl SummaryBuilder {
     }
 
     /// The colors, of which a summary has that of the path; none by default.
-    pub fn color_specs(&mut self, specs: ColorSpecs) -> &mut SummaryBuilder
+    pub fn color_specs(&mut self, specs: ColorSpecs<'c>) -> &mut SummaryBuilder<'c>
         ensures reference { result.ghost_name ≡ self.entry.ghost_name }
-        ensures set { result.now ≡ record self.old { color_specs = specs } }
+        ensures set { result.now ≡ record self.old { color_specs = specs.entry } }
     {
         self.config.color_specs = specs;
         self

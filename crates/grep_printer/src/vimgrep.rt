@@ -1,12 +1,13 @@
 //! The printer of a line for each part that matches.
 ghost use Rattle.std.specs.Prelude.{◌≡◌, ◌+◌, ◌<◌, ◌≤◌, ◌^◌, [], false, length};
+ghost use Rattle.std.specs.Prelude.{None, Some, if◌then◌else◌};
 ghost use Rattle.grep_printer.specs.MatchedParts.{AreInOrder};
 ghost use Rattle.grep_output.specs.PendingTexts.{Adds, pending_bytes};
 ghost use Rattle.grep_printer.specs.Reports.{line_kind};
 ghost use Rattle.grep_printer.specs.VimgrepTexts.{number_after, part_line, part_lines};
 ghost use Rattle.grep_printer.specs.VimgrepTexts.{vimgrep_config};
 
-use crate::config::StandardBuilder;
+use crate::config::{Config, StandardBuilder};
 use crate::fields::{Layout, Place};
 use crate::format::{Event, Format};
 use crate::printer::{Printer, PrinterSink};
@@ -32,8 +33,8 @@ pub struct VimgrepFormat<'c> {
 
 impl<'c> StandardBuilder<'c> {
     /// A printer that writes for each part that matches the line in which it starts, after the path,
-    /// the line's number, the part's column in it and, if `byte_offset` is set, the part's offset.
-    /// Of the settings `heading`, `column` and `only_matching` don't count.
+    /// the line's number, the part's column in it if `column` is set, and its offset if
+    /// `byte_offset` is. The settings `heading` and `only_matching` don't count.
     pub fn build_vimgrep<W>(&self, alloc: Global, writer: W) -> Vimgrep<'c, W>
         ensures writer { result.writer ≡ writer }
         ensures pending { pending_bytes result.pending ≡ [] }
@@ -43,7 +44,6 @@ impl<'c> StandardBuilder<'c> {
     {
         let mut config = self.config;
         config.heading = false;
-        config.column = true;
         config.only_matching = false;
         let progress = Progress::new(false);
         let lines = StandardFormat { config, progress };
@@ -143,12 +143,19 @@ fn push_part_line(
     let start = line.start();
     let place = Place {
         number,
-        column: Some((at - start) as u64 + 1),
+        column: shown_column(&layout.config, (at - start) as u64 + 1),
         offset: report.offset + at as u64,
         start,
     };
     let bytes = &report.bytes[start..line.end()];
     layout.push_line(text, report.kind.line_kind(), &place, &[*part], bytes)
+}
+
+// A column, if columns are written.
+fn shown_column(config: &Config<'_>, column: u64) -> Option<u64>
+    ensures { result ≡ (if config.now.column then Some column else None) }
+{
+    if config.column { Some(column) } else { None }
 }
 
 // The number of a line after so many others.

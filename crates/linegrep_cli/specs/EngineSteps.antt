@@ -12,20 +12,20 @@ use Rattle.linegrep_cli.specs.declared.printers.Printer.TheVariants.{ReplacedPar
 
 -- the writer of a printer
 abbrev pub writer_of : {M W : Type 0} → Printer M W → W
-writer_of (Lines printer) = printer.writer
-writer_of (Parts printer) = printer.writer
-writer_of (ReplacedLines printer) = printer.writer
-writer_of (ReplacedParts printer) = printer.writer
-writer_of (Summary printer) = printer.writer
+writer_of (Lines run) = run.printer.writer
+writer_of (Parts run) = run.printer.writer
+writer_of (ReplacedLines run) = run.printer.writer
+writer_of (ReplacedParts run) = run.printer.writer
+writer_of (Summary run) = run.printer.writer
 writer_of (Json run) = run.printer.writer
 
 -- it failed
 abbrev pub has_failed : {M W : Type 0} → Printer M W → Bool
-has_failed (Lines printer) = printer.has_failed
-has_failed (Parts printer) = printer.has_failed
-has_failed (ReplacedLines printer) = printer.has_failed
-has_failed (ReplacedParts printer) = printer.has_failed
-has_failed (Summary printer) = printer.has_failed
+has_failed (Lines run) = run.printer.has_failed
+has_failed (Parts run) = run.printer.has_failed
+has_failed (ReplacedLines run) = run.printer.has_failed
+has_failed (ReplacedParts run) = run.printer.has_failed
+has_failed (Summary run) = run.printer.has_failed
 has_failed (Json run) = run.printer.has_failed
 
 -- the writer's error in that of a search

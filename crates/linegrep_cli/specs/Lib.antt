@@ -1,3 +1,6 @@
+pub mod ColorLooks
+pub mod ColorOptions
+pub mod CountedRuns
 pub mod EngineCalls
 pub mod EngineSteps
 pub mod FileChoices
@@ -15,5 +18,6 @@ pub mod Refusals
 pub mod RunScopes
 pub mod SearcherOptions
 pub mod SeparatorOptions
-pub mod WholeRuns
 pub mod TemplateOptions
+pub mod WholeRuns
+pub mod WriterFlushes

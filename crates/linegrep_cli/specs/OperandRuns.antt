@@ -55,14 +55,15 @@ has_found scope searched =
 abbrev pub path_of : Scope → Bor (List ℕ) → Option (Bor (List ℕ))
 path_of scope name = if scope.shows_paths then Some name else None
 
--- what is visited after this makes no difference: the run failed, or nothing is written and there is
--- a match
+-- what is visited after this makes no difference: the run failed, or nothing is written or counted
+-- and there is a match
 abbrev pub is_over : Scope → Visit → Bool
-is_over scope total = is_some total.failure || (scope.is_quiet && total.has_match)
+is_over scope total = is_some total.failure
+    || (scope.is_quiet && (total.has_match && not scope.counts_all))
 
 -- the status if all was written
 abbrev pub status_of : Scope → Visit → ℕ
-status_of scope total = if total.has_error && not (is_over scope total) then 2
+status_of scope total = if total.has_error && not (scope.is_quiet && total.has_match) then 2
     else if total.has_match then 0 else 1
 
 -- a word stands for bytes that aren't UTF-8: it has a NUL

@@ -37,10 +37,12 @@ use Rattle.linegrep_cli.specs.declared.option_id.OptionId.TheVariants.{NoHidden,
 use Rattle.linegrep_cli.specs.declared.option_id.OptionId.TheVariants.{NoJson, NoLineBuffered}
 use Rattle.linegrep_cli.specs.declared.option_id.OptionId.TheVariants.{NoLineNumber, NoMessages}
 use Rattle.linegrep_cli.specs.declared.option_id.OptionId.TheVariants.{NoMultiline, NoOneFileSystem}
-use Rattle.linegrep_cli.specs.declared.option_id.OptionId.TheVariants.{NoSortFiles, NoText, NoTrim}
+use Rattle.linegrep_cli.specs.declared.option_id.OptionId.TheVariants.{NoSortFiles, NoStats, NoText}
+use Rattle.linegrep_cli.specs.declared.option_id.OptionId.TheVariants.{NoTrim}
 use Rattle.linegrep_cli.specs.declared.option_id.OptionId.TheVariants.{NullData, OneFileSystem}
 use Rattle.linegrep_cli.specs.declared.option_id.OptionId.TheVariants.{Passthru, Pretty}
 use Rattle.linegrep_cli.specs.declared.option_id.OptionId.TheVariants.{SmartCase, Sort, SortFiles}
+use Rattle.linegrep_cli.specs.declared.option_id.OptionId.TheVariants.{Stats}
 use Rattle.linegrep_cli.specs.declared.option_id.OptionId.TheVariants.{Sortr, StopOnNonmatch}
 use Rattle.linegrep_cli.specs.declared.option_id.OptionId.TheVariants.{Text, Trim, TypeList, WithFilename}
 use Rattle.linegrep_cli.specs.declared.option_id.OptionId.TheVariants.{WordRegexp}
@@ -109,6 +111,7 @@ own_contraries ByteOffset = NoByteOffset ∷ []
 own_contraries Column = NoColumn ∷ []
 own_contraries NoColumn = Column ∷ []
 own_contraries Trim = NoTrim ∷ []
+own_contraries Stats = NoStats ∷ []
 own_contraries MaxColumnsPreview = NoMaxColumnsPreview ∷ []
 own_contraries NoContextSeparator = ContextSeparator ∷ []
 own_contraries NoMessages = Messages ∷ []

@@ -6,7 +6,8 @@ use Rattle.std.specs.Option.{option_map}
 use Rattle.std.specs.Str.{bytes_eq}
 use Rattle.grep_output.specs.PendingTexts.{pending_bytes}
 use Rattle.grep_printer.specs.declared.colors.ColorSpecs.{ColorSpecs}
-use Rattle.grep_printer.specs.declared.colors.ColorSpecs.TheVariants.{Default, Plain}
+use Rattle.grep_printer.specs.declared.colors.ColorSpecs.TheVariants.{Chosen, Default, Plain}
+use Rattle.grep_printer.specs.declared.colors.ColorTexts.{ColorTexts}
 use Rattle.grep_printer.specs.declared.config.Config.{Config}
 use Rattle.grep_printer.specs.declared.config.SearchSeparator.{SearchSeparator}
 use Rattle.grep_printer.specs.declared.config.SearchSeparator.TheVariants.{Blank, Groups, Nothing}
@@ -20,10 +21,12 @@ use Rattle.grep_printer.specs.declared.summary_builder.SummaryKind.TheVariants.{
 use Rattle.grep_printer.specs.declared.summary_builder.SummaryKind.TheVariants.{PathWithMatch}
 use Rattle.grep_printer.specs.declared.summary_builder.SummaryKind.TheVariants.{PathWithoutMatch}
 use Rattle.grep_printer.specs.declared.summary_builder.SummaryKind.TheVariants.{Quiet as silent}
+use Rattle.grep_printer.specs.StatsSums.{no_stats}
 use Rattle.grep_printer.specs.VimgrepTexts.{vimgrep_config}
 use Rattle.grep_replace.specs.declared.template.Template.{Template}
 use Rattle.linegrep_cli.specs.OptionMeanings.{after_lines, before_lines, shows_columns}
 use Rattle.linegrep_cli.specs.OptionUses.{has}
+use Rattle.linegrep_cli.specs.declared.counted_run.CountedRun.{CountedRun}
 use Rattle.linegrep_cli.specs.declared.option_id.OptionId.TheVariants.{BlockBuffered, ByteOffset}
 use Rattle.linegrep_cli.specs.declared.option_id.OptionId.TheVariants.{Color, Count}
 use Rattle.linegrep_cli.specs.declared.option_id.OptionId.TheVariants.{CountMatches}
@@ -34,6 +37,7 @@ use Rattle.linegrep_cli.specs.declared.option_id.OptionId.TheVariants.{LineBuffe
 use Rattle.linegrep_cli.specs.declared.option_id.OptionId.TheVariants.{NoFilename}
 use Rattle.linegrep_cli.specs.declared.option_id.OptionId.TheVariants.{NoHeading, Null}
 use Rattle.linegrep_cli.specs.declared.option_id.OptionId.TheVariants.{OnlyMatching, Pretty, Quiet}
+use Rattle.linegrep_cli.specs.declared.option_id.OptionId.TheVariants.{Stats}
 use Rattle.linegrep_cli.specs.declared.option_id.OptionId.TheVariants.{Trim, Vimgrep, WithFilename}
 use Rattle.linegrep_cli.specs.declared.options.Options.{Options}
 use Rattle.linegrep_cli.specs.declared.printers.Printer.{Printer}
@@ -55,6 +59,11 @@ counts_matches options is_across = not (has options InvertMatch) && (has options
 abbrev pub is_summary_of_paths : Options → Bool
 is_summary_of_paths options = has options FilesWithMatches || has options FilesWithoutMatch
     || has options Files
+
+-- all that is found is counted, to say at the end how much it was: not where files are listed, or
+-- where messages say it
+abbrev pub counts_all : Options → Bool
+counts_all options = has options Stats && not (has options Files) && not (has options Json)
 
 -- something is written in place of lines, or nothing
 abbrev pub is_summary : Options → Bool
@@ -112,10 +121,16 @@ color_choice options = if has options Color then option_map (λ choice. choice.n
 abbrev pub open_colors : Bool → Option ColorSpecs
 open_colors is_terminal = if is_terminal then None else Some Plain
 
-abbrev pub known_colors : Option (List ℕ) → Bool → Option ColorSpecs
-known_colors None is_terminal = open_colors is_terminal
-known_colors (Some choice) is_terminal =
-    if bytes_eq choice (codes "always") || bytes_eq choice (codes "ansi") then Some Default
+-- those of ripgrep, or others that are chosen
+abbrev pub colors_of : Option (Bor ColorTexts) → ColorSpecs
+colors_of None = Default
+colors_of (Some texts) = Chosen texts
+
+abbrev pub known_colors : Option (Bor ColorTexts) → Option (List ℕ) → Bool → Option ColorSpecs
+known_colors chosen None is_terminal = open_colors is_terminal
+known_colors chosen (Some choice) is_terminal =
+    if bytes_eq choice (codes "always") || bytes_eq choice (codes "ansi") then Some
+    (colors_of chosen)
     else if bytes_eq choice (codes "never") then Some Plain
     else open_colors is_terminal
 
@@ -144,6 +159,7 @@ abbrev pub summary_settings : Options → SummaryKind → ColorSpecs → Summary
 summary_settings options kind colors = record {
   kind = kind;
   exclude_zero = not (has options IncludeZero);
+  counts_all = counts_all options;
   path_terminator = path_terminator_of options;
   color_specs = colors;
 }
@@ -156,60 +172,60 @@ pub record IsNew {F W : Type 0} (options : Options) (writer : W) (printer : Writ
   pub has_failed : printer.has_failed ≡ false
   pub room : is_line_buffered options ≡ true → printer.room ≡ 0
 
--- the printer is the one that options ask for, by line or across lines, with some colors and
--- separators
-abbrev pub IsPrinterFor : {M W : Type 0} → Options → Bool → Option (Bor Separators) → W → ColorSpecs
-    → Printer M W → Type 0
-IsPrinterFor options is_across separators writer colors (Lines printer) =
+-- so has the printer of a run, and nothing was counted: it counts if options ask for that
+pub record IsNewRun {F W : Type 0} (options : Options) (writer : W)
+    (run : CountedRun F W) : Type 0 where
+  pub printer : IsNew options writer run.printer
+  pub counts : run.printer.format.is_counting ≡ counts_all options
+  pub stats : run.stats ≡ no_stats
+
+-- a format has each match replaced by this template, for the groups that a matcher finds
+abbrev pub IsReplacing : {F M : Type 0} → M → Option (Bor Template) → ReplacedFormat F M → Type 0
+IsReplacing matcher None format = ⊥
+IsReplacing matcher (Some template) format =
+    (format.matcher ≡ matcher) × (format.template.now ≡ template.now)
+
+-- the printer is the one that options ask for, by line or across lines, with some separators, if
+-- there is a template with each match replaced, and with some colors
+abbrev pub IsPrinterFor : {M W : Type 0} → Options → Bool → Option (Bor Separators) → M → Option
+    (Bor Template) → W
+    → ColorSpecs → Printer M W → Type 0
+IsPrinterFor options is_across separators matcher template writer colors (Lines run) =
     (summary_kind options is_across ≡ None) × (has options Json ≡ false)
-    × (is_vimgrep options ≡ false)
-    × (printer.format.config ≡ line_settings options colors separators) × IsNew options writer printer
-IsPrinterFor options is_across separators writer colors (Parts printer) =
+    × (is_vimgrep options ≡ false) × (template ≡ None)
+    × (run.printer.format.format.config ≡ line_settings options colors separators)
+    × IsNewRun options writer run
+IsPrinterFor options is_across separators matcher template writer colors (Parts run) =
     (summary_kind options is_across ≡ None) × (has options Json ≡ false)
-    × (is_vimgrep options ≡ true)
-    × (printer.format.lines.config ≡ vimgrep_config (line_settings options colors separators))
-    × IsNew options writer printer
-IsPrinterFor options is_across separators writer colors (Summary printer) =
+    × (is_vimgrep options ≡ true) × (template ≡ None)
+    × (run.printer.format.format.lines.config ≡ vimgrep_config
+    (line_settings options colors separators))
+    × IsNewRun options writer run
+IsPrinterFor options is_across separators matcher template writer colors (ReplacedLines run) =
+    (summary_kind options is_across ≡ None) × (has options Json ≡ false)
+    × (is_vimgrep options ≡ false) × IsReplacing matcher template run.printer.format.format
+    × (run.printer.format.format.format.config ≡ line_settings options colors separators)
+    × IsNewRun options writer run
+IsPrinterFor options is_across separators matcher template writer colors (ReplacedParts run) =
+    (summary_kind options is_across ≡ None) × (has options Json ≡ false)
+    × (is_vimgrep options ≡ true) × IsReplacing matcher template run.printer.format.format
+    × (run.printer.format.format.format.lines.config
+    ≡ vimgrep_config (line_settings options colors separators))
+    × IsNewRun options writer run
+IsPrinterFor options is_across separators matcher template writer colors (Summary run) =
     (kind : SummaryKind) × (summary_kind options is_across ≡ Some kind)
-    × (printer.format.config ≡ summary_settings options kind colors) × IsNew options writer printer
-IsPrinterFor options is_across separators writer colors (Messages run) =
+    × (run.printer.format.format.config ≡ summary_settings options kind colors)
+    × IsNewRun options writer run
+IsPrinterFor options is_across separators matcher template writer colors (Messages run) =
     (summary_kind options is_across ≡ None) × (has options Json ≡ true)
     × (run.printer.format.always_begin_end ≡ false) × IsNew options writer run.printer
-IsPrinterFor options is_across separators writer colors printer = ⊥
 
--- so with the colors that they ask for: a printer that writes matches as they are
-abbrev pub IsPlainPrinter : {M W : Type 0} → Options → Bool → Option (Bor Separators) → W → Printer M W
-    → Type 0
-IsPlainPrinter options is_across separators writer printer = (colors : ColorSpecs)
-    × IfSome (known_colors (color_choice options) options.streams.is_terminal)
+-- so with the colors that they ask for
+abbrev pub IsPrinterOf : {M W : Type 0} → Options → Bool → Option (Bor Separators) → Option
+    (Bor ColorTexts)
+    → M → Option (Bor Template) → W → Printer M W → Type 0
+IsPrinterOf options is_across separators chosen matcher template writer printer =
+    (colors : ColorSpecs)
+    × IfSome (known_colors chosen (color_choice options) options.streams.is_terminal)
     (λ known. colors ≡ known)
-    × IsPrinterFor options is_across separators writer colors printer
-
--- a printer is another one, but that each match is replaced by a template, for the groups that a
--- matcher finds
-pub record IsReplacing {F M W : Type 0} (matcher : M) (template : Bor Template) (old : Writer F W)
-    (new : Writer (ReplacedFormat F M) W) : Type 0 where
-  pub asks : new.format.matcher ≡ matcher
-  pub template_is : new.format.template.now ≡ template.now
-  pub format : new.format.format ≡ old.format
-  pub writer : new.writer ≡ old.writer
-  pub pending : pending_bytes new.pending ≡ pending_bytes old.pending
-  pub has_written : new.has_written ≡ old.has_written
-  pub has_failed : new.has_failed ≡ old.has_failed
-  pub room : new.room ≡ old.room
-
--- so is the printer of a run, if it writes lines
-abbrev pub IsReplaced : {M W : Type 0} → M → Bor Template → Printer M W → Printer M W → Type 0
-IsReplaced matcher template (Lines old) (ReplacedLines new) = IsReplacing matcher template old new
-IsReplaced matcher template (Parts old) (ReplacedParts new) = IsReplacing matcher template old new
-IsReplaced matcher template old new = new ≡ old
-
--- the printer is the one that options ask for, with some separators, and if there is a template with
--- each match replaced
-abbrev pub IsPrinterOf : {M W : Type 0} → Options → Bool → Option (Bor Separators) → M
-    → Option (Bor Template) → W → Printer M W → Type 0
-IsPrinterOf options is_across separators matcher None writer printer =
-    IsPlainPrinter options is_across separators writer printer
-IsPrinterOf {M} {W} options is_across separators matcher (Some template) writer printer =
-    (plain : Printer M W) × IsPlainPrinter options is_across separators writer plain
-    × IsReplaced matcher template plain printer
+    × IsPrinterFor options is_across separators matcher template writer colors printer

@@ -1,45 +1,26 @@
 -- What the printer of a run writes in a search, when it is flushed, and at the end of all.
-use Rattle.std.specs.Prelude.{◌≡◌, ℕ, true, if◌then◌else◌, is_ok, List, [], Option}
+use Rattle.std.specs.Prelude.{◌≡◌, ℕ, List, Option}
 use Rattle.std.specs.Prelude.{Result, Ok, Err}
 use Rattle.std.specs.Borrow.{Bor}
 use Rattle.std.specs.Global.{Global}
 use Rattle.std.specs.declared.io.Error.{Error}
 use Rattle.grep_output.specs.Outputs.{OutputCall}
-use Rattle.grep_output.specs.PendingTexts.{Flushes, pending_bytes}
 use Rattle.grep_searcher.specs.Meanings.{MatcherFacts}
 use Rattle.grep_searcher.specs.Plans.{SearcherState}
 use Rattle.grep_searcher.specs.Source.{ReadResult}
 use Rattle.grep_searcher.specs.declared.SearchError.{SearchError}
 use Rattle.grep_searcher.specs.declared.SearchError.TheVariants.{Io}
-use Rattle.grep_printer.specs.Formats.{Rules}
-use Rattle.grep_printer.specs.PrintedSearches.{IsSearchPrinted, IsSinkFor}
 use Rattle.grep_printer.specs.ReplacedTexts.{replaced_rules}
 use Rattle.grep_printer.specs.StandardTexts.{standard_rules}
 use Rattle.grep_printer.specs.SummaryTexts.{summary_rules}
 use Rattle.grep_printer.specs.VimgrepTexts.{vimgrep_rules}
-use Rattle.grep_printer.specs.declared.printer.Printer.{Printer as Writer}
-use Rattle.grep_printer.specs.declared.printer.PrinterSink.{PrinterSink}
+use Rattle.linegrep_cli.specs.CountedRuns.{AreStatsPut, IsCountedSearch, IsRunFlushed}
 use Rattle.linegrep_cli.specs.JsonRuns.{AreTotalsPut, IsJsonWritten}
+use Rattle.linegrep_cli.specs.WriterFlushes.{IsWriterFlushed}
 use Rattle.linegrep_cli.specs.declared.printers.Printer.{Printer}
 use Rattle.linegrep_cli.specs.declared.printers.Printer.TheVariants.{Json, Lines, Parts, ReplacedLines}
 use Rattle.linegrep_cli.specs.declared.printers.Printer.TheVariants.{ReplacedParts, Summary}
 use Rattle.linegrep_cli.specs.declared.printers.Searched.{Searched}
-
-module _ {F M W E : Type 0} (rules : Rules F) (output : E → Option (List ℕ))
-    (facts : M → MatcherFacts E) (first_at : M → List ℕ → ℕ → Option (ℕ × ℕ))
-    (write_step : W → OutputCall → W → Type 0) {R : Type 0} (remaining : R → Option (List ℕ))
-    (read_step : R → ReadResult → R → Type 0) (state : SearcherState) where
-  -- a printer printed what a search of a source reports to its sink, and it is known whether that
-  -- found what it is for
-  pub record IsPrintedBy (matcher : M) (path : Option (Bor (List ℕ))) (reader : R)
-      (old : Writer F W) (searched : Searched) (reader' : R) (new : Writer F W) : Type 0 where
-    pub begun : PrinterSink F M W
-    pub ended : PrinterSink F M W
-    pub begins : IsSinkFor rules old matcher path begun
-    pub searches : IsSearchPrinted rules output facts first_at write_step remaining read_step state
-        reader begun searched.result reader' ended
-    pub has_match : searched.has_match ≡ rules.has_match ended.format
-    pub ends : ended.printer.now ≡ new
 
 module _ {M W E : Type 0} (output : E → Option (List ℕ)) (facts : M → MatcherFacts E)
     (first_at : M → List ℕ → ℕ → Option (ℕ × ℕ)) (groups_at : M → List ℕ → ℕ → List (Option (ℕ × ℕ)))
@@ -48,53 +29,48 @@ module _ {M W E : Type 0} (output : E → Option (List ℕ)) (facts : M → Matc
   -- what a search of a source writes, by what is written of searches
   abbrev pub IsSearchWritten : R → Printer M W → Searched → R → Printer M W → Type 0
   IsSearchWritten reader (Lines old) searched reader' (Lines new) =
-      IsPrintedBy standard_rules output facts first_at write_step remaining read_step state matcher
-      path reader old searched reader' new
+      IsCountedSearch standard_rules output facts first_at write_step remaining read_step state
+      matcher path reader old searched reader' new
   IsSearchWritten reader (Parts old) searched reader' (Parts new) =
-      IsPrintedBy vimgrep_rules output facts first_at write_step remaining read_step state matcher
-      path reader old searched reader' new
+      IsCountedSearch vimgrep_rules output facts first_at write_step remaining read_step state
+      matcher path reader old searched reader' new
   IsSearchWritten reader (ReplacedLines old) searched reader' (ReplacedLines new) =
-      IsPrintedBy (replaced_rules standard_rules groups_at (λ m. (facts m).meaning)) output facts
-      first_at write_step remaining read_step state matcher path reader old searched reader' new
+      IsCountedSearch (replaced_rules standard_rules groups_at (λ m. (facts m).meaning)) output
+      facts first_at write_step remaining read_step state matcher path reader old searched reader' new
   IsSearchWritten reader (ReplacedParts old) searched reader' (ReplacedParts new) =
-      IsPrintedBy (replaced_rules vimgrep_rules groups_at (λ m. (facts m).meaning)) output facts
+      IsCountedSearch (replaced_rules vimgrep_rules groups_at (λ m. (facts m).meaning)) output facts
       first_at write_step remaining read_step state matcher path reader old searched reader' new
   IsSearchWritten reader (Summary old) searched reader' (Summary new) =
-      IsPrintedBy summary_rules output facts first_at write_step remaining read_step state matcher
-      path reader old searched reader' new
+      IsCountedSearch summary_rules output facts first_at write_step remaining read_step state
+      matcher path reader old searched reader' new
   IsSearchWritten reader (Json old) searched reader' (Json new) =
       IsJsonWritten output facts first_at write_step remaining read_step state matcher path reader
       old searched reader' new
   IsSearchWritten reader old searched reader' new = ⊥
 
-module _ {W : Type 0} (write_step : W → OutputCall → W → Type 0) where
-  -- a printer of any format writes what is pending, and flushes its writer
-  pub record IsWriterFlushed {F : Type 0} (old : Writer F W) (result : Result (Unit {0}) Error)
-      (new : Writer F W) : Type 0 where
-    pub flushed : Flushes write_step old.writer (pending_bytes old.pending) result new.writer
-    pub emptied : pending_bytes new.pending ≡ []
-    pub format : new.format ≡ old.format
-    pub has_written : new.has_written ≡ old.has_written
-    pub has_failed : new.has_failed ≡ (if is_ok result then old.has_failed else true)
-
 module _ {M W : Type 0} (write_step : W → OutputCall → W → Type 0) where
   -- so does the printer of a run
   abbrev pub IsFlushed : Printer M W → Result (Unit {0}) Error → Printer M W → Type 0
-  IsFlushed (Lines old) result (Lines new) = IsWriterFlushed write_step old result new
-  IsFlushed (Parts old) result (Parts new) = IsWriterFlushed write_step old result new
-  IsFlushed (ReplacedLines old) result (ReplacedLines new) = IsWriterFlushed write_step old result new
-  IsFlushed (ReplacedParts old) result (ReplacedParts new) = IsWriterFlushed write_step old result new
-  IsFlushed (Summary old) result (Summary new) = IsWriterFlushed write_step old result new
+  IsFlushed (Lines old) result (Lines new) = IsRunFlushed write_step old result new
+  IsFlushed (Parts old) result (Parts new) = IsRunFlushed write_step old result new
+  IsFlushed (ReplacedLines old) result (ReplacedLines new) = IsRunFlushed write_step old result new
+  IsFlushed (ReplacedParts old) result (ReplacedParts new) = IsRunFlushed write_step old result new
+  IsFlushed (Summary old) result (Summary new) = IsRunFlushed write_step old result new
   IsFlushed (Json old) result (Json new) = IsWriterFlushed write_step old.printer result new.printer
       × (new ≡ record old { printer = new.printer })
   IsFlushed old result new = ⊥
 
-  -- the message about all searches comes after those of the searches, and nothing otherwise
+  -- the totals of all searches come after what they wrote, if they are asked for
   abbrev pub HasTotals : Printer M W → Result (Unit {0}) (SearchError Global) → Printer M W → Type 0
   HasTotals (Json old) result (Json new) =
       (elapsed : ℕ) × AreTotalsPut write_step old.printer old.stats elapsed result new.printer
       × (new ≡ record old { printer = new.printer })
-  HasTotals old result new = (result ≡ Ok tt) × (new ≡ old)
+  HasTotals (Lines old) result (Lines new) = AreStatsPut write_step old result new
+  HasTotals (Parts old) result (Parts new) = AreStatsPut write_step old result new
+  HasTotals (ReplacedLines old) result (ReplacedLines new) = AreStatsPut write_step old result new
+  HasTotals (ReplacedParts old) result (ReplacedParts new) = AreStatsPut write_step old result new
+  HasTotals (Summary old) result (Summary new) = AreStatsPut write_step old result new
+  HasTotals old result new = ⊥
 
   -- the totals of all searches come, and all is written and flushed
   pub data IsFinished (old : Printer M W) : Result (Unit {0}) (SearchError Global) → Printer M W

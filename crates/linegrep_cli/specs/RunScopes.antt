@@ -6,7 +6,7 @@ use Rattle.std.specs.declared.io.Error.{Error}
 use Rattle.linegrep_cli.specs.OperandRuns.{is_same}
 use Rattle.linegrep_cli.specs.OptionMeanings.{paths_of, searches_input}
 use Rattle.linegrep_cli.specs.OptionUses.{has}
-use Rattle.linegrep_cli.specs.PrinterOptions.{is_summary, shows_paths}
+use Rattle.linegrep_cli.specs.PrinterOptions.{counts_all, is_summary, shows_paths}
 use Rattle.linegrep_cli.specs.SearcherOptions.{is_all_searched}
 use Rattle.linegrep_files.specs.declared.file_id.FileId.{FileId}
 use Rattle.linegrep_cli.specs.declared.file_run.Scope.{Scope}
@@ -37,6 +37,7 @@ scope_of options route several = record {
   shows_paths = shows_paths options (not (searches_input options) && several);
   is_silent = has options NoMessages;
   is_quiet = has options Quiet;
+  counts_all = counts_all options;
   seeks_unmatched = has options FilesWithoutMatch && has options Quiet;
   left_out = left_out_of options;
   leaves_out_input = is_same (left_out_of options) options.streams.input;

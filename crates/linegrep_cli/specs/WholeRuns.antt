@@ -6,6 +6,7 @@ use Rattle.std.specs.declared.alloc.AllocError.{AllocError}
 use Rattle.std.specs.declared.io.Error.{Error}
 use Rattle.std.specs.declared.marker.Brand.{Brand}
 use Rattle.grep_output.specs.Outputs.{OutputCall}
+use Rattle.grep_printer.specs.declared.colors.ColorTexts.{ColorTexts}
 use Rattle.grep_printer.specs.declared.separators.Separators.{Separators}
 use Rattle.grep_regex.specs.LiteralViews.{literal_regex}
 use Rattle.grep_regex.specs.NamedViews.{named_regex}
@@ -20,6 +21,7 @@ use Rattle.grep_searcher.specs.Meanings.{MatcherFacts}
 use Rattle.grep_searcher.specs.Plans.{is_across}
 use Rattle.grep_searcher.specs.Source.{ReadResult}
 use Rattle.grep_searcher.specs.declared.LineTerminator.{LineTerminator}
+use Rattle.linegrep_cli.specs.ColorOptions.{AreColorsLent}
 use Rattle.linegrep_cli.specs.EngineSteps.{has_failed, writer_of}
 use Rattle.linegrep_cli.specs.OperandRuns.{IsRunOver}
 use Rattle.linegrep_cli.specs.OptionMeanings.{paths_of}
@@ -54,9 +56,12 @@ module _ {F M R W X E : Type 0} (output : E → Option (List ℕ)) (facts : M �
     pub asks : engine.matcher ≡ matcher
     pub separators : Option (Bor Separators)
     pub lent : AreLent options separators
+    pub chosen : Option (Bor ColorTexts)
+    pub colored : AreColorsLent options chosen
     pub printer : IsPrinterOf options
-        (is_across (searcher_settings options) (facts matcher).meaning) separators matcher template writer
-        engine.printer
+        (is_across (searcher_settings options)
+        (facts matcher).meaning) separators chosen matcher template
+        writer engine.printer
     pub haystack : engine.haystack ≡ record { file = None; reader = input }
     pub says : engine.errors.now ≡ errors
     pub detection : engine.detection ≡ (searcher_settings options).binary_detection

@@ -2,25 +2,32 @@
 ghost use Rattle.std.specs.Prelude.{◌≡◌, IfSome, option_map};
 ghost use Rattle.linegrep_cli.specs.PrinterOptions.{known_colors};
 
-use grep_printer::ColorSpecs;
+use grep_printer::{ColorSpecs, ColorTexts};
 use std::env;
 use std::env::VarError;
 
-/// The colors for a choice of the options. If it is open, a terminal gets colors, unless the
-/// environment asks for none.
-pub fn color_specs(rt: &HostRuntime, choice: Option<&str>, is_terminal: bool) -> ColorSpecs
-    ensures { IfSome (known_colors (option_map (λ text. text.now) choice.entry) is_terminal)
-        (λ known. result ≡ known) }
+/// The colors for a choice of the options, or those that they choose. If it is open, a terminal
+/// gets colors, unless the environment asks for none.
+pub fn color_specs<'c>(
+    rt: &HostRuntime,
+    choice: Option<&str>,
+    chosen: Option<&'c ColorTexts>,
+    is_terminal: bool,
+) -> ColorSpecs<'c>
+    ensures { IfSome (known_colors chosen.entry (option_map (λ text. text.now) choice.entry)
+        is_terminal) (λ known. result ≡ known) }
 {
     let is_colored = match choice {
         Some("always" | "ansi") => true,
         Some("never") => false,
         _ => is_terminal && has_colors(rt) && allows_colors(rt),
     };
-    if is_colored {
-        ColorSpecs::Default
-    } else {
-        ColorSpecs::Plain
+    if !is_colored {
+        return ColorSpecs::Plain;
+    }
+    match chosen {
+        Some(texts) => ColorSpecs::Chosen(texts),
+        None => ColorSpecs::Default,
     }
 }
 

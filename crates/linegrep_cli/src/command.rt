@@ -545,6 +545,11 @@ const OUTPUT_ROWS: &[Row] = &[
         letter: None,
     },
     Row {
+        id: OptionId::Colors,
+        name: "colors",
+        letter: None,
+    },
+    Row {
         id: OptionId::Heading,
         name: "heading",
         letter: None,
@@ -625,6 +630,16 @@ const OUTPUT_ROWS: &[Row] = &[
         letter: None,
     },
     Row {
+        id: OptionId::Stats,
+        name: "stats",
+        letter: None,
+    },
+    Row {
+        id: OptionId::NoStats,
+        name: "no-stats",
+        letter: None,
+    },
+    Row {
         id: OptionId::Files,
         name: "files",
         letter: None,
@@ -649,7 +664,6 @@ const NOTHING: &[&str] = &[
     "no-pre",
     "no-pcre2",
     "no-auto-hybrid-regex",
-    "no-stats",
 ];
 
 /// The options of the command line, in tables, since a long one is proved slowly.

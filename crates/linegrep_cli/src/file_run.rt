@@ -51,6 +51,8 @@ pub struct Scope {
     shows_paths: bool,
     is_silent: bool,
     is_quiet: bool,
+    // Whether the run goes on after a match in any case.
+    counts_all: bool,
     seeks_unmatched: bool,
     // The file that isn't searched, and whether it is standard input.
     left_out: Option<FileId>,
@@ -77,6 +79,7 @@ impl Scope {
             ),
             is_silent: options.has(OptionId::NoMessages),
             is_quiet: options.has(OptionId::Quiet),
+            counts_all: options.counts_all(),
             seeks_unmatched: options.seeks_unmatched(),
             left_out: options.left_out(),
             leaves_out_input: is_same(options.left_out(), options.streams.input),
@@ -112,14 +115,14 @@ impl Scope {
     fn is_over(&self, total: &Visit) -> bool
         ensures { result ≡ is_over self.now total.now }
     {
-        total.failure.is_some() || self.is_quiet && total.has_match
+        total.failure.is_some() || self.is_quiet && total.has_match && !self.counts_all
     }
 
     // The status, if all was written.
     fn status(&self, total: &Visit) -> u8
         ensures { result ≡ status_of self.now total.now }
     {
-        if total.has_error && !self.is_over(total) {
+        if total.has_error && !(self.is_quiet && total.has_match) {
             2
         } else if total.has_match {
             0

@@ -127,10 +127,13 @@ Output:
       --no-context-separator Write nothing between them
   -0, --null                 Write a NUL after each path
       --color WHEN           Write colors: always, never, or auto, for a terminal
+      --colors CHANGE        Change them, as path:none, line:bg:255, column:fg:0,128,255
+                             or match:style:nobold
   -p, --pretty               As --color always --heading -n
       --line-buffered        Write each line at once, as for a terminal
       --block-buffered       Write many lines together
       --json                 Write messages in JSON
+      --stats                Write counts of what was found and searched at the end
 
 In place of lines:
       --files                Write the paths of the files that would be searched

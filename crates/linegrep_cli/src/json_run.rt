@@ -1,15 +1,16 @@
 //! Searches of which the reports are written as JSON.
 ghost use Rattle.std.specs.Prelude.{◌≡◌, ℕ};
 ghost use Rattle.linegrep_cli.specs.JsonRuns.{AreCounted, AreTotalsPut, IsEndPut, IsJsonWritten};
-ghost use Rattle.linegrep_cli.specs.PrinterSearches.{IsWriterFlushed};
+ghost use Rattle.linegrep_cli.specs.WriterFlushes.{IsWriterFlushed};
 
+use crate::clock::elapsed;
 use crate::haystacks::end;
 use crate::printers::Searched;
 use grep_output::Output;
 use grep_printer::{Json, JsonSink, Stats, search};
 use grep_searcher::{FindAt, SearchError, Searcher, Source};
 use std::io;
-use std::time::{Duration, Instant};
+use std::time::Instant;
 
 /// A printer of JSON, with the totals of the searches so far, and when the run began. Where the
 /// clock fails a time is 0.
@@ -125,16 +126,5 @@ fn write_end<M: FindAt, W: Output>(
     match searched {
         Ok(()) => sink.write_end(elapsed(rt, start)),
         Err(error) => Err(error),
-    }
-}
-
-// How long it took since then.
-fn elapsed(rt: &HostRuntime, start: Option<Instant>) -> Duration {
-    match start {
-        Some(start) => match start.elapsed(rt) {
-            Ok(elapsed) => elapsed,
-            Err(_) => Duration::from_nanos(0),
-        },
-        None => Duration::from_nanos(0),
     }
 }

@@ -5,8 +5,11 @@
 //! `CALLING.md` has an example.
 #![tactic(auto)]
 
+mod clock;
+mod color_options;
 mod colors;
 mod command;
+mod counted_run;
 mod engine;
 mod failures;
 mod file_options;
@@ -14,6 +17,7 @@ mod file_run;
 mod haystacks;
 mod help;
 mod json_run;
+mod looks;
 mod option_id;
 mod options;
 mod patterns;

@@ -101,6 +101,8 @@ pub enum OptionId {
     FilesWithoutMatch,
     Json,
     NoJson,
+    Stats,
+    NoStats,
     Quiet,
     Heading,
     NoHeading,
@@ -117,6 +119,7 @@ pub enum OptionId {
     SortFiles,
     NoSortFiles,
     Color,
+    Colors,
     Regexp,
     File,
     Glob,
@@ -150,6 +153,7 @@ pub enum Kind {
     Definition,
     Separator,
     Template,
+    Change,
 }
 
 const MODES: &[OptionId] = &[
@@ -207,6 +211,7 @@ impl OptionId {
             | OptionId::FieldContextSeparator
             | OptionId::FieldMatchSeparator => Kind::Separator,
             OptionId::Replace => Kind::Template,
+            OptionId::Colors => Kind::Change,
             OptionId::MaxCount
             | OptionId::MaxColumns
             | OptionId::MaxDepth
@@ -276,6 +281,7 @@ impl OptionId {
             OptionId::Column => &[OptionId::NoColumn],
             OptionId::NoColumn => &[OptionId::Column],
             OptionId::Trim => &[OptionId::NoTrim],
+            OptionId::Stats => &[OptionId::NoStats],
             OptionId::MaxColumnsPreview => &[OptionId::NoMaxColumnsPreview],
             OptionId::NoContextSeparator => &[OptionId::ContextSeparator],
             OptionId::NoMessages => &[OptionId::Messages],
@@ -311,9 +317,12 @@ impl Kind {
         match self {
             Kind::Flag => ArgAction::SetTrue,
             Kind::Count => ArgAction::Count,
-            Kind::Pattern | Kind::File | Kind::Glob | Kind::Type | Kind::Definition => {
-                ArgAction::Append
-            }
+            Kind::Pattern
+            | Kind::File
+            | Kind::Glob
+            | Kind::Type
+            | Kind::Definition
+            | Kind::Change => ArgAction::Append,
             Kind::Number
             | Kind::Size
             | Kind::Label
@@ -339,6 +348,7 @@ impl Kind {
             Kind::Definition => &["DEFINITION"],
             Kind::Separator => &["SEPARATOR"],
             Kind::Template => &["TEMPLATE"],
+            Kind::Change => &["CHANGE"],
         }
     }
 

@@ -5,7 +5,8 @@ ghost use Rattle.linegrep_cli.specs.OptionMeanings.{after_lines, before_lines, c
 ghost use Rattle.linegrep_cli.specs.OptionMeanings.{paths_of, searches_input, shows_columns, shows_numbers};
 ghost use Rattle.linegrep_cli.specs.OptionMeanings.{value_of};
 ghost use Rattle.linegrep_cli.specs.PrinterOptions.{color_choice, counts, counts_matches};
-ghost use Rattle.linegrep_cli.specs.PrinterOptions.{is_line_buffered, is_summary, is_vimgrep};
+ghost use Rattle.linegrep_cli.specs.PrinterOptions.{counts_all, is_line_buffered, is_summary};
+ghost use Rattle.linegrep_cli.specs.PrinterOptions.{is_vimgrep};
 ghost use Rattle.linegrep_cli.specs.PrinterOptions.{is_summary_of_paths, shows_headings};
 ghost use Rattle.linegrep_cli.specs.PrinterOptions.{shows_paths, summary_kind};
 ghost use Rattle.linegrep_cli.specs.SearcherOptions.{detection_of, is_all_searched, label_of};
@@ -120,6 +121,8 @@ pub struct Options<'m, 'w> {
     /// The template of what is written in place of each match.
     pub replace: Option<&'w str>,
     color: Option<&'w str>,
+    /// What is changed in the colors.
+    pub colors: Option<&'m [&'w str]>,
     encoding: Option<&'w str>,
     /// The globs, which choose among the files of folders.
     pub globs: Option<&'m [&'w str]>,
@@ -161,6 +164,7 @@ impl<'m, 'w> Options<'m, 'w> {
             field_match_separator: matches.get_str("field-match-separator"),
             replace: matches.get_str("replace"),
             color: matches.get_str("color"),
+            colors: matches.get_strs("colors"),
             encoding: matches.get_str("encoding"),
             globs: matches.get_strs("glob"),
             iglobs: matches.get_strs("iglob"),
@@ -375,6 +379,13 @@ impl<'m, 'w> Options<'m, 'w> {
         } else {
             self.streams.output
         }
+    }
+
+    /// Whether all that is found is counted, to say at the end how much it was.
+    pub fn counts_all(&self) -> bool
+        ensures { result ≡ counts_all self.now }
+    {
+        self.has(OptionId::Stats) && !self.has(OptionId::Files) && !self.has(OptionId::Json)
     }
 
     fn is_summary_of_paths(&self) -> bool

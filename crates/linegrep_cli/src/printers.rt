@@ -1,32 +1,29 @@
 //! What writes what is found.
 ghost use Rattle.std.specs.Prelude.{◌≡◌};
 ghost use Rattle.linegrep_cli.specs.EngineSteps.{has_failed, writer_of};
-ghost use Rattle.linegrep_cli.specs.PrinterSearches.{IsPrintedBy};
 ghost use Rattle.linegrep_cli.specs.PrinterSearches.{HasTotals, IsFinished, IsFlushed, IsSearchWritten};
 
-use crate::haystacks::end;
+use crate::counted_run::CountedRun;
 use crate::json_run::JsonRun;
 use grep_output::Output;
-use grep_printer::{
-    Format, ReplacedFormat, Standard, StandardFormat, Summary, Vimgrep, VimgrepFormat, search,
-};
+use grep_printer::{ReplacedFormat, StandardFormat, SummaryFormat, VimgrepFormat};
 use grep_replace::CapturesAt;
-use grep_searcher::{FindAt, SearchError, Searcher, Source};
+use grep_searcher::{SearchError, Searcher, Source};
 use std::io;
 
 /// What writes what is found.
 #[derive(Drop)]
 pub enum Printer<'c, M, W> {
     /// Writes lines.
-    Lines(Standard<'c, W>),
+    Lines(CountedRun<StandardFormat<'c>, W>),
     /// Writes of each part that matches the line.
-    Parts(Vimgrep<'c, W>),
+    Parts(CountedRun<VimgrepFormat<'c>, W>),
     /// Writes lines in which each match is replaced, by the groups that a matcher finds.
-    ReplacedLines(grep_printer::Printer<ReplacedFormat<'c, StandardFormat<'c>, M>, W>),
+    ReplacedLines(CountedRun<ReplacedFormat<'c, StandardFormat<'c>, M>, W>),
     /// Writes such a line for each match.
-    ReplacedParts(grep_printer::Printer<ReplacedFormat<'c, VimgrepFormat<'c>, M>, W>),
+    ReplacedParts(CountedRun<ReplacedFormat<'c, VimgrepFormat<'c>, M>, W>),
     /// Writes a count or a path for each file, or nothing.
-    Summary(Summary<W>),
+    Summary(CountedRun<SummaryFormat<'c>, W>),
     /// Writes messages in JSON.
     Json(JsonRun<W>),
 }
@@ -46,11 +43,11 @@ impl<'c, M: CapturesAt + Copy, W> Printer<'c, M, W> {
         ensures { result ≡ writer_of self.entry }
     {
         match self {
-            Printer::Lines(printer) => printer.into_parts().0,
-            Printer::Parts(printer) => printer.into_parts().0,
-            Printer::ReplacedLines(printer) => printer.into_parts().0,
-            Printer::ReplacedParts(printer) => printer.into_parts().0,
-            Printer::Summary(printer) => printer.into_parts().0,
+            Printer::Lines(run) => run.into_writer(),
+            Printer::Parts(run) => run.into_writer(),
+            Printer::ReplacedLines(run) => run.into_writer(),
+            Printer::ReplacedParts(run) => run.into_writer(),
+            Printer::Summary(run) => run.into_writer(),
             Printer::Json(run) => run.into_writer(),
         }
     }
@@ -71,11 +68,11 @@ impl<'c, M: CapturesAt + Copy, W: Output> Printer<'c, M, W> {
             searcher.old matcher path.entry haystack.old self.old result haystack.new self.new }
     {
         match self {
-            Printer::Lines(printer) => print(printer, searcher, matcher, haystack, path),
-            Printer::Parts(printer) => print(printer, searcher, matcher, haystack, path),
-            Printer::ReplacedLines(printer) => print(printer, searcher, matcher, haystack, path),
-            Printer::ReplacedParts(printer) => print(printer, searcher, matcher, haystack, path),
-            Printer::Summary(printer) => print(printer, searcher, matcher, haystack, path),
+            Printer::Lines(run) => run.search(rt, searcher, matcher, haystack, path),
+            Printer::Parts(run) => run.search(rt, searcher, matcher, haystack, path),
+            Printer::ReplacedLines(run) => run.search(rt, searcher, matcher, haystack, path),
+            Printer::ReplacedParts(run) => run.search(rt, searcher, matcher, haystack, path),
+            Printer::Summary(run) => run.search(rt, searcher, matcher, haystack, path),
             Printer::Json(run) => run.search(rt, searcher, matcher, haystack, path),
         }
     }
@@ -85,11 +82,11 @@ impl<'c, M: CapturesAt + Copy, W: Output> Printer<'c, M, W> {
         ensures { result ≡ has_failed self.now }
     {
         match self {
-            Printer::Lines(printer) => printer.has_failed(),
-            Printer::Parts(printer) => printer.has_failed(),
-            Printer::ReplacedLines(printer) => printer.has_failed(),
-            Printer::ReplacedParts(printer) => printer.has_failed(),
-            Printer::Summary(printer) => printer.has_failed(),
+            Printer::Lines(run) => run.has_failed(),
+            Printer::Parts(run) => run.has_failed(),
+            Printer::ReplacedLines(run) => run.has_failed(),
+            Printer::ReplacedParts(run) => run.has_failed(),
+            Printer::Summary(run) => run.has_failed(),
             Printer::Json(run) => run.has_failed(),
         }
     }
@@ -114,8 +111,12 @@ impl<'c, M: CapturesAt + Copy, W: Output> Printer<'c, M, W> {
         ensures { HasTotals W.step self.old result self.new }
     {
         match self {
+            Printer::Lines(run) => run.write_totals(rt),
+            Printer::Parts(run) => run.write_totals(rt),
+            Printer::ReplacedLines(run) => run.write_totals(rt),
+            Printer::ReplacedParts(run) => run.write_totals(rt),
+            Printer::Summary(run) => run.write_totals(rt),
             Printer::Json(run) => run.write_totals(rt),
-            _ => Ok(()),
         }
     }
 
@@ -124,30 +125,12 @@ impl<'c, M: CapturesAt + Copy, W: Output> Printer<'c, M, W> {
         ensures { IsFlushed W.step self.old result self.new }
     {
         match self {
-            Printer::Lines(printer) => printer.flush(),
-            Printer::Parts(printer) => printer.flush(),
-            Printer::ReplacedLines(printer) => printer.flush(),
-            Printer::ReplacedParts(printer) => printer.flush(),
-            Printer::Summary(printer) => printer.flush(),
+            Printer::Lines(run) => run.flush(),
+            Printer::Parts(run) => run.flush(),
+            Printer::ReplacedLines(run) => run.flush(),
+            Printer::ReplacedParts(run) => run.flush(),
+            Printer::Summary(run) => run.flush(),
             Printer::Json(run) => run.flush(),
         }
     }
-}
-
-// Searches a haystack, and writes what the format of a printer makes of it.
-fn print<F: Format, M: FindAt + Copy, W: Output, H: Source>(
-    printer: &mut grep_printer::Printer<F, W>,
-    searcher: &mut Searcher,
-    matcher: M,
-    haystack: &mut H,
-    path: Option<&str>,
-) -> Searched
-    ensures settings { searcher.new.settings ≡ searcher.old.settings }
-    ensures printed { IsPrintedBy F.rules M.Error.output M.facts M.first_at W.step H.remaining H.step
-        searcher.old matcher path.entry haystack.old printer.old result haystack.new printer.new }
-{
-    let mut sink = printer.sink(matcher, path);
-    let result = search(searcher, matcher, haystack, &mut sink);
-    let has_match = end(sink);
-    Searched { has_match, result }
 }

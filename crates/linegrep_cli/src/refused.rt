@@ -18,9 +18,8 @@ pub fn reason(option: &str) -> Option<&'static str> {
 fn other_reason(option: &str) -> Option<&'static str> {
     match option {
         "--path-separator" => Some("paths are written as they are"),
-        "--colors" | "--hyperlink-format" => Some("colors can't be chosen, and there are no links"),
+        "--hyperlink-format" => Some("there are no links"),
         "--regex-size-limit" | "--dfa-size-limit" => Some("the limits are fixed"),
-        "--stats" => Some("searches are counted for --json alone"),
         "--debug" | "--trace" | "--generate" => Some("there is nothing of the kind"),
         _ => None,
     }

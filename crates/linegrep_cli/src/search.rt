@@ -2,6 +2,7 @@
 ghost use Rattle.std.specs.Prelude.{◌≡◌, ◌⊎◌, List, String, true, IfErr, IfOk};
 ghost use Rattle.std.specs.Global.{Global};
 ghost use Rattle.grep_regex.specs.Views.{IsNamed, regex_options, regex_patterns};
+ghost use Rattle.linegrep_cli.specs.ColorOptions.{AreColorTexts, AreColorsLent};
 ghost use Rattle.linegrep_cli.specs.PatternOptions.{pattern_options, pattern_texts};
 ghost use Rattle.linegrep_cli.specs.Refusals.{IsCause, IsRefusedFor, IsSaid};
 ghost use Rattle.linegrep_cli.specs.SearcherOptions.{searcher_settings};
@@ -11,6 +12,7 @@ ghost use Rattle.linegrep_cli.specs.WholeRuns.{IsRunFor, IsRunWith, IsWholeRun};
 ghost use Rattle.linegrep_cli.specs.WholeRuns.{literal_facts, literal_first_at, literal_groups_at};
 ghost use Rattle.linegrep_files.specs.Failures.{has_cause, text_of};
 
+use crate::color_options::color_texts;
 use crate::engine::PrintingEngine;
 use crate::failures::{Failure, say};
 use crate::file_options::file_options;
@@ -22,7 +24,7 @@ use crate::settings::{build_printer, build_searcher};
 use crate::system::System;
 use crate::template::template;
 use grep_output::Output;
-use grep_printer::Separators;
+use grep_printer::{ColorTexts, Separators};
 use grep_regex::{NamedMatcher, Naming, Regex};
 use grep_replace::{CapturesAt, Template};
 use grep_searcher::{FindAt, Matcher, Searcher, Source};
@@ -66,6 +68,7 @@ struct Prepared<'r> {
     regex: Regex,
     choices: Choices<'r>,
     separators: Option<Separators>,
+    colors: Option<ColorTexts>,
     template: Option<Template>,
 }
 
@@ -84,6 +87,7 @@ fn prepare<'r>(
         regex_patterns prepared.regex ≡ pattern_texts options.now patterns.now) }
     ensures separators { IfOk result (λ prepared.
         IsSeparators options.now prepared.separators) }
+    ensures colors { IfOk result (λ prepared. AreColorTexts options.now prepared.colors) }
     ensures template { IfOk result (λ prepared.
         IsTemplate options.now prepared.regex prepared.template) }
     ensures refused { IfErr result (λ failure. has_cause failure ≡ true
@@ -98,6 +102,10 @@ fn prepare<'r>(
         Ok(template) => template,
         Err(failure) => return Err(failure),
     };
+    let colors = match color_texts(rt.alloc(), options) {
+        Ok(colors) => colors,
+        Err(failure) => return Err(failure),
+    };
     options.order().check(rt)?;
     let choices = match Choices::read(rt, &file_options(options)) {
         Ok(choices) => choices,
@@ -109,6 +117,7 @@ fn prepare<'r>(
             regex,
             choices,
             separators,
+            colors,
             template,
         }),
         Err(_) => Err(Failure::out_of_memory()),
@@ -142,6 +151,7 @@ pub fn search_all<S: System, R: Source + Drop, W: Output + Drop, E: Output>(
                 regex,
                 mut choices,
                 separators,
+                colors,
                 template,
             } = prepared;
             search_named::<Brand, S, R, W, E>(
@@ -152,6 +162,7 @@ pub fn search_all<S: System, R: Source + Drop, W: Output + Drop, E: Output>(
                 searcher,
                 &mut choices,
                 separators.as_ref(),
+                colors.as_ref(),
                 template.as_ref(),
                 input,
                 output,
@@ -172,6 +183,7 @@ fn search_named<'r, N: Naming, S: System, R: Source + Drop, W: Output + Drop, E:
     searcher: Searcher,
     choices: &mut Choices<'r>,
     separators: Option<&Separators>,
+    colors: Option<&ColorTexts>,
     template: Option<&Template>,
     input: R,
     output: W,
@@ -181,6 +193,7 @@ where
     requires named { IsNamed N.options N.patterns regex.now }
     requires settings { searcher.settings ≡ searcher_settings options.now }
     requires lent { AreLent options.now separators }
+    requires colored { AreColorsLent options.now colors }
     requires template { IsTemplateLent options.now regex.now template }
     ensures { ((patterns : List (String Global)) → IsRefusedFor E.step options.now patterns input
         output errors.old result.status result.input result.output errors.new)
@@ -197,15 +210,15 @@ where
     if template.is_none() {
         if let Some(matcher) = regex.literal_matcher() {
             return search_with(
-                rt, system, options, &matcher, searcher, choices, separators, template, input,
-                output, errors,
+                rt, system, options, &matcher, searcher, choices, separators, colors, template,
+                input, output, errors,
             );
         }
     }
     match regex.named_matcher::<N>(rt.alloc()) {
         Ok(matcher) => search_with(
-            rt, system, options, &matcher, searcher, choices, separators, template, input, output,
-            errors,
+            rt, system, options, &matcher, searcher, choices, separators, colors, template, input,
+            output, errors,
         ),
         Err(_) => Ended::refused(errors, &Failure::out_of_memory(), input, output),
     }
@@ -220,6 +233,7 @@ fn search_with<'r, M: CapturesAt + Copy, S: System, R: Source + Drop, W: Output 
     searcher: Searcher,
     choices: &mut Choices<'r>,
     separators: Option<&Separators>,
+    colors: Option<&ColorTexts>,
     template: Option<&Template>,
     input: R,
     output: W,
@@ -227,6 +241,7 @@ fn search_with<'r, M: CapturesAt + Copy, S: System, R: Source + Drop, W: Output 
 ) -> Ended<R, W>
     requires settings { searcher.settings ≡ searcher_settings options.now }
     requires lent { AreLent options.now separators }
+    requires colored { AreColorsLent options.now colors }
     ensures { IsRunWith M.Error.output M.facts M.first_at M.groups_at W.step S.File.remaining
         R.remaining R.step (S.finds system.now) (S.opens system.now) (S.identifies system.now)
         options.now matcher template.entry input output errors.old result.status result.input
@@ -235,7 +250,7 @@ fn search_with<'r, M: CapturesAt + Copy, S: System, R: Source + Drop, W: Output 
     let scope = Scope::new(system, options);
     let is_across = searcher.multi_line_with_matcher(matcher);
     let printer = build_printer(
-        rt, options, is_across, separators, matcher, template, output,
+        rt, options, is_across, separators, colors, matcher, template, output,
     );
     let mut engine: PrintingEngine<'_, S::File, M, R, W, E> = PrintingEngine::new(
         rt, searcher, matcher, printer, input, errors,

@@ -1,10 +1,11 @@
 //! The searcher and the printer that the options ask for.
-ghost use Rattle.std.specs.Prelude.{◌≡◌, ◌⊎◌, false, true, if◌then◌else◌, IfErr, IfOk};
+ghost use Rattle.std.specs.Prelude.{◌≡◌, ◌⊎◌, [], false, true, if◌then◌else◌, IfErr, IfOk};
+ghost use Rattle.grep_output.specs.PendingTexts.{pending_bytes};
 ghost use Rattle.linegrep_cli.specs.OptionMeanings.{after_lines, before_lines, shows_columns};
 ghost use Rattle.linegrep_cli.specs.OptionMeanings.{shows_numbers};
 ghost use Rattle.linegrep_cli.specs.OptionUses.{has};
-ghost use Rattle.linegrep_cli.specs.PrinterOptions.{IsPlainPrinter, IsPrinterOf, IsReplaced};
-ghost use Rattle.linegrep_cli.specs.PrinterOptions.{column_limit, line_settings};
+ghost use Rattle.linegrep_cli.specs.PrinterOptions.{IsNewRun, IsPrinterOf, column_limit};
+ghost use Rattle.linegrep_cli.specs.PrinterOptions.{line_settings};
 ghost use Rattle.linegrep_cli.specs.PrinterOptions.{path_terminator_of, separator_of, shows_headings};
 ghost use Rattle.linegrep_cli.specs.PrinterOptions.{summary_settings};
 ghost use Rattle.linegrep_cli.specs.SearcherOptions.{IsLabelError, detection_of};
@@ -15,6 +16,7 @@ ghost use Rattle.linegrep_cli.specs.SearcherOptions.{terminator_of};
 ghost use Rattle.linegrep_files.specs.Failures.{has_cause};
 
 use crate::colors::color_specs;
+use crate::counted_run::CountedRun;
 use crate::failures::Failure;
 use crate::json_run::JsonRun;
 use crate::option_id::OptionId;
@@ -22,8 +24,8 @@ use crate::options::Options;
 use crate::printers::Printer;
 use grep_output::Output;
 use grep_printer::{
-    ColorSpecs, JsonBuilder, SearchSeparator, Separators, StandardBuilder, SummaryBuilder,
-    SummaryKind,
+    ColorSpecs, ColorTexts, JsonBuilder, SearchSeparator, Separators, StandardBuilder,
+    SummaryBuilder, SummaryKind,
 };
 use grep_replace::Template;
 use grep_searcher::{ConfigError, Encoding, Searcher, SearcherBuilder};
@@ -134,63 +136,55 @@ pub fn build_printer<'c, M: Copy, W: Output>(
     options: &Options<'_, '_>,
     is_across: bool,
     separators: Option<&'c Separators>,
+    chosen: Option<&'c ColorTexts>,
     matcher: M,
     template: Option<&'c Template>,
     writer: W,
 ) -> Printer<'c, M, W>
-    ensures { IsPrinterOf options.now is_across separators.entry matcher template.entry writer
-        result }
+    ensures { IsPrinterOf options.now is_across separators.entry chosen.entry matcher template.entry
+        writer result }
 {
-    let printer = plain_printer(rt, options, is_across, separators, writer);
-    match template {
-        None => printer,
-        Some(template) => replacing(printer, matcher, template),
-    }
-}
-
-// The printer with each match replaced by a template, if it writes lines.
-fn replacing<'c, M: Copy, W>(
-    printer: Printer<'c, M, W>,
-    matcher: M,
-    template: &'c Template,
-) -> Printer<'c, M, W>
-    ensures { IsReplaced matcher template.entry printer.entry result }
-{
-    match printer {
-        Printer::Lines(printer) => Printer::ReplacedLines(printer.replacing(matcher, template)),
-        Printer::Parts(printer) => Printer::ReplacedParts(printer.replacing(matcher, template)),
-        Printer::ReplacedLines(printer) => Printer::ReplacedLines(printer),
-        Printer::ReplacedParts(printer) => Printer::ReplacedParts(printer),
-        Printer::Summary(printer) => Printer::Summary(printer),
-        Printer::Json(run) => Printer::Json(run),
-    }
-}
-
-// The printer that the options ask for, which writes matches as they are.
-fn plain_printer<'c, M, W: Output>(
-    rt: &HostRuntime,
-    options: &Options<'_, '_>,
-    is_across: bool,
-    separators: Option<&'c Separators>,
-    writer: W,
-) -> Printer<'c, M, W>
-    ensures { IsPlainPrinter options.now is_across separators.entry writer result }
-{
-    let is_line_buffered = options.is_line_buffered();
-    let colors = color_specs(rt, options.color(), options.streams.is_terminal);
+    let colors = color_specs(rt, options.color(), chosen, options.streams.is_terminal);
     if let Some(kind) = options.summary_kind(is_across) {
         let printer = summary(options, kind, colors).build(rt.alloc(), writer);
-        Printer::Summary(buffered(is_line_buffered, printer))
+        Printer::Summary(run_of(rt, options, printer))
     } else if options.has(OptionId::Json) {
         let printer = JsonBuilder::new().build(rt.alloc(), writer);
-        Printer::Json(JsonRun::new(rt, buffered(is_line_buffered, printer)))
+        Printer::Json(JsonRun::new(rt, buffered(options.is_line_buffered(), printer)))
     } else if options.is_vimgrep() {
         let printer = lines(options, colors, separators).build_vimgrep(rt.alloc(), writer);
-        Printer::Parts(buffered(is_line_buffered, printer))
+        match template {
+            None => Printer::Parts(run_of(rt, options, printer)),
+            Some(template) => {
+                Printer::ReplacedParts(run_of(rt, options, printer.replacing(matcher, template)))
+            }
+        }
     } else {
         let printer = lines(options, colors, separators).build(rt.alloc(), writer);
-        Printer::Lines(buffered(is_line_buffered, printer))
+        match template {
+            None => Printer::Lines(run_of(rt, options, printer)),
+            Some(template) => {
+                Printer::ReplacedLines(run_of(rt, options, printer.replacing(matcher, template)))
+            }
+        }
     }
+}
+
+// A run of searches with a printer, which counts if the options ask for that, and may have to write
+// each text at once.
+fn run_of<F, W>(
+    rt: &HostRuntime,
+    options: &Options<'_, '_>,
+    printer: grep_printer::Printer<F, W>,
+) -> CountedRun<F, W>
+    requires pending { pending_bytes printer.pending ≡ [] }
+    requires has_written { printer.has_written ≡ false }
+    requires has_failed { printer.has_failed ≡ false }
+    ensures format { result.printer.format.format ≡ printer.format }
+    ensures new { IsNewRun options.now printer.writer result }
+{
+    let printer = printer.counting(options.counts_all());
+    CountedRun::new(rt, buffered(options.is_line_buffered(), printer))
 }
 
 // A printer that may have to write each text at once.
@@ -208,13 +202,18 @@ fn buffered<F, W>(
 }
 
 // How a summary is written.
-fn summary(options: &Options<'_, '_>, kind: SummaryKind, colors: ColorSpecs) -> SummaryBuilder
-    ensures { result ≡ summary_settings options.now kind colors }
+fn summary<'c>(
+    options: &Options<'_, '_>,
+    kind: SummaryKind,
+    colors: ColorSpecs<'c>,
+) -> SummaryBuilder<'c>
+    ensures { result ≡ summary_settings options.now kind colors.entry }
 {
     let mut builder = SummaryBuilder::new();
     builder
         .kind(kind)
         .exclude_zero(!options.has(OptionId::IncludeZero))
+        .counts_all(options.counts_all())
         .path_terminator(path_terminator(options))
         .color_specs(colors);
     builder
@@ -223,10 +222,10 @@ fn summary(options: &Options<'_, '_>, kind: SummaryKind, colors: ColorSpecs) -> 
 // How lines are written.
 fn lines<'c>(
     options: &Options<'_, '_>,
-    colors: ColorSpecs,
+    colors: ColorSpecs<'c>,
     separators: Option<&'c Separators>,
 ) -> StandardBuilder<'c>
-    ensures { result ≡ line_settings options.now colors separators.entry }
+    ensures { result ≡ line_settings options.now colors.entry separators.entry }
 {
     let heading = options.shows_headings();
     let mut builder = StandardBuilder::new();

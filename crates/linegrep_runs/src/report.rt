@@ -29,13 +29,22 @@ fn write_lines<W: Write>(writer: &mut W, mark: &[u8], text: &[u8]) -> io::Result
 // Writes a line, without the times that are in it, and says so if it doesn't end in a line feed.
 fn write_line<W: Write>(writer: &mut W, line: &[u8]) -> io::Result<()> {
     match str::from_utf8(line) {
-        Ok(text) => write_without_times(writer, text)?,
+        Ok(text) => write_without_times(writer, after_time(text))?,
         Err(_) => writer.write_all(line)?,
     }
     if line.ends_with(b"\n") {
         Ok(())
     } else {
         writer.write_all(b"\n\\ without a line feed\n")
+    }
+}
+
+// A line without the time at its start, if it says how long searches took.
+fn after_time(line: &str) -> &str {
+    match line.split_once(" seconds ") {
+        Some((_, "spent searching\n")) => "seconds spent searching\n",
+        Some((_, "total\n")) => "seconds total\n",
+        _ => line,
     }
 }
 

@@ -198,7 +198,7 @@ impl<'c, W: Output> Printer for Vimgrep<'c, W> {
     }
 }
 
-impl<W: Output> Printer for Summary<W> {
+impl<'c, W: Output> Printer for Summary<'c, W> {
     fn print<M: FindAt>(
         &mut self,
         searcher: &mut Searcher,

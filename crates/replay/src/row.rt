@@ -36,7 +36,7 @@ pub struct Row<'r> {
     /// The settings of the printers of lines.
     pub lines: StandardBuilder<'r>,
     /// The settings of the printer of summaries.
-    pub summary: SummaryBuilder,
+    pub summary: SummaryBuilder<'r>,
     /// The settings of the printer of JSON.
     pub json: JsonBuilder,
 }
@@ -82,7 +82,10 @@ impl<'r> Row<'r> {
     fn set_kind(&mut self, word: &str) -> bool {
         match word {
             "--json" => self.kind = Kind::Json,
-            "--vimgrep" => self.kind = Kind::Vimgrep,
+            "--vimgrep" => {
+                self.kind = Kind::Vimgrep;
+                self.lines.column(true);
+            }
             "always_begin_end" => {
                 self.json.always_begin_end(true);
             }
@@ -161,7 +164,7 @@ fn set_lines(lines: &mut StandardBuilder<'_>, word: &str) -> bool {
 }
 
 // With `-o` after `-c` single matches are counted.
-fn set_summary(summary: &mut SummaryBuilder, word: &str) -> bool {
+fn set_summary(summary: &mut SummaryBuilder<'_>, word: &str) -> bool {
     match word {
         "-c" => summary.kind(SummaryKind::Count),
         "-o" | "--count-matches" => summary.kind(SummaryKind::CountMatches),

@@ -9,5 +9,13 @@ push_line-requires-clause-ordered c =
 
 pub returns : goal.returns
 returns c =
-    simp (c.line_of-line.ensures.value, c.start-at.ensures.value, c.start-start.ensures.value, c.end.ensures.value, c.line_kind.ensures, c.as_byte.ensures)
+    simp (
+      c.line_of-line.ensures.value,
+      c.start-at.ensures.value,
+      c.start-start.ensures.value,
+      c.end.ensures.value,
+      c.line_kind.ensures,
+      c.as_byte.ensures,
+      c.shown_column.ensures,
+    )
     at c.push_line.ensures

@@ -1,4 +1,4 @@
-use Rattle.linegrep_cli.specs.Refusals.{of_files, of_pattern, of_template}
+use Rattle.linegrep_cli.specs.Refusals.{of_colors, of_files, of_pattern, of_template}
 use Rattle.linegrep_cli.proofs.search.prepare.Goals as goal
 
 pub returns-in-Err-clause-refused : goal.returns-in-Err-clause-refused
@@ -11,3 +11,7 @@ returns-in-Err-read-clause-refused c = λ caused.
 
 pub returns-in-Err-template-clause-refused : goal.returns-in-Err-template-clause-refused
 returns-in-Err-template-clause-refused c = λ caused. of_template (c.in-Err-template.ensures.refused caused)
+
+pub returns-in-Err-color_texts-clause-refused : goal.returns-in-Err-color_texts-clause-refused
+returns-in-Err-color_texts-clause-refused c = λ caused. of_colors
+    (c.in-Err-color_texts.ensures.refused caused)

@@ -15,9 +15,11 @@ returns g c = record {
     asks = c.new-engine.ensures.matcher;
     separators = c.args.separators;
     lent = c.requires.lent;
+    chosen = c.args.colors;
+    colored = c.requires.colored;
     printer = subst (λ printer. IsPrinterOf c.args.options.now (is_across (searcher_settings c.args.options.now)
-        (g.M.Matcher.facts c.args.matcher).meaning) c.args.separators c.args.matcher c.args.template c.args.output printer) (sym c.new-engine.ensures.printer)
-        (subst (λ across. IsPrinterOf c.args.options.now across c.args.separators c.args.matcher c.args.template c.args.output
+        (g.M.Matcher.facts c.args.matcher).meaning) c.args.separators c.args.colors c.args.matcher c.args.template c.args.output printer) (sym c.new-engine.ensures.printer)
+        (subst (λ across. IsPrinterOf c.args.options.now across c.args.separators c.args.colors c.args.matcher c.args.template c.args.output
         c.build_printer-printer.result)
         (c.multi_line_with_matcher-is_across.ensures ∙ ap (λ settings. is_across settings
         (g.M.Matcher.facts c.args.matcher).meaning) c.requires.settings) c.build_printer-printer.ensures);

@@ -1,0 +1,26 @@
+use Rattle.std.proofs.Common.{◌∙◌, subst, sym}
+use Rattle.grep_printer.specs.StatsSums.{nanos_of}
+use Rattle.linegrep_cli.specs.CountedRuns.{AreAdded}
+use Rattle.linegrep_cli.proofs.counted_run.CountedRun.search.Goals as goal
+
+pub returns-clause-printed : goal.returns-clause-printed
+returns-clause-printed g c = record {
+  printed = record {
+    begun = c.sink-sink.result;
+    ended = c.search-result.new.sink;
+    begins = record {
+      is_of = c.sink-sink.ensures.now;
+      asks = c.sink-sink.ensures.matcher;
+      names = c.sink-sink.ensures.path;
+      format = c.sink-sink.ensures.format;
+    };
+    searches = rw c.keep.ensures.result c.search-result.ensures.printed;
+    has_match = c.keep.ensures.has_match ∙ c.end-has_match.ensures.has_match;
+    ends = sym (c.keep.ensures.printer ∙ c.end-has_match.ensures.left);
+  };
+  elapsed = nanos_of c.elapsed.result;
+  totals = rw c.keep.ensures.result
+      (subst (λ stats. AreAdded c.args.self.now.stats stats c.search-result.result
+      c.keep.new.self.stats) c.stats-counted.ensures c.keep.ensures.stats);
+  start = c.keep.ensures.start;
+}

@@ -1,0 +1,54 @@
+//! The colors that the options choose.
+ghost use Rattle.std.specs.Prelude.{◌≡◌, true, IfErr, IfOk};
+ghost use Rattle.linegrep_cli.specs.ColorOptions.{AreColorTexts, looks_of, looks_then};
+ghost use Rattle.linegrep_cli.specs.ColorOptions.{refuses_colors};
+ghost use Rattle.linegrep_files.specs.Failures.{has_cause};
+
+use crate::failures::Failure;
+use crate::looks::Looks;
+use crate::options::Options;
+use grep_printer::ColorTexts;
+use std::alloc::Global;
+
+const MALFORMED: &str = "--colors: each is path, line, column or match with :none, :fg:COLOR, \
+    :bg:COLOR or :style:STYLE";
+
+/// The escapes for the colors that the options choose, if they choose any. An error is that of one
+/// that isn't well formed, or of being out of memory.
+pub fn color_texts(alloc: Global, options: &Options<'_, '_>) -> Result<Option<ColorTexts>, Failure>
+    ensures texts { IfOk result (AreColorTexts options.now) }
+    ensures refused { IfErr result (λ failure. has_cause failure ≡ true
+        → refuses_colors options.now ≡ true) }
+{
+    let Some(texts) = options.colors else {
+        return Ok(None);
+    };
+    match looks(texts) {
+        Some(looks) => match looks.texts(alloc) {
+            Ok(texts) => Ok(Some(texts)),
+            Err(_) => Err(Failure::out_of_memory()),
+        },
+        None => Err(Failure::new(alloc, &MALFORMED)),
+    }
+}
+
+// How what is written looks after some changes, if each is well formed.
+fn looks(texts: &[&str]) -> Option<Looks>
+    ensures { result ≡ looks_of texts.now }
+{
+    let mut looks = Some(Looks::first());
+    for text in texts {
+        looks = apply(looks, text);
+    }
+    looks
+}
+
+// With one more change, if all are well formed.
+fn apply(looks: Option<Looks>, text: &str) -> Option<Looks>
+    ensures { result ≡ looks_then looks text.entry }
+{
+    match looks {
+        Some(looks) => looks.with(text),
+        None => None,
+    }
+}

@@ -1,0 +1,141 @@
+//! Searches that a format prints, and what is counted of them.
+ghost use Rattle.std.specs.Prelude.{◌≡◌};
+ghost use Rattle.grep_printer.specs.StatsSums.{no_stats};
+ghost use Rattle.linegrep_cli.specs.CountedRuns.{AreAdded, AreStatsPut, IsCountedSearch};
+ghost use Rattle.linegrep_cli.specs.CountedRuns.{IsRunFlushed};
+
+use crate::clock::elapsed;
+use crate::haystacks::end;
+use crate::printers::Searched;
+use grep_output::Output;
+use grep_printer::{CountedFormat, Format, Printer, Stats, search};
+use grep_searcher::{FindAt, SearchError, Searcher, Source};
+use std::io;
+use std::time::Instant;
+
+/// A printer, with the counts of the searches so far and when the run began, if it counts. Where
+/// the clock fails a time is 0.
+#[derive(Drop)]
+pub struct CountedRun<F, W> {
+    printer: Printer<CountedFormat<F>, W>,
+    stats: Stats,
+    start: Option<Instant>,
+}
+
+impl<F, W> CountedRun<F, W> {
+    /// A run that begins now.
+    pub fn new(rt: &HostRuntime, printer: Printer<CountedFormat<F>, W>) -> CountedRun<F, W>
+        ensures printer { result.printer ≡ printer }
+        ensures stats { result.stats ≡ no_stats }
+    {
+        let start = now(rt, &printer);
+        CountedRun {
+            printer,
+            stats: Stats::new(),
+            start,
+        }
+    }
+}
+
+impl<F: Format, W> CountedRun<F, W> {
+    /// The writer back, without what isn't written yet.
+    pub fn into_writer(self) -> W
+        ensures { result ≡ self.printer.writer }
+    {
+        let CountedRun {
+            printer,
+            stats: _,
+            start: _,
+        } = self;
+        printer.into_parts().0
+    }
+}
+
+impl<F: Format, W: Output> CountedRun<F, W> {
+    /// Searches a haystack, and writes what the format makes of it, with a path if there is one.
+    pub fn search<M: FindAt + Copy, H: Source>(
+        &mut self,
+        rt: &HostRuntime,
+        searcher: &mut Searcher,
+        matcher: M,
+        haystack: &mut H,
+        path: Option<&str>,
+    ) -> Searched
+        ensures settings { searcher.new.settings ≡ searcher.old.settings }
+        ensures printed { IsCountedSearch F.rules M.Error.output M.facts M.first_at W.step H.remaining H.step
+            searcher.old matcher path.entry haystack.old self.old result haystack.new self.new }
+    {
+        let start = now(rt, &self.printer);
+        let mut sink = self.printer.sink(matcher, path);
+        let result = search(searcher, matcher, haystack, &mut sink);
+        let counted = sink.stats(elapsed(rt, start));
+        let has_match = end(sink);
+        self.keep(has_match, result, &counted)
+    }
+
+    /// Writes what was counted in all searches, if it was. An error is the writer's, or one of
+    /// being out of memory.
+    pub fn write_totals(&mut self, rt: &HostRuntime) -> Result<(), SearchError>
+        ensures { AreStatsPut W.step self.old result self.new }
+    {
+        if self.printer.is_counting() {
+            self.printer
+                .write_stats(&self.stats, elapsed(rt, self.start))
+        } else {
+            Ok(())
+        }
+    }
+
+    /// Writes what isn't written yet, and flushes the writer. An error is the writer's.
+    pub fn flush(&mut self) -> io::Result<()>
+        ensures { IsRunFlushed W.step self.old result self.new }
+    {
+        self.printer.flush()
+    }
+
+    /// Whether the writer failed.
+    pub fn has_failed(&self) -> bool
+        ensures { result ≡ self.now.printer.has_failed }
+    {
+        self.printer.has_failed()
+    }
+}
+
+impl<F, W> CountedRun<F, W> {
+    // Adds the counts of a search, unless it failed.
+    fn keep(
+        &mut self,
+        has_match: bool,
+        searched: Result<(), SearchError>,
+        counted: &Stats,
+    ) -> Searched
+        ensures printer { self.new.printer ≡ self.old.printer }
+        ensures has_match { result.has_match ≡ has_match }
+        ensures result { result.result ≡ searched }
+        ensures stats { AreAdded self.old.stats counted.now searched self.new.stats }
+        ensures start { self.new.start ≡ self.old.start }
+    {
+        match searched {
+            Ok(()) => {
+                self.stats.add(counted);
+                Searched {
+                    has_match,
+                    result: Ok(()),
+                }
+            }
+            Err(error) => Searched {
+                has_match,
+                result: Err(error),
+            },
+        }
+    }
+}
+
+// What the clock says, if a printer counts.
+fn now<F, W>(rt: &HostRuntime, printer: &Printer<CountedFormat<F>, W>) -> Option<Instant> {
+    if printer.is_counting() {
+        Instant::now(rt).ok()
+    } else {
+        None
+    }
+}
