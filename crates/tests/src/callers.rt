@@ -5,4 +5,5 @@ mod kept;
 mod large;
 mod lent;
 mod opening;
+mod printing;
 mod programs;
