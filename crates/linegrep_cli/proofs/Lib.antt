@@ -1,2 +1,3 @@
 pub mod CapitalLemmas
+pub mod DigitLemmas
 pub mod OperandLemmas

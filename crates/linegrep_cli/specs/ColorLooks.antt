@@ -1,13 +1,14 @@
 -- How what is written looks, by what is asked for, and the escapes for that.
-use Rattle.std.specs.Prelude.{◌≡◌, ℕ, ◌+◌, ◌-◌, ◌*◌, min, nat_le, nat_lt, Bool, true, false, not}
-use Rattle.std.specs.Prelude.{◌&&◌, ◌==◌}
+use Rattle.std.specs.Prelude.{◌≡◌, ℕ, ◌+◌, min, nat_lt, Bool, true, false, not, ◌&&◌, ◌==◌}
 use Rattle.std.specs.Prelude.{if◌then◌else◌, List, [], ◌∷◌, ◌++◌, codes, decimal, length, Option}
 use Rattle.std.specs.Prelude.{None, Some, String}
 use Rattle.std.specs.Prelude.{is_some}
 use Rattle.std.specs.Global.{Global}
-use Rattle.std.specs.List.{after_first, before_first, position_or_len}
+use Rattle.std.specs.Char.{digit_value}
+use Rattle.std.specs.List.{after_first, before_first, list_all, position_or_len}
 use Rattle.std.specs.Option.{option_map}
 use Rattle.std.specs.Str.{bytes_eq}
+use Rattle.std.specs.Str.Parse.{digits_value, without_leading_plus}
 use Rattle.std.specs.String.{string_bytes}
 use Rattle.grep_printer.specs.ColoredTexts.{reset}
 use Rattle.grep_printer.specs.declared.colors.ColorTexts.{ColorTexts}
@@ -23,26 +24,35 @@ is_mark mark byte = byte == mark
 abbrev pub has_mark : ℕ → List ℕ → Bool
 has_mark mark bytes = nat_lt (position_or_len (is_mark mark) bytes) (length bytes)
 
--- the number that three digits say, if it is one of 8 bits
-abbrev pub is_digit : ℕ → Bool
-is_digit byte = nat_le 48 byte && nat_le byte 57
+-- some bytes are digits of a radix, one or more
+abbrev pub are_digits : ℕ → List ℕ → Bool
+are_digits radix digits = nat_lt 0 (length digits)
+    && list_all (λ digit. nat_lt (digit_value digit) radix) digits
 
-abbrev pub number_of : ℕ → ℕ → ℕ → ℕ
-number_of first middle last = (first - 48) * 100 + (middle - 48) * 10 + (last - 48)
+-- the number that digits of a radix say, if it is one of 8 bits
+abbrev pub byte_of_digits : ℕ → List ℕ → Option ℕ
+byte_of_digits radix digits =
+    if are_digits radix digits && nat_lt (digits_value radix digits) 256
+    then Some (digits_value radix digits) else None
 
-abbrev pub byte_of_digits : ℕ → ℕ → ℕ → Option ℕ
-byte_of_digits first middle last =
-    if is_digit first && is_digit middle && is_digit last && nat_lt
-    (number_of first middle last) 256
-    then Some (number_of first middle last) else None
+-- a plus may be before them
+abbrev pub byte_in : ℕ → List ℕ → Option ℕ
+byte_in radix text = byte_of_digits radix (without_leading_plus text)
 
--- so of one to three digits
+-- what is after the mark of hexadecimal digits, if that is there
+abbrev pub after_mark : List ℕ → Option (List ℕ)
+after_mark [] = None
+after_mark (first ∷ []) = None
+after_mark (first ∷ mark ∷ digits) =
+    if first == 48 && mark == 120 then Some digits else None
+
+-- the number that a text says in digits, or after the mark in hexadecimal ones
+abbrev pub byte_by : Option (List ℕ) → List ℕ → Option ℕ
+byte_by None text = byte_in 10 text
+byte_by (Some digits) text = byte_in 16 digits
+
 abbrev pub byte_value : List ℕ → Option ℕ
-byte_value [] = None
-byte_value (last ∷ []) = byte_of_digits 48 48 last
-byte_value (middle ∷ last ∷ []) = byte_of_digits 48 middle last
-byte_value (first ∷ middle ∷ last ∷ []) = byte_of_digits first middle last
-byte_value (first ∷ middle ∷ last ∷ next ∷ later) = None
+byte_value text = byte_by (after_mark text) text
 
 -- the color of a number, or of three with commas between them
 abbrev pub tint_of_bytes : Option ℕ → Option ℕ → Option ℕ → Option Tint

@@ -1,6 +1,7 @@
 -- The colors that options choose.
-use Rattle.std.specs.Prelude.{◌≡◌, ℕ, Bool, not, false, is_some, List, Option, None, Some}
+use Rattle.std.specs.Prelude.{◌≡◌, ℕ, Bool, not, false, is_some, List, map, Option, None, Some}
 use Rattle.std.specs.Borrow.{Bor}
+use Rattle.std.specs.Char.{to_ascii_lowercase}
 use Rattle.std.specs.List.{fold}
 use Rattle.std.specs.Option.{option_copied}
 use Rattle.grep_printer.specs.declared.colors.ColorTexts.{ColorTexts}
@@ -8,10 +9,11 @@ use Rattle.linegrep_cli.specs.ColorLooks.{AreTextsOf, first_looks, looks_with}
 use Rattle.linegrep_cli.specs.declared.looks.Looks.{Looks}
 use Rattle.linegrep_cli.specs.declared.options.Options.{Options}
 
--- how what is written looks after one more change, if all before it are well formed
+-- how what is written looks after one more change, if all before it are well formed. Letters may be
+-- large
 abbrev pub looks_then : Option Looks → Bor (List ℕ) → Option Looks
 looks_then None text = None
-looks_then (Some looks) text = looks_with text.now looks
+looks_then (Some looks) text = looks_with (map to_ascii_lowercase text.now) looks
 
 -- after all changes, of which the last decides
 abbrev pub looks_of : List (Bor (List ℕ)) → Option Looks

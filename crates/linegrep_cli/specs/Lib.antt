@@ -9,6 +9,7 @@ pub mod JsonRuns
 pub mod OperandRuns
 pub mod OptionMeanings
 pub mod OptionUses
+pub mod PathSeparators
 pub mod PatternOptions
 pub mod PrinterOptions
 pub mod PrinterSearches

@@ -1,7 +1,8 @@
 -- The options with which the patterns of a command line are compiled.
-use Rattle.std.specs.Prelude.{Bool, true, ℕ, not, ◌&&◌, ◌||◌, ◌==◌, if◌then◌else◌}
-use Rattle.std.specs.Prelude.{List, [], ◌∷◌, None, Some, String, map}
-use Rattle.std.specs.Prelude.{string_bytes}
+use Rattle.std.specs.Prelude.{Bool, true, false, ℕ, not, ◌&&◌, ◌||◌, ◌==◌, if◌then◌else◌}
+use Rattle.std.specs.Prelude.{List, [], ◌∷◌, ◌++◌, codes, flat_map, length, map, nat_lt}
+use Rattle.std.specs.Prelude.{Option, None, Some, String, string_bytes}
+use Rattle.std.specs.Borrow.{Bor}
 use Rattle.std.specs.Global.{Global}
 use Rattle.std.specs.List.{list_any}
 use Rattle.std.specs.Str.{chars}
@@ -68,5 +69,29 @@ abbrev pub pattern_options : Options → List (String Global) → PatternSetting
 pattern_options options patterns =
     if has options Files then default_options else searched_options options patterns
 
+-- a template may name groups of the patterns, which aren't literals
+abbrev pub has_dollar : Option (Bor (List ℕ)) → Bool
+has_dollar None = false
+has_dollar (Some text) = list_any (λ byte. byte == 36) text.now
+
+abbrev pub names_groups : Options → Bool
+names_groups options = has_dollar options.replace && not (has options FixedStrings)
+
+-- several patterns as one, whose groups have one row of numbers and names: alternatives, each in a
+-- group that has no number
+abbrev pub group_of : List ℕ → List ℕ → List ℕ
+group_of start text = start ++ (text ++ codes ")")
+
+abbrev pub joined_text : List (List ℕ) → List ℕ
+joined_text [] = []
+joined_text (first ∷ later) = group_of (codes "(?:") first
+    ++ flat_map (group_of (codes "|(?:")) later
+
+-- the texts that are compiled: those of the patterns, or several of them as one
+abbrev pub searched_texts : Options → List (List ℕ) → List (List ℕ)
+searched_texts options texts = if nat_lt 1 (length texts) && names_groups options
+    then joined_text texts ∷ [] else texts
+
 abbrev pub pattern_texts : Options → List (String Global) → List (List ℕ)
-pattern_texts options patterns = if has options Files then [] ∷ [] else map string_bytes patterns
+pattern_texts options patterns =
+    if has options Files then [] ∷ [] else searched_texts options (map string_bytes patterns)

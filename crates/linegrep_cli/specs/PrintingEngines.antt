@@ -1,19 +1,23 @@
 -- What the engine of a searcher, a matcher and a printer does in each call, and writes.
-use Rattle.std.specs.Prelude.{◌≡◌, ◌∷◌, ◌++◌, MatchResult, ℕ, Bool, if◌then◌else◌, List, [], Option, None, Some}
-use Rattle.std.specs.Prelude.{Result, Ok, Err}
+use Rattle.std.specs.Prelude.{◌≡◌, ◌⊎◌, ◌∷◌, ◌++◌, MatchResult, ℕ, Bool, false, true, if◌then◌else◌}
+use Rattle.std.specs.Prelude.{List, [], Option, None, Some, is_some, Result, Ok, Err}
 use Rattle.std.specs.Borrow.{Bor}
 use Rattle.std.specs.Global.{Global}
+use Rattle.std.specs.IoError.{error_kind}
 use Rattle.std.specs.declared.io.Error.{Error}
+use Rattle.std.specs.declared.io.ErrorKind.TheVariants.{OutOfMemory}
 use Rattle.grep_output.specs.Outputs.{OutputCall}
 use Rattle.grep_searcher.specs.Meanings.{MatcherFacts}
 use Rattle.grep_searcher.specs.Source.{ReadResult}
 use Rattle.grep_searcher.specs.declared.BinaryDetection.{BinaryDetection}
 use Rattle.grep_searcher.specs.declared.BinaryDetection.TheVariants.{Convert, Quit}
 use Rattle.grep_searcher.specs.declared.SearchError.{SearchError}
+use Rattle.grep_searcher.specs.declared.SearchError.TheVariants.{Io}
 use Rattle.linegrep_cli.specs.EngineCalls.{EngineCall, finishes, lists, says, searches_file}
 use Rattle.linegrep_cli.specs.EngineCalls.{searches_input, sets_quits}
 use Rattle.linegrep_cli.specs.EngineSteps.{IsWrittenError}
 use Rattle.linegrep_cli.specs.Haystacks.{IsPulled, remaining_of}
+use Rattle.linegrep_cli.specs.PathSeparators.{IsShown}
 use Rattle.linegrep_cli.specs.PrinterSearches.{IsFinished, IsFlushed, IsSearchWritten}
 use Rattle.linegrep_cli.specs.declared.engine.PrintingEngine.{PrintingEngine}
 use Rattle.linegrep_cli.specs.declared.haystacks.Haystack.{Haystack}
@@ -28,11 +32,25 @@ detection_with quits detection = detection
 abbrev pub IsLineRead : Bor (List ℕ) → ReadResult → Bor (List ℕ) → Type 0
 IsLineRead old result new = MatchResult result (λ bytes. old.now ≡ bytes ++ new.now) (λ e. ⊥)
 
+-- nothing was searched, since there is no memory
+abbrev pub IsUnsearched : Searched → Type 0
+IsUnsearched searched = (searched.has_match ≡ false) × ((error : Error)
+    × (error_kind error ≡ OutOfMemory) × (searched.result ≡ Err (Io error)))
+
 -- the writer's error in that of a search, if it is one
 abbrev pub IsWrittenResult : Result (Unit {0}) (SearchError Global) → Result (Unit {0}) Error
     → Type 0
 IsWrittenResult (Ok u) result = result ≡ Ok tt
 IsWrittenResult (Err e) result = (error : Error) × (result ≡ Err error) × IsWrittenError e error
+
+-- something is done with a path as it is written, or there is no memory for that, and nothing is done
+abbrev pub IsDoneShown : {F M R W X : Type 0} → (PrintingEngine F M R W X → Option (Bor (List ℕ))
+    → Searched → PrintingEngine F M R W X → Type 0) → Option (Bor (List ℕ)) → PrintingEngine F M R W X
+    → Searched → PrintingEngine F M R W X → Type 0
+IsDoneShown IsDone path old searched new =
+    ((shown : Option (Bor (List ℕ))) × IsShown old.path_separator path shown
+    × IsDone old shown searched new)
+    ⊎ ((is_some old.path_separator ≡ true) × IsUnsearched searched × (new ≡ old))
 
 module _ {F M R W X E : Type 0} (output : E → Option (List ℕ)) (facts : M → MatcherFacts E)
     (first_at : M → List ℕ → ℕ → Option (ℕ × ℕ)) (groups_at : M → List ℕ → ℕ → List (Option (ℕ × ℕ)))
@@ -41,8 +59,8 @@ module _ {F M R W X E : Type 0} (output : E → Option (List ℕ)) (facts : M �
     (read_step : R → ReadResult → R → Type 0) where
   -- a file is searched, or else standard input: with the engine's settings and matcher, and what its
   -- printer makes of it is written
-  pub record IsSearched (file : Option F) (path : Option (Bor (List ℕ)))
-      (old : PrintingEngine F M R W X) (searched : Searched) (new : PrintingEngine F M R W X)
+  pub record IsSearched (file : Option F) (old : PrintingEngine F M R W X)
+      (path : Option (Bor (List ℕ))) (searched : Searched) (new : PrintingEngine F M R W X)
       : Type 0 where
     pub left : Haystack F R
     pub written : IsSearchWritten output facts first_at groups_at write_step
@@ -57,13 +75,13 @@ module _ {F M R W X E : Type 0} (output : E → Option (List ℕ)) (facts : M �
     }
 
   -- a path is written as that of a file with a match: a line that is empty is searched for it
-  pub record IsPathWritten (path : Bor (List ℕ)) (old : PrintingEngine F M R W X)
+  pub record IsPathWritten (old : PrintingEngine F M R W X) (path : Option (Bor (List ℕ)))
       (searched : Searched) (new : PrintingEngine F M R W X) : Type 0 where
     pub line : Bor (List ℕ)
     pub left : Bor (List ℕ)
     pub is_line : line.now ≡ 10 ∷ []
     pub written : IsSearchWritten output facts first_at groups_at write_step (λ s. Some s.now)
-        IsLineRead old.searcher old.matcher (Some path) line
+        IsLineRead old.searcher old.matcher path line
         old.printer searched left new.printer
     pub settings : new.searcher.settings ≡ old.searcher.settings
     pub others : new ≡ record old { searcher = new.searcher; printer = new.printer }
@@ -86,9 +104,11 @@ module _ {F M R W X E : Type 0} (output : E → Option (List ℕ)) (facts : M �
   abbrev pub IsEngineStep : PrintingEngine F M R W X → EngineCall F → PrintingEngine F M R W X
       → Type 0
   IsEngineStep old (searches_file path file searched) new =
-      IsSearched (Some file) path old searched new
-  IsEngineStep old (searches_input path searched) new = IsSearched None path old searched new
-  IsEngineStep old (lists path searched) new = IsPathWritten path old searched new
+      IsDoneShown (IsSearched (Some file)) path old searched new
+  IsEngineStep old (searches_input path searched) new =
+      IsDoneShown (IsSearched None) path old searched new
+  IsEngineStep old (lists path searched) new =
+      IsDoneShown IsPathWritten (Some path) old searched new
   IsEngineStep old (says result) new = IsSaidAfter old result new
   IsEngineStep old (sets_quits quits) new = new ≡ record old {
     searcher = record old.searcher {

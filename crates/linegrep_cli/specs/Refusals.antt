@@ -1,6 +1,6 @@
 -- When a run is refused, and what is said of it.
-use Rattle.std.specs.Prelude.{◌≡◌, ◌≢◌, ℕ, Bool, true, if◌then◌else◌, List, length, None, Result}
-use Rattle.std.specs.Prelude.{String}
+use Rattle.std.specs.Prelude.{◌≡◌, ◌≢◌, ℕ, Bool, true, if◌then◌else◌, List, None, Result}
+use Rattle.std.specs.Prelude.{String, map, string_bytes}
 use Rattle.std.specs.Global.{Global}
 use Rattle.std.specs.declared.io.Error.{Error}
 use Rattle.grep_output.specs.Outputs.{OutputCall, Writes}
@@ -10,6 +10,7 @@ use Rattle.grep_regex.specs.declared.error.Error.TheVariants.{Memory}
 use Rattle.linegrep_cli.specs.ColorOptions.{refuses_colors}
 use Rattle.linegrep_cli.specs.FileChoices.{AreFileOptions}
 use Rattle.linegrep_cli.specs.OptionUses.{has}
+use Rattle.linegrep_cli.specs.PathSeparators.{refuses_path_separator}
 use Rattle.linegrep_cli.specs.PatternOptions.{pattern_options, pattern_texts}
 use Rattle.linegrep_cli.specs.SearcherOptions.{refuses_label}
 use Rattle.linegrep_cli.specs.TemplateOptions.{may_refuse_template}
@@ -28,14 +29,18 @@ sorts_by_time options = names_time (if has options Sort then options.sort
     else if has options Sortr then options.sortr else None)
 
 -- why a run is refused: a label of an encoding that isn't known, patterns that aren't well formed or too
--- large, a template that isn't used so, colors that aren't well formed, an order that the system
--- may not have, or what is said of files
+-- large, all as one or each by itself, a template that isn't used so, a separator that isn't one byte, colors that aren't well
+-- formed, an order that the system may not have, or what is said of files
 pub data IsCause (options : Options) (patterns : List (String Global)) : Type 0 where
   of_label : refuses_label options ≡ true → IsCause options patterns
   of_pattern : (error : PatternError) → error ≢ Memory
       → IsRefusal (pattern_options options patterns) (pattern_texts options patterns) error
       → IsCause options patterns
-  of_template : may_refuse_template options (length patterns) ≡ true → IsCause options patterns
+  of_single_pattern : (error : PatternError) → error ≢ Memory
+      → IsRefusal (pattern_options options patterns) (map string_bytes patterns) error
+      → IsCause options patterns
+  of_template : may_refuse_template options ≡ true → IsCause options patterns
+  of_path_separator : refuses_path_separator options ≡ true → IsCause options patterns
   of_colors : refuses_colors options ≡ true → IsCause options patterns
   of_order : sorts_by_time options ≡ true → IsCause options patterns
   of_files : (files : FileOptions) → AreFileOptions options files → may_be_refused files ≡ true

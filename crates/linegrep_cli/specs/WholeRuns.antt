@@ -25,6 +25,7 @@ use Rattle.linegrep_cli.specs.ColorOptions.{AreColorsLent}
 use Rattle.linegrep_cli.specs.EngineSteps.{has_failed, writer_of}
 use Rattle.linegrep_cli.specs.OperandRuns.{IsRunOver}
 use Rattle.linegrep_cli.specs.OptionMeanings.{paths_of}
+use Rattle.linegrep_cli.specs.PathSeparators.{path_separator_of}
 use Rattle.linegrep_cli.specs.PatternOptions.{pattern_options, pattern_texts}
 use Rattle.linegrep_cli.specs.PrinterOptions.{IsPrinterOf}
 use Rattle.linegrep_cli.specs.PrintingEngines.{IsEngineStep}
@@ -64,6 +65,7 @@ module _ {F M R W X E : Type 0} (output : E → Option (List ℕ)) (facts : M �
         writer engine.printer
     pub haystack : engine.haystack ≡ record { file = None; reader = input }
     pub says : engine.errors.now ≡ errors
+    pub path_separator : engine.path_separator ≡ path_separator_of options
     pub detection : engine.detection ≡ (searcher_settings options).binary_detection
 
   -- a run with a matcher and a template: over the operands that options have, with the engine that they ask for

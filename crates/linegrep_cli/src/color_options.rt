@@ -8,7 +8,7 @@ use crate::failures::Failure;
 use crate::looks::Looks;
 use crate::options::Options;
 use grep_printer::ColorTexts;
-use std::alloc::Global;
+use std::alloc::{AllocError, Global};
 
 const MALFORMED: &str = "--colors: each is path, line, column or match with :none, :fg:COLOR, \
     :bg:COLOR or :style:STYLE";
@@ -23,32 +23,35 @@ pub fn color_texts(alloc: Global, options: &Options<'_, '_>) -> Result<Option<Co
     let Some(texts) = options.colors else {
         return Ok(None);
     };
-    match looks(texts) {
-        Some(looks) => match looks.texts(alloc) {
+    match looks(alloc, texts) {
+        Ok(Some(looks)) => match looks.texts(alloc) {
             Ok(texts) => Ok(Some(texts)),
             Err(_) => Err(Failure::out_of_memory()),
         },
-        None => Err(Failure::new(alloc, &MALFORMED)),
+        Ok(None) => Err(Failure::new(alloc, &MALFORMED)),
+        Err(_) => Err(Failure::out_of_memory()),
     }
 }
 
 // How what is written looks after some changes, if each is well formed.
-fn looks(texts: &[&str]) -> Option<Looks>
-    ensures { result ≡ looks_of texts.now }
+fn looks(alloc: Global, texts: &[&str]) -> Result<Option<Looks>, AllocError>
+    ensures { IfOk result (λ looks. looks ≡ looks_of texts.now) }
 {
     let mut looks = Some(Looks::first());
     for text in texts {
-        looks = apply(looks, text);
+        looks = apply(alloc, looks, text)?;
     }
-    looks
+    Ok(looks)
 }
 
-// With one more change, if all are well formed.
-fn apply(looks: Option<Looks>, text: &str) -> Option<Looks>
-    ensures { result ≡ looks_then looks text.entry }
+// With one more change, if all are well formed. Letters may be large.
+fn apply(alloc: Global, looks: Option<Looks>, text: &str) -> Result<Option<Looks>, AllocError>
+    ensures { IfOk result (λ changed. changed ≡ looks_then looks text.entry) }
 {
-    match looks {
-        Some(looks) => looks.with(text),
-        None => None,
-    }
+    let Some(looks) = looks else {
+        return Ok(None);
+    };
+    let mut text = String::from_str(alloc, text)?;
+    text.make_ascii_lowercase();
+    Ok(looks.with(text.as_str()))
 }

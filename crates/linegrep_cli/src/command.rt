@@ -508,7 +508,7 @@ const LINE_ROWS: &[Row] = &[
     },
 ];
 
-// What sets fields, and groups of lines, apart.
+// What sets fields, groups of lines, and the names in paths apart.
 const SEPARATOR_ROWS: &[Row] = &[
     Row {
         id: OptionId::ContextSeparator,
@@ -528,6 +528,11 @@ const SEPARATOR_ROWS: &[Row] = &[
     Row {
         id: OptionId::FieldMatchSeparator,
         name: "field-match-separator",
+        letter: None,
+    },
+    Row {
+        id: OptionId::PathSeparator,
+        name: "path-separator",
         letter: None,
     },
 ];

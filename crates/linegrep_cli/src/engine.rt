@@ -1,13 +1,15 @@
 //! A searcher, a matcher and a printer, which search as one.
-ghost use Rattle.std.specs.Prelude.{◌≡◌, Bool, None};
+ghost use Rattle.std.specs.Prelude.{◌≡◌, Bool, None, Some};
 ghost use Rattle.linegrep_cli.specs.EngineCalls.{EngineCall, finishes, lists, says};
 ghost use Rattle.linegrep_cli.specs.EngineCalls.{searches_file, searches_input, sets_quits};
 ghost use Rattle.linegrep_cli.specs.EngineSteps.{IsWrittenError, writer_of};
-ghost use Rattle.linegrep_cli.specs.PrintingEngines.{IsSearched, detection_with};
+ghost use Rattle.linegrep_cli.specs.PrintingEngines.{IsDoneShown, IsPathWritten, IsSearched};
+ghost use Rattle.linegrep_cli.specs.PrintingEngines.{IsUnsearched, detection_with};
 
 use crate::failures::say;
 use crate::haystacks::Haystack;
 use crate::printers::{Printer, Searched};
+use crate::separators::with_separator;
 use grep_output::Output;
 use grep_replace::CapturesAt;
 use grep_searcher::{BinaryDetection, SearchError, Searcher, Source};
@@ -68,12 +70,15 @@ pub struct PrintingEngine<'e, F, M, R, W, E> {
     // Standard input, and the file that is searched.
     haystack: Haystack<F, R>,
     errors: &'e mut E,
+    // What is written in place of each slash of a path, if something is.
+    path_separator: Option<u8>,
     // What the searcher did at first about binary files.
     detection: BinaryDetection,
 }
 
 impl<'e, F, M, R, W, E> PrintingEngine<'e, F, M, R, W, E> {
-    /// An engine of these. The times in messages are by the clock of `rt`.
+    /// An engine of these, which writes a separator in place of each slash of a path, if there is one.
+    /// The times in messages are by the clock of `rt`.
     pub fn new(
         rt: &'e HostRuntime,
         searcher: Searcher,
@@ -81,12 +86,14 @@ impl<'e, F, M, R, W, E> PrintingEngine<'e, F, M, R, W, E> {
         printer: Printer<'e, M, W>,
         input: R,
         errors: &'e mut E,
+        path_separator: Option<u8>,
     ) -> PrintingEngine<'e, F, M, R, W, E>
         ensures searcher { result.searcher ≡ searcher }
         ensures matcher { result.matcher ≡ matcher }
         ensures printer { result.printer ≡ printer.entry }
         ensures haystack { result.haystack ≡ record { file = None; reader = input } }
         ensures errors { result.errors.now ≡ errors.old }
+        ensures path_separator { result.path_separator ≡ path_separator }
         ensures detection { result.detection ≡ searcher.settings.binary_detection }
     {
         let detection = *searcher.binary_detection();
@@ -100,6 +107,7 @@ impl<'e, F, M, R, W, E> PrintingEngine<'e, F, M, R, W, E> {
                 reader: input,
             },
             errors,
+            path_separator,
             detection,
         }
     }
@@ -119,6 +127,7 @@ impl<'e, F, M, R, W, E> PrintingEngine<'e, F, M, R, W, E> {
             printer,
             haystack,
             errors: _,
+            path_separator: _,
             detection: _,
         } = self;
         let Haystack { file: _, reader } = haystack;
@@ -134,10 +143,27 @@ impl<'e, F: Read + Drop, M: CapturesAt + Copy, R: Source, W: Output, E: Output> 
     W,
     E,
 > {
-    // Searches a file, or else standard input, and writes what is found in it.
+    // Searches a file, or else standard input, and writes what is found in it, with the path as it is
+    // written.
     fn search(&mut self, file: Option<F>, path: Option<&str>) -> Searched
+        ensures { IsDoneShown (IsSearched M.Error.output M.facts M.first_at M.groups_at W.step F.remaining
+            R.remaining R.step file) path.entry self.old result self.new }
+    {
+        match (self.path_separator, path) {
+            (Some(separator), Some(path)) => {
+                match with_separator(self.rt.alloc(), path, separator) {
+                    Ok(path) => self.search_shown(file, Some(path.as_str())),
+                    Err(_) => unsearched(),
+                }
+            }
+            _ => self.search_shown(file, path),
+        }
+    }
+
+    // So with a path as it is.
+    fn search_shown(&mut self, file: Option<F>, path: Option<&str>) -> Searched
         ensures { IsSearched M.Error.output M.facts M.first_at M.groups_at W.step F.remaining R.remaining R.step
-            file path.entry self.old result self.new }
+            file self.old path.entry result self.new }
     {
         self.haystack.file = file;
         let searched = self.printer.search(
@@ -149,6 +175,21 @@ impl<'e, F: Read + Drop, M: CapturesAt + Copy, R: Source, W: Output, E: Output> 
         );
         self.haystack.file = None;
         searched
+    }
+
+    // Writes a path, as it is, as that of a file with a match.
+    fn list_shown(&mut self, path: &str) -> Searched
+        ensures { IsPathWritten M.Error.output M.facts M.first_at M.groups_at W.step F.remaining R.remaining
+            R.step self.old (Some path.entry) result self.new }
+    {
+        let mut line: &[u8] = b"\n";
+        self.printer.search(
+            self.rt,
+            &mut self.searcher,
+            self.matcher,
+            &mut line,
+            Some(path),
+        )
     }
 }
 
@@ -171,14 +212,13 @@ impl<'e, F: Read + Drop, M: CapturesAt + Copy, R: Source, W: Output, E: Output> 
     }
 
     fn list(&mut self, path: &str) -> Searched {
-        let mut line: &[u8] = b"\n";
-        self.printer.search(
-            self.rt,
-            &mut self.searcher,
-            self.matcher,
-            &mut line,
-            Some(path),
-        )
+        match self.path_separator {
+            Some(separator) => match with_separator(self.rt.alloc(), path, separator) {
+                Ok(path) => self.list_shown(path.as_str()),
+                Err(_) => unsearched(),
+            },
+            None => self.list_shown(path),
+        }
     }
 
     fn say(&mut self, text: &str) -> io::Result<()> {
@@ -201,6 +241,16 @@ impl<'e, F: Read + Drop, M: CapturesAt + Copy, R: Source, W: Output, E: Output> 
             Ok(()) => Ok(()),
             Err(error) => Err(written_error(error)),
         }
+    }
+}
+
+// Nothing was searched, since there is no memory.
+fn unsearched() -> Searched
+    ensures { IsUnsearched result }
+{
+    Searched {
+        has_match: false,
+        result: Err(SearchError::Io(io::Error::from(io::ErrorKind::OutOfMemory))),
     }
 }
 

@@ -125,6 +125,8 @@ Output:
       --context-separator SEPARATOR
                              Write a line SEPARATOR between groups of lines
       --no-context-separator Write nothing between them
+      --path-separator SEPARATOR
+                             Write SEPARATOR, a byte, in place of each slash of a path
   -0, --null                 Write a NUL after each path
       --color WHEN           Write colors: always, never, or auto, for a terminal
       --colors CHANGE        Change them, as path:none, line:bg:255, column:fg:0,128,255

@@ -1,8 +1,8 @@
 //! How what is written looks on a terminal.
-ghost use Rattle.std.specs.Prelude.{◌≡◌, ◌<◌, false, true, IfOk, MatchOption};
+ghost use Rattle.std.specs.Prelude.{◌≡◌, ◌<◌, ◌≤◌, false, true, option_map, IfOk, MatchOption};
 ghost use Rattle.std.specs.List.{after_first, before_first};
 ghost use Rattle.std.specs.String.{string_bytes};
-ghost use Rattle.linegrep_cli.specs.ColorLooks.{AreTextsOf, byte_of_digits, byte_value};
+ghost use Rattle.linegrep_cli.specs.ColorLooks.{AreTextsOf, after_mark, byte_in, byte_value};
 ghost use Rattle.linegrep_cli.specs.ColorLooks.{first_looks};
 ghost use Rattle.linegrep_cli.specs.ColorLooks.{has_mark, is_mark, is_plain, look_text};
 ghost use Rattle.linegrep_cli.specs.ColorLooks.{look_by, look_with, looks_by, looks_with};
@@ -281,7 +281,7 @@ fn tint_of_numbers(text: &str) -> Option<Tint>
 {
     match at(text, ',') {
         Some((red, rest)) => mixed_tint(red, rest),
-        None => match byte_value(text.as_bytes()) {
+        None => match byte_value(text) {
             Some(number) => Some(Tint::Indexed(number)),
             None => None,
         },
@@ -295,40 +295,39 @@ fn mixed_tint(red: &str, rest: &str) -> Option<Tint>
     let Some((green, blue)) = at(rest, ',') else {
         return None;
     };
-    match (
-        byte_value(red.as_bytes()),
-        byte_value(green.as_bytes()),
-        byte_value(blue.as_bytes()),
-    ) {
+    match (byte_value(red), byte_value(green), byte_value(blue)) {
         (Some(red), Some(green), Some(blue)) => Some(Tint::Mixed(red, green, blue)),
         _ => None,
     }
 }
 
-// The number that some digits say, if it is one of 8 bits.
-fn byte_value(digits: &[u8]) -> Option<u8>
-    ensures { result ≡ byte_value digits.now }
+// The number that a text says in digits, or after `0x` in hexadecimal ones, if it is one of 8 bits.
+fn byte_value(text: &str) -> Option<u8>
+    ensures { result ≡ byte_value text.now }
 {
-    match digits {
-        [last] => byte_of_digits(b'0', b'0', *last),
-        [middle, last] => byte_of_digits(b'0', *middle, *last),
-        [first, middle, last] => byte_of_digits(*first, *middle, *last),
-        _ => None,
+    match after_mark(text) {
+        Some(digits) => byte_in(digits, 16),
+        None => byte_in(text, 10),
     }
 }
 
-fn byte_of_digits(first: u8, middle: u8, last: u8) -> Option<u8>
-    ensures { result ≡ byte_of_digits first middle last }
+// What is after the mark of hexadecimal digits, if that is there.
+fn after_mark(text: &str) -> Option<&str>
+    ensures { option_map (λ digits. digits.now) result ≡ after_mark text.now }
 {
-    if !first.is_ascii_digit() || !middle.is_ascii_digit() || !last.is_ascii_digit() {
-        return None;
+    match text.strip_prefix('0') {
+        Some(rest) => rest.strip_prefix('x'),
+        None => None,
     }
-    let number = (first - b'0') as u32 * 100 + (middle - b'0') as u32 * 10 + (last - b'0') as u32;
-    if number < 256 {
-        Some(number as u8)
-    } else {
-        None
-    }
+}
+
+// The number that digits of a radix say, if it is one of 8 bits. A plus may be before them.
+fn byte_in(text: &str, radix: u32) -> Option<u8>
+    requires least { 2 ≤ radix }
+    requires most { radix ≤ 36 }
+    ensures { result ≡ byte_in radix text.now }
+{
+    u8::from_str_radix(text, radix).ok()
 }
 
 // What is before a mark in a text, and after it.

@@ -45,6 +45,7 @@ pub enum OptionId {
     NoContextSeparator,
     FieldContextSeparator,
     FieldMatchSeparator,
+    PathSeparator,
     Null,
     Passthru,
     Text,
@@ -209,7 +210,8 @@ impl OptionId {
             OptionId::Encoding => Kind::Label,
             OptionId::ContextSeparator
             | OptionId::FieldContextSeparator
-            | OptionId::FieldMatchSeparator => Kind::Separator,
+            | OptionId::FieldMatchSeparator
+            | OptionId::PathSeparator => Kind::Separator,
             OptionId::Replace => Kind::Template,
             OptionId::Colors => Kind::Change,
             OptionId::MaxCount

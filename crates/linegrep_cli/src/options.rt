@@ -118,6 +118,8 @@ pub struct Options<'m, 'w> {
     pub field_context_separator: Option<&'w str>,
     /// What is written after each field of a line of a match, with escapes.
     pub field_match_separator: Option<&'w str>,
+    /// What is written in place of each slash of a path, with escapes.
+    pub path_separator: Option<&'w str>,
     /// The template of what is written in place of each match.
     pub replace: Option<&'w str>,
     color: Option<&'w str>,
@@ -162,6 +164,7 @@ impl<'m, 'w> Options<'m, 'w> {
             context_separator: matches.get_str("context-separator"),
             field_context_separator: matches.get_str("field-context-separator"),
             field_match_separator: matches.get_str("field-match-separator"),
+            path_separator: matches.get_str("path-separator"),
             replace: matches.get_str("replace"),
             color: matches.get_str("color"),
             colors: matches.get_strs("colors"),

@@ -1,11 +1,13 @@
 //! The patterns that are searched for.
-ghost use Rattle.std.specs.Prelude.{◌≡◌, ◌≢◌, map, string_bytes, true, IfErr, IfOk};
+ghost use Rattle.std.specs.Prelude.{◌≡◌, ◌≢◌, ◌⊎◌, ◌∷◌, ◌++◌, [], codes, map, string_bytes, true};
+ghost use Rattle.std.specs.Prelude.{IfErr, IfOk, OnOk};
 ghost use Rattle.std.specs.List.{list_any};
 ghost use Rattle.grep_regex.specs.Views.{regex_options, regex_patterns};
 ghost use Rattle.linegrep_cli.specs.OptionUses.{has};
 ghost use Rattle.linegrep_cli.specs.PatternOptions.{has_capital, ignores_case, is_escape, is_unicode};
+ghost use Rattle.linegrep_cli.specs.PatternOptions.{joined_text, names_groups};
 ghost use Rattle.linegrep_cli.specs.PatternOptions.{pattern_options, pattern_texts};
-ghost use Rattle.linegrep_cli.specs.PatternOptions.{searched_options};
+ghost use Rattle.linegrep_cli.specs.PatternOptions.{searched_options, searched_texts};
 ghost use Rattle.grep_regex.specs.Refusals.{IsRefusal};
 ghost use Rattle.grep_regex.specs.declared.error.Error.{Error};
 ghost use Rattle.grep_regex.specs.declared.error.Error.TheVariants.{Memory};
@@ -148,8 +150,9 @@ fn push_text(alloc: Global, texts: &mut Vec<String>, text: &str) -> Result<(), A
     Ok(())
 }
 
-/// Compiles patterns as the options say; where files are listed one that matches everywhere. An
-/// error is that of a pattern, or that there is no memory.
+/// Compiles patterns as the options say; where files are listed one that matches everywhere, and where
+/// a template may name groups all as one, each in a group without a number. An error is that of a
+/// pattern, or that there is no memory.
 pub fn compile(
     alloc: Global,
     options: &Options<'_, '_>,
@@ -161,16 +164,100 @@ pub fn compile(
         regex_patterns regex ≡ pattern_texts options.now patterns.now) }
     ensures refused { IfErr result (λ failure. has_cause failure ≡ true
         → (error : Error) × (error ≢ Memory)
-        × IsRefusal (pattern_options options.now patterns.now)
-        (pattern_texts options.now patterns.now) error) }
+        × (IsRefusal (pattern_options options.now patterns.now)
+        (pattern_texts options.now patterns.now) error
+        ⊎ IsRefusal (pattern_options options.now patterns.now) (map string_bytes patterns.now)
+        error)) }
 {
     if options.has(OptionId::Files) {
         return compile_with(alloc, &RegexMatcherBuilder::new(), &[""]);
     }
     match texts_of(alloc, patterns) {
-        Ok(texts) => compile_with(alloc, &builder(options, patterns), &texts),
+        Ok(texts) => compile_searched(alloc, options, &builder(options, patterns), &texts),
         Err(_) => Err(Failure::out_of_memory()),
     }
+}
+
+// Compiles patterns, as one where a template may name groups of several.
+fn compile_searched(
+    alloc: Global,
+    options: &Options<'_, '_>,
+    builder: &RegexMatcherBuilder,
+    texts: &[&str],
+) -> Result<Regex, Failure>
+    ensures options { IfOk result (λ regex. regex_options regex ≡ builder.now) }
+    ensures patterns { IfOk result (λ regex. regex_patterns regex
+        ≡ searched_texts options.now (map (λ text. text.now) texts.now)) }
+    ensures refused { IfErr result (λ failure. has_cause failure ≡ true
+        → (error : Error) × (error ≢ Memory)
+        × (IsRefusal builder.now (searched_texts options.now (map (λ text. text.now) texts.now))
+        error ⊎ IsRefusal builder.now (map (λ text. text.now) texts.now) error)) }
+{
+    if texts.len() > 1 && names_groups(options) {
+        compile_joined(alloc, builder, texts)
+    } else {
+        compile_with(alloc, builder, texts)
+    }
+}
+
+// Whether a template may name groups of the patterns.
+fn names_groups(options: &Options<'_, '_>) -> bool
+    ensures { result ≡ names_groups options.now }
+{
+    match options.replace {
+        Some(text) => text.as_bytes().contains(&b'$') && !options.has(OptionId::FixedStrings),
+        None => false,
+    }
+}
+
+// Compiles patterns as one. Each of them has to be a pattern by itself too.
+fn compile_joined(
+    alloc: Global,
+    builder: &RegexMatcherBuilder,
+    texts: &[&str],
+) -> Result<Regex, Failure>
+    ensures options { IfOk result (λ regex. regex_options regex ≡ builder.now) }
+    ensures patterns { IfOk result (λ regex.
+        regex_patterns regex ≡ joined_text (map (λ text. text.now) texts.now) ∷ []) }
+    ensures refused { IfErr result (λ failure. has_cause failure ≡ true
+        → (error : Error) × (error ≢ Memory)
+        × (IsRefusal builder.now (joined_text (map (λ text. text.now) texts.now) ∷ []) error
+        ⊎ IsRefusal builder.now (map (λ text. text.now) texts.now) error)) }
+{
+    match compile_with(alloc, builder, texts) {
+        Ok(_) => {}
+        Err(failure) => return Err(failure),
+    }
+    match joined_text(alloc, texts) {
+        Ok(text) => compile_with(alloc, builder, &[text.as_str()]),
+        Err(_) => Err(Failure::out_of_memory()),
+    }
+}
+
+// The text of several patterns as one: each in a group that has no number.
+fn joined_text(alloc: Global, texts: &[&str]) -> Result<String, AllocError>
+    ensures { IfOk result (λ text.
+        string_bytes text ≡ joined_text (map (λ text. text.now) texts.now)) }
+{
+    let mut joined = String::new(alloc);
+    let Some((first, later)) = texts.split_first() else {
+        return Ok(joined);
+    };
+    push_group(&mut joined, "(?:", first)?;
+    for text in later {
+        push_group(&mut joined, "|(?:", text)?;
+    }
+    Ok(joined)
+}
+
+// Pushes what a group begins with, its text, and its end.
+fn push_group(joined: &mut String, start: &str, text: &str) -> Result<(), AllocError>
+    ensures { OnOk result (string_bytes joined.new
+        ≡ string_bytes joined.old ++ (start.now ++ (text.now ++ codes ")"))) }
+{
+    joined.push_str(start)?;
+    joined.push_str(text)?;
+    joined.push_str(")")
 }
 
 fn compile_with(

@@ -17,7 +17,6 @@ pub fn reason(option: &str) -> Option<&'static str> {
 
 fn other_reason(option: &str) -> Option<&'static str> {
     match option {
-        "--path-separator" => Some("paths are written as they are"),
         "--hyperlink-format" => Some("there are no links"),
         "--regex-size-limit" | "--dfa-size-limit" => Some("the limits are fixed"),
         "--debug" | "--trace" | "--generate" => Some("there is nothing of the kind"),

@@ -3,6 +3,7 @@ ghost use Rattle.std.specs.Prelude.{◌≡◌, ◌⊎◌, List, String, true, If
 ghost use Rattle.std.specs.Global.{Global};
 ghost use Rattle.grep_regex.specs.Views.{IsNamed, regex_options, regex_patterns};
 ghost use Rattle.linegrep_cli.specs.ColorOptions.{AreColorTexts, AreColorsLent};
+ghost use Rattle.linegrep_cli.specs.PathSeparators.{path_separator_of};
 ghost use Rattle.linegrep_cli.specs.PatternOptions.{pattern_options, pattern_texts};
 ghost use Rattle.linegrep_cli.specs.Refusals.{IsCause, IsRefusedFor, IsSaid};
 ghost use Rattle.linegrep_cli.specs.SearcherOptions.{searcher_settings};
@@ -19,7 +20,7 @@ use crate::file_options::file_options;
 use crate::file_run::{Run, Scope};
 use crate::options::Options;
 use crate::patterns::compile;
-use crate::separators::separators;
+use crate::separators::{path_separator, separators};
 use crate::settings::{build_printer, build_searcher};
 use crate::system::System;
 use crate::template::template;
@@ -70,6 +71,7 @@ struct Prepared<'r> {
     separators: Option<Separators>,
     colors: Option<ColorTexts>,
     template: Option<Template>,
+    path_separator: Option<u8>,
 }
 
 // What the options ask a search to be made with. An error is that of a setting, of a pattern that
@@ -90,6 +92,8 @@ fn prepare<'r>(
     ensures colors { IfOk result (λ prepared. AreColorTexts options.now prepared.colors) }
     ensures template { IfOk result (λ prepared.
         IsTemplate options.now prepared.regex prepared.template) }
+    ensures path_separator { IfOk result (λ prepared.
+        prepared.path_separator ≡ path_separator_of options.now) }
     ensures refused { IfErr result (λ failure. has_cause failure ≡ true
         → IsCause options.now patterns.now) }
 {
@@ -98,8 +102,12 @@ fn prepare<'r>(
         Ok(regex) => regex,
         Err(failure) => return Err(failure),
     };
-    let template = match template(rt.alloc(), options, &regex, patterns.len()) {
+    let template = match template(rt.alloc(), options, &regex) {
         Ok(template) => template,
+        Err(failure) => return Err(failure),
+    };
+    let path_separator = match path_separator(rt.alloc(), options) {
+        Ok(path_separator) => path_separator,
         Err(failure) => return Err(failure),
     };
     let colors = match color_texts(rt.alloc(), options) {
@@ -119,6 +127,7 @@ fn prepare<'r>(
             separators,
             colors,
             template,
+            path_separator,
         }),
         Err(_) => Err(Failure::out_of_memory()),
     }
@@ -153,6 +162,7 @@ pub fn search_all<S: System, R: Source + Drop, W: Output + Drop, E: Output>(
                 separators,
                 colors,
                 template,
+                path_separator,
             } = prepared;
             search_named::<Brand, S, R, W, E>(
                 rt,
@@ -164,6 +174,7 @@ pub fn search_all<S: System, R: Source + Drop, W: Output + Drop, E: Output>(
                 separators.as_ref(),
                 colors.as_ref(),
                 template.as_ref(),
+                path_separator,
                 input,
                 output,
                 errors,
@@ -185,6 +196,7 @@ fn search_named<'r, N: Naming, S: System, R: Source + Drop, W: Output + Drop, E:
     separators: Option<&Separators>,
     colors: Option<&ColorTexts>,
     template: Option<&Template>,
+    path_separator: Option<u8>,
     input: R,
     output: W,
     errors: &mut E,
@@ -194,6 +206,7 @@ where
     requires settings { searcher.settings ≡ searcher_settings options.now }
     requires lent { AreLent options.now separators }
     requires colored { AreColorsLent options.now colors }
+    requires path_separator { path_separator ≡ path_separator_of options.now }
     requires template { IsTemplateLent options.now regex.now template }
     ensures { ((patterns : List (String Global)) → IsRefusedFor E.step options.now patterns input
         output errors.old result.status result.input result.output errors.new)
@@ -210,15 +223,37 @@ where
     if template.is_none() {
         if let Some(matcher) = regex.literal_matcher() {
             return search_with(
-                rt, system, options, &matcher, searcher, choices, separators, colors, template,
-                input, output, errors,
+                rt,
+                system,
+                options,
+                &matcher,
+                searcher,
+                choices,
+                separators,
+                colors,
+                template,
+                path_separator,
+                input,
+                output,
+                errors,
             );
         }
     }
     match regex.named_matcher::<N>(rt.alloc()) {
         Ok(matcher) => search_with(
-            rt, system, options, &matcher, searcher, choices, separators, colors, template, input,
-            output, errors,
+            rt,
+            system,
+            options,
+            &matcher,
+            searcher,
+            choices,
+            separators,
+            colors,
+            template,
+            path_separator,
+            input,
+            output,
+            errors,
         ),
         Err(_) => Ended::refused(errors, &Failure::out_of_memory(), input, output),
     }
@@ -235,6 +270,7 @@ fn search_with<'r, M: CapturesAt + Copy, S: System, R: Source + Drop, W: Output 
     separators: Option<&Separators>,
     colors: Option<&ColorTexts>,
     template: Option<&Template>,
+    path_separator: Option<u8>,
     input: R,
     output: W,
     errors: &mut E,
@@ -242,6 +278,7 @@ fn search_with<'r, M: CapturesAt + Copy, S: System, R: Source + Drop, W: Output 
     requires settings { searcher.settings ≡ searcher_settings options.now }
     requires lent { AreLent options.now separators }
     requires colored { AreColorsLent options.now colors }
+    requires path_separator { path_separator ≡ path_separator_of options.now }
     ensures { IsRunWith M.Error.output M.facts M.first_at M.groups_at W.step S.File.remaining
         R.remaining R.step (S.finds system.now) (S.opens system.now) (S.identifies system.now)
         options.now matcher template.entry input output errors.old result.status result.input
@@ -253,7 +290,13 @@ fn search_with<'r, M: CapturesAt + Copy, S: System, R: Source + Drop, W: Output 
         rt, options, is_across, separators, colors, matcher, template, output,
     );
     let mut engine: PrintingEngine<'_, S::File, M, R, W, E> = PrintingEngine::new(
-        rt, searcher, matcher, printer, input, errors,
+        rt,
+        searcher,
+        matcher,
+        printer,
+        input,
+        errors,
+        path_separator,
     );
     let run = Run::new(rt, system, scope);
     let status = run.complete(&mut engine, choices, options.paths());

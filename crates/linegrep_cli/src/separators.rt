@@ -1,13 +1,20 @@
-//! The texts that set fields, and groups of lines, apart.
-ghost use Rattle.std.specs.Prelude.{◌≡◌, IfOk, codes};
+//! What sets fields, groups of lines, and the names in paths apart.
+ghost use Rattle.std.specs.Prelude.{◌≡◌, true, IfErr, IfOk, codes, string_bytes};
+ghost use Rattle.linegrep_cli.specs.PathSeparators.{first_byte, is_path_separator};
+ghost use Rattle.linegrep_cli.specs.PathSeparators.{path_separator_of, refuses_path_separator};
+ghost use Rattle.linegrep_cli.specs.PathSeparators.{with_separator, writes_paths_as_they_are};
 ghost use Rattle.linegrep_cli.specs.SeparatorOptions.{IsContext, IsSeparators, asks_for_separators};
 ghost use Rattle.linegrep_cli.specs.SeparatorOptions.{separator_text};
+ghost use Rattle.linegrep_files.specs.Failures.{has_cause};
 
+use crate::failures::{Failure, arguments_failure};
 use crate::option_id::OptionId;
 use crate::options::Options;
 use bstr::ByteVec;
 use grep_printer::Separators;
 use std::alloc::{AllocError, Global};
+
+const MALFORMED: &str = "--path-separator: the separator is one byte of ASCII, or none";
 
 /// The separators that the options ask for, if they ask for any. The only error is being out of
 /// memory.
@@ -61,4 +68,56 @@ fn text(alloc: Global, option: Option<&str>, other: &str) -> Result<Vec<u8>, All
         Some(text) => Vec::unescape_bytes(alloc, text),
         None => Vec::from_slice(alloc, other.as_bytes()),
     }
+}
+
+/// The byte that the options ask for in place of each slash of a path that is written, if they ask for
+/// one: none in JSON. An error is that of a separator that isn't one byte of ASCII, or that there is
+/// no memory.
+pub fn path_separator(alloc: Global, options: &Options<'_, '_>) -> Result<Option<u8>, Failure>
+    ensures separator { IfOk result (λ separator. separator ≡ path_separator_of options.now) }
+    ensures refused { IfErr result (λ failure. has_cause failure ≡ true
+        → refuses_path_separator options.now ≡ true) }
+{
+    let Ok(text) = text(alloc, options.path_separator, "") else {
+        return Err(Failure::out_of_memory());
+    };
+    if !is_path_separator(&text) {
+        return Err(arguments_failure(alloc, MALFORMED));
+    }
+    if writes_paths_as_they_are(options) {
+        Ok(None)
+    } else {
+        Ok(text.first().copied())
+    }
+}
+
+// Whether bytes are a separator of the names in a path, or none.
+fn is_path_separator(bytes: &[u8]) -> bool
+    ensures { result ≡ is_path_separator bytes.now }
+{
+    match bytes {
+        [] => true,
+        [byte] => byte.is_ascii(),
+        _ => false,
+    }
+}
+
+// Whether paths are written in JSON, as they are.
+fn writes_paths_as_they_are(options: &Options<'_, '_>) -> bool
+    ensures { result ≡ writes_paths_as_they_are options.now }
+{
+    options.has(OptionId::Json) && !options.has(OptionId::Files)
+}
+
+/// A path with a separator in place of each slash. The only error is being out of memory.
+pub fn with_separator(alloc: Global, path: &str, separator: u8) -> Result<String, AllocError>
+    ensures { IfOk result (λ text. string_bytes text ≡ with_separator separator path.now) }
+{
+    path.chars()
+        .map(|letter| if letter == '/' {
+            separator as char
+        } else {
+            letter
+        })
+        .collect(alloc)
 }

@@ -15,30 +15,22 @@ use std::alloc::{AllocError, Global};
 
 const NO_MESSAGES: &str = "--json has no messages in which matches are replaced";
 
-const NO_GROUPS: &str =
-    "the groups of several patterns can't be told apart: write one pattern, as 'a|b'";
-
-/// The template that the options ask for, if they ask for one, for an expression of so many patterns.
-/// An error is that matches aren't replaced in JSON, that it may name groups of several patterns, or
-/// that there is no memory.
+/// The template that the options ask for, if they ask for one. An error is that matches aren't replaced
+/// in JSON, or that there is no memory.
 pub fn template(
     alloc: Global,
     options: &Options<'_, '_>,
     regex: &Regex,
-    count: usize,
 ) -> Result<Option<Template>, Failure>
     ensures template { IfOk result (IsTemplate options.now regex.now) }
     ensures refused { IfErr result (λ failure. has_cause failure ≡ true
-        → may_refuse_template options.now count ≡ true) }
+        → may_refuse_template options.now ≡ true) }
 {
     let Some(text) = options.replace else {
         return Ok(None);
     };
     if options.has(OptionId::Json) {
         return Err(arguments_failure(alloc, NO_MESSAGES));
-    }
-    if count > 1 && text.contains('$') && !options.has(OptionId::FixedStrings) {
-        return Err(arguments_failure(alloc, NO_GROUPS));
     }
     match read(alloc, regex, text) {
         Ok(template) => Ok(Some(template)),

@@ -26,8 +26,8 @@ looks-next texts looks next i d within before is =
     ∙ sym (fold-next looks_then (Some first_looks) texts i d within))
 
 pub loop-text-preserved : goal.loop-text-preserved
-loop-text-preserved c = looks-next c.args.texts.now c.loop-text.looks c.apply-looks.result c.loop-text.text-index _
-    c.loop-text-test.true c.loop-text.invariant c.apply-looks.ensures
+loop-text-preserved c = looks-next c.args.texts.now c.loop-text.looks c.in_ok-looks.looks c.loop-text.text-index _
+    c.loop-text-test.true c.loop-text.invariant c.in_ok-looks.ensures
 
 pub returns : goal.returns
 returns c =

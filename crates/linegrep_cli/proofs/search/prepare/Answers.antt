@@ -1,9 +1,14 @@
-use Rattle.linegrep_cli.specs.Refusals.{of_colors, of_files, of_pattern, of_template}
+use Rattle.linegrep_cli.specs.Refusals.{of_colors, of_files, of_path_separator, of_pattern}
+use Rattle.linegrep_cli.specs.Refusals.{of_single_pattern, of_template}
+use Rattle.std.proofs.Common.{inl, inr}
 use Rattle.linegrep_cli.proofs.search.prepare.Goals as goal
 
 pub returns-in-Err-clause-refused : goal.returns-in-Err-clause-refused
 returns-in-Err-clause-refused c = λ caused.
-    let (error, other, refusal) = c.in-Err.ensures.refused caused in of_pattern error other refusal
+    let (error, other, refusal) = c.in-Err.ensures.refused caused in elim refusal [
+      | inl whole ↦ of_pattern error other whole
+      | inr single ↦ of_single_pattern error other single
+    ]
 
 pub returns-in-Err-read-clause-refused : goal.returns-in-Err-read-clause-refused
 returns-in-Err-read-clause-refused c = λ caused.
@@ -11,6 +16,10 @@ returns-in-Err-read-clause-refused c = λ caused.
 
 pub returns-in-Err-template-clause-refused : goal.returns-in-Err-template-clause-refused
 returns-in-Err-template-clause-refused c = λ caused. of_template (c.in-Err-template.ensures.refused caused)
+
+pub returns-in-Err-path_separator-clause-refused : goal.returns-in-Err-path_separator-clause-refused
+returns-in-Err-path_separator-clause-refused c = λ caused. of_path_separator
+    (c.in-Err-path_separator.ensures.refused caused)
 
 pub returns-in-Err-color_texts-clause-refused : goal.returns-in-Err-color_texts-clause-refused
 returns-in-Err-color_texts-clause-refused c = λ caused. of_colors

@@ -25,6 +25,7 @@ returns g c = record {
         (g.M.Matcher.facts c.args.matcher).meaning) c.requires.settings) c.build_printer-printer.ensures);
     haystack = c.new-engine.ensures.haystack;
     says = c.new-engine.ensures.errors;
+    path_separator = c.new-engine.ensures.path_separator ∙ c.requires.path_separator;
     detection = c.new-engine.ensures.detection ∙ ap (λ (settings : Settings). settings.binary_detection) c.requires.settings;
   };
   run = rw (c.new-run.ensures.system, c.new-run.ensures.scope, c.paths.ensures) at c.complete-status.ensures;

@@ -1,5 +1,5 @@
 use Rattle.std.proofs.Common.{refl, rules}
-use Rattle.linegrep_cli.proofs.engine.PrintingEngineEngine.list.Goals as goal
+use Rattle.linegrep_cli.proofs.engine.PrintingEngine.list_shown.Goals as goal
 
 pub returns : goal.returns
 returns g c = record {
