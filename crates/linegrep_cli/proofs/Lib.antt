@@ -1,3 +1,4 @@
 pub mod CapitalLemmas
 pub mod DigitLemmas
+pub mod FolderLemmas
 pub mod OperandLemmas

@@ -1,7 +1,7 @@
 -- What a run over operands visits, in which order, what comes of it, and the status.
 use Rattle.std.specs.Prelude.{◌≡◌, ◌≢◌, ◌⊎◌, ℕ, Bool, true, false, not, ◌&&◌, ◌||◌, ◌==◌, if◌then◌else◌}
 use Rattle.std.specs.Prelude.{codes, List, [], ◌∷◌, ◌++◌, Option, None, Some, is_some, is_ok}
-use Rattle.std.specs.Prelude.{MatchBool, Result, Ok, Err}
+use Rattle.std.specs.Prelude.{MatchBool, Result, Ok, Err, String, string_bytes}
 use Rattle.std.specs.List.{list_any}
 use Rattle.std.specs.Borrow.{Bor}
 use Rattle.std.specs.Global.{Global}
@@ -18,6 +18,12 @@ use Rattle.linegrep_cli.specs.declared.file_run.Scope.{Scope}
 use Rattle.linegrep_cli.specs.declared.visit.Visit.{Visit}
 use Rattle.linegrep_cli.specs.declared.printers.Searched.{Searched}
 use Rattle.linegrep_files.specs.FileIds.{is_same_file}
+use Rattle.linegrep_files.specs.FolderFacts.{FolderFacts}
+use Rattle.linegrep_files.specs.Orders.{is_by_time}
+use Rattle.linegrep_files.specs.Trees.{AreAllOf, AreFirstOf}
+use Rattle.linegrep_files.specs.declared.choices.Choices.{Choices}
+use Rattle.linegrep_files.specs.declared.entry.Entry.{Entry}
+use Rattle.linegrep_files.specs.declared.entry.Entry.TheVariants.{File, Folder, Unread}
 use Rattle.linegrep_files.specs.declared.file_id.FileId.{FileId}
 
 -- nothing was visited
@@ -60,6 +66,13 @@ path_of scope name = if scope.shows_paths then Some name else None
 abbrev pub is_over : Scope → Visit → Bool
 is_over scope total = is_some total.failure
     || (scope.is_quiet && (total.has_match && not scope.counts_all))
+
+-- what was visited of a folder is what choices say, unless files are sorted by a time: all of it, or
+-- if that ended the run some first of it
+abbrev pub IsWalkedTo : FolderFacts → Scope → Choices → List ℕ → List Entry → Visit → Type 0
+IsWalkedTo folders scope choices folder visited visit = is_by_time scope.route.order ≡ false
+    → AreAllOf folders scope.route choices folder visited
+    ⊎ ((is_over scope visit ≡ true) × AreFirstOf folders scope.route choices folder visited)
 
 -- the status if all was written
 abbrev pub status_of : Scope → Visit → ℕ
@@ -170,52 +183,68 @@ module _ {E F : Type 0} (opens : List ℕ → Result F Error → Type 0)
         → IsFileVisited step has_failed scope path file old visit new
         → IsPathVisited path old visit new
 
-  -- what is found in a folder: files of it, each by its path, what can't be read, and lines on
-  -- standard error about ignore files
-  pub data IsEntryVisited (old : E) (visit : Visit) (new : E) : Type 0 where
-    of_path : (path : Bor (List ℕ)) → scope.lists_files ≡ false → IsPathVisited path old visit new
-        → IsEntryVisited old visit new
-    of_listed : (path : Bor (List ℕ)) → scope.lists_files ≡ true
-        → IsListed step has_failed scope path old visit new → IsEntryVisited old visit new
-    of_unread : IsReported step scope old visit new → IsEntryVisited old visit new
-    of_warnings : (failure : Option Error) → AreSaid step scope old failure new
-        → visit ≡ record no_visit { failure = failure } → IsEntryVisited old visit new
+  -- what is found in a folder is visited: a file by its path, what can't be read, and of a folder
+  -- what is said on standard error of its ignore files
+  pub data IsEntryVisited (old : E) : Entry → Visit → E → Type 0 where
+    of_path : {visit : Visit} {new : E} {text : String Global} (path : Bor (List ℕ))
+        → path.now ≡ string_bytes text → scope.lists_files ≡ false
+        → IsPathVisited path old visit new → IsEntryVisited old (File text) visit new
+    of_listed : {visit : Visit} {new : E} {text : String Global} (path : Bor (List ℕ))
+        → path.now ≡ string_bytes text → scope.lists_files ≡ true
+        → IsListed step has_failed scope path old visit new
+        → IsEntryVisited old (File text) visit new
+    of_unread : {visit : Visit} {new : E} {text : String Global} {error : Error}
+        → IsReported step scope old visit new → IsEntryVisited old (Unread text error) visit new
+    of_warnings : {visit : Visit} {new : E} {text : String Global} (failure : Option Error)
+        → AreSaid step scope old failure new → visit ≡ record no_visit { failure = failure }
+        → IsEntryVisited old (Folder text) visit new
 
-  -- such are visited one after another, none of which ended the run but the last
-  pub data AreEntriesVisited (old : E) : Visit → E → Type 0 where
-    no_entry : AreEntriesVisited old no_visit old
-    next_entry : (total next : Visit) {mid new : E} → AreEntriesVisited old total mid
-        → is_over scope total ≡ false → IsEntryVisited mid next new
-        → AreEntriesVisited old (visited_then total next) new
+  -- such are visited in order, none of which ended the run but the last
+  pub data AreEntriesVisited (old : E) : List Entry → Visit → E → Type 0 where
+    no_entry : AreEntriesVisited old [] no_visit old
+    next_entry : (entries : List Entry) (total next : Visit) {mid new : E} (entry : Entry)
+        → AreEntriesVisited old entries total mid → is_over scope total ≡ false
+        → IsEntryVisited mid entry next new
+        → AreEntriesVisited old (entries ++ entry ∷ []) (visited_then total next) new
 
-  -- a folder is visited, in which the search of a binary file may end where that shows. That ends
-  -- the run if memory is out
-  pub record IsFolderVisited (old : E) (visit : Visit) (new : E) : Type 0 where
+module _ {E F : Type 0} (folders : FolderFacts) (opens : List ℕ → Result F Error → Type 0)
+    (identifies : F → Option FileId → Type 0) (step : E → EngineCall F → E → Type 0)
+    (has_failed : E → Bool) (scope : Scope) (choices : Choices) where
+  -- what a walk through a folder finds is visited. That ends the run if memory is out
+  pub record IsTreeVisited (folder : List ℕ) (old : E) (visit : Visit) (new : E) : Type 0 where
+    pub visited : List Entry
+    pub total : Visit
+    pub entries : AreEntriesVisited opens identifies step has_failed scope old visited total new
+    pub walked : IsWalkedTo folders scope choices folder visited visit
+    pub visit_is : EndsAs total visit
+
+  -- a folder is visited, in which the search of a binary file may end where that shows
+  pub record IsFolderVisited (folder : List ℕ) (old : E) (visit : Visit) (new : E) : Type 0 where
     pub first : E
     pub last : E
-    pub total : Visit
     pub begins : step old (sets_quits (not scope.searches_binary)) first
-    pub entries : AreEntriesVisited first total last
+    pub tree : IsTreeVisited folder first visit last
     pub ends : step last (sets_quits false) new
-    pub visit_is : EndsAs total visit
 
   -- without an operand the current folder is visited; if no file is searched there, that is said
   pub record IsHereVisited (old : E) (visit : Visit) (new : E) : Type 0 where
     pub mid : E
     pub folder : Visit
-    pub visited : IsFolderVisited old folder mid
+    pub visited : IsFolderVisited [] old folder mid
     pub said : MatchBool (not folder.has_searched && not scope.lists_files)
         ((failure : Option Error) × IsSaid step scope mid failure new
         × (visit ≡ record folder { has_error = true; failure = failure }))
         ((visit ≡ folder) × (new ≡ mid))
 
-module _ {E F : Type 0} (finds : List ℕ → Result Bool Error → Type 0)
+module _ {E F : Type 0} (folders : FolderFacts) (finds : List ℕ → Result Bool Error → Type 0)
     (opens : List ℕ → Result F Error → Type 0) (identifies : F → Option FileId → Type 0)
-    (step : E → EngineCall F → E → Type 0) (has_failed : E → Bool) (scope : Scope) where
+    (step : E → EngineCall F → E → Type 0) (has_failed : E → Bool) (scope : Scope)
+    (choices : Choices) where
   -- what an operand names that is neither standard input nor a word for bytes that aren't UTF-8
   pub data IsNamedVisited (path : Bor (List ℕ)) (old : E) (visit : Visit) (new : E) : Type 0 where
     of_folder : finds path.now (Ok true)
-        → IsFolderVisited opens identifies step has_failed scope old visit new
+        → IsFolderVisited folders opens identifies step has_failed scope choices path.now old visit
+        new
         → IsNamedVisited path old visit new
     of_file_at : finds path.now (Ok false) → scope.lists_files ≡ false
         → IsPathVisited opens identifies step has_failed scope path old visit new
@@ -247,7 +276,7 @@ module _ {E F : Type 0} (finds : List ℕ → Result Bool Error → Type 0)
   abbrev pub AreAllVisited : List (Bor (List ℕ)) → E → Visit → E → Type 0
   AreAllVisited [] old total new =
       MatchBool scope.searches_input (IsInputVisited step has_failed scope old total new)
-      (IsHereVisited opens identifies step has_failed scope old total new)
+      (IsHereVisited folders opens identifies step has_failed scope choices old total new)
   AreAllVisited (path ∷ later) old total new =
       (done : List (Bor (List ℕ))) × (rest : List (Bor (List ℕ)))
       × (path ∷ later ≡ done ++ rest) × AreVisited old done total new

@@ -9,6 +9,7 @@ use Rattle.grep_output.specs.Outputs.{OutputCall}
 use Rattle.grep_output.specs.PendingTexts.{Flushes}
 use Rattle.grep_searcher.specs.Source.{ReadResult}
 use Rattle.linegrep_cli.specs.WholeRuns.{IsRefused, IsWholeRun}
+use Rattle.linegrep_files.specs.FolderFacts.{FolderFacts}
 use Rattle.linegrep_files.specs.declared.file_id.FileId.{FileId}
 use Rattle.linegrep_cli.specs.declared.options.Options.{Options}
 use Rattle.linegrep_cli.specs.declared.program.Streams.{Streams}
@@ -27,7 +28,7 @@ IsAnswered write_step text writer status writer' = (written : Result (Unit {0}) 
 module _ {F R W X : Type 0} (output : AllocError → Option (List ℕ))
     (write_step : W → OutputCall → W → Type 0) (file_remaining : F → Option (List ℕ))
     (remaining : R → Option (List ℕ)) (read_step : R → ReadResult → R → Type 0)
-    (finds : List ℕ → Result Bool Error → Type 0) (opens : List ℕ → Result F Error → Type 0)
+    (folders : FolderFacts) (finds : List ℕ → Result Bool Error → Type 0) (opens : List ℕ → Result F Error → Type 0)
     (identifies : F → Option FileId → Type 0) where
   -- what the program does: nothing is written, and the status is 2; or a text is the answer; or it is
   -- a whole run by some options and patterns, over what is left of the input once they are read
@@ -41,6 +42,6 @@ module _ {F R W X : Type 0} (output : AllocError → Option (List ℕ))
           → IsProgramRun streams input writer errors status input' writer'
       of_run : {status : ℕ} {input' : R} {writer' : W} (options : Options)
           (patterns : List (String Global)) (mid : R) → options.streams ≡ streams
-          → IsWholeRun output write_step file_remaining remaining read_step finds opens identifies
-          options patterns mid writer errors status input' writer'
+          → IsWholeRun output write_step file_remaining remaining read_step folders finds opens
+          identifies options patterns mid writer errors status input' writer'
           → IsProgramRun streams input writer errors status input' writer'

@@ -13,9 +13,11 @@ use Rattle.linegrep_cli.specs.declared.file_run.Scope.{Scope}
 use Rattle.linegrep_cli.specs.declared.option_id.OptionId.TheVariants.{Binary, Files}
 use Rattle.linegrep_cli.specs.declared.option_id.OptionId.TheVariants.{FilesWithoutMatch, Follow}
 use Rattle.linegrep_cli.specs.declared.option_id.OptionId.TheVariants.{NoIgnoreMessages}
-use Rattle.linegrep_cli.specs.declared.option_id.OptionId.TheVariants.{NoMessages, Quiet}
+use Rattle.linegrep_cli.specs.declared.option_id.OptionId.TheVariants.{NoMessages, Quiet, Sort}
+use Rattle.linegrep_cli.specs.declared.option_id.OptionId.TheVariants.{Sortr}
 use Rattle.linegrep_cli.specs.declared.options.Options.{Options}
-use Rattle.linegrep_files.specs.declared.walk.Route.{Route}
+use Rattle.linegrep_files.specs.Orders.{by_path, named_order}
+use Rattle.linegrep_files.specs.declared.order.Order.{Order}
 
 -- the search of a file of a folder goes on after a NUL, though it isn't searched as text
 abbrev pub searches_binary : Options → Bool
@@ -25,13 +27,17 @@ searches_binary options = has options Binary || is_all_searched options
 abbrev pub left_out_of : Options → Option FileId
 left_out_of options = if is_summary options then None else options.streams.output
 
--- what options say of a run, by how it goes through folders and whether several files may be
--- searched
-abbrev pub scope_of : Options → Route → Bool → Scope
-scope_of options route several = record {
+-- in which order files of folders are searched
+abbrev pub order_for : Options → Order
+order_for options = if has options Sort then named_order options.sort false
+    else if has options Sortr then named_order options.sortr true else by_path
+
+-- what options say of a run, by whether several files may be searched
+abbrev pub scope_of : Options → Bool → Scope
+scope_of options several = record {
   searches_input = searches_input options;
   searches_binary = searches_binary options;
-  route = route;
+  route = record { follows_links = has options Follow; order = order_for options };
   is_lenient = has options NoIgnoreMessages;
   lists_files = has options Files;
   shows_paths = shows_paths options (not (searches_input options) && several);
@@ -58,5 +64,4 @@ MaySearch finds (path ∷ next ∷ later) several = several ≡ true
 abbrev pub IsScopeOf : (List ℕ → Result Bool Error → Type 0) → Options → Scope → Type 0
 IsScopeOf finds options scope = (several : Bool)
     × (searches_input options ≡ false → MaySearch finds (paths_of options) several)
-    × (scope.route.follows_links ≡ has options Follow)
-    × (scope ≡ scope_of options scope.route several)
+    × (scope ≡ scope_of options several)

@@ -23,6 +23,7 @@ use Rattle.grep_searcher.specs.Source.{ReadResult}
 use Rattle.grep_searcher.specs.declared.LineTerminator.{LineTerminator}
 use Rattle.linegrep_cli.specs.ColorOptions.{AreColorsLent}
 use Rattle.linegrep_cli.specs.EngineSteps.{has_failed, writer_of}
+use Rattle.linegrep_cli.specs.FileChoices.{AreChoicesOf}
 use Rattle.linegrep_cli.specs.OperandRuns.{IsRunOver}
 use Rattle.linegrep_cli.specs.OptionMeanings.{paths_of}
 use Rattle.linegrep_cli.specs.PathSeparators.{path_separator_of}
@@ -34,6 +35,8 @@ use Rattle.linegrep_cli.specs.SearcherOptions.{searcher_settings}
 use Rattle.linegrep_cli.specs.SeparatorOptions.{AreLent}
 use Rattle.linegrep_cli.specs.TemplateOptions.{IsTemplateLent}
 use Rattle.linegrep_cli.specs.declared.engine.PrintingEngine.{PrintingEngine}
+use Rattle.linegrep_files.specs.FolderFacts.{FolderFacts}
+use Rattle.linegrep_files.specs.declared.choices.Choices.{Choices}
 use Rattle.linegrep_files.specs.declared.file_id.FileId.{FileId}
 use Rattle.linegrep_cli.specs.declared.file_run.Scope.{Scope}
 use Rattle.linegrep_cli.specs.declared.options.Options.{Options}
@@ -48,8 +51,9 @@ pub record IsMatcherOf {M E : Type 0} (facts : M → MatcherFacts E)
 module _ {F M R W X E : Type 0} (output : E → Option (List ℕ)) (facts : M → MatcherFacts E)
     (first_at : M → List ℕ → ℕ → Option (ℕ × ℕ)) (groups_at : M → List ℕ → ℕ → List (Option (ℕ × ℕ)))
     (write_step : W → OutputCall → W → Type 0) (file_remaining : F → Option (List ℕ)) (remaining : R → Option (List ℕ))
-    (read_step : R → ReadResult → R → Type 0) (finds : List ℕ → Result Bool Error → Type 0)
-    (opens : List ℕ → Result F Error → Type 0) (identifies : F → Option FileId → Type 0) where
+    (read_step : R → ReadResult → R → Type 0) (folders : FolderFacts)
+    (finds : List ℕ → Result Bool Error → Type 0) (opens : List ℕ → Result F Error → Type 0)
+    (identifies : F → Option FileId → Type 0) where
   -- the engine that options ask for: it has written nothing yet, and has no file open
   pub record IsEngineFor (options : Options) (matcher : M) (template : Option (Bor Template)) (input : R) (writer : W)
       (errors : X) (engine : PrintingEngine F M R W X) : Type 0 where
@@ -68,17 +72,20 @@ module _ {F M R W X E : Type 0} (output : E → Option (List ℕ)) (facts : M �
     pub path_separator : engine.path_separator ≡ path_separator_of options
     pub detection : engine.detection ≡ (searcher_settings options).binary_detection
 
-  -- a run with a matcher and a template: over the operands that options have, with the engine that they ask for
+  -- a run with a matcher and a template: over the operands that options have, with the choices and the
+  -- engine that they ask for
   pub record IsRunWith (options : Options) (matcher : M) (template : Option (Bor Template)) (input : R) (writer : W)
       (errors : X) (status : ℕ) (input' : R) (writer' : W) : Type 0 where
     pub scope : Scope
     pub first : PrintingEngine F M R W X
     pub last : PrintingEngine F M R W X
     pub is_scope : IsScopeOf finds options scope
+    pub choices : Choices
+    pub are_choices : AreChoicesOf options choices
     pub begins : IsEngineFor options matcher template input writer errors first
-    pub run : IsRunOver finds opens identifies
+    pub run : IsRunOver folders finds opens identifies
         (IsEngineStep output facts first_at groups_at write_step file_remaining remaining read_step)
-        (λ engine. has_failed engine.printer) scope (paths_of options) first status last
+        (λ engine. has_failed engine.printer) scope choices (paths_of options) first status last
     pub input_after : input' ≡ last.haystack.reader
     pub writer_after : writer' ≡ writer_of last.printer
 
@@ -144,7 +151,7 @@ literal_groups_at matcher = regex_whole_at (literal_regex matcher.now)
 pub record IsWholeRun {F R W X : Type 0} (output : AllocError → Option (List ℕ))
     (write_step : W → OutputCall → W → Type 0) (file_remaining : F → Option (List ℕ))
     (remaining : R → Option (List ℕ)) (read_step : R → ReadResult → R → Type 0)
-    (finds : List ℕ → Result Bool Error → Type 0) (opens : List ℕ → Result F Error → Type 0)
+    (folders : FolderFacts) (finds : List ℕ → Result Bool Error → Type 0) (opens : List ℕ → Result F Error → Type 0)
     (identifies : F → Option FileId → Type 0) (options : Options)
     (patterns : List (String Global)) (input : R) (writer : W) (errors : X) (status : ℕ)
     (input' : R) (writer' : W) : Type 0 where
@@ -152,8 +159,8 @@ pub record IsWholeRun {F R W X : Type 0} (output : AllocError → Option (List �
   pub has_options : regex_options regex ≡ pattern_options options patterns
   pub has_patterns : regex_patterns regex ≡ pattern_texts options patterns
   pub run : IsRunFor {M = Literal} output literal_facts literal_first_at literal_groups_at write_step file_remaining
-      remaining read_step finds opens identifies options regex input writer errors status input'
+      remaining read_step folders finds opens identifies options regex input writer errors status input'
       writer'
       ⊎ IsRunFor {M = Named (naming_of regex)} output named_facts named_first_at named_groups_at write_step
-      file_remaining remaining read_step finds opens identifies options regex input writer errors
+      file_remaining remaining read_step folders finds opens identifies options regex input writer errors
       status input' writer'

@@ -9,13 +9,16 @@ ghost use Rattle.std.specs.declared.io.Error.{Error};
 ghost use Rattle.linegrep_cli.specs.RunScopes.{IsScopeOf, MaySearch};
 ghost use Rattle.linegrep_cli.specs.declared.visit.Visit.{Visit};
 ghost use Rattle.std.specs.Str.{bytes_eq};
-ghost use Rattle.linegrep_cli.specs.OperandRuns.{AreAllVisited, AreEntriesVisited, AreSaid};
+ghost use Rattle.linegrep_cli.specs.OperandRuns.{AreAllVisited, AreSaid};
 ghost use Rattle.linegrep_cli.specs.OperandRuns.{IsEntryVisited, IsFailing, IsFileVisited};
 ghost use Rattle.linegrep_cli.specs.OperandRuns.{IsFolderVisited, IsHereVisited, IsInputVisited};
 ghost use Rattle.linegrep_cli.specs.OperandRuns.{IsKept, IsListed, IsNamedVisited, IsOperandVisited};
 ghost use Rattle.linegrep_cli.specs.OperandRuns.{IsPathVisited, IsReported, IsRunEnd, IsRunOver};
 ghost use Rattle.linegrep_cli.specs.OperandRuns.{IsLeftOut, IsSaid, has_found, is_input, is_over};
-ghost use Rattle.linegrep_cli.specs.OperandRuns.{EndsAs, error_of, is_same, no_visit, path_of, status_of};
+ghost use Rattle.linegrep_cli.specs.OperandRuns.{IsTreeVisited, error_of, is_same, no_visit};
+ghost use Rattle.linegrep_cli.specs.OperandRuns.{path_of, status_of};
+ghost use Rattle.linegrep_files.specs.Choices.{AreAlike, SaysTheSame};
+ghost use Rattle.linegrep_files.specs.Trees.{IsPassed};
 
 use crate::engine::{Engine, written_error};
 use crate::failures::{Failure, output_failure};
@@ -157,9 +160,9 @@ impl<'r, S: System> Run<'r, S> {
         choices: &mut Choices<'r>,
         paths: &[&str],
     ) -> u8
-        ensures { IsRunOver (S.finds self.now.system.now) (S.opens self.now.system.now)
-            (S.identifies self.now.system.now) E.step E.has_failed self.now.scope paths.now
-            engine.old result engine.new }
+        ensures { IsRunOver (S.facts self.now.system.now) (S.finds self.now.system.now)
+            (S.opens self.now.system.now) (S.identifies self.now.system.now) E.step E.has_failed
+            self.now.scope choices.old paths.now engine.old result engine.new }
     {
         let total = self.visit_operands(engine, choices, paths);
         match &total.failure {
@@ -175,9 +178,9 @@ impl<'r, S: System> Run<'r, S> {
         choices: &mut Choices<'r>,
         paths: &[&str],
     ) -> Visit
-        ensures { AreAllVisited (S.finds self.now.system.now) (S.opens self.now.system.now)
-            (S.identifies self.now.system.now) E.step E.has_failed self.now.scope paths.now
-            engine.old result engine.new }
+        ensures { AreAllVisited (S.facts self.now.system.now) (S.finds self.now.system.now)
+            (S.opens self.now.system.now) (S.identifies self.now.system.now) E.step E.has_failed
+            self.now.scope choices.old paths.now engine.old result engine.new }
     {
         if paths.is_empty() {
             return self.visit_default(engine, choices);
@@ -194,9 +197,9 @@ impl<'r, S: System> Run<'r, S> {
 
     // Visits what is searched without a path: the input, or the current folder.
     fn visit_default<E: Engine<S::File>>(&self, engine: &mut E, choices: &mut Choices<'r>) -> Visit
-        ensures { AreAllVisited (S.finds self.now.system.now) (S.opens self.now.system.now)
-            (S.identifies self.now.system.now) E.step E.has_failed self.now.scope []
-            engine.old result engine.new }
+        ensures { AreAllVisited (S.facts self.now.system.now) (S.finds self.now.system.now)
+            (S.opens self.now.system.now) (S.identifies self.now.system.now) E.step E.has_failed
+            self.now.scope choices.old [] engine.old result engine.new }
     {
         if self.scope.searches_input {
             self.visit_input(engine)
@@ -207,8 +210,9 @@ impl<'r, S: System> Run<'r, S> {
 
     // Visits the current folder. If no file is chosen, that is said.
     fn visit_here<E: Engine<S::File>>(&self, engine: &mut E, choices: &mut Choices<'r>) -> Visit
-        ensures { IsHereVisited (S.opens self.now.system.now) (S.identifies self.now.system.now)
-            E.step E.has_failed self.now.scope engine.old result engine.new }
+        ensures { IsHereVisited (S.facts self.now.system.now) (S.opens self.now.system.now)
+            (S.identifies self.now.system.now) E.step E.has_failed self.now.scope choices.old
+            engine.old result engine.new }
     {
         let mut visit = self.visit_folder(engine, choices, "");
         if !visit.has_searched && !self.scope.lists_files {
@@ -225,9 +229,11 @@ impl<'r, S: System> Run<'r, S> {
         choices: &mut Choices<'r>,
         path: &str,
     ) -> Visit
-        ensures { IsOperandVisited (S.finds self.now.system.now) (S.opens self.now.system.now)
-            (S.identifies self.now.system.now) E.step E.has_failed self.now.scope path.entry
-            engine.old result engine.new }
+        ensures visited { IsOperandVisited (S.facts self.now.system.now) (S.finds self.now.system.now)
+            (S.opens self.now.system.now) (S.identifies self.now.system.now) E.step E.has_failed
+            self.now.scope choices.old path.entry engine.old result engine.new }
+        ensures choices { is_over self.now.scope result ≡ false
+            → AreAlike choices.old choices.new }
     {
         if self.scope.is_input(path) {
             return self.visit_input(engine);
@@ -245,9 +251,11 @@ impl<'r, S: System> Run<'r, S> {
         choices: &mut Choices<'r>,
         path: &str,
     ) -> Visit
-        ensures { IsNamedVisited (S.finds self.now.system.now) (S.opens self.now.system.now)
-            (S.identifies self.now.system.now) E.step E.has_failed self.now.scope path.entry
-            engine.old result engine.new }
+        ensures visited { IsNamedVisited (S.facts self.now.system.now) (S.finds self.now.system.now)
+            (S.opens self.now.system.now) (S.identifies self.now.system.now) E.step E.has_failed
+            self.now.scope choices.old path.entry engine.old result engine.new }
+        ensures choices { is_over self.now.scope result ≡ false
+            → AreAlike choices.old choices.new }
     {
         match self.system.is_folder(path) {
             Ok(true) => self.visit_folder(engine, choices, path),
@@ -275,8 +283,11 @@ impl<'r, S: System> Run<'r, S> {
         choices: &mut Choices<'r>,
         folder: &str,
     ) -> Visit
-        ensures { IsFolderVisited (S.opens self.now.system.now) (S.identifies self.now.system.now)
-            E.step E.has_failed self.now.scope engine.old result engine.new }
+        ensures visited { IsFolderVisited (S.facts self.now.system.now) (S.opens self.now.system.now)
+            (S.identifies self.now.system.now) E.step E.has_failed self.now.scope choices.old
+            folder.now engine.old result engine.new }
+        ensures choices { is_over self.now.scope result ≡ false
+            → AreAlike choices.old choices.new }
     {
         engine.set_quits(!self.scope.searches_binary);
         let visit = self.visit_begun(engine, choices, folder);
@@ -291,9 +302,11 @@ impl<'r, S: System> Run<'r, S> {
         choices: &mut Choices<'r>,
         folder: &str,
     ) -> Visit
-        ensures { (total : Visit) × AreEntriesVisited (S.opens self.now.system.now)
-            (S.identifies self.now.system.now) E.step E.has_failed self.now.scope engine.old total
-            engine.new × EndsAs total result }
+        ensures visited { IsTreeVisited (S.facts self.now.system.now) (S.opens self.now.system.now)
+            (S.identifies self.now.system.now) E.step E.has_failed self.now.scope choices.old
+            folder.now engine.old result engine.new }
+        ensures choices { is_over self.now.scope result ≡ false
+            → AreAlike choices.old choices.new }
     {
         match choices.begin(folder) {
             Ok(()) => self.visit_entries(engine, choices, folder),
@@ -308,24 +321,28 @@ impl<'r, S: System> Run<'r, S> {
         choices: &mut Choices<'r>,
         folder: &str,
     ) -> Visit
-        ensures { (total : Visit) × AreEntriesVisited (S.opens self.now.system.now)
-            (S.identifies self.now.system.now) E.step E.has_failed self.now.scope engine.old total
-            engine.new × EndsAs total result }
+        ensures visited { (first : Choices) → AreAlike first choices.old
+            → IsTreeVisited (S.facts self.now.system.now) (S.opens self.now.system.now)
+            (S.identifies self.now.system.now) E.step E.has_failed self.now.scope first folder.now
+            engine.old result engine.new }
+        ensures choices { is_over self.now.scope result ≡ false
+            → AreAlike choices.old choices.new }
     {
         let mut walk = Walk::new(self.rt, self.system, self.scope.route, folder);
         let mut total = Visit::none();
         for _ in 0..u64::MAX {
-            match walk.pop() {
-                Some(entry) => total.add(self.visit_entry(engine, choices, &mut walk, &entry)),
-                None => break,
-            }
+            let Some(entry) = walk.pop() else {
+                if !walk.is_out_of_memory() {
+                    return total;
+                }
+                break;
+            };
+            total.add(self.visit_entry(engine, choices, &mut walk, &entry));
             if self.scope.is_over(&total) {
                 return total;
             }
         }
-        if walk.is_out_of_memory() {
-            total.failure = Some(io::Error::from(io::ErrorKind::OutOfMemory));
-        }
+        total.failure = Some(io::Error::from(io::ErrorKind::OutOfMemory));
         total
     }
 
@@ -337,8 +354,10 @@ impl<'r, S: System> Run<'r, S> {
         walk: &mut Walk<'r, S>,
         entry: &Entry,
     ) -> Visit
-        ensures { IsEntryVisited (S.opens self.now.system.now) (S.identifies self.now.system.now)
-            E.step E.has_failed self.now.scope engine.old result engine.new }
+        ensures visited { IsEntryVisited (S.opens self.now.system.now)
+            (S.identifies self.now.system.now) E.step E.has_failed self.now.scope engine.old
+            entry.now result engine.new }
+        ensures passed { IsPassed S.facts walk.old choices.old entry.now walk.new choices.new }
     {
         match entry {
             Entry::File(path) if self.scope.lists_files => self.list(engine, path.as_str()),
@@ -409,8 +428,9 @@ impl<'r, S: System> Run<'r, S> {
 
     // Says what is wrong with ignore files.
     fn warn<E: Engine<S::File>>(&self, engine: &mut E, choices: &mut Choices<'r>) -> Visit
-        ensures { (failure : Option Error) × AreSaid E.step self.now.scope engine.old failure
+        ensures said { (failure : Option Error) × AreSaid E.step self.now.scope engine.old failure
             engine.new × (result ≡ record no_visit { failure = failure }) }
+        ensures same { SaysTheSame choices.old choices.new }
     {
         let failure = self.say_all(engine, choices.warnings());
         choices.clear_warnings();

@@ -12,7 +12,7 @@ ghost use Rattle.linegrep_cli.specs.PrinterOptions.{shows_paths, summary_kind};
 ghost use Rattle.linegrep_cli.specs.SearcherOptions.{detection_of, is_all_searched, label_of};
 ghost use Rattle.linegrep_cli.specs.SearcherOptions.{terminator_of};
 ghost use Rattle.linegrep_cli.specs.Refusals.{sorts_by_time};
-ghost use Rattle.linegrep_cli.specs.RunScopes.{searches_binary};
+ghost use Rattle.linegrep_cli.specs.RunScopes.{order_for, searches_binary};
 ghost use Rattle.linegrep_cli.specs.OptionUses.{applies, has, is_none_after, last_use};
 ghost use Rattle.linegrep_files.specs.Orders.{is_by_time};
 
@@ -222,7 +222,8 @@ impl<'m, 'w> Options<'m, 'w> {
 
     /// In which order the files of folders are searched.
     pub fn order(&self) -> Order
-        ensures { is_by_time result ≡ sorts_by_time self.now }
+        ensures order { result ≡ order_for self.now }
+        ensures time { is_by_time result ≡ sorts_by_time self.now }
     {
         if self.has(OptionId::Sort) {
             Order::read(self.sort, false)

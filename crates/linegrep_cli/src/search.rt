@@ -4,6 +4,7 @@ ghost use Rattle.std.specs.Global.{Global};
 ghost use Rattle.grep_regex.specs.Views.{IsNamed, regex_options, regex_patterns};
 ghost use Rattle.linegrep_cli.specs.ColorOptions.{AreColorTexts, AreColorsLent};
 ghost use Rattle.linegrep_cli.specs.PathSeparators.{path_separator_of};
+ghost use Rattle.linegrep_cli.specs.FileChoices.{AreChoicesOf};
 ghost use Rattle.linegrep_cli.specs.PatternOptions.{pattern_options, pattern_texts};
 ghost use Rattle.linegrep_cli.specs.Refusals.{IsCause, IsRefusedFor, IsSaid};
 ghost use Rattle.linegrep_cli.specs.SearcherOptions.{searcher_settings};
@@ -94,6 +95,7 @@ fn prepare<'r>(
         IsTemplate options.now prepared.regex prepared.template) }
     ensures path_separator { IfOk result (λ prepared.
         prepared.path_separator ≡ path_separator_of options.now) }
+    ensures choices { IfOk result (λ prepared. AreChoicesOf options.now prepared.choices) }
     ensures refused { IfErr result (λ failure. has_cause failure ≡ true
         → IsCause options.now patterns.now) }
 {
@@ -150,7 +152,7 @@ pub fn search_all<S: System, R: Source + Drop, W: Output + Drop, E: Output>(
 ) -> Ended<R, W>
     ensures { IsRefusedFor E.step options.now patterns.now input output errors.old result.status
         result.input result.output errors.new ⊎ IsWholeRun ⟦<AllocError as Display>⟧.output W.step S.File.remaining R.remaining R.step
-        (S.finds system.now) (S.opens system.now) (S.identifies system.now) options.now patterns.now
+        (S.facts system.now) (S.finds system.now) (S.opens system.now) (S.identifies system.now) options.now patterns.now
         input output errors.old result.status result.input result.output }
 {
     match prepare(rt, options, patterns) {
@@ -208,16 +210,17 @@ where
     requires colored { AreColorsLent options.now colors }
     requires path_separator { path_separator ≡ path_separator_of options.now }
     requires template { IsTemplateLent options.now regex.now template }
+    requires choices { AreChoicesOf options.now choices.old }
     ensures { ((patterns : List (String Global)) → IsRefusedFor E.step options.now patterns input
         output errors.old result.status result.input result.output errors.new)
         ⊎ (IsRunFor ⟦<AllocError as Display>⟧.output literal_facts literal_first_at
-        literal_groups_at W.step S.File.remaining R.remaining R.step (S.finds system.now) (S.opens system.now)
+        literal_groups_at W.step S.File.remaining R.remaining R.step (S.facts system.now) (S.finds system.now) (S.opens system.now)
         (S.identifies system.now) options.now regex.now input output errors.old result.status
         result.input result.output
         ⊎ IsRunFor ⟦<AllocError as Display>⟧.output ⟦<&'static NamedMatcher<'static, N> as Matcher>⟧.facts
         ⟦<&'static NamedMatcher<'static, N> as FindAt>⟧.first_at
         ⟦<&'static NamedMatcher<'static, N> as CapturesAt>⟧.groups_at W.step S.File.remaining R.remaining R.step
-        (S.finds system.now) (S.opens system.now) (S.identifies system.now) options.now regex.now
+        (S.facts system.now) (S.finds system.now) (S.opens system.now) (S.identifies system.now) options.now regex.now
         input output errors.old result.status result.input result.output) }
 {
     if template.is_none() {
@@ -279,8 +282,9 @@ fn search_with<'r, M: CapturesAt + Copy, S: System, R: Source + Drop, W: Output 
     requires lent { AreLent options.now separators }
     requires colored { AreColorsLent options.now colors }
     requires path_separator { path_separator ≡ path_separator_of options.now }
+    requires choices { AreChoicesOf options.now choices.old }
     ensures { IsRunWith M.Error.output M.facts M.first_at M.groups_at W.step S.File.remaining
-        R.remaining R.step (S.finds system.now) (S.opens system.now) (S.identifies system.now)
+        R.remaining R.step (S.facts system.now) (S.finds system.now) (S.opens system.now) (S.identifies system.now)
         options.now matcher template.entry input output errors.old result.status result.input
         result.output }
 {

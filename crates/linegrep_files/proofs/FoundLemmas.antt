@@ -23,6 +23,20 @@ use Rattle.linegrep_files.specs.declared.entry.Entry.{Entry}
 use Rattle.linegrep_files.specs.declared.folders.Found.{Found}
 use Rattle.linegrep_files.specs.declared.limits.Limits.{Limits}
 
+pub same-self : (choices : Choices) → SaysTheSame choices choices
+same-self choices = record {
+  globs = refl;
+  types = refl;
+  limits = refl;
+  shows_hidden = refl;
+  ignores = record {
+    layers = refl;
+    path = refl;
+    repositories = refl;
+    source = record { sources = refl; named = refl; start = refl; root = refl };
+  };
+}
+
 -- choices say the same as those before that say the same as the first
 pub same-then : (old mid new : Choices) → SaysTheSame old mid → SaysTheSame mid new → SaysTheSame old new
 same-then old mid new first next = record {
@@ -33,9 +47,13 @@ same-then old mid new first next = record {
   ignores = record {
     layers = next.ignores.layers ∙ first.ignores.layers;
     path = next.ignores.path ∙ first.ignores.path;
-    start = next.ignores.start ∙ first.ignores.start;
     repositories = next.ignores.repositories ∙ first.ignores.repositories;
-    sources = next.ignores.sources ∙ first.ignores.sources;
+    source = record {
+      sources = next.ignores.source.sources ∙ first.ignores.source.sources;
+      named = next.ignores.source.named ∙ first.ignores.source.named;
+      start = next.ignores.source.start ∙ first.ignores.source.start;
+      root = next.ignores.source.root ∙ first.ignores.source.root;
+    };
   };
 }
 
@@ -44,7 +62,14 @@ pub unmatched-same : (old new : Choices) (name : List ℕ) (is_folder shown chos
     → SaysTheSame old new → IsUnmatchedChosen new name is_folder shown chosen
     → IsUnmatchedChosen old name is_folder shown chosen
 unmatched-same old new name is_folder shown chosen same said =
-    rw (same.types, same.ignores.layers, same.ignores.path, same.ignores.start, same.ignores.repositories, same.ignores.sources) at said
+    rw (
+      same.types,
+      same.ignores.layers,
+      same.ignores.path,
+      same.ignores.source.start,
+      same.ignores.repositories,
+      same.ignores.source.sources,
+    ) at said
 
 pub chosen-same : (old new : Choices) (path name : List ℕ) (is_folder chosen : Bool)
     → SaysTheSame old new → IsChosen new path name is_folder chosen

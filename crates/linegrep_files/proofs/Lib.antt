@@ -1,3 +1,4 @@
+pub mod AlikeLemmas
 pub mod ChoiceLemmas
 pub mod GlobRuleLemmas
 pub mod FoundLemmas

@@ -12,7 +12,7 @@ use Rattle.grep_ignore.specs.Layers.{IsFirst}
 use Rattle.grep_ignore.specs.declared.rules.Decision.{Decision}
 use Rattle.linegrep_files.specs.FileTypes.{AreNoTypes, IsTypeChoice, are_none}
 use Rattle.linegrep_files.specs.Globs.{AreGlobs, IsGlobChoice, may_be_malformed_in, is_chosen}
-use Rattle.linegrep_files.specs.IgnoreFiles.{AreWithin}
+use Rattle.linegrep_files.specs.IgnoreFiles.{AreWithin, HasSource, ReadsTheSame}
 use Rattle.linegrep_files.specs.Limits.{AreLimits}
 use Rattle.linegrep_files.specs.declared.choices.Choices.{Choices}
 use Rattle.linegrep_files.specs.declared.file_options.FileOptions.{FileOptions}
@@ -61,9 +61,8 @@ pub data IsChosen (choices : Choices) (path name : List ℕ) (is_folder : Bool) 
 pub record IgnoresTheSame (old new : Ignores) : Type 0 where
   pub layers : new.layers ≡ old.layers
   pub path : new.path.items ≡ old.path.items
-  pub start : new.start ≡ old.start
   pub repositories : new.repositories ≡ old.repositories
-  pub sources : new.sources ≡ old.sources
+  pub source : HasSource old new
 
 -- choices say the same as before
 pub record SaysTheSame (old new : Choices) : Type 0 where
@@ -73,10 +72,18 @@ pub record SaysTheSame (old new : Choices) : Type 0 where
   pub shows_hidden : new.shows_hidden ≡ old.shows_hidden
   pub ignores : IgnoresTheSame old.ignores new.ignores
 
+-- choices differ from others in the ignore files of folders alone
+pub record AreAlike (one other : Choices) : Type 0 where
+  pub globs : other.globs ≡ one.globs
+  pub types : other.types ≡ one.types
+  pub limits : other.limits ≡ one.limits
+  pub shows_hidden : other.shows_hidden ≡ one.shows_hidden
+  pub ignores : ReadsTheSame one.ignores other.ignores
+
 -- in a folder with some names, at a path below the one that is searched, choices say the same, but
 -- for the ignore files that count there, by what reading files may return
-pub record IsWithin (reads : List ℕ → Result (Vec ℕ Global) Error → Type 0) (folder below names : List ℕ)
-    (old new : Choices) : Type 0 where
+pub record IsWithin (reads : List ℕ → Result (Vec ℕ Global) Error → Type 0)
+    (folder below names : List ℕ) (old new : Choices) : Type 0 where
   pub globs : new.globs ≡ old.globs
   pub types : new.types ≡ old.types
   pub limits : new.limits ≡ old.limits

@@ -63,7 +63,12 @@ abbrev pub is_idle : Ignores → Bool
 is_idle ignores = not (ignores.has_named || ignores.sources.dot || ignores.sources.git
     || ignores.sources.exclude || ignores.sources.global)
 
--- which files are read stays, and where the folder is
+-- which files are read stays
+pub record ReadsTheSame (old new : Ignores) : Type 0 where
+  pub sources : new.sources ≡ old.sources
+  pub named : new.has_named ≡ old.has_named
+
+-- and where the folder is
 pub record HasSource (old new : Ignores) : Type 0 where
   pub sources : new.sources ≡ old.sources
   pub named : new.has_named ≡ old.has_named

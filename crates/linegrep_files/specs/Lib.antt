@@ -2,6 +2,7 @@ pub mod Choices
 pub mod Failures
 pub mod FileIds
 pub mod FileTypes
+pub mod FolderFacts
 pub mod Folders
 pub mod Globs
 pub mod IgnoreFiles

@@ -8,7 +8,7 @@ use Rattle.std.specs.declared.cmp.Ordering.{Ordering}
 use Rattle.std.specs.Str.{bytes_eq}
 use Rattle.linegrep_files.specs.declared.order.Order.{Order}
 use Rattle.linegrep_files.specs.declared.order.SortKey.{SortKey}
-use Rattle.linegrep_files.specs.declared.order.SortKey.TheVariants.{Path}
+use Rattle.linegrep_files.specs.declared.order.SortKey.TheVariants.{Accessed, Created, Modified, Path}
 
 -- files are sorted by a time, and not by their paths
 abbrev pub is_time : SortKey → Bool
@@ -23,6 +23,20 @@ abbrev pub names_time : Option (Bor (List ℕ)) → Bool
 names_time None = false
 names_time (Some name) = bytes_eq name.now (codes "modified") || bytes_eq name.now (codes "accessed")
     || bytes_eq name.now (codes "created")
+
+-- the order of paths
+abbrev pub by_path : Order
+by_path = record { key = Path; is_reversed = false }
+
+-- the order that a name stands for, or the other way round; that of paths if it is none
+abbrev pub named_order : Option (Bor (List ℕ)) → Bool → Order
+named_order None is_reversed = by_path
+named_order (Some name) is_reversed =
+    if bytes_eq name.now (codes "modified") then record { key = Modified; is_reversed = is_reversed }
+    else if bytes_eq name.now (codes "accessed") then record { key = Accessed; is_reversed = is_reversed }
+    else if bytes_eq name.now (codes "created") then record { key = Created; is_reversed = is_reversed }
+    else if bytes_eq name.now (codes "path") then record { key = Path; is_reversed = is_reversed }
+    else by_path
 
 -- how two paths are sorted: by their bytes, or if the order of paths is reversed the other way
 -- round

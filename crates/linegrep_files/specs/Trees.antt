@@ -1,12 +1,13 @@
 -- What a walk visits: a folder's files, and of each folder in it the files, in the order of names.
-use Rattle.std.specs.Prelude.{◌≡◌, ℕ, Bool, true, false, ◌++◌, ◌∷◌, [], List, None, Some, reverse}
-use Rattle.std.specs.Prelude.{Result, Ok, Err, String, Vec, filter, not, string_bytes}
+use Rattle.std.specs.Prelude.{◌≡◌, ℕ, true, false, ◌++◌, ◌∷◌, [], List, None, Some, reverse}
+use Rattle.std.specs.Prelude.{Ok, Err, String, Vec, filter, not, string_bytes}
 use Rattle.std.specs.Borrow.{Bor}
 use Rattle.std.specs.Global.{Global}
 use Rattle.std.specs.List.Sorted.{IsPermutation, IsSortedBy}
 use Rattle.std.specs.declared.io.Error.{Error}
-use Rattle.linegrep_files.specs.Choices.{IsWithin, SaysTheSame}
-use Rattle.linegrep_files.specs.Folders.{AreFound, below_of, depth_of, is_folder, listed_path}
+use Rattle.linegrep_files.specs.Choices.{AreAlike, IsWithin, SaysTheSame}
+use Rattle.linegrep_files.specs.FolderFacts.{FolderFacts}
+use Rattle.linegrep_files.specs.Folders.{AreFound, IsRoot, below_of, depth_of, is_folder, listed_path}
 use Rattle.linegrep_files.specs.Folders.{name_of, names_of}
 use Rattle.linegrep_files.specs.Limits.{allows_depth}
 use Rattle.linegrep_files.specs.Orders.{is_by_time}
@@ -14,54 +15,94 @@ use Rattle.linegrep_files.specs.Walks.{GoesOn, IsBegun, IsEntered, IsPopped, com
 use Rattle.linegrep_files.specs.declared.choices.Choices.{Choices}
 use Rattle.linegrep_files.specs.declared.entry.Entry.{Entry}
 use Rattle.linegrep_files.specs.declared.entry.Entry.TheVariants.{Folder, Unread}
-use Rattle.linegrep_files.specs.declared.finder.Finder.{Finder}
-use Rattle.linegrep_files.specs.declared.folders.Found.{Found}
-use Rattle.linegrep_files.specs.declared.order.Order.{Order}
 use Rattle.linegrep_files.specs.declared.walk.Route.{Route}
 use Rattle.linegrep_files.specs.declared.walk.Walk.{Walk}
 
--- By what listing folders and looking at paths may return.
-module _ {S : Type 0} (lists : S → List ℕ → Result (Vec ℕ Global) Error → Type 0)
-    (looks : S → Bool → List ℕ → Result Found Error → Type 0)
-    (reads : S → List ℕ → Result (Vec ℕ Global) Error → Type 0) where
+-- By what a system may say of folders and files; of a walk by a route, below a folder that the system
+-- knows by a name, the path of which has so many bytes without the slashes at its end.
+module _ (folders : FolderFacts) (route : Route) (top : List ℕ) (root : ℕ) where
   -- what is in a folder, in order: what is found of its names and doesn't wait, by what is chosen
   -- there; nothing if it is too deep; or that it can't be read
-  pub data IsFolderOf (finder : Finder S) (order : Order) (choices : Choices) (folder : List ℕ) :
-      List Entry → Choices → Type 0 where
-    is_deep : allows_depth choices.limits (depth_of finder.root folder) ≡ false
-        → IsFolderOf finder order choices folder [] choices
-    is_unread : (path : String Global) (error : Error)
-        → allows_depth choices.limits (depth_of finder.root folder) ≡ true
-        → lists finder.system.now (listed_path folder) (Err error) → string_bytes path ≡ name_of folder
-        → IsFolderOf finder order choices folder (Unread path error ∷ []) choices
-    is_names : (names : Vec ℕ Global) (within inside : Choices) (found next : List Entry)
-        → allows_depth choices.limits (depth_of finder.root folder) ≡ true
-        → lists finder.system.now (listed_path folder) (Ok names)
-        → IsWithin (reads finder.system.now) folder
-        (below_of finder.root folder) names.items choices within
-        → AreFound (looks finder.system.now) finder.follows_links (string_bytes finder.top)
-        within.limits within folder (names_of names.items) found
-        → IsPermutation (filter (λ entry. not (waits order entry)) found) next
-        → IsSortedBy (λ one other. comes_before order other one) next → SaysTheSame within inside
-        → IsFolderOf finder order choices folder (reverse next) inside
+  pub data IsFolderOf (choices : Choices) (folder : List ℕ) : List Entry → Choices → Type 0 where
+    is_deep : {inside : Choices} → allows_depth choices.limits (depth_of root folder) ≡ false
+        → SaysTheSame choices inside → IsFolderOf choices folder [] inside
+    is_unread : {inside : Choices} (path : String Global) (error : Error)
+        → allows_depth choices.limits (depth_of root folder) ≡ true
+        → folders.lists (listed_path folder) (Err error) → string_bytes path ≡ name_of folder
+        → SaysTheSame choices inside → IsFolderOf choices folder (Unread path error ∷ []) inside
+    is_names : {inside : Choices} (names : Vec ℕ Global) (within : Choices) (found next : List Entry)
+        → allows_depth choices.limits (depth_of root folder) ≡ true
+        → folders.lists (listed_path folder) (Ok names)
+        → IsWithin folders.reads folder (below_of root folder) names.items choices within
+        → AreFound folders.looks route.follows_links top within.limits within folder
+        (names_of names.items) found
+        → IsPermutation (filter (λ entry. not (waits route.order entry)) found) next
+        → IsSortedBy (λ one other. comes_before route.order other one) next
+        → SaysTheSame within inside → IsFolderOf choices folder (reverse next) inside
 
   -- what is visited of some entries, in their order: each one itself, and right after a folder what
   -- is visited of what is in it
-  pub data AreVisited (finder : Finder S) (order : Order) :
-      Choices → List Entry → List Entry → Choices → Type 0 where
-    no_entry : (choices : Choices) → AreVisited finder order choices [] [] choices
+  pub data AreVisited : Choices → List Entry → List Entry → Choices → Type 0 where
+    no_entry : (choices : Choices) → AreVisited choices [] [] choices
     next_entry : {choices after : Choices} {later visited : List Entry} (entry : Entry)
-        → is_folder entry ≡ false → AreVisited finder order choices later visited after
-        → AreVisited finder order choices (entry ∷ later) (entry ∷ visited) after
+        → is_folder entry ≡ false → AreVisited choices later visited after
+        → AreVisited choices (entry ∷ later) (entry ∷ visited) after
     next_folder : {choices inside mid after : Choices} {later inner below visited : List Entry}
-        (path : String Global) → IsFolderOf finder order choices (string_bytes path) inner inside
-        → AreVisited finder order inside inner below mid
-        → AreVisited finder order mid later visited after
-        → AreVisited finder order choices (Folder path ∷ later) (Folder path ∷ (below ++ visited)) after
+        (path : String Global) → IsFolderOf choices (string_bytes path) inner inside
+        → AreVisited inside inner below mid → AreVisited mid later visited after
+        → AreVisited choices (Folder path ∷ later) (Folder path ∷ (below ++ visited)) after
+
+  -- some first of what is visited of some entries: up to one of them, or to one of what is in one
+  pub data AreFirst : Choices → List Entry → List Entry → Type 0 where
+    no_first : (choices : Choices) (later : List Entry) → AreFirst choices later []
+    first_entry : {choices : Choices} {later visited : List Entry} (entry : Entry)
+        → is_folder entry ≡ false → AreFirst choices later visited
+        → AreFirst choices (entry ∷ later) (entry ∷ visited)
+    first_folder : (choices : Choices) (later : List Entry) (path : String Global)
+        → AreFirst choices (Folder path ∷ later) (Folder path ∷ [])
+    in_folder : {choices inside : Choices} {later inner below : List Entry} (path : String Global)
+        → IsFolderOf choices (string_bytes path) inner inside → AreFirst inside inner below
+        → AreFirst choices (Folder path ∷ later) (Folder path ∷ below)
+    after_folder : {choices inside mid : Choices} {later inner below visited : List Entry}
+        (path : String Global) → IsFolderOf choices (string_bytes path) inner inside
+        → AreVisited inside inner below mid → AreFirst mid later visited
+        → AreFirst choices (Folder path ∷ later) (Folder path ∷ (below ++ visited))
+
+-- By what a system may say of folders and files.
+module _ (folders : FolderFacts) (route : Route) (choices : Choices) (folder : List ℕ) where
+  -- all that is visited of a folder, by choices for it: the folder itself, and what is in it
+  pub record AreAllOf (visited : List Entry) : Type 0 where
+    pub begun : Choices
+    pub are_begun : AreAlike choices begun
+    pub path : String Global
+    pub is_path : string_bytes path ≡ folder
+    pub root : ℕ
+    pub is_root : IsRoot folder root
+    pub after : Choices
+    pub are_visited : AreVisited folders route (name_of folder) root begun (Folder path ∷ []) visited
+        after
+
+  -- some first of it
+  pub data AreFirstOf : List Entry → Type 0 where
+    are_none : AreFirstOf []
+    are_first : {visited : List Entry} (begun : Choices) (path : String Global) (root : ℕ)
+        → AreAlike choices begun → string_bytes path ≡ folder → IsRoot folder root
+        → AreFirst folders route (name_of folder) root begun (Folder path ∷ []) visited
+        → AreFirstOf visited
+
+-- By what a system may say of folders and files.
+module _ {S : Type 0} (facts : S → FolderFacts) where
+  -- a walk goes on after an entry was popped: it enters a folder, unless memory is out
+  abbrev pub IsPassed : Walk S → Choices → Entry → Walk S → Choices → Type 0
+  IsPassed old choices (Folder path) new inside =
+      (new.is_out_of_memory ≡ false → IsEntered facts old choices (string_bytes path) new inside)
+      × GoesOn old new
+  IsPassed old choices entry new inside = (new ≡ old) × (inside ≡ choices)
 
   -- what was visited of a walk so far, by its calls: what was popped, each folder of which was
   -- entered
-  pub data IsWalked (begun : Walk S) (choices : Choices) : List Entry → Walk S → Choices → Type 0 where
+  pub data IsWalked (begun : Walk S) (choices : Choices) :
+      List Entry → Walk S → Choices → Type 0 where
     no_visit : IsWalked begun choices [] begun choices
     of_file : {visited : List Entry} {walk new : Walk S} {inside : Choices} (entry : Entry)
         → IsWalked begun choices visited walk inside → IsPopped walk (Some entry) new
@@ -69,23 +110,23 @@ module _ {S : Type 0} (lists : S → List ℕ → Result (Vec ℕ Global) Error 
     of_folder : {visited : List Entry} {walk popped new : Walk S} {inside within : Choices}
         (path : String Global) → IsWalked begun choices visited walk inside
         → IsPopped walk (Some (Folder path)) popped
-        → IsEntered lists looks reads popped inside (string_bytes path) new within
-        → GoesOn popped new → IsWalked begun choices (visited ++ Folder path ∷ []) new within
+        → IsEntered facts popped inside (string_bytes path) new within → GoesOn popped new
+        → IsWalked begun choices (visited ++ Folder path ∷ []) new within
 
-  -- what was visited of a walk so far, and what is visited of what is still pending, is what is
-  -- visited of what was pending at its start
-  abbrev pub WalksVisit : Type 0
-  WalksVisit = (begun walk : Walk S) (choices inside after : Choices) (visited rest : List Entry)
-      → is_by_time begun.order ≡ false → begun.dated.items ≡ []
-      → IsWalked begun choices visited walk inside
-      → AreVisited begun.finder begun.order inside (reverse walk.pending.items) rest after
-      → AreVisited begun.finder begun.order choices (reverse begun.pending.items) (visited ++ rest) after
-
-  -- what a walk visited that ended with memory left is what is visited of its folder
+  -- what a walk visited that ended with memory left is all that is visited of its folder
   abbrev pub WalksEnd : Type 0
   WalksEnd = (system : Bor S) (route : Route) (folder : List ℕ) (begun walk end : Walk S)
-      (choices inside : Choices) (visited : List Entry) → is_by_time route.order ≡ false
+      (first choices inside : Choices) (visited : List Entry) → is_by_time route.order ≡ false
+      → AreAlike first choices → IsBegun system route folder begun
+      → IsWalked begun choices visited walk inside → walk.is_out_of_memory ≡ false
+      → IsPopped walk None end → AreAllOf (facts system.now) route first folder visited
+
+  -- what a walk has visited by the time that an entry is popped is, with that, some first of what is
+  -- visited of its folder
+  abbrev pub WalksBegin : Type 0
+  WalksBegin = (system : Bor S) (route : Route) (folder : List ℕ) (begun walk new : Walk S)
+      (first choices inside : Choices) (visited : List Entry) (entry : Entry)
+      → is_by_time route.order ≡ false → AreAlike first choices
       → IsBegun system route folder begun → IsWalked begun choices visited walk inside
-      → walk.is_out_of_memory ≡ false → IsPopped walk None end
-      → (path : String Global) × (string_bytes path ≡ folder)
-      × AreVisited begun.finder begun.order choices (Folder path ∷ []) visited inside
+      → IsPopped walk (Some entry) new
+      → AreFirstOf (facts system.now) route first folder (visited ++ entry ∷ [])

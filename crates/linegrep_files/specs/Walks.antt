@@ -1,12 +1,13 @@
 -- What a walk through folders finds, in which order.
 use Rattle.std.specs.Prelude.{◌≡◌, ℕ, Bool, true, false, not, ◌++◌, ◌∷◌, [], List, map, filter}
-use Rattle.std.specs.Prelude.{None, Option, Some, Result, Ok, Err, String, Vec, string_bytes}
+use Rattle.std.specs.Prelude.{None, Option, Some, Ok, Err, String, Vec, string_bytes}
 use Rattle.std.specs.Borrow.{Bor}
 use Rattle.std.specs.Global.{Global}
 use Rattle.std.specs.List.Sorted.{IsPermutation, IsSortedBy}
 use Rattle.std.specs.Ordering.{is_lt}
 use Rattle.std.specs.declared.io.Error.{Error}
 use Rattle.linegrep_files.specs.Choices.{IsWithin, SaysTheSame}
+use Rattle.linegrep_files.specs.FolderFacts.{FolderFacts}
 use Rattle.linegrep_files.specs.Folders.{AreFound, IsRoot, below_of, depth_of, listed_path, name_of}
 use Rattle.linegrep_files.specs.Folders.{names_of}
 use Rattle.linegrep_files.specs.Folders.{path_of}
@@ -15,7 +16,6 @@ use Rattle.linegrep_files.specs.Orders.{is_by_time, order_of}
 use Rattle.linegrep_files.specs.declared.choices.Choices.{Choices}
 use Rattle.linegrep_files.specs.declared.entry.Entry.{Entry}
 use Rattle.linegrep_files.specs.declared.entry.Entry.TheVariants.{File, Folder, Unread}
-use Rattle.linegrep_files.specs.declared.folders.Found.{Found}
 use Rattle.linegrep_files.specs.declared.order.Dated.{Dated}
 use Rattle.linegrep_files.specs.declared.order.Order.{Order}
 use Rattle.linegrep_files.specs.declared.walk.Route.{Route}
@@ -72,40 +72,37 @@ pub record GoesOn {S : Type 0} (old new : Walk S) : Type 0 where
   pub order : new.order ≡ old.order
 
 -- what is chosen of the names in a folder is added, by what its ignore files say too
-pub record AreNamesAdded {S : Type 0} (looks : S → Bool → List ℕ → Result Found Error → Type 0)
-    (reads : S → List ℕ → Result (Vec ℕ Global) Error → Type 0) (old : Walk S) (choices : Choices) (folder names : List ℕ) (new : Walk S) (inside : Choices) : Type 0
-  where
-    pub within : Choices
-    pub found : List Entry
-    pub are_within : IsWithin (reads old.finder.system.now) folder (below_of old.finder.root folder)
-        names choices within
-    pub are_found : AreFound (looks old.finder.system.now) old.finder.follows_links
-        (string_bytes old.finder.top) within.limits within folder (names_of names) found
-    pub are_added : AreAdded old found new
-    pub same : SaysTheSame within inside
+pub record AreNamesAdded {S : Type 0} (facts : S → FolderFacts) (old : Walk S) (choices : Choices)
+    (folder names : List ℕ) (new : Walk S) (inside : Choices) : Type 0 where
+  pub within : Choices
+  pub found : List Entry
+  pub are_within : IsWithin (facts old.finder.system.now).reads folder
+      (below_of old.finder.root folder) names choices within
+  pub are_found : AreFound (facts old.finder.system.now).looks old.finder.follows_links
+      (string_bytes old.finder.top) within.limits within folder (names_of names) found
+  pub are_added : AreAdded old found new
+  pub same : SaysTheSame within inside
 
--- By what listing folders and looking at paths may return.
-module _ {S : Type 0} (lists : S → List ℕ → Result (Vec ℕ Global) Error → Type 0)
-    (looks : S → Bool → List ℕ → Result Found Error → Type 0)
-    (reads : S → List ℕ → Result (Vec ℕ Global) Error → Type 0) where
+-- By what a system may say of folders and files.
+module _ {S : Type 0} (facts : S → FolderFacts) where
   -- what is in a folder is added to what is to be visited, unless the folder is too deep; or that
   -- it can't be read. `inside` is what is chosen there
   pub data IsEntered (old : Walk S) (choices : Choices) (folder : List ℕ) (new : Walk S)
       (inside : Choices) : Type 0 where
     of_deep : allows_depth choices.limits (depth_of old.finder.root folder) ≡ false
-        → new.pending ≡ old.pending → new.dated ≡ old.dated → inside ≡ choices
+        → new.pending ≡ old.pending → new.dated ≡ old.dated → SaysTheSame choices inside
         → IsEntered old choices folder new inside
     of_unread : (path : String Global) (error : Error)
         → allows_depth choices.limits (depth_of old.finder.root folder) ≡ true
-        → lists old.finder.system.now (listed_path folder) (Err error)
+        → (facts old.finder.system.now).lists (listed_path folder) (Err error)
         → string_bytes path ≡ name_of folder
         → new.pending.items ≡ old.pending.items ++ Unread path error ∷ []
-        → new.dated ≡ old.dated → inside ≡ choices
+        → new.dated ≡ old.dated → SaysTheSame choices inside
         → IsEntered old choices folder new inside
     of_names : (names : Vec ℕ Global)
         → allows_depth choices.limits (depth_of old.finder.root folder) ≡ true
-        → lists old.finder.system.now (listed_path folder) (Ok names)
-        → AreNamesAdded looks reads old choices folder names.items new inside
+        → (facts old.finder.system.now).lists (listed_path folder) (Ok names)
+        → AreNamesAdded facts old choices folder names.items new inside
         → IsEntered old choices folder new inside
 
 -- what is visited next is the last that was added; without one it is one of the files that are
@@ -118,5 +115,6 @@ pub data IsPopped {S : Type 0} (old : Walk S) : Option Entry → Walk S → Type
       → IsPermutation old.dated.items (new.dated.items ++ file ∷ []) → new.pending.items ≡ []
       → GoesOn old new → IsPopped old (Some (File file.path)) new
   of_end : {new : Walk S} → old.is_out_of_memory ≡ false → old.pending.items ≡ []
-      → old.dated.items ≡ [] → IsPopped old None new
-  of_memory : {new : Walk S} → old.is_out_of_memory ≡ true → IsPopped old None new
+      → old.dated.items ≡ [] → new.is_out_of_memory ≡ false → IsPopped old None new
+  of_memory : {new : Walk S} → old.is_out_of_memory ≡ true → new.is_out_of_memory ≡ true
+      → IsPopped old None new

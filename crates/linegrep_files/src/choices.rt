@@ -1,6 +1,7 @@
 //! Which of the files and folders of a folder are visited.
 ghost use Rattle.std.specs.Prelude.{◌≡◌, false, true, IfErr, IfOk, OnOk};
-ghost use Rattle.linegrep_files.specs.Choices.{AreChoices, IsChosen, IsUnmatchedChosen, IsWithin};
+ghost use Rattle.linegrep_files.specs.Choices.{AreAlike, AreChoices, IsChosen, IsUnmatchedChosen};
+ghost use Rattle.linegrep_files.specs.Choices.{IsWithin};
 ghost use Rattle.linegrep_files.specs.Choices.{SaysTheSame, is_shown, may_be_refused};
 ghost use Rattle.linegrep_files.specs.Failures.{has_cause};
 
@@ -56,7 +57,9 @@ impl<'r> Choices<'r> {
     }
 
     /// Takes up a folder that is searched. An error is one of being out of memory, as those below.
-    pub fn begin(&mut self, folder: &str) -> Result<(), AllocError> {
+    pub fn begin(&mut self, folder: &str) -> Result<(), AllocError>
+        ensures { AreAlike self.old self.new }
+    {
         self.ignores.begin(folder)
     }
 
@@ -69,7 +72,7 @@ impl<'r> Choices<'r> {
         below: &[u8],
         names: &[u8],
     ) -> Result<(), AllocError>
-        ensures { OnOk result (IsWithin (S.reads system.now) folder.now below.now names.now self.old
+        ensures { OnOk result (IsWithin (S.facts system.now).reads folder.now below.now names.now self.old
             self.new) }
     {
         self.ignores.enter(system, folder, below, names)?;
@@ -140,7 +143,9 @@ impl<'r> Choices<'r> {
     }
 
     /// Forgets what was wrong.
-    pub fn clear_warnings(&mut self) {
+    pub fn clear_warnings(&mut self)
+        ensures { SaysTheSame self.old self.new }
+    {
         self.ignores.clear_warnings();
     }
 }

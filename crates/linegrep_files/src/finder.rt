@@ -97,7 +97,7 @@ impl<'r, S: Folders> Finder<'r, S> {
 
     /// The names in a folder, each with a NUL at its end.
     pub fn names(&self, path: &str) -> io::Result<Vec<u8>>
-        ensures { S.lists self.now.system.now path.now result }
+        ensures { (S.facts self.now.system.now).lists path.now result }
     {
         self.system.names(self.alloc, path)
     }
@@ -109,7 +109,7 @@ impl<'r, S: Folders> Finder<'r, S> {
         folder: &str,
         names: &[u8],
     ) -> Result<Vec<Entry>, AllocError>
-        ensures found { IfOk result (λ found. AreFound (S.looks self.now.system.now)
+        ensures found { IfOk result (λ found. AreFound (S.facts self.now.system.now).looks
             self.now.follows_links (string_bytes self.now.top) choices.old.limits choices.old
             folder.now (names_of names.now) found.items) }
         ensures same { SaysTheSame choices.old choices.new }
@@ -137,7 +137,7 @@ impl<'r, S: Folders> Finder<'r, S> {
         folder: &str,
         name: &[u8],
     ) -> Result<Option<Entry>, AllocError>
-        ensures found { IfOk result (IsFound (S.looks self.now.system.now) self.now.follows_links
+        ensures found { IfOk result (IsFound (S.facts self.now.system.now).looks self.now.follows_links
             (string_bytes self.now.top) choices.old.limits choices.old folder.now name.now) }
         ensures same { SaysTheSame choices.old choices.new }
     {
@@ -155,7 +155,7 @@ impl<'r, S: Folders> Finder<'r, S> {
         name: &str,
     ) -> Result<Option<Entry>, AllocError>
         requires { IsUtf8 name.now }
-        ensures found { IfOk result (IsFound (S.looks self.now.system.now) self.now.follows_links
+        ensures found { IfOk result (IsFound (S.facts self.now.system.now).looks self.now.follows_links
             (string_bytes self.now.top) choices.old.limits choices.old folder.now name.now) }
         ensures same { SaysTheSame choices.old choices.new }
     {
@@ -179,7 +179,7 @@ impl<'r, S: Folders> Finder<'r, S> {
         name: &[u8],
     ) -> Result<Option<Entry>, AllocError>
         requires { IsUtf8 name.now → ⊥ }
-        ensures found { IfOk result (IsFound (S.looks self.now.system.now) self.now.follows_links
+        ensures found { IfOk result (IsFound (S.facts self.now.system.now).looks self.now.follows_links
             (string_bytes self.now.top) choices.old.limits choices.old folder.now name.now) }
         ensures same { SaysTheSame choices.old choices.new }
     {
@@ -194,7 +194,7 @@ impl<'r, S: Folders> Finder<'r, S> {
 
     // What is at a path, unless it is neither a file nor a folder, or not within limits.
     fn entry(&self, path: String, limits: Limits) -> Option<Entry>
-        ensures at { IsAt (S.looks self.now.system.now) self.now.follows_links
+        ensures at { IsAt (S.facts self.now.system.now).looks self.now.follows_links
             (string_bytes self.now.top) limits (string_bytes path) result }
         ensures path { IfSome result (λ entry. path_of entry ≡ string_bytes path) }
     {
@@ -206,9 +206,9 @@ impl<'r, S: Folders> Finder<'r, S> {
 
     // What was found at a path, if it is within limits.
     fn entry_of(&self, path: String, found: Found, limits: Limits) -> Option<Entry>
-        requires { S.looks self.now.system.now self.now.follows_links (string_bytes path)
+        requires { (S.facts self.now.system.now).looks self.now.follows_links (string_bytes path)
             (Ok found) }
-        ensures at { IsAt (S.looks self.now.system.now) self.now.follows_links
+        ensures at { IsAt (S.facts self.now.system.now).looks self.now.follows_links
             (string_bytes self.now.top) limits (string_bytes path) result }
         ensures path { IfSome result (λ entry. path_of entry ≡ string_bytes path) }
     {
@@ -232,7 +232,7 @@ impl<'r, S: Folders> Finder<'r, S> {
 
     // Whether a folder may be entered, by the file system that it is on.
     fn may_enter(&self, id: FileId, limits: Limits) -> bool
-        ensures { MayEnter (S.looks self.now.system.now) self.now.follows_links
+        ensures { MayEnter (S.facts self.now.system.now).looks self.now.follows_links
             (string_bytes self.now.top) limits id result }
     {
         if !limits.is_one_system() {
@@ -246,7 +246,7 @@ impl<'r, S: Folders> Finder<'r, S> {
 
     // The folder at a path, which can't be read if it is a link to a folder that it is in.
     fn folder(&self, path: String, id: FileId, limits: Limits) -> Entry
-        ensures { IsFolderAt (S.looks self.now.system.now) self.now.follows_links
+        ensures { IsFolderAt (S.facts self.now.system.now).looks self.now.follows_links
             (string_bytes self.now.top) limits (string_bytes path) id result }
     {
         if self.leads_back(path.as_str(), id) {
@@ -258,7 +258,7 @@ impl<'r, S: Folders> Finder<'r, S> {
 
     // Whether there is a link at a path that was followed to a folder of an id that it is in.
     fn leads_back(&self, path: &str, id: FileId) -> bool
-        ensures { result ≡ true → LeadsBack (S.looks self.now.system.now) self.now.follows_links
+        ensures { result ≡ true → LeadsBack (S.facts self.now.system.now).looks self.now.follows_links
             path.now id }
     {
         if !self.follows_links {
@@ -277,7 +277,7 @@ impl<'r, S: Folders> Finder<'r, S> {
 
     // Whether one of the folders that a path goes through is that of an id, from the walk's own on.
     fn is_loop(&self, path: &str, id: FileId) -> bool
-        ensures { result ≡ true → IsElsewhere (S.looks self.now.system.now) id }
+        ensures { result ≡ true → IsElsewhere (S.facts self.now.system.now).looks id }
     {
         if self.root == 0 && self.is_at(".", id) {
             return true;
@@ -292,7 +292,7 @@ impl<'r, S: Folders> Finder<'r, S> {
 
     // Whether the folder at a path is that of an id.
     fn is_at(&self, path: &str, id: FileId) -> bool
-        ensures { result ≡ true → IsElsewhere (S.looks self.now.system.now) id }
+        ensures { result ≡ true → IsElsewhere (S.facts self.now.system.now).looks id }
     {
         match self.system.look(path, true) {
             Ok(found) => found.id.is(id),

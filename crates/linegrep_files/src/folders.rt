@@ -1,8 +1,5 @@
 //! What a walk asks of the system: what a folder holds, and what is at a path.
-ghost use Rattle.std.specs.Prelude.{ℕ, Bool, List, Result, Vec};
-ghost use Rattle.std.specs.Global.{Global};
-ghost use Rattle.std.specs.declared.io.Error.{Error};
-ghost use Rattle.linegrep_files.specs.declared.folders.Found.{Found};
+ghost use Rattle.linegrep_files.specs.FolderFacts.{FolderFacts};
 
 use crate::file_id::FileId;
 use std::alloc::Global;
@@ -40,36 +37,30 @@ pub struct Found {
 
 /// What lists folders and looks at paths. It is given by what it may return.
 pub trait Folders {
-    /// What listing the folder at a path may return: the names in it, each with a NUL at its end.
-    ghost lists: { Self → List ℕ → Result (Vec ℕ Global) Error → Type 0 };
-
-    /// What looking at a path may return, by whether a link there is followed.
-    ghost looks: { Self → Bool → List ℕ → Result Found Error → Type 0 };
-
-    /// What reading the file at a path may return.
-    ghost reads: { Self → List ℕ → Result (Vec ℕ Global) Error → Type 0 };
+    /// What it may return.
+    ghost facts: { Self → FolderFacts };
 
     /// The names in the folder at a path, each with a NUL at its end. An error is the system's own,
     /// or one of being out of memory.
     fn names(&self, alloc: Global, path: &str) -> io::Result<Vec<u8>>
-        ensures { lists self.now path.now result };
+        ensures { (facts self.now).lists path.now result };
 
     /// What there is at a path. An error is the system's own.
     fn look(&self, path: &str, follows_links: bool) -> io::Result<Found>
-        ensures { looks self.now follows_links path.now result };
+        ensures { (facts self.now).looks follows_links path.now result };
 
     /// What the file at a path has. An error is the system's own, or one of being out of memory.
     fn read(&self, alloc: Global, path: &str) -> io::Result<Vec<u8>>
-        ensures { reads self.now path.now result };
+        ensures { (facts self.now).reads path.now result };
 }
 
 /// The system. What it may return isn't known.
 impl<R: Files> Folders for R {
-    ghost lists = { λ _ _ _. Unit {0} };
-
-    ghost looks = { λ _ _ _ _. Unit {0} };
-
-    ghost reads = { λ _ _ _. Unit {0} };
+    ghost facts = { λ _. record {
+      lists = λ _ _. Unit {0};
+      looks = λ _ _ _. Unit {0};
+      reads = λ _ _. Unit {0};
+    } };
 
     fn names(&self, alloc: Global, path: &str) -> io::Result<Vec<u8>> {
         let mut names = Vec::new(alloc);

@@ -7,7 +7,7 @@ ghost use Rattle.linegrep_files.specs.Choices.{IgnoresTheSame, IsIgnoreDecision,
 ghost use Rattle.linegrep_files.specs.IgnoreFiles.{AreFilesRead, AreRulesAdded, AreWithin};
 ghost use Rattle.linegrep_files.specs.IgnoreFiles.{HasPlace};
 ghost use Rattle.linegrep_files.specs.IgnoreFiles.{HasSource, IsFileRead, depth_in, is_idle};
-ghost use Rattle.linegrep_files.specs.IgnoreFiles.{is_top};
+ghost use Rattle.linegrep_files.specs.IgnoreFiles.{ReadsTheSame, is_top};
 ghost use Rattle.linegrep_files.specs.IgnoreFiles.{marks_of, path_below, with_mark};
 ghost use Rattle.linegrep_files.specs.Paths.{joined};
 
@@ -177,7 +177,9 @@ impl<'r> Ignores<'r> {
 
     /// Takes up a folder that is searched, which may be the current one, with an empty path: what
     /// the folders say that it is in.
-    pub fn begin(&mut self, folder: &str) -> Result<(), AllocError> {
+    pub fn begin(&mut self, folder: &str) -> Result<(), AllocError>
+        ensures { ReadsTheSame self.old self.new }
+    {
         self.path.clear();
         self.repositories.clear();
         self.layers.leave(1);
@@ -191,7 +193,9 @@ impl<'r> Ignores<'r> {
     }
 
     // Takes up the folder at a path from the root of the system on, without a slash at its end.
-    fn begin_at(&mut self, path: &str) -> Result<(), AllocError> {
+    fn begin_at(&mut self, path: &str) -> Result<(), AllocError>
+        ensures { ReadsTheSame self.old self.new }
+    {
         self.root = path.len();
         self.start = match env::current_dir(self.rt) {
             Ok(current) => start_in(path, current.as_str().trim_end_matches('/')),
@@ -212,7 +216,9 @@ impl<'r> Ignores<'r> {
 
     // Adds what a folder says that the searched one is in. It is in a repository, whether the files
     // of such folders are read or not.
-    fn add_parent(&mut self, folder: &str) -> Result<(), AllocError> {
+    fn add_parent(&mut self, folder: &str) -> Result<(), AllocError>
+        ensures { ReadsTheSame self.old self.new }
+    {
         if self.sources.has_git() && (self.has(folder, ".git")? || self.has(folder, ".jj")?) {
             let depth = self.depth();
             self.repositories.push(depth)?;
@@ -232,7 +238,7 @@ impl<'r> Ignores<'r> {
         below: &[u8],
         names: &[u8],
     ) -> Result<(), AllocError>
-        ensures { OnOk result (AreWithin (S.reads system.now) folder.now below.now names.now
+        ensures { OnOk result (AreWithin (S.facts system.now).reads folder.now below.now names.now
             self.old self.new) }
     {
         if self.is_idle() {
@@ -309,7 +315,9 @@ impl<'r> Ignores<'r> {
     }
 
     /// Forgets what was wrong.
-    pub fn clear_warnings(&mut self) {
+    pub fn clear_warnings(&mut self)
+        ensures { IgnoresTheSame self.old self.new }
+    {
         self.warnings.clear();
     }
 
@@ -332,7 +340,9 @@ impl<'r> Ignores<'r> {
     }
 
     // Goes to the folder at a path without a slash at its end.
-    fn set_path(&mut self, path: &str) -> Result<(), AllocError> {
+    fn set_path(&mut self, path: &str) -> Result<(), AllocError>
+        ensures { ReadsTheSame self.old self.new }
+    {
         self.path.clear();
         self.path.extend_from_slice(path.as_bytes())?;
         self.path.push(b'/')?;
@@ -354,7 +364,7 @@ impl<'r> Ignores<'r> {
         folder: &str,
         marks: Marks,
     ) -> Result<(), AllocError>
-        ensures files { OnOk result (AreFilesRead (S.reads system.now) self.old.sources marks
+        ensures files { OnOk result (AreFilesRead (S.facts system.now).reads self.old.sources marks
             (depth_in self.old.path.items) (length self.old.path.items) folder.now self.old.layers
             self.new.layers) }
         ensures place { HasPlace self.old self.new }
@@ -405,7 +415,7 @@ impl<'r> Ignores<'r> {
         folder: &str,
         name: &str,
     ) -> Result<(), AllocError>
-        ensures file { OnOk result (MatchBool is_read (IsFileRead (S.reads system.now)
+        ensures file { OnOk result (MatchBool is_read (IsFileRead (S.facts system.now).reads
             self.old.sources.ignores_case origin depth (length self.old.path.items)
             (joined folder.now name.now) self.old.layers self.new.layers)
             (self.new.layers ≡ self.old.layers)) }
@@ -466,7 +476,7 @@ impl<'r> Ignores<'r> {
         folder: &str,
     ) -> Result<(), AllocError>
         ensures file { OnOk result (MatchBool is_read ((path : List ℕ)
-            × IsFileRead (S.reads system.now) self.old.sources.ignores_case GitExclude depth
+            × IsFileRead (S.facts system.now).reads self.old.sources.ignores_case GitExclude depth
             (length self.old.path.items) path self.old.layers self.new.layers)
             (self.new.layers ≡ self.old.layers)) }
         ensures place { HasPlace self.old self.new }
@@ -489,7 +499,7 @@ impl<'r> Ignores<'r> {
         path: &str,
         is_needed: bool,
     ) -> Result<(), AllocError>
-        ensures file { OnOk result (IsFileRead (S.reads system.now) self.old.sources.ignores_case
+        ensures file { OnOk result (IsFileRead (S.facts system.now).reads self.old.sources.ignores_case
             origin depth (length self.old.path.items) path.now self.old.layers self.new.layers) }
         ensures place { HasPlace self.old self.new }
     {

@@ -1,17 +1,17 @@
 //! Laws of walks, each the contract of a function that does nothing.
-ghost use Rattle.linegrep_files.specs.Trees.{WalksEnd, WalksVisit};
+ghost use Rattle.linegrep_files.specs.Trees.{WalksBegin, WalksEnd};
 
 use crate::folders::Folders;
 
-/// What was visited of a walk so far, and what is visited of what is still pending, is what is
-/// visited of what was pending at its start, unless files are sorted by a time.
-pub fn walks_visit<S: Folders>()
-    ensures { WalksVisit S.lists S.looks S.reads }
+/// What a walk visited that ended with memory left is all that is visited of its folder: each file
+/// and each folder in it that is chosen once, by the order of paths, and right after a folder what
+/// is in that; unless files are sorted by a time.
+pub fn walks_end<S: Folders>()
+    ensures { WalksEnd S.facts }
 {}
 
-/// What a walk visited that ended with memory left is what is visited of its folder: each file and
-/// each folder in it that is chosen once, by the order of paths, and right after a folder what is
-/// in that.
-pub fn walks_end<S: Folders>()
-    ensures { WalksEnd S.lists S.looks S.reads }
+/// What a walk has visited by the time that an entry is popped is, with that, some first of what is
+/// visited of its folder, unless files are sorted by a time.
+pub fn walks_begin<S: Folders>()
+    ensures { WalksBegin S.facts }
 {}

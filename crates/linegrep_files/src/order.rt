@@ -1,6 +1,7 @@
 //! In which order files are found.
 ghost use Rattle.std.specs.Prelude.{◌≡◌, false, true, OnErr};
-ghost use Rattle.linegrep_files.specs.Orders.{is_by_time, names_time, order_of};
+ghost use Rattle.linegrep_files.specs.Orders.{by_path, is_by_time, named_order};
+ghost use Rattle.linegrep_files.specs.Orders.{names_time, order_of};
 
 use crate::failures::Failure;
 use std::cmp::Ordering;
@@ -40,7 +41,7 @@ pub struct Dated {
 impl Order {
     /// That of paths.
     pub fn by_path() -> Order
-        ensures { is_by_time result ≡ false }
+        ensures { result ≡ by_path }
     {
         Order {
             key: SortKey::Path,
@@ -50,7 +51,8 @@ impl Order {
 
     /// The order that the value of an option names.
     pub fn read(name: Option<&str>, is_reversed: bool) -> Order
-        ensures { is_by_time result ≡ names_time name.entry }
+        ensures order { result ≡ named_order name.entry is_reversed }
+        ensures time { is_by_time result ≡ names_time name.entry }
     {
         let key = match name {
             Some("modified") => SortKey::Modified,

@@ -153,7 +153,7 @@ impl<'r, S: Folders> Walk<'r, S> {
     /// of a folder that is too deep.
     pub fn enter(&mut self, choices: &mut Choices<'_>, folder: &str)
         ensures entered { self.new.is_out_of_memory ≡ false
-            → IsEntered S.lists S.looks S.reads self.old choices.old folder.now self.new
+            → IsEntered S.facts self.old choices.old folder.now self.new
             choices.new }
         ensures on { GoesOn self.old self.new }
     {
@@ -164,7 +164,7 @@ impl<'r, S: Folders> Walk<'r, S> {
     }
 
     fn try_enter(&mut self, choices: &mut Choices<'_>, folder: &str) -> Result<(), AllocError>
-        ensures entered { OnOk result (IsEntered S.lists S.looks S.reads self.old choices.old
+        ensures entered { OnOk result (IsEntered S.facts self.old choices.old
             folder.now self.new choices.new) }
         ensures on { GoesOn self.old self.new }
     {
@@ -192,7 +192,7 @@ impl<'r, S: Folders> Walk<'r, S> {
         folder: &str,
         names: &[u8],
     ) -> Result<(), AllocError>
-        ensures added { OnOk result (AreNamesAdded S.looks S.reads self.old choices.old
+        ensures added { OnOk result (AreNamesAdded S.facts self.old choices.old
             folder.now names.now self.new choices.new) }
         ensures on { GoesOn self.old self.new }
     {

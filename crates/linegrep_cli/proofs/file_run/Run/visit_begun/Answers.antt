@@ -1,6 +1,21 @@
-use Rattle.std.proofs.Common.{inr, rules}
+use Rattle.std.proofs.Common.{[], inr, refl, rules}
 use Rattle.linegrep_cli.specs.OperandRuns.{no_entry, no_visit}
+use Rattle.linegrep_files.proofs.AlikeLemmas.{alike-then}
+use Rattle.linegrep_files.specs.Trees.{are_none}
 use Rattle.linegrep_cli.proofs.file_run.Run.visit_begun.Goals as goal
 
-pub returns-in-Err : goal.returns-in-Err
-returns-in-Err g c = (no_visit, no_entry, inr (c.from.result, search rules, c.failed.ensures))
+pub returns-in-Ok-clause-visited : goal.returns-in-Ok-clause-visited
+returns-in-Ok-clause-visited g c = c.visit_entries.ensures.visited c.args.choices.now c.begin.ensures
+
+pub returns-in-Ok-clause-choices : goal.returns-in-Ok-clause-choices
+returns-in-Ok-clause-choices g c = λ on.
+    alike-then _ _ _ c.begin.ensures (c.visit_entries.ensures.choices on)
+
+pub returns-in-Err-clause-visited : goal.returns-in-Err-clause-visited
+returns-in-Err-clause-visited g c = record {
+  visited = [];
+  total = no_visit;
+  entries = no_entry;
+  walked = λ by_path. inr (rw c.failed.ensures refl, are_none);
+  visit_is = inr (c.from.result, search rules, c.failed.ensures);
+}

@@ -7,7 +7,7 @@ use Rattle.linegrep_files.proofs.finder.Finder.found.Given as goal
 abbrev pub invariant-loop-rest : goal.invariant-loop-rest
 invariant-loop-rest g l = record {
   same : SaysTheSame l.fn.choices l.choices;
-  on : GoesOn (g.S.Folders.looks l.self.system.now) l.self.follows_links (string_bytes l.self.top)
+  on : GoesOn (g.S.Folders.facts l.self.system.now).looks l.self.follows_links (string_bytes l.self.top)
       l.fn.choices l.folder l.names l.rest l.found.items;
 }
 

@@ -9,7 +9,7 @@ returns-in_ok-add_rules-in-Ok-clause-file g c = of_lines c.in-Ok.contents
 
 pub returns-in_ok-warn_unread-in-Err-2-clause-file : goal.returns-in_ok-warn_unread-in-Err-2-clause-file
 returns-in_ok-warn_unread-in-Err-2-clause-file g c =
-    subst (IsFileRead (g.S.Folders.reads c.args.system.now) c.args.self.now.sources.ignores_case
+    subst (IsFileRead (g.S.Folders.facts c.args.system.now).reads c.args.self.now.sources.ignores_case
     c.args.origin c.args.depth (length c.args.self.now.path.items) c.args.path.now
     c.args.self.now.layers) (sym c.warn_unread.ensures.layers)
     (of_unread c.in-Err.error (rw c.in-Err.is at c.read.ensures))

@@ -13,3 +13,4 @@ returns-in-Some g c = of_dated c.in-Some.file c.requires.memory c.requires.pendi
 pub returns-in-None : goal.returns-in-None
 returns-in-None g c = of_end c.requires.memory c.requires.pending
     (none-before _ _ c.sort_dated.ensures.dated (search rules))
+    (c.sort_dated.ensures.memory ∙ c.requires.memory)

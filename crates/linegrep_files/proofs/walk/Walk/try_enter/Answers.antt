@@ -1,4 +1,5 @@
-use Rattle.std.proofs.Common.{◌∙◌, refl}
+use Rattle.std.proofs.Common.{◌∙◌}
+use Rattle.linegrep_files.proofs.FoundLemmas.{same-self}
 use Rattle.linegrep_files.proofs.WalkLemmas.{isnt-deep}
 use Rattle.linegrep_files.specs.Walks.{of_names, of_unread}
 use Rattle.linegrep_files.proofs.walk.Walk.try_enter.Goals as goal
@@ -15,4 +16,4 @@ returns-clause-entered g c =
     of_unread pushed.0 c.in-Err.error
     (isnt-deep c.limits.ensures c.depth.ensures c.allows_depth.ensures c.if-not-allows_depth.false)
     (rw (c.in-Err.is, c.as_str.ensures.value, c.in_ok-path.ensures) at c.names.ensures)
-    (pushed.1 ∙ c.name_of.ensures) pushed.2 c.push_unread.ensures.dated refl
+    (pushed.1 ∙ c.name_of.ensures) pushed.2 c.push_unread.ensures.dated (same-self c.args.choices.now)
