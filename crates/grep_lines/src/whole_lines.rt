@@ -7,7 +7,7 @@ ghost use Rattle.grep_lines.specs.FirstLine.{IsLastStart};
 use crate::line_step::first_line_length;
 use crate::marks::{WIDTH, bits_below, highest, marks};
 use grep_matcher::Match;
-use memchr::{memchr, memrchr};
+use memchr::memrchr;
 
 /// The whole lines that a match extends over. The caller ensures that the match lies within the
 /// bytes.
@@ -38,7 +38,7 @@ pub fn locate(bytes: &[u8], terminator: u8, found: Match) -> Match
 /// It starts right after the last terminator before the position, or at 0, and ends right after the
 /// first terminator at the position or later, or at the end of the bytes: as `locate` does for an
 /// empty match there. At the end of bytes that end in the terminator it is empty.
-#[inline]
+#[inline(always)]
 pub fn line_of(bytes: &[u8], terminator: u8, position: usize) -> Match
     requires { position ≤ length bytes.now }
     ensures value { result ≡ (
@@ -49,18 +49,13 @@ pub fn line_of(bytes: &[u8], terminator: u8, position: usize) -> Match
     ensures ends { position ≤ result.1 }
     ensures within { result.1 ≤ length bytes.now }
 {
-    if position < WIDTH {
-        match memchr(terminator, bytes) {
-            Some(at) if at >= position => return Match::new(0, at + 1),
-            _ => {}
-        }
-    }
-    locate(bytes, terminator, Match::zero(position))
+    let start = last_start(bytes, position, terminator);
+    Match::new(start, line_end(bytes, position, terminator))
 }
 
 // The last line start up to a position. Most lines start less than 64 bytes before it, which takes
 // one comparison of vectors.
-#[inline]
+#[inline(always)]
 pub(crate) fn last_start(bytes: &[u8], position: usize, terminator: u8) -> usize
     requires { position ≤ length bytes.now }
     ensures { IsLastStart terminator bytes.now position result }
@@ -70,13 +65,17 @@ pub(crate) fn last_start(bytes: &[u8], position: usize, terminator: u8) -> usize
         return far_start(bytes, position, terminator);
     }
     let near = bits_below(marks(bytes, from, terminator), position - from);
-    if near == 0 {
-        return far_start(bytes, from, terminator);
+    if near != 0 {
+        return from + highest(near) + 1;
     }
-    from + highest(near) + 1
+    if from == 0 {
+        return 0;
+    }
+    far_start(bytes, from, terminator)
 }
 
 // The last line start up to a position, by a search back from there.
+#[inline(never)]
 fn far_start(bytes: &[u8], position: usize, terminator: u8) -> usize
     requires { position ≤ length bytes.now }
     ensures { IsLastStart terminator bytes.now position result }
@@ -89,6 +88,7 @@ fn far_start(bytes: &[u8], position: usize, terminator: u8) -> usize
 
 // The end of the line of a position: right after the first terminator from there on, or the end of
 // the bytes.
+#[inline(always)]
 fn line_end(bytes: &[u8], position: usize, terminator: u8) -> usize
     requires { position ≤ length bytes.now }
     ensures above { position ≤ result }

@@ -49,6 +49,10 @@ module _ (P : ℕ → Type 0) (from end mask : ℕ)
       let first = bit_at-trailing_zeros w64 mask some fits in
       absurd (omega (arith, marks k above (omega arith) holds, first.2 (k - from) (omega arith)))
 
+-- the lowest bit of a mask is set
+pub lowest-set : (mask : ℕ) → 0 < mask → mask < 2 ^ 64 → bit_at mask (trailing_zeros w64 mask) ≡ 1
+lowest-set mask some fits = (bit_at-trailing_zeros w64 mask some fits).1
+
 module _ (hay literal : List ℕ) (start : ℕ) (within : start ≤ length hay) where
   rest-here : OccursAt hay (drop start hay) start
   rest-here = record {

@@ -1,6 +1,7 @@
 pub mod StrippedLineLemmas
 pub mod LiteralLemmas
 pub mod OccurrenceLemmas
+mod ResemblanceLemmas
 mod PartLemmas
 pub mod CandidateLemmas
 pub mod FromPositionLemmas

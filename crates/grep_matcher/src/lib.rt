@@ -4,6 +4,7 @@
 #![tactic(auto)]
 
 mod byte_set;
+mod few;
 mod find_at;
 mod lanes;
 mod line_match_kind;

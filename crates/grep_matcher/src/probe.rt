@@ -6,7 +6,7 @@ ghost use Rattle.std.specs.Prelude.{◌≡◌, ◌≤◌, ◌<◌, ◌+◌, ◌^
 ghost use Rattle.std.specs.Prelude.{IsTrue, IfSome};
 ghost use Rattle.memchr.specs.Find.{FindsNeedle, Nowhere, OccursAt};
 ghost use Rattle.memchr.specs.Lanes.{Covers};
-ghost use Rattle.grep_matcher.specs.Probes.{IsProbeOf};
+ghost use Rattle.grep_matcher.specs.Probes.{HasBytesAt, IsProbeOf};
 
 use crate::lanes::{WIDTH, both, either, equal_from, highest_bits};
 use crate::short::find_from;
@@ -16,6 +16,10 @@ use std::simd::prelude::*;
 
 // How many positions are looked at in one step.
 const STEP: usize = 4 * WIDTH;
+
+// How many positions are looked at first, as those of a short haystack: a literal of most lines is
+// found among them.
+const NEAR: usize = 512;
 
 // From which rank on a byte is frequent in text: the letters of English but for some ten.
 const FREQUENT: u8 = 220;
@@ -70,7 +74,7 @@ impl Probe {
         requires { IsProbeOf self.now finder.now }
         ensures { FindsNeedle haystack.now finder.now 0 result }
     {
-        let end = part_end(haystack, finder.needle(), 0, 0);
+        let end = near_end(haystack, finder.needle());
         match find_from(finder, &haystack[0..end], 0) {
             Some(position) => Some(position),
             None if end == haystack.len() => None,
@@ -78,12 +82,12 @@ impl Probe {
         }
     }
 
-    // The position of the first occurrence, if none is in the first step.
+    // The position of the first occurrence, if none is near.
     #[inline(never)]
     fn find_after(&self, finder: &Finder<'_>, haystack: &[u8]) -> Option<usize>
         requires probe { IsProbeOf self.now finder.now }
-        requires within { STEP ≤ length haystack.now }
-        requires passed { Nowhere (OccursAt haystack.now finder.now) 0 STEP }
+        requires within { NEAR ≤ length haystack.now }
+        requires passed { Nowhere (OccursAt haystack.now finder.now) 0 NEAR }
         ensures { FindsNeedle haystack.now finder.now 0 result }
     {
         let literal = finder.needle();
@@ -97,29 +101,48 @@ impl Probe {
     }
 }
 
-// The position of the first occurrence, if none is in the first step. Each later step that has the
-// bytes is searched by the finder, and the rest too if these are many.
+// The position of the first occurrence, if none is near. Each later step that has the bytes is
+// searched as a short haystack, and the rest by the finder if these are many.
 #[inline(always)]
 fn find_by<B: Bytes>(finder: &Finder<'_>, haystack: &[u8], bytes: &B) -> Option<usize>
     requires haystack { B.haystack bytes.now ≡ haystack.now }
     requires literal { B.literal bytes.now ≡ finder.now }
-    requires within { STEP ≤ length haystack.now }
-    requires passed { Nowhere (OccursAt haystack.now finder.now) 0 STEP }
+    requires within { NEAR ≤ length haystack.now }
+    requires passed { Nowhere (OccursAt haystack.now finder.now) 0 NEAR }
     ensures { FindsNeedle haystack.now finder.now 0 result }
 {
     let literal = finder.needle();
-    let mut from = STEP;
+    let mut from = NEAR;
     let mut tried = 1;
     'steps: loop {
         from = skip(haystack, literal, from, bytes);
         let end = part_end(haystack, literal, from, tried);
-        match finder.find(&haystack[from..end]) {
+        match find_in(finder, &haystack[from..end]) {
             Some(position) => return Some(from + position),
             None if end == haystack.len() => return None,
             None => from += STEP,
         }
         tried += 1;
     }
+}
+
+// The position of the first occurrence in a part of a haystack.
+#[inline(always)]
+fn find_in(finder: &Finder<'_>, part: &[u8]) -> Option<usize>
+    ensures { FindsNeedle part.now finder.now 0 result }
+{
+    if part.len() <= NEAR {
+        return find_from(finder, part, 0);
+    }
+    finder.find(part)
+}
+
+// Where the part ends that is near.
+fn near_end(haystack: &[u8], literal: &[u8]) -> usize
+    ensures within { result ≤ length haystack.now }
+    ensures near { result < length haystack.now → NEAR + length literal.now ≤ result + 1 }
+{
+    haystack.len().min(literal.len() + NEAR - 1)
 }
 
 // Where the part ends that is searched next, by how many were searched before it.
@@ -254,9 +277,9 @@ impl<'a> Bytes for OneByte<'a> {
 pub(crate) struct ThreeBytes<'a> {
     pub(crate) haystack: &'a [u8],
     pub(crate) literal: &'a [u8],
-    first: usize,
-    second: usize,
-    third: usize,
+    pub(crate) first: usize,
+    pub(crate) second: usize,
+    pub(crate) third: usize,
     bytes: (u8, u8, u8),
     ghost first_within: { first < length literal.now },
     ghost second_within: { second < length literal.now },
@@ -280,6 +303,9 @@ impl<'a> ThreeBytes<'a> {
         requires third { third < length literal.now }
         ensures haystack { result.haystack.now ≡ haystack.now }
         ensures literal { result.literal.now ≡ literal.now }
+        ensures first { result.first ≡ first }
+        ensures second { result.second ≡ second }
+        ensures third { result.third ≡ third }
     {
         ThreeBytes {
             haystack,
@@ -298,7 +324,15 @@ impl<'a> Bytes for ThreeBytes<'a> {
     ghost literal = { λ s. s.literal.now };
 
     #[inline(always)]
-    fn marks(&self, position: usize) -> u8x32 {
+    fn marks(&self, position: usize) -> u8x32
+        requires room { position + WIDTH + length self.now.literal.now
+            ≤ length self.now.haystack.now + 1 }
+        ensures covers { Covers (OccursAt self.now.haystack.now self.now.literal.now) position
+            result }
+        ensures exact { (k : ℕ) → 128 ≤ slice_index result k
+            → HasBytesAt self.now.haystack.now self.now.literal.now self.now.first self.now.second
+            self.now.third (position + k) }
+    {
         both(
             both(
                 equal_from(self.haystack, position + self.first, self.bytes.0),

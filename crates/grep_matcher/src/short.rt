@@ -3,7 +3,9 @@
 ghost use Rattle.std.specs.Prelude.{◌≡◌, ◌≤◌, ◌<◌, ◌+◌, ◌-◌, ℕ, length};
 ghost use Rattle.std.specs.Int.{bit_at};
 ghost use Rattle.memchr.specs.Find.{FindsNeedle, OccursAt};
+ghost use Rattle.grep_matcher.specs.Probes.{HasBytesAt, ResemblesAt};
 
+use crate::few::find_few;
 use crate::lanes::{WIDTH, highest_bits};
 use crate::probe::{Bytes, ThreeBytes};
 use memchr::memmem::Finder;
@@ -23,7 +25,7 @@ pub(crate) fn find_from(finder: &Finder<'_>, haystack: &[u8], start: usize) -> O
         return None;
     }
     if len == 0 || len > LONGEST || haystack.len() < WIDTH + len {
-        return find_rest(finder, haystack, start);
+        return find_few(finder, haystack, start);
     }
     let bytes = ThreeBytes::new(haystack, literal, 0, len / 2, len - 1);
     let last = haystack.len() - len - (WIDTH - 1);
@@ -31,8 +33,7 @@ pub(crate) fn find_from(finder: &Finder<'_>, haystack: &[u8], start: usize) -> O
     'windows: while from < last {
         let marks = marks_from(&bytes, from, from);
         if marks != 0 {
-            let at = from + (marks.trailing_zeros() as usize).min(WIDTH);
-            return find_marked(finder, haystack, at);
+            return find_marked(finder, haystack, from + marks.trailing_zeros() as usize);
         }
         from += WIDTH;
     }
@@ -40,13 +41,25 @@ pub(crate) fn find_from(finder: &Finder<'_>, haystack: &[u8], start: usize) -> O
     if left == 0 {
         return None;
     }
-    let at = (from + left.trailing_zeros() as usize).min(last + WIDTH);
-    find_marked(finder, haystack, at)
+    find_marked(finder, haystack, from + left.trailing_zeros() as usize)
+}
+
+// The position of the first occurrence from one on where the first, the middle and the last byte of
+// the literal are. They are all that a literal of three bytes has.
+#[inline(always)]
+pub(crate) fn find_marked(finder: &Finder<'_>, haystack: &[u8], at: usize) -> Option<usize>
+    requires { ResemblesAt haystack.now finder.now at }
+    ensures { FindsNeedle haystack.now finder.now at result }
+{
+    let len = finder.needle().len();
+    if 0 < len && len <= 3 {
+        return Some(at);
+    }
+    find_compared(finder, haystack, at)
 }
 
 // The position of the first occurrence from one on where it may be.
-#[inline(always)]
-fn find_marked(finder: &Finder<'_>, haystack: &[u8], at: usize) -> Option<usize>
+fn find_compared(finder: &Finder<'_>, haystack: &[u8], at: usize) -> Option<usize>
     requires { at ≤ length haystack.now }
     ensures { FindsNeedle haystack.now finder.now at result }
 {
@@ -64,14 +77,18 @@ fn marks_from(bytes: &ThreeBytes<'_>, position: usize, from: usize) -> u64
         ≤ length bytes.now.haystack.now + 1 }
     requires low { position ≤ from }
     requires high { from < position + 64 }
-    ensures { (k : ℕ) → from ≤ k → k < position + WIDTH
+    ensures covers { (k : ℕ) → from ≤ k → k < position + WIDTH
         → OccursAt bytes.now.haystack.now bytes.now.literal.now k → bit_at result (k - from) ≡ 1 }
+    ensures few { (k : ℕ) → bit_at result k ≡ 1 → from + k < position + WIDTH }
+    ensures exact { (k : ℕ) → bit_at result k ≡ 1
+        → HasBytesAt bytes.now.haystack.now bytes.now.literal.now bytes.now.first bytes.now.second
+        bytes.now.third (from + k) }
 {
     highest_bits(bytes.marks(position)) >> (from - position)
 }
 
 // The position of the first occurrence from `start` on.
-fn find_rest(finder: &Finder<'_>, haystack: &[u8], start: usize) -> Option<usize>
+pub(crate) fn find_rest(finder: &Finder<'_>, haystack: &[u8], start: usize) -> Option<usize>
     requires { start ≤ length haystack.now }
     ensures { FindsNeedle haystack.now finder.now start result }
 {

@@ -1,5 +1,6 @@
 //! The matcher of an expression that is a literal.
-ghost use Rattle.std.specs.Prelude.{◌≡◌, ◌≤◌, ℕ, List, IfSome, IsTrue, None, length};
+ghost use Rattle.std.specs.Prelude.{◌≡◌, ◌≤◌, ℕ, List, IfSome, IsTrue, MatchOption, None, Some};
+ghost use Rattle.std.specs.Prelude.{length};
 ghost use Rattle.std.specs.Arc.{arc_value};
 ghost use Rattle.regex_hir.specs.Meaning.{meaning};
 ghost use Rattle.grep_matcher.specs.FindResults.{IsFrom};
@@ -87,13 +88,19 @@ impl LiteralRegexMatcher<'_> {
         occurrence(&self.literal, haystack, start)
     }
 
-    // The first match. It isn't inlined, which makes the loop of a search faster.
+    // Where the first match starts. It isn't inlined, which makes the loop of a search faster.
     #[inline(never)]
-    fn first(&self, haystack: &[u8]) -> Option<(usize, usize)>
-        ensures value { result ≡ regex_first_at self.now.regex.now haystack.now 0 }
-        ensures within { IsFrom 0 haystack.now result }
+    fn first_start(&self, haystack: &[u8]) -> Option<usize>
+        ensures first { MatchOption result
+            (regex_first_at self.now.regex.now haystack.now 0 ≡ None)
+            (λ start. (end : ℕ)
+            × (regex_first_at self.now.regex.now haystack.now 0 ≡ Some (start, end))) }
+        ensures within { IfSome result (λ start. start ≤ length haystack.now) }
     {
-        self.first_at(haystack, 0)
+        match self.first_at(haystack, 0) {
+            Some((start, _)) => Some(start),
+            None => None,
+        }
     }
 }
 
@@ -116,8 +123,8 @@ impl Matcher for LiteralRegexMatcher<'_> {
 
     #[inline]
     fn find_candidate_line(&self, haystack: &[u8]) -> Result<Option<LineMatchKind>, AllocError> {
-        match self.first(haystack) {
-            Some((start, _)) => Ok(Some(LineMatchKind::Confirmed(start))),
+        match self.first_start(haystack) {
+            Some(start) => Ok(Some(LineMatchKind::Confirmed(start))),
             None => Ok(None),
         }
     }

@@ -137,6 +137,7 @@ impl Config {
     }
 
     // What a matcher's result for the lines from `start` on says of them.
+    #[inline(always)]
     pub(crate) fn ahead_of(
         &self,
         window: &[u8],

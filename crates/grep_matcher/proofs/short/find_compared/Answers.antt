@@ -2,7 +2,7 @@ use Rattle.std.proofs.Common.{◌≡◌, arith, subst, sym, ◌∙◌, true}
 use Rattle.std.specs.List.{starts_with}
 use Rattle.std.specs.Prelude.{nat_eq}
 use Rattle.grep_matcher.proofs.FromLemmas.{begins-here, rest-is}
-use Rattle.grep_matcher.proofs.short.find_marked.Goals as goal
+use Rattle.grep_matcher.proofs.short.find_compared.Goals as goal
 
 pub returns-then-starts_with : goal.returns-then-starts_with
 returns-then-starts_with c =
