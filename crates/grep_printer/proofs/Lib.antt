@@ -1,3 +1,4 @@
+pub mod BareRunLemmas
 pub mod BareTextLemmas
 pub mod BareWriteLemmas
 pub mod CallPartLemmas

@@ -30,7 +30,7 @@ module _ {F M W E : Type 0} (rules : Rules F) (output : E → Option (List ℕ))
   pub record HasKept (old : PrinterSink F M W) (text : List ℕ) (after : F)
       (new : PrinterSink F M W) : Type 0 where
     pub same : IsSameSink old new
-    pub writer : new.printer.now.writer ≡ old.printer.now.writer
+    pub writer : new.writer.now ≡ old.writer.now
     pub pending : pending_bytes new.printer.now.pending
         ≡ pending_bytes old.printer.now.pending ++ text
     pub format : new.format ≡ after
@@ -75,8 +75,8 @@ module _ {F M W E : Type 0} (rules : Rules F) (output : E → Option (List ℕ))
     goes_on = sym goes;
     put = record {
       bytes = [];
-      written = subst (λ writer. WritesAll write_step old.printer.now.writer [] writer)
-          (sym kept.writer) (Writes-none write_step old.printer.now.writer);
+      written = subst (λ writer. WritesAll write_step old.writer.now [] writer)
+          (sym kept.writer) (Writes-none write_step old.writer.now);
       split = sym kept.pending;
     };
     format = kept.format;
@@ -114,7 +114,7 @@ module _ {F M W E : Type 0} (rules : Rules F) (output : E → Option (List ℕ))
   lines-kept old new number index offset line (next ∷ later) text format texts kept = inl (
     mid,
     one-kept old mid number index offset line texts.2 texts.3 (record {
-      same = record { printer = refl; format = refl; matcher = refl; path = refl };
+      same = record { printer = refl; writer = refl; format = refl; matcher = refl; path = refl };
       writer = refl;
       pending = append-nil (pending_bytes old.printer.now.pending ++ first);
       format = refl;
@@ -125,6 +125,7 @@ module _ {F M W E : Type 0} (rules : Rules F) (output : E → Option (List ℕ))
         (record {
           same = record {
             printer = kept.same.printer;
+            writer = kept.same.writer;
             format = kept.same.format;
             matcher = kept.same.matcher;
             path = kept.same.path;

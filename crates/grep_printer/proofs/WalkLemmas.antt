@@ -24,6 +24,7 @@ pub same-more : {F M W : Type 0} (old mid new : PrinterSink F M W) → IsSameSin
     → IsSameSink old new
 same-more old mid new first later = record {
   printer = later.printer ∙ first.printer;
+  writer = later.writer ∙ first.writer;
   format = later.format ∙ first.format;
   matcher = later.matcher ∙ first.matcher;
   path = later.path ∙ first.path;
@@ -64,7 +65,7 @@ module _ {F M W E : Type 0} (rules : Rules F) (output : E → Option (List ℕ))
   -- what a sink has printed
   record HasPrinted (made : Printed F) (now : PrinterSink F M W) : Type 0 where
     same : IsSameSink start now
-    put : PutsAll write_step start.printer.now.writer (pending_bytes start.printer.now.pending) made.text now.printer.now.writer
+    put : PutsAll write_step start.writer.now (pending_bytes start.printer.now.pending) made.text now.writer.now
         (pending_bytes now.printer.now.pending)
     format : now.format ≡ made.format
     has_written : now.printer.now.has_written ≡ (start.printer.now.has_written || is_text made.text)
@@ -110,11 +111,11 @@ module _ {F M W E : Type 0} (rules : Rules F) (output : E → Option (List ℕ))
             ∙ ap (λ format. rules.goes_on format scene printed) has.format);
         has = record {
           same = same-more start old new has.same step.same;
-          put = Puts-more write_step start.printer.now.writer old.printer.now.writer new.printer.now.writer
+          put = Puts-more write_step start.writer.now old.writer.now new.writer.now
               (pending_bytes start.printer.now.pending) made.text (pending_bytes old.printer.now.pending) (rules.text made.format scene printed)
               (pending_bytes new.printer.now.pending) (Ok tt) has.put
-              (subst (λ t. PutsAll write_step old.printer.now.writer (pending_bytes old.printer.now.pending) t
-              new.printer.now.writer (pending_bytes new.printer.now.pending)) here step.put);
+              (subst (λ t. PutsAll write_step old.writer.now (pending_bytes old.printer.now.pending) t
+              new.writer.now (pending_bytes new.printer.now.pending)) here step.put);
           format = step.format ∙ (ap (λ s. rules.next old.format s printed) seen
               ∙ ap (λ format. rules.next format scene printed) has.format);
           has_written = step.has_written ∙ (ap (λ b. b || is_text
@@ -128,8 +129,8 @@ module _ {F M W E : Type 0} (rules : Rules F) (output : E → Option (List ℕ))
   -- nothing is printed yet
   printed-none : HasPrinted (record { format = start.format; text = [] }) start
   printed-none = record {
-    same = record { printer = refl; format = refl; matcher = refl; path = refl };
-    put = Puts-none write_step start.printer.now.writer (pending_bytes start.printer.now.pending);
+    same = record { printer = refl; writer = refl; format = refl; matcher = refl; path = refl };
+    put = Puts-none write_step start.writer.now (pending_bytes start.printer.now.pending);
     format = refl;
     has_written = text-none start.printer.now.has_written;
     has_failed = refl;

@@ -1,9 +1,9 @@
 -- The text of calls of which lines alone are written, each as it is after its number.
-use Rattle.std.specs.Prelude.{ℕ, Bool, false, true, not, ◌&&◌, List, [], ◌∷◌}
+use Rattle.std.specs.Prelude.{ℕ, Bool, false, true, not, ◌&&◌, List, [], ◌∷◌, ◌++◌}
 use Rattle.std.specs.Option.{is_none}
 use Rattle.grep_searcher.specs.BinaryDetections.{convert_byte_of, quit_byte_of}
 use Rattle.grep_searcher.specs.Lines.{lines}
-use Rattle.grep_searcher.specs.Plans.{Call, breaks, context, matches}
+use Rattle.grep_searcher.specs.Plans.{Call, Planned, breaks, context, matches}
 use Rattle.grep_printer.specs.Formats.{Scene}
 use Rattle.grep_printer.specs.LineTexts.{is_plain, plain_line, plain_lines}
 use Rattle.grep_printer.specs.declared.config.Config.{Config}
@@ -31,3 +31,9 @@ bare_text terminator (matches number offset bytes) =
 bare_text terminator (context kind number offset line) = plain_line terminator 45 number line
 bare_text terminator breaks = 45 ∷ 45 ∷ terminator ∷ []
 bare_text terminator call = []
+
+-- the texts of some calls then, in order
+abbrev pub bare_texts : ℕ → List Planned → List ℕ
+bare_texts terminator [] = []
+bare_texts terminator (planned ∷ later) =
+    bare_text terminator planned.call ++ bare_texts terminator later

@@ -13,34 +13,35 @@ use Rattle.grep_printer.specs.declared.printer.Printer.{Printer}
 
 module _ {F W : Type 0} (write_step : W → OutputCall → W → Type 0) where
   -- a text comes after what is pending, and nothing else
-  pub record PutsText (old : Printer F W) (text : List ℕ) (new : Printer F W)
-      : Type 0 where
-    pub put : PutsAll write_step old.writer (pending_bytes old.pending) text new.writer
+  pub record PutsText (writer : W) (old : Printer F) (text : List ℕ) (writer' : W)
+      (new : Printer F) : Type 0 where
+    pub put : PutsAll write_step writer (pending_bytes old.pending) text writer'
         (pending_bytes new.pending)
     pub format : new.format ≡ old.format
     pub has_written : new.has_written ≡ (old.has_written || is_text text)
     pub has_failed : new.has_failed ≡ old.has_failed
 
   -- the writer failed after some first bytes of what was pending and of a text
-  pub record FailsAtText (old : Printer F W) (text : List ℕ) (e : SearchError Global)
-      (new : Printer F W) : Type 0 where
+  pub record FailsAtText (writer : W) (old : Printer F) (text : List ℕ) (e : SearchError Global)
+      (writer' : W) (new : Printer F) : Type 0 where
     pub error : Error
     pub is_io : e ≡ Io error
-    pub failed : FailsToWrite write_step old.writer (pending_bytes old.pending ++ text) error new.writer
+    pub failed : FailsToWrite write_step writer (pending_bytes old.pending ++ text) error writer'
     pub pending : pending_bytes new.pending ≡ []
     pub has_failed : new.has_failed ≡ true
 
   -- the writer had no call, and there was no memory
-  pub record LacksMemoryForText (old : Printer F W) (e : SearchError Global)
-      (new : Printer F W) : Type 0 where
-    pub unwritten : new.writer ≡ old.writer
+  pub record LacksMemoryForText (writer : W) (old : Printer F) (e : SearchError Global)
+      (writer' : W) (new : Printer F) : Type 0 where
+    pub unwritten : writer' ≡ writer
     pub pending : pending_bytes new.pending ≡ pending_bytes old.pending
     pub has_failed : new.has_failed ≡ old.has_failed
     pub memory : IsOutOfMemory e
 
   -- a text isn't written whole
-  pub record FailsToPutText (old : Printer F W) (text : List ℕ) (e : SearchError Global)
-      (new : Printer F W) : Type 0 where
+  pub record FailsToPutText (writer : W) (old : Printer F) (text : List ℕ) (e : SearchError Global)
+      (writer' : W) (new : Printer F) : Type 0 where
     pub format : new.format ≡ old.format
     pub has_written : new.has_written ≡ old.has_written
-    pub cause : FailsAtText old text e new ⊎ LacksMemoryForText old e new
+    pub cause : FailsAtText writer old text e writer' new
+        ⊎ LacksMemoryForText writer old e writer' new

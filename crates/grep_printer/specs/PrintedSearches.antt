@@ -31,10 +31,11 @@ search_errors output = makers_of output (record {
   is_config = λ error e. e ≡ Config error;
 })
 
--- the sink that a printer gives for a search with a matcher, and a path if there is one
-pub record IsSinkFor {F M W : Type 0} (rules : Rules F) (printer : Printer F W) (matcher : M)
-    (path : Option (Bor (List ℕ))) (sink : PrinterSink F M W) : Type 0 where
+-- the sink that a printer gives for a writer and a search with a matcher, and a path if there is one
+pub record IsSinkFor {F M W : Type 0} (rules : Rules F) (printer : Printer F) (writer : W)
+    (matcher : M) (path : Option (Bor (List ℕ))) (sink : PrinterSink F M W) : Type 0 where
   pub is_of : sink.printer.now ≡ printer
+  pub writes_to : sink.writer.now ≡ writer
   pub asks : sink.matcher ≡ matcher
   pub names : sink.path ≡ path
   pub format : sink.format ≡ rules.begun printer.format printer.has_written
@@ -128,11 +129,13 @@ module _ {F M W E : Type 0} (rules : Rules F) (output : E → Option (List ℕ))
 
     -- so a printer printed what a search of a source reports to its sink, and it is known whether
     -- that found what it is for
-    pub record IsPrintedBy (matcher : M) (path : Option (Bor (List ℕ))) (reader : R)
-        (old : Printer F W) (searched : Searched) (reader' : R) (new : Printer F W) : Type 0 where
+    pub record IsPrintedBy (matcher : M) (path : Option (Bor (List ℕ))) (reader : R) (writer : W)
+        (old : Printer F) (searched : Searched) (reader' : R) (writer' : W) (new : Printer F)
+        : Type 0 where
       pub begun : PrinterSink F M W
       pub ended : PrinterSink F M W
-      pub begins : IsSinkFor rules old matcher path begun
+      pub begins : IsSinkFor rules old writer matcher path begun
       pub searches : IsSearchPrinted reader begun searched.result reader' ended
       pub has_match : searched.has_match ≡ rules.has_match ended.format
       pub ends : ended.printer.now ≡ new
+      pub wrote : ended.writer.now ≡ writer'

@@ -16,10 +16,11 @@ use Rattle.grep_printer.specs.Formats.{AllGoOn, AreAlong, PrintedCall, Rules, Sc
 use Rattle.grep_printer.specs.Formats.{printed_by}
 use Rattle.grep_printer.specs.declared.printer.PrinterSink.{PrinterSink}
 
--- the matcher and the path of a sink stay, and so do the printer that it refers to and what the
--- printer gives its sinks to begin with
+-- the matcher and the path of a sink stay, and so do the printer and the writer that it refers to,
+-- and what the printer gives its sinks to begin with
 pub record IsSameSink {F M W : Type 0} (old new : PrinterSink F M W) : Type 0 where
   pub printer : new.printer.ghost_name ≡ old.printer.ghost_name
+  pub writer : new.writer.ghost_name ≡ old.writer.ghost_name
   pub format : new.printer.now.format ≡ old.printer.now.format
   pub matcher : new.matcher ≡ old.matcher
   pub path : new.path ≡ old.path
@@ -28,7 +29,7 @@ pub record IsSameSink {F M W : Type 0} (old new : PrinterSink F M W) : Type 0 wh
 pub record IsPreparing {F M W : Type 0} (old new : PrinterSink F M W) : Type 0 where
   pub same : IsSameSink old new
   pub format : new.format ≡ old.format
-  pub writer : new.printer.now.writer ≡ old.printer.now.writer
+  pub writer : new.writer.now ≡ old.writer.now
   pub pending : new.printer.now.pending ≡ old.printer.now.pending
   pub has_written : new.printer.now.has_written ≡ old.printer.now.has_written
   pub has_failed : new.printer.now.has_failed ≡ old.printer.now.has_failed
@@ -60,8 +61,8 @@ module _ {F M W E : Type 0} (rules : Rules F) (output : E → Option (List ℕ))
     pub is_call : printed.call ≡ call
     pub has_parts : HasFound rules Shown facts first_at old settings old.format printed
     pub goes_on : goes ≡ rules.goes_on old.format (scene_of old settings) printed
-    pub put : PutsAll write_step old.printer.now.writer (pending_bytes old.printer.now.pending)
-        (text_of rules old settings printed) new.printer.now.writer (pending_bytes new.printer.now.pending)
+    pub put : PutsAll write_step old.writer.now (pending_bytes old.printer.now.pending)
+        (text_of rules old settings printed) new.writer.now (pending_bytes new.printer.now.pending)
     pub format : new.format ≡ rules.next old.format (scene_of old settings) printed
     pub has_written : new.printer.now.has_written
         ≡ (old.printer.now.has_written || is_text (text_of rules old settings printed))
@@ -75,8 +76,8 @@ module _ {F M W E : Type 0} (rules : Rules F) (output : E → Option (List ℕ))
     pub has_parts : HasFound rules Shown facts first_at old settings old.format printed
     pub error : Error
     pub is_io : e ≡ Io error
-    pub failed : FailsToWrite write_step old.printer.now.writer
-        (pending_bytes old.printer.now.pending ++ text_of rules old settings printed) error new.printer.now.writer
+    pub failed : FailsToWrite write_step old.writer.now
+        (pending_bytes old.printer.now.pending ++ text_of rules old settings printed) error new.writer.now
     pub pending : pending_bytes new.printer.now.pending ≡ []
     pub format : new.format ≡ rules.next old.format (scene_of old settings) printed
     pub has_failed : new.printer.now.has_failed ≡ true
@@ -85,7 +86,7 @@ module _ {F M W E : Type 0} (rules : Rules F) (output : E → Option (List ℕ))
   -- alone, or the matcher failed where the parts of a report were looked for
   pub record FailsBefore (old : PrinterSink F M W) (settings : Settings) (call : Call)
       (e : SearchError Global) (new : PrinterSink F M W) : Type 0 where
-    pub unwritten : new.printer.now.writer ≡ old.printer.now.writer
+    pub unwritten : new.writer.now ≡ old.writer.now
     pub pending : pending_bytes new.printer.now.pending ≡ pending_bytes old.printer.now.pending
     pub format : new.format ≡ old.format
     pub has_failed : new.printer.now.has_failed ≡ old.printer.now.has_failed
@@ -120,9 +121,9 @@ module _ {F M W E : Type 0} (rules : Rules F) (output : E → Option (List ℕ))
   pub record PrintsAll (old : PrinterSink F M W) (settings : Settings) (calls : List PrintedCall)
       (new : PrinterSink F M W) : Type 0 where
     pub same : IsSameSink old new
-    pub put : PutsAll write_step old.printer.now.writer (pending_bytes old.printer.now.pending)
+    pub put : PutsAll write_step old.writer.now (pending_bytes old.printer.now.pending)
         (printed_by rules (scene_of old settings) old.format calls).text
-        new.printer.now.writer (pending_bytes new.printer.now.pending)
+        new.writer.now (pending_bytes new.printer.now.pending)
     pub format : new.format
         ≡ (printed_by rules (scene_of old settings) old.format calls).format
     pub has_written : new.printer.now.has_written
@@ -160,8 +161,8 @@ module _ {F M W E : Type 0} (rules : Rules F) (output : E → Option (List ℕ))
       ((error : Error) × (e ≡ Io error) × (pending_bytes new.printer.now.pending ≡ [])
       × (new.format ≡ rules.next mid.format (scene_of mid settings) tried)
       × (new.printer.now.has_failed ≡ true)
-      × FailsToWrite write_step mid.printer.now.writer
-      (pending_bytes mid.printer.now.pending ++ text_of rules mid settings tried) error new.printer.now.writer)
+      × FailsToWrite write_step mid.writer.now
+      (pending_bytes mid.printer.now.pending ++ text_of rules mid settings tried) error new.writer.now)
       ⊎ FailsBefore rules output facts first_at write_step Anything mid settings tried.call e new
 
   -- a run along a plan failed at a call: the texts of the calls before it come after what was

@@ -85,10 +85,9 @@ impl<'c> StandardBuilder<'c> {
         }
     }
 
-    /// A printer with these settings, which writes to `writer` and has written nothing yet. It
-    /// takes memory from `alloc` when it writes.
-    pub fn build<W>(&self, alloc: Global, writer: W) -> Standard<'c, W>
-        ensures writer { result.writer ≡ writer }
+    /// A printer with these settings, which has written nothing yet. It takes memory from `alloc`
+    /// when it writes.
+    pub fn build(&self, alloc: Global) -> Standard<'c>
         ensures pending { pending_bytes result.pending ≡ [] }
         ensures config { result.format.config ≡ self.now }
         ensures has_written { result.has_written ≡ false }
@@ -98,7 +97,7 @@ impl<'c> StandardBuilder<'c> {
             config: self.config,
             progress: Progress::new(false),
         };
-        Printer::new(alloc, format, writer)
+        Printer::new(alloc, format)
     }
 
     /// Whether the path is written once, in a line above the reports of a search, and not before

@@ -26,11 +26,10 @@ pub struct CountedFormat<F> {
     pub(crate) stats: Stats,
 }
 
-impl<F, W> Printer<F, W> {
+impl<F> Printer<F> {
     /// The printer, which has written nothing yet, and which also counts what it finds and writes
     /// in each search if `is_counting` is set.
-    pub fn counting(self, is_counting: bool) -> Printer<CountedFormat<F>, W>
-        ensures writer { result.writer ≡ self.writer }
+    pub fn counting(self, is_counting: bool) -> Printer<CountedFormat<F>>
         ensures pending { pending_bytes result.pending ≡ pending_bytes self.pending }
         ensures format { result.format ≡ record {
           format = self.format;
@@ -42,7 +41,6 @@ impl<F, W> Printer<F, W> {
         ensures has_failed { result.has_failed ≡ self.has_failed }
     {
         let Printer {
-            writer,
             pending,
             room,
             parts,
@@ -51,7 +49,6 @@ impl<F, W> Printer<F, W> {
             has_failed,
         } = self;
         Printer {
-            writer,
             pending,
             room,
             parts,
@@ -66,7 +63,7 @@ impl<F, W> Printer<F, W> {
     }
 }
 
-impl<F, W> Printer<CountedFormat<F>, W> {
+impl<F> Printer<CountedFormat<F>> {
     /// Whether it counts.
     pub fn is_counting(&self) -> bool
         ensures { result ≡ self.now.format.is_counting }

@@ -26,7 +26,7 @@ use std::time::Duration;
 
 /// A printer of JSON: it writes each report as a message in a line of its own. `sink` gives the
 /// sink of one search after another.
-pub type Json<W> = Printer<JsonFormat, W>;
+pub type Json = Printer<JsonFormat>;
 
 /// The sink of one search, which writes a message for each report.
 pub type JsonSink<'s, M, W> = PrinterSink<'s, JsonFormat, M, W>;
@@ -57,10 +57,8 @@ impl JsonBuilder {
         self
     }
 
-    /// A printer with these settings, which writes to `writer`. It takes memory from `alloc` when
-    /// it writes.
-    pub fn build<W>(&self, alloc: Global, writer: W) -> Json<W>
-        ensures writer { result.writer ≡ writer }
+    /// A printer with these settings. It takes memory from `alloc` when it writes.
+    pub fn build(&self, alloc: Global) -> Json
         ensures pending { pending_bytes result.pending ≡ [] }
         ensures always_begin_end { result.format.always_begin_end ≡ self.now.always_begin_end }
         ensures has_written { result.has_written ≡ false }
@@ -70,7 +68,7 @@ impl JsonBuilder {
             always_begin_end: self.always_begin_end,
             progress: JsonProgress::new(),
         };
-        Printer::new(alloc, format, writer)
+        Printer::new(alloc, format)
     }
 }
 
@@ -253,26 +251,36 @@ impl Format for JsonFormat {
     }
 }
 
-impl<W: Output> Printer<JsonFormat, W> {
+impl Printer<JsonFormat> {
     /// Writes the message about all searches: what was searched, found and written in them, and
     /// how long they took together. An error is the writer's, or one of being out of memory.
-    pub fn write_summary(&mut self, stats: &Stats, elapsed: Duration) -> Result<(), SearchError>
+    pub fn write_summary<W: Output>(
+        &mut self,
+        writer: &mut W,
+        stats: &Stats,
+        elapsed: Duration,
+    ) -> Result<(), SearchError>
         ensures { MatchResult result
-            (λ _. PutsText W.step self.old
-            (json_line (summary_json stats.now (nanos_of elapsed))) self.new)
-            (λ e. FailsToPutText W.step self.old
-            (json_line (summary_json stats.now (nanos_of elapsed))) e self.new) }
+            (λ _. PutsText W.step writer.old self.old
+            (json_line (summary_json stats.now (nanos_of elapsed))) writer.new self.new)
+            (λ e. FailsToPutText W.step writer.old self.old
+            (json_line (summary_json stats.now (nanos_of elapsed))) e writer.new self.new) }
     {
-        self.write_message(Message::Summary(*stats, nanoseconds(elapsed)))
+        self.write_message(writer, Message::Summary(*stats, nanoseconds(elapsed)))
     }
 
     // Writes a message that is no report.
-    fn write_message(&mut self, message: Message<'_>) -> Result<(), SearchError>
+    fn write_message<W: Output>(
+        &mut self,
+        writer: &mut W,
+        message: Message<'_>,
+    ) -> Result<(), SearchError>
         requires { AreWithin message }
         ensures { MatchResult result
-            (λ _. PutsText W.step self.old (json_line (message_of message.entry)) self.new)
-            (λ e. FailsToPutText W.step self.old (json_line (message_of message.entry)) e
-            self.new) }
+            (λ _. PutsText W.step writer.old self.old (json_line (message_of message.entry))
+            writer.new self.new)
+            (λ e. FailsToPutText W.step writer.old self.old (json_line (message_of message.entry)) e
+            writer.new self.new) }
     {
         self.pending.begin();
         add_message(&mut self.pending, message);
@@ -280,7 +288,7 @@ impl<W: Output> Printer<JsonFormat, W> {
             self.pending.cancel();
             return Err(SearchError::from(AllocError));
         }
-        match self.end_text() {
+        match self.end_text(writer) {
             Ok(()) => Ok(()),
             Err(error) => Err(SearchError::Io(error)),
         }
@@ -297,10 +305,11 @@ impl<'s, M, W: Output> PrinterSink<'s, JsonFormat, M, W> {
         ensures format { self.new.format ≡ self.old.format }
         ensures end { MatchResult result
             (λ stats. (stats ≡ stats_of self.old.format.progress (nanos_of elapsed))
-            × PutsText W.step self.old.printer.now (end_text self.old.path self.old.format.progress
-            (nanos_of elapsed)) self.new.printer.now)
-            (λ e. FailsToPutText W.step self.old.printer.now (end_text self.old.path
-            self.old.format.progress (nanos_of elapsed)) e self.new.printer.now) }
+            × PutsText W.step self.old.writer.now self.old.printer.now (end_text self.old.path
+            self.old.format.progress (nanos_of elapsed)) self.new.writer.now self.new.printer.now)
+            (λ e. FailsToPutText W.step self.old.writer.now self.old.printer.now (end_text
+            self.old.path self.old.format.progress (nanos_of elapsed)) e self.new.writer.now
+            self.new.printer.now) }
     {
         let progress = &self.format.progress;
         let stats = progress.stats(nanoseconds(elapsed));
@@ -308,7 +317,7 @@ impl<'s, M, W: Output> PrinterSink<'s, JsonFormat, M, W> {
             return Ok(stats);
         }
         let end = Message::End(self.path, progress.binary_offset, stats);
-        match self.printer.write_message(end) {
+        match self.printer.write_message(self.writer, end) {
             Ok(()) => Ok(stats),
             Err(error) => Err(error),
         }

@@ -21,6 +21,7 @@ pub fn search<F: Format, M: FindAt + Copy, H: Source, W: Output>(
     requires { sink.old.matcher ≡ matcher }
     ensures settings { searcher.new.settings ≡ searcher.old.settings }
     ensures printer { sink.new.printer.ghost_name ≡ sink.old.printer.ghost_name }
+    ensures writer { sink.new.writer.ghost_name ≡ sink.old.writer.ghost_name }
     ensures printed { IsSearchPrinted F.rules M.Error.output M.facts M.first_at W.step H.remaining
         H.step searcher.old haystack.old sink.old result haystack.new sink.new }
 {
@@ -37,21 +38,23 @@ pub struct Searched {
     pub result: Result<(), SearchError>,
 }
 
-impl<F: Format, W: Output> Printer<F, W> {
-    /// Searches what a source gives, and writes what is reported, or keeps it. The path, if there is
-    /// one, is what the format writes of it.
-    pub fn search<M: FindAt + Copy, H: Source>(
+impl<F: Format> Printer<F> {
+    /// Searches what a source gives, and writes what is reported to `writer`, or keeps it. The path,
+    /// if there is one, is what the format writes of it.
+    pub fn search<M: FindAt + Copy, H: Source, W: Output>(
         &mut self,
         searcher: &mut Searcher,
         matcher: M,
         path: Option<&str>,
         haystack: &mut H,
+        writer: &mut W,
     ) -> Searched
         ensures settings { searcher.new.settings ≡ searcher.old.settings }
         ensures printed { IsPrintedBy F.rules M.Error.output M.facts M.first_at W.step H.remaining
-            H.step searcher.old matcher path.entry haystack.old self.old result haystack.new self.new }
+            H.step searcher.old matcher path.entry haystack.old writer.old self.old result
+            haystack.new writer.new self.new }
     {
-        let mut sink = self.sink(matcher, path);
+        let mut sink = self.sink(writer, matcher, path);
         let result = search(searcher, matcher, haystack, &mut sink);
         let has_match = end(sink);
         Searched { has_match, result }
@@ -60,7 +63,8 @@ impl<F: Format, W: Output> Printer<F, W> {
 
 // Ends a sink, and returns whether its search found what it is for.
 fn end<F: Format, M: FindAt + Copy, W: Output>(sink: PrinterSink<'_, F, M, W>) -> bool
-    ensures left { sink.exit.0.now ≡ sink.entry.printer.now }
+    ensures printer { sink.exit.0.now ≡ sink.entry.printer.now }
+    ensures writer { sink.exit.1.0.now ≡ sink.entry.writer.now }
     ensures has_match { result ≡ F.rules.has_match sink.entry.format }
 {
     sink.has_match()

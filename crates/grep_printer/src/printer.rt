@@ -1,9 +1,9 @@
 //! A printer of any format, and the sink of one search after another.
 ghost use Rattle.std.specs.Prelude.{◌≡◌, ◌⊎◌, ◌+◌, ◌<◌, ◌^◌, ◌&&◌, ◌||◌, [], true, false, IfErr};
 ghost use Rattle.std.specs.Prelude.{Err, MatchResult, Ok, OnErr, OnOk, ◌++◌};
-ghost use Rattle.grep_output.specs.Outputs.{Writes, flushes};
+ghost use Rattle.grep_output.specs.Outputs.{Writes};
 ghost use Rattle.std.specs.Prelude.{MatchBool, if◌then◌else◌, is_ok, length};
-ghost use Rattle.grep_output.specs.PendingTexts.{Flushes, Puts, PutsAll, pending_bytes};
+ghost use Rattle.grep_output.specs.PendingTexts.{Flushes, Puts, pending_bytes};
 ghost use Rattle.grep_report.specs.SinkReports.{match_bytes};
 ghost use Rattle.grep_searcher.specs.Plans.{reported_bytes};
 ghost use Rattle.grep_searcher.specs.SearchErrors.{IsOutOfMemory};
@@ -31,13 +31,13 @@ use std::io;
 const ROOM: usize = 64 * 1024;
 
 /// A printer: it writes what its format makes of the calls of a search. `sink` gives the sink of
-/// one search after another.
+/// one search after another, each with the writer that is lent to it.
 ///
 /// Text is kept until there are 64 KiB of it, or as much as `set_buffer_size` says, and written
-/// then or by `flush`. What is kept when the printer is dropped isn't written.
+/// then or by `flush`, after which the writer may be used otherwise. What is kept when the printer
+/// is dropped isn't written.
 #[derive(Drop)]
-pub struct Printer<F, W> {
-    pub(crate) writer: W,
+pub struct Printer<F> {
     // The texts of calls that aren't written yet, and how many bytes of them are kept.
     pub(crate) pending: Pending,
     pub(crate) room: usize,
@@ -49,17 +49,15 @@ pub struct Printer<F, W> {
     pub(crate) has_failed: bool,
 }
 
-impl<F, W> Printer<F, W> {
+impl<F> Printer<F> {
     // A printer that has written nothing yet.
-    pub(crate) fn new(alloc: Global, format: F, writer: W) -> Printer<F, W>
-        ensures writer { result.writer ≡ writer }
+    pub(crate) fn new(alloc: Global, format: F) -> Printer<F>
         ensures pending { pending_bytes result.pending ≡ [] }
         ensures format { result.format ≡ format }
         ensures has_written { result.has_written ≡ false }
         ensures has_failed { result.has_failed ≡ false }
     {
         Printer {
-            writer,
             pending: Pending::new(alloc),
             room: ROOM,
             parts: Vec::new(alloc),
@@ -93,33 +91,19 @@ impl<F, W> Printer<F, W> {
     }
 }
 
-impl<F: Format, W> Printer<F, W> {
-    /// The writer back, and what isn't written yet: nothing right after a `flush`.
-    pub fn into_parts(self) -> (W, Vec<u8>)
-        ensures writer { result.0 ≡ self.writer }
-        ensures pending { result.1.items ≡ pending_bytes self.pending }
-    {
-        let Printer {
-            writer,
-            pending,
-            room: _,
-            parts: _,
-            format: _,
-            has_written: _,
-            has_failed: _,
-        } = self;
-        (writer, pending.into_bytes())
-    }
-
-    /// The sink of a search: the matcher is that of the search, and the path, if there is one, is
-    /// what the format writes of it.
-    pub fn sink<'s, M: FindAt>(
+impl<F: Format> Printer<F> {
+    /// The sink of a search, which writes to `writer`: the matcher is that of the search, and the
+    /// path, if there is one, is what the format writes of it.
+    pub fn sink<'s, M: FindAt, W>(
         &'s mut self,
+        writer: &'s mut W,
         matcher: M,
         path: Option<&'s str>,
     ) -> PrinterSink<'s, F, M, W>
         ensures printer { result.printer.ghost_name ≡ self.entry.ghost_name }
         ensures now { result.printer.now ≡ self.old }
+        ensures writer { result.writer.ghost_name ≡ writer.entry.ghost_name }
+        ensures writes_to { result.writer.now ≡ writer.old }
         ensures matcher { result.matcher ≡ matcher }
         ensures path { result.path ≡ path.entry }
         ensures format { result.format ≡ F.rules.begun self.old.format self.old.has_written }
@@ -127,6 +111,7 @@ impl<F: Format, W> Printer<F, W> {
         let format = self.format.begun(self.has_written);
         PrinterSink {
             printer: self,
+            writer,
             matcher,
             path,
             format,
@@ -134,19 +119,19 @@ impl<F: Format, W> Printer<F, W> {
     }
 }
 
-impl<F, W: Output> Printer<F, W> {
+impl<F> Printer<F> {
     /// Writes what isn't written yet, and flushes the writer. An error is the writer's own, or of
     /// kind `WriteZero` as for `write_all` of grep_output: then nothing is kept any more.
-    pub fn flush(&mut self) -> io::Result<()>
-        ensures flushed { Flushes W.step self.old.writer (pending_bytes self.old.pending) result
-            self.new.writer }
+    pub fn flush<W: Output>(&mut self, writer: &mut W) -> io::Result<()>
+        ensures flushed { Flushes W.step writer.old (pending_bytes self.old.pending) result
+            writer.new }
         ensures emptied { pending_bytes self.new.pending ≡ [] }
         ensures format { self.new.format ≡ self.old.format }
         ensures has_written { self.new.has_written ≡ self.old.has_written }
         ensures has_failed { self.new.has_failed
             ≡ (if is_ok result then self.old.has_failed else true) }
     {
-        let flushed = self.write_and_flush();
+        let flushed = self.write_and_flush(writer);
         if flushed.is_err() {
             self.has_failed = true;
         }
@@ -154,49 +139,33 @@ impl<F, W: Output> Printer<F, W> {
     }
 
     /// Writes what isn't written yet, and doesn't flush the writer. An error is one of `flush`.
-    pub fn write_pending(&mut self) -> io::Result<()>
-        ensures written { Writes W.step self.old.writer (pending_bytes self.old.pending) result
-            self.new.writer }
+    pub fn write_pending<W: Output>(&mut self, writer: &mut W) -> io::Result<()>
+        ensures written { Writes W.step writer.old (pending_bytes self.old.pending) result
+            writer.new }
         ensures emptied { pending_bytes self.new.pending ≡ [] }
         ensures format { self.new.format ≡ self.old.format }
         ensures has_written { self.new.has_written ≡ self.old.has_written }
         ensures has_failed { self.new.has_failed
             ≡ (if is_ok result then self.old.has_failed else true) }
     {
-        let written = self.pending.write_to(&mut self.writer);
+        let written = self.pending.write_to(writer);
         if written.is_err() {
             self.has_failed = true;
         }
         written
     }
 
-    /// Flushes the writer. What isn't written yet stays so. An error is the writer's own.
-    pub fn flush_writer(&mut self) -> io::Result<()>
-        ensures flushed { W.step self.old.writer (flushes result) self.new.writer }
-        ensures pending { self.new.pending ≡ self.old.pending }
-        ensures format { self.new.format ≡ self.old.format }
-        ensures has_written { self.new.has_written ≡ self.old.has_written }
-        ensures has_failed { self.new.has_failed
-            ≡ (if is_ok result then self.old.has_failed else true) }
-    {
-        let flushed = self.writer.flush();
-        if flushed.is_err() {
-            self.has_failed = true;
-        }
-        flushed
-    }
-
     // Writes what isn't written yet, and flushes the writer.
-    fn write_and_flush(&mut self) -> io::Result<()>
-        ensures flushed { Flushes W.step self.old.writer (pending_bytes self.old.pending) result
-            self.new.writer }
+    fn write_and_flush<W: Output>(&mut self, writer: &mut W) -> io::Result<()>
+        ensures flushed { Flushes W.step writer.old (pending_bytes self.old.pending) result
+            writer.new }
         ensures emptied { pending_bytes self.new.pending ≡ [] }
         ensures format { self.new.format ≡ self.old.format }
         ensures has_written { self.new.has_written ≡ self.old.has_written }
         ensures has_failed { self.new.has_failed ≡ self.old.has_failed }
     {
-        self.pending.write_to(&mut self.writer)?;
-        self.writer.flush()
+        self.pending.write_to(writer)?;
+        writer.flush()
     }
 
     // Whether as much text is kept as is written at once.
@@ -208,8 +177,7 @@ impl<F, W: Output> Printer<F, W> {
     // they are to be written.
     #[inline(always)]
     fn keeps_text(&mut self) -> bool
-        ensures put { result ≡ true → PutsAll W.step self.old.writer self.old.pending.before
-            self.old.pending.text self.new.writer (pending_bytes self.new.pending) }
+        ensures pending { self.new.pending ≡ self.old.pending }
         ensures format { self.new.format ≡ self.old.format }
         ensures has_written { result ≡ true → self.new.has_written
             ≡ (self.old.has_written || is_text self.old.pending.text) }
@@ -225,9 +193,14 @@ impl<F, W: Output> Printer<F, W> {
 
     // Writes what is kept, and then the text of a call of which lines alone are written.
     #[inline(never)]
-    fn write_unkept(&mut self, terminator: u8, event: &Event<'_>) -> io::Result<()>
-        ensures written { Writes W.step self.old.writer (pending_bytes self.old.pending
-            ++ bare_text terminator (event_call event.now)) result self.new.writer }
+    fn write_unkept<W: Output>(
+        &mut self,
+        writer: &mut W,
+        terminator: u8,
+        event: &Event<'_>,
+    ) -> io::Result<()>
+        ensures written { Writes W.step writer.old (pending_bytes self.old.pending
+            ++ bare_text terminator (event_call event.now)) result writer.new }
         ensures emptied { pending_bytes self.new.pending ≡ [] }
         ensures format { self.new.format ≡ self.old.format }
         ensures has_written { self.new.has_written ≡ (self.old.has_written
@@ -235,7 +208,7 @@ impl<F, W: Output> Printer<F, W> {
         ensures has_failed { self.new.has_failed
             ≡ (if is_ok result then self.old.has_failed else true) }
     {
-        match self.write_kept_and_call(terminator, event) {
+        match self.write_kept_and_call(writer, terminator, event) {
             Ok(has_text) => {
                 self.has_written = self.has_written || has_text;
                 Ok(())
@@ -248,26 +221,31 @@ impl<F, W: Output> Printer<F, W> {
     }
 
     // Writes what is kept and the text of a call, and returns whether the call has any.
-    fn write_kept_and_call(&mut self, terminator: u8, event: &Event<'_>) -> io::Result<bool>
+    fn write_kept_and_call<W: Output>(
+        &mut self,
+        writer: &mut W,
+        terminator: u8,
+        event: &Event<'_>,
+    ) -> io::Result<bool>
         ensures written { MatchResult result
             (λ has_text. (has_text ≡ is_text (bare_text terminator (event_call event.now)))
-            × Writes W.step self.old.writer (pending_bytes self.old.pending
-            ++ bare_text terminator (event_call event.now)) (Ok tt) self.new.writer)
-            (λ error. Writes W.step self.old.writer (pending_bytes self.old.pending
-            ++ bare_text terminator (event_call event.now)) (Err error) self.new.writer) }
+            × Writes W.step writer.old (pending_bytes self.old.pending
+            ++ bare_text terminator (event_call event.now)) (Ok tt) writer.new)
+            (λ error. Writes W.step writer.old (pending_bytes self.old.pending
+            ++ bare_text terminator (event_call event.now)) (Err error) writer.new) }
         ensures emptied { pending_bytes self.new.pending ≡ [] }
         ensures format { self.new.format ≡ self.old.format }
         ensures has_written { self.new.has_written ≡ self.old.has_written }
         ensures has_failed { self.new.has_failed ≡ self.old.has_failed }
     {
-        self.pending.write_to(&mut self.writer)?;
-        write_call(&mut self.writer, terminator, event)
+        self.pending.write_to(writer)?;
+        write_call(writer, terminator, event)
     }
 
     // Ends the text at hand: it is kept, or it and those before it are written.
-    pub(crate) fn end_text(&mut self) -> io::Result<()>
-        ensures put { Puts W.step self.old.writer self.old.pending.before self.old.pending.text
-            result self.new.writer (pending_bytes self.new.pending) }
+    pub(crate) fn end_text<W: Output>(&mut self, writer: &mut W) -> io::Result<()>
+        ensures put { Puts W.step writer.old self.old.pending.before self.old.pending.text
+            result writer.new (pending_bytes self.new.pending) }
         ensures emptied { OnErr result (pending_bytes self.new.pending ≡ []) }
         ensures format { self.new.format ≡ self.old.format }
         ensures has_written { self.new.has_written
@@ -279,7 +257,7 @@ impl<F, W: Output> Printer<F, W> {
             return Ok(());
         }
         let has_text = self.pending.text_len() > 0;
-        match self.pending.write_to(&mut self.writer) {
+        match self.pending.write_to(writer) {
             Ok(()) => {
                 self.has_written = self.has_written || has_text;
                 Ok(())
@@ -295,7 +273,8 @@ impl<F, W: Output> Printer<F, W> {
 /// The sink of one search, which prints its calls.
 #[derive(Drop)]
 pub struct PrinterSink<'s, F, M, W> {
-    pub(crate) printer: &'s mut Printer<F, W>,
+    pub(crate) printer: &'s mut Printer<F>,
+    pub(crate) writer: &'s mut W,
     pub(crate) matcher: M,
     pub(crate) path: Option<&'s str>,
     pub(crate) format: F,
@@ -421,7 +400,7 @@ impl<'s, F: Format, M: FindAt, W: Output> PrinterSink<'s, F, M, W> {
             printer.pending.cancel();
             if printer.parts.is_empty() && before.is_bare(searcher, self.path) {
                 let terminator = searcher.line_terminator().as_byte();
-                match printer.write_unkept(terminator, event) {
+                match printer.write_unkept(self.writer, terminator, event) {
                     Ok(()) => return Ok(goes_on),
                     Err(error) => return Err(SearchError::Io(error)),
                 }
@@ -432,7 +411,7 @@ impl<'s, F: Format, M: FindAt, W: Output> PrinterSink<'s, F, M, W> {
         if printer.keeps_text() {
             return Ok(goes_on);
         }
-        match self.printer.end_text() {
+        match self.printer.end_text(self.writer) {
             Ok(()) => Ok(goes_on),
             Err(error) => Err(SearchError::Io(error)),
         }

@@ -26,7 +26,7 @@ pub struct ReplacedFormat<'t, F, M> {
     pub(crate) template: &'t Template,
 }
 
-impl<F, W> Printer<F, W> {
+impl<F> Printer<F> {
     /// The printer, which has written nothing yet, with each part that matches replaced by what a
     /// template makes of its groups: each sink has to be for the search with this matcher. Where a
     /// report would then be too long to have an offset of 64 bits, that counts as being out of
@@ -35,8 +35,7 @@ impl<F, W> Printer<F, W> {
         self,
         matcher: M,
         template: &'t Template,
-    ) -> Printer<ReplacedFormat<'t, F, M>, W>
-        ensures writer { result.writer ≡ self.writer }
+    ) -> Printer<ReplacedFormat<'t, F, M>>
         ensures pending { pending_bytes result.pending ≡ pending_bytes self.pending }
         ensures format { result.format.format ≡ self.format }
         ensures matcher { result.format.matcher ≡ matcher }
@@ -46,7 +45,6 @@ impl<F, W> Printer<F, W> {
         ensures has_failed { result.has_failed ≡ self.has_failed }
     {
         let Printer {
-            writer,
             pending,
             room,
             parts,
@@ -55,7 +53,6 @@ impl<F, W> Printer<F, W> {
             has_failed,
         } = self;
         Printer {
-            writer,
             pending,
             room,
             parts,

@@ -19,7 +19,7 @@ use std::alloc::Allocator;
 
 /// A printer of lines: it writes each line that a search reports, after the fields that are asked
 /// for. `sink` gives the sink of one search after another.
-pub type Standard<'c, W> = Printer<StandardFormat<'c>, W>;
+pub type Standard<'c> = Printer<StandardFormat<'c>>;
 
 /// The sink of one search, which writes each line that is reported.
 pub type StandardSink<'s, 'c, M, W> = PrinterSink<'s, StandardFormat<'c>, M, W>;

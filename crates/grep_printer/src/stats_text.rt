@@ -16,15 +16,21 @@ use grep_searcher::SearchError;
 use std::alloc::{AllocError, Global};
 use std::time::Duration;
 
-impl<F, W: Output> Printer<CountedFormat<F>, W> {
+impl<F> Printer<CountedFormat<F>> {
     /// Writes what was searched, found and written in all searches, in lines of their own after an
     /// empty one, and how long they took together. An error is the writer's, or one of being out of
     /// memory.
-    pub fn write_stats(&mut self, stats: &Stats, elapsed: Duration) -> Result<(), SearchError>
+    pub fn write_stats<W: Output>(
+        &mut self,
+        writer: &mut W,
+        stats: &Stats,
+        elapsed: Duration,
+    ) -> Result<(), SearchError>
         ensures { MatchResult result
-            (λ _. PutsText W.step self.old (stats_text stats.now (nanos_of elapsed)) self.new)
-            (λ e. FailsToPutText W.step self.old (stats_text stats.now (nanos_of elapsed)) e
-            self.new) }
+            (λ _. PutsText W.step writer.old self.old (stats_text stats.now (nanos_of elapsed))
+            writer.new self.new)
+            (λ e. FailsToPutText W.step writer.old self.old (stats_text stats.now (nanos_of elapsed)) e
+            writer.new self.new) }
     {
         self.pending.begin();
         push_stats(&mut self.pending, stats, nanoseconds(elapsed));
@@ -32,7 +38,7 @@ impl<F, W: Output> Printer<CountedFormat<F>, W> {
             self.pending.cancel();
             return Err(SearchError::from(AllocError));
         }
-        match self.end_text() {
+        match self.end_text(writer) {
             Ok(()) => Ok(()),
             Err(error) => Err(SearchError::Io(error)),
         }

@@ -16,7 +16,7 @@ use std::alloc::Allocator;
 
 /// A printer of summaries: it writes one line for a search, or none. `sink` gives the sink of one
 /// search after another.
-pub type Summary<'c, W> = Printer<SummaryFormat<'c>, W>;
+pub type Summary<'c> = Printer<SummaryFormat<'c>>;
 
 /// The sink of one search, which counts the matches, and writes the summary when the search ends. A
 /// search of which only the first match counts ends there, unless all are to be counted. A search

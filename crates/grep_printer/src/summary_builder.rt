@@ -101,10 +101,9 @@ impl<'c> SummaryBuilder<'c> {
         }
     }
 
-    /// A printer with these settings, which writes to `writer`. It takes memory from `alloc` when
-    /// it writes, and when it counts the parts of a match.
-    pub fn build<W>(&self, alloc: Global, writer: W) -> Summary<'c, W>
-        ensures writer { result.writer ≡ writer }
+    /// A printer with these settings. It takes memory from `alloc` when it writes, and when it
+    /// counts the parts of a match.
+    pub fn build(&self, alloc: Global) -> Summary<'c>
         ensures pending { pending_bytes result.pending ≡ [] }
         ensures config { result.format.config ≡ self.now }
         ensures has_written { result.has_written ≡ false }
@@ -114,7 +113,7 @@ impl<'c> SummaryBuilder<'c> {
             config: self.config,
             counts: Counts::new(),
         };
-        Printer::new(alloc, format, writer)
+        Printer::new(alloc, format)
     }
 
     /// What is written of a search; by default how many matches were reported.

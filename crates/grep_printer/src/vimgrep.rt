@@ -20,7 +20,7 @@ use std::alloc::{Allocator, Global};
 
 /// A printer of a line for each part that matches, as Vim's quickfix list reads them. It follows
 /// ripgrep's `--vimgrep`. `sink` gives the sink of one search after another.
-pub type Vimgrep<'c, W> = Printer<VimgrepFormat<'c>, W>;
+pub type Vimgrep<'c> = Printer<VimgrepFormat<'c>>;
 
 /// The sink of one search, which writes a line for each part that matches.
 pub type VimgrepSink<'s, 'c, M, W> = PrinterSink<'s, VimgrepFormat<'c>, M, W>;
@@ -35,8 +35,7 @@ impl<'c> StandardBuilder<'c> {
     /// A printer that writes for each part that matches the line in which it starts, after the path,
     /// the line's number, the part's column in it if `column` is set, and its offset if
     /// `byte_offset` is. The settings `heading` and `only_matching` don't count.
-    pub fn build_vimgrep<W>(&self, alloc: Global, writer: W) -> Vimgrep<'c, W>
-        ensures writer { result.writer ≡ writer }
+    pub fn build_vimgrep(&self, alloc: Global) -> Vimgrep<'c>
         ensures pending { pending_bytes result.pending ≡ [] }
         ensures config { result.format.lines.config ≡ vimgrep_config self.now }
         ensures has_written { result.has_written ≡ false }
@@ -47,7 +46,7 @@ impl<'c> StandardBuilder<'c> {
         config.only_matching = false;
         let progress = Progress::new(false);
         let lines = StandardFormat { config, progress };
-        Printer::new(alloc, VimgrepFormat { lines }, writer)
+        Printer::new(alloc, VimgrepFormat { lines })
     }
 }
 

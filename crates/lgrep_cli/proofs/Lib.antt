@@ -2,9 +2,6 @@ pub mod CommandLemmas
 pub mod CommandRows
 pub mod CountTextLemmas
 pub mod NumeralLemmas
-pub mod OneLineLemmas
-pub mod PrintLemmas
 pub mod PrinterLemmas
-pub mod PutLemmas
 pub mod RunLemmas
 pub mod SearchLemmas

@@ -1,41 +1,41 @@
 -- What a search of a reader with a printer has put, and what is written in the end.
-use Rattle.std.proofs.Common.{◌≡◌, ℕ, List, [], ◌++◌, inl, inr, length, refl, sym, ap, ◌∙◌, subst}
+use Rattle.std.proofs.Common.{◌≡◌, ℕ, List, [], ◌++◌, refl, sym, ap, ◌∙◌, subst}
 use Rattle.std.proofs.lemmas.List.{append-nil}
-use Rattle.std.specs.Prelude.{Bool, true, false, ◌||◌, if◌then◌else◌, Option, Some, None, Result, Ok, Err, IfErr, OnOk}
-use Rattle.std.specs.Prelude.{string_bytes, All}
+use Rattle.std.specs.Prelude.{Bool, true, false, if◌then◌else◌, Option, Some, None, Result, Ok, Err, IfErr, OnOk}
+use Rattle.std.specs.Borrow.{Bor}
 use Rattle.std.specs.Global.{Global}
 use Rattle.std.specs.Io.KnownBytes.{Appends, Consumes, IsAtEnd}
 use Rattle.std.specs.List.{concat}
 use Rattle.std.specs.declared.io.Error.{Error}
 use Rattle.grep_decode.specs.Source.{ReadResult}
-use Rattle.grep_matcher.specs.Literals.{literal_meaning}
+use Rattle.grep_matcher.specs.Meanings.{IsInfallible, MatcherFacts}
+use Rattle.grep_matcher.specs.declared.LineTerminator.{LineTerminator}
+use Rattle.grep_output.proofs.OutputLemmas.{Appends-more, written-appends}
+use Rattle.grep_output.proofs.PendingLemmas.{Puts-written}
+use Rattle.grep_output.specs.Outputs.{OutputCall, flushes, taken_by, Writes}
+use Rattle.grep_output.specs.PendingTexts.{pending_bytes}
+use Rattle.grep_printer.specs.PrintedSearches.{IsPrintedBy, IsSearchPrinted, IsSourcePrinted, PrintsCalls, of_input}
+use Rattle.grep_printer.specs.PrintedSearches.{of_reading, search_errors}
+use Rattle.grep_printer.specs.StandardTexts.{default_config, standard_rules}
+use Rattle.grep_printer.specs.declared.printed_search.Searched.{Searched}
+use Rattle.grep_printer.specs.declared.printer.Printer.{Printer}
+use Rattle.grep_printer.specs.declared.printer.PrinterSink.{PrinterSink}
+use Rattle.grep_printer.specs.declared.standard.StandardFormat.{StandardFormat}
+use Rattle.grep_searcher.specs.Plans.{Planned, SearcherState, Settings, refusal_of, search_plan}
+use Rattle.grep_searcher.specs.SearchErrors.{IsOutOfMemory}
+use Rattle.grep_searcher.specs.Searches
+use Rattle.grep_searcher.specs.Searches.{BinaryPoint, IsInput, IsUnlessRefusedBy, IsUnread, Reads, Taken, calls_with}
+use Rattle.grep_searcher.specs.Searches.{searched_bytes}
 use Rattle.grep_searcher.specs.declared.ConfigError.{ConfigError}
 use Rattle.grep_searcher.specs.declared.SearchError.{SearchError}
 use Rattle.grep_searcher.specs.declared.SearchError.TheVariants.{Io}
-use Rattle.grep_searcher.specs.SearchErrors.{IsOutOfMemory}
-use Rattle.grep_searcher.specs.Plans.{Settings, SearcherState, AreMade, all_true}
-use Rattle.grep_searcher.specs.Searches.{nowhere, BinaryPoint, calls_with, GoesOnWith}
-use Rattle.grep_searcher.specs.Searches.{IsReaderSearch, IsReaderSearched, IsRead, searched_bytes}
-use Rattle.grep_searcher.specs.Searches.{IsInput, IsUnread, Reads, Taken}
-use Rattle.grep_searcher.specs.ErrorMakers.{ErrorMakers}
-use Rattle.grep_searcher.specs.Meanings.{MatcherFacts}
-use Rattle.grep_searcher.specs.Searches
-use Rattle.grep_searcher.specs.SearchLaws.{MatchesAreMatchedLines}
-use Rattle.grep_searcher.specs.SinkFolds.{InputsAreSearched}
+use Rattle.lgrep_cli.proofs.PrinterLemmas.{ArePut, IsBegun, IsCut, goes-put, input-put}
 use Rattle.lgrep_cli.specs.OptionSettings.{numbered_unless, settings_of_options}
-use Rattle.lgrep_cli.specs.Printers.{Prints, IsMade}
+use Rattle.lgrep_cli.specs.PrintedTexts.{count_text, text}
 use Rattle.lgrep_cli.specs.ProgramRuns.{searcher_of, meaning_of, calls_of, calls_over, whole_text, partial_text, Input}
 use Rattle.lgrep_cli.specs.ProgramRuns.{IsPrinted, IsPrintedAndFlushed, IsPrintedWhole, IsProgramRun, IsFailure}
 use Rattle.lgrep_cli.specs.ProgramRuns.{of_memory, of_reader, of_reader_and_write, of_write}
-use Rattle.lgrep_cli.specs.PrintedTexts.{count_text, text, has_match}
-use Rattle.grep_output.specs.Outputs.{OutputCall, flushes, taken_by, Writes}
-use Rattle.grep_output.specs.PendingTexts.{PutsAll}
 use Rattle.lgrep_cli.specs.declared.options.Options.{Options}
-use Rattle.lgrep_cli.specs.declared.printer.Printer.{Printer}
-use Rattle.lgrep_cli.proofs.OneLineLemmas.{calls-made}
-use Rattle.grep_output.proofs.OutputLemmas.{Appends-more, written-appends}
-use Rattle.grep_output.proofs.PendingLemmas.{Puts-written}
-use Rattle.lgrep_cli.proofs.PrinterLemmas.{ArePut, IsCut, put-none, reported-put, search-put}
 
 -- an input with nothing after the pieces that came
 abbrev bytes_of : Settings → List (List ℕ) → List ℕ
@@ -135,223 +135,244 @@ module _ {R W : Type 0} (remaining : R → Option (List ℕ)) (read_step : R →
     failed = tt;
   }
 
+-- what a search leaves, of which nothing was pending at first
 module _ {R W : Type 0} (remaining : R → Option (List ℕ)) (read_step : R → ReadResult → R → Type 0)
-    (write_step : W → OutputCall → W → Type 0) (law : MatchesAreMatchedLines) (options : Options)
-    (uncounts : options.count ≡ false) (reader reader' : R) (old new : Printer W) (empty : old.pending.now ≡ []) where
-  -- the calls are as a search makes them
-  made : (bytes : List ℕ) → All (λ planned. IsMade (settings_of_options options) planned.call) (calls_of options bytes)
-  made bytes = calls-made law (settings_of_options options) (meaning_of options) bytes refl
-
+    (write_step : W → OutputCall → W → Type 0) (options : Options) (reader reader' : R) (old now : W)
+    (printer : Printer StandardFormat) (found : Bool) where
   -- a run ends in an error, with the writer in this state
-  abbrev Fails : SearchError Global → W → Type 0
-  Fails e writer = IsFailure remaining read_step write_step options reader old.writer.now e reader' writer
+  abbrev pub Fails : SearchError Global → W → Type 0
+  Fails e writer = IsFailure remaining read_step write_step options reader old e reader' writer
 
   -- how a run ends whose search ended well, by what writing the pending text returned
-  abbrev EndsRun : Result (Unit {0}) Error → W → Type 0
-  EndsRun (Ok u) writer = IsPrinted remaining read_step write_step options reader old.writer.now new.found reader'
-      writer
+  abbrev pub EndsRun : Result (Unit {0}) Error → W → Type 0
+  EndsRun (Ok u) writer = IsPrinted remaining read_step write_step options reader old found reader' writer
   EndsRun (Err error) writer = Fails (Io error) writer
 
   -- and one whose search ended in an error of reading: on `Ok` a flush follows
-  abbrev EndsUnread : SearchError Global → Result (Unit {0}) Error → W → Type 0
-  EndsUnread e (Ok u) writer = (flushed : Result (Unit {0}) Error) (last : W) → write_step writer (flushes flushed) last
-      → Fails e last
+  abbrev pub EndsUnread : SearchError Global → Result (Unit {0}) Error → W → Type 0
+  EndsUnread e (Ok u) writer = (flushed : Result (Unit {0}) Error) (last : W)
+      → write_step writer (flushes flushed) last → Fails e last
   EndsUnread e (Err error) writer = Fails (Io error) writer
 
-  -- what a search leaves: on an error the writer failed, or what is pending may still be written
+  -- what is pending is written
+  abbrev pub Rest : Result (Unit {0}) Error → W → Type 0
+  Rest result writer = Writes write_step now (pending_bytes printer.pending) result writer
+
+  -- on an error the writer failed, or what is pending may still be written
   pub record IsSearched (result : Result (Unit {0}) (SearchError Global)) : Type 0 where
-    pub same_writer : new.writer.ghost_name ≡ old.writer.ghost_name
-    pub printed : OnOk result ((written : Result (Unit {0}) Error) (writer : W)
-        → Writes write_step new.writer.now new.pending.now written writer → EndsRun written writer)
-    pub of_writer : IfErr result (λ e. new.has_failed ≡ true → Fails e new.writer.now)
-    pub of_reading : IfErr result (λ e. new.has_failed ≡ false → (written : Result (Unit {0}) Error) (writer : W)
-        → Writes write_step new.writer.now new.pending.now written writer → EndsUnread e written writer)
+    pub printed : OnOk result ((written : Result (Unit {0}) Error) (writer : W) → Rest written writer
+        → EndsRun written writer)
+    pub of_writer : IfErr result (λ e. printer.has_failed ≡ true → Fails e now)
+    pub of_reading : IfErr result (λ e. printer.has_failed ≡ false → (written : Result (Unit {0}) Error) (writer : W)
+        → Rest written writer → EndsUnread e written writer)
 
-  -- at first nothing was pending
-  from_first : (xs : List ℕ) (error : Error) → Writes write_step old.writer.now (old.pending.now ++ xs) (Err error)
-      new.writer.now
-      → Writes write_step old.writer.now xs (Err error) new.writer.now
-  from_first xs error written = subst (λ p. Writes write_step old.writer.now (p ++ xs) (Err error) new.writer.now) empty
-      written
+module _ {R W M E : Type 0} (remaining : R → Option (List ℕ)) (read_step : R → ReadResult → R → Type 0)
+    (write_step : W → OutputCall → W → Type 0) (output : E → Option (List ℕ)) (facts : M → MatcherFacts E)
+    (first_at : M → List ℕ → ℕ → Option (ℕ × ℕ)) (options : Options) (uncounts : options.count ≡ false)
+    (reader reader' : R) (begun ended : PrinterSink StandardFormat M W) (is : IsBegun begun)
+    (known : (facts begun.matcher).meaning ≡ meaning_of options) (infallible : IsInfallible (facts begun.matcher).fails)
+  where
+    abbrev settings : Settings
+    settings = settings_of_options options
 
-  -- a text is written as far as what is pending is
-  then_written : (xs : List ℕ) → PutsAll write_step old.writer.now old.pending.now xs new.writer.now new.pending.now
-      → (result : Result (Unit {0}) Error) (writer : W) → Writes write_step new.writer.now new.pending.now result writer
-      → Writes write_step old.writer.now xs result writer
-  then_written xs put result writer rest = Puts-written write_step old.writer.now new.writer.now writer xs
-      new.pending.now result
-      (subst (λ p. PutsAll write_step old.writer.now p xs new.writer.now new.pending.now) empty put) rest
+    abbrev old : W
+    old = begun.writer.now
 
-  -- the writer failed, whatever follows what was taken
-  cut : (e : SearchError Global) (taken : Taken remaining read_step reader reader')
-      → ((bytes : List ℕ) → Input options taken bytes
-      → IsCut write_step (settings_of_options options) old (calls_of options bytes) e new)
-      → IsSearched (Err e)
-  cut e taken all =
-      let first = all (bytes_of (settings_of_options options) taken.pieces)
-      (nothing-more (settings_of_options options) taken.ended taken.pieces) in
-      record {
-        same_writer = first.same_writer;
+    abbrev now : W
+    now = ended.writer.now
+
+    abbrev Put : List Planned → Type 0
+    Put calls = ArePut output facts first_at write_step options begun is calls ended
+
+    abbrev Cut : List Planned → SearchError Global → Type 0
+    Cut calls e = IsCut output facts first_at write_step options begun is calls e ended
+
+    abbrev pub HasSearched : Result (Unit {0}) (SearchError Global) → Type 0
+    HasSearched result = IsSearched remaining read_step write_step options reader reader' old now ended.printer.now
+        ended.format.progress.has_match result
+
+    abbrev Left : Result (Unit {0}) Error → W → Type 0
+    Left result writer = Writes write_step now (pending_bytes ended.printer.now.pending) result writer
+
+    -- a text is written as far as what is pending is
+    then_written : (calls : List Planned) → Put calls → (result : Result (Unit {0}) Error) (writer : W)
+        → Left result writer → Writes write_step old (text calls) result writer
+    then_written calls put result writer rest = Puts-written write_step old now writer (text calls)
+        (pending_bytes ended.printer.now.pending) result put.put rest
+
+    -- the writer failed, whatever follows what was taken
+    cut : (e : SearchError Global) (taken : Taken remaining read_step reader reader')
+        → ((bytes : List ℕ) → Input options taken bytes → Cut (calls_of options bytes) e) → HasSearched (Err e)
+    cut e taken all =
+        let first = all (bytes_of settings taken.pieces) (nothing-more settings taken.ended taken.pieces) in
+        record {
+          printed = tt;
+          of_writer = λ failed. subst (λ x. IsFailure remaining read_step write_step options reader old x reader' now)
+              (sym first.is_io) (of_write taken (λ bytes input. uncounted write_step options
+              (count_text (calls_of options bytes)) (text (calls_of options bytes)) old (Err first.error) now uncounts
+              (subst (λ error. Writes write_step old (text (calls_of options bytes)) (Err error) now)
+              (same-error e (all bytes input).error first.error (all bytes input).is_io first.is_io)
+              (all bytes input).put)));
+          of_reading = λ ok. absurd (not-both ended.printer.now.has_failed first.has_failed ok);
+        }
+
+    -- the calls were made over the lines that were seen, and the input wasn't read to its end
+    module _ (begins : Bool) (seen : List ℕ) (error : Error)
+        (unread : IsUnread remaining read_step (numbering options false) (meaning_of options) reader begins seen error
+        reader')
+        (put : (result : Result (Unit {0}) Error) (writer : W) → Left result writer
+        → Writes write_step old (text (calls_over options begins seen)) result writer) where
+      its_unread : IsUnread remaining read_step (searcher_of options) (meaning_of options) reader begins seen error
+          reader'
+      its_unread = subst (λ b. IsUnread remaining read_step (numbering options b) (meaning_of options) reader begins
+          seen error reader')
+          (sym uncounts) unread
+
+      its_text : (result : Result (Unit {0}) Error) (writer : W) → Left result writer
+          → Writes write_step old (partial_text options (calls_over options begins seen)) result writer
+      its_text result writer rest = uncounted write_step options [] (text (calls_over options begins seen)) old result
+          writer uncounts (put result writer rest)
+
+      its_end : (result : Result (Unit {0}) Error) (writer : W) → Left result writer
+          → EndsUnread remaining read_step write_step options reader reader' old now ended.printer.now
+          ended.format.progress.has_match (Io error) result writer
+      its_end (Ok u) writer rest =
+          λ flushed last flush. of_reader begins seen flushed its_unread (its_text (Ok u) writer rest) flush
+      its_end (Err failed) writer rest = of_reader_and_write begins seen error its_unread
+          (its_text (Err failed) writer rest)
+
+      ends-unread : ended.printer.now.has_failed ≡ false → HasSearched (Err (Io error))
+      ends-unread works = record {
         printed = tt;
-        of_writer = λ failed. subst (λ x. Fails x new.writer.now) (sym first.is_io) (of_write taken (λ bytes input.
-            uncounted write_step options (count_text (calls_of options bytes)) (text (calls_of options bytes))
-            old.writer.now
-            (Err first.error) new.writer.now uncounts
-            (subst (λ error. Writes write_step old.writer.now (text (calls_of options bytes)) (Err error)
-            new.writer.now)
-            (same-error e (all bytes input).error first.error (all bytes input).is_io first.is_io)
-            (from_first (text (calls_of options bytes)) (all bytes input).error (all bytes input).put))));
-        of_reading = λ ok. absurd (not-both new.has_failed first.has_failed ok);
+        of_writer = λ failed. absurd (not-both ended.printer.now.has_failed failed works);
+        of_reading = λ ok. its_end;
       }
 
-  -- the calls were made over the lines that were seen, and the input wasn't read to its end
-  module _ (begun : Bool) (seen : List ℕ) (error : Error)
-      (unread : IsUnread remaining read_step (numbering options false) (meaning_of options) reader begun seen error reader')
-      (put : ArePut write_step (settings_of_options options) old (calls_over options begun seen) new) where
-    its_unread : IsUnread remaining read_step (searcher_of options) (meaning_of options) reader begun seen error reader'
-    its_unread = subst (λ b. IsUnread remaining read_step (numbering options b) (meaning_of options) reader begun seen error
-        reader')
-        (sym uncounts) unread
-
-    its_text : (result : Result (Unit {0}) Error) (writer : W)
-        → Writes write_step new.writer.now new.pending.now result writer
-        → Writes write_step old.writer.now (partial_text options (calls_over options begun seen)) result writer
-    its_text result writer rest = uncounted write_step options [] (text (calls_over options begun seen)) old.writer.now result
-        writer uncounts
-        (then_written (text (calls_over options begun seen)) put.put result writer rest)
-
-    its_end : (e : SearchError Global) → e ≡ Io error → (result : Result (Unit {0}) Error) (writer : W)
-        → Writes write_step new.writer.now new.pending.now result writer → EndsUnread e result writer
-    its_end e io (Ok u) writer rest = λ flushed last flush. subst (λ x. Fails x last) (sym io)
-        (of_reader begun seen flushed its_unread (its_text (Ok u) writer rest) flush)
-    its_end e io (Err failed) writer rest = of_reader_and_write begun seen error its_unread
-        (its_text (Err failed) writer rest)
-
-  unread : (begun : Bool) (seen : List ℕ) (error : Error) (e : SearchError Global) → e ≡ Io error → old.has_failed ≡ false
-      → IsUnread remaining read_step (numbering options false) (meaning_of options) reader begun seen error reader'
-      → ArePut write_step (settings_of_options options) old (calls_over options begun seen) new → IsSearched (Err e)
-  unread begun seen error e io none fails put = record {
-    same_writer = put.same_writer;
-    printed = tt;
-    of_writer = λ failed. absurd (not-both new.has_failed failed (put.has_failed ∙ none));
-    of_reading = λ ok. its_end begun seen error fails put e io;
-  }
-
-  module _ {F : Type 0} (is_message : F → SearchError Global → Type 0)
-      (is_config : ConfigError → SearchError Global → Type 0) where
-    -- how a search's errors are made, and what is known of the matcher of a literal
-    abbrev errors : ErrorMakers F (SearchError Global)
-    errors = record { is_message = is_message; is_io = λ error e. e ≡ Io error; is_config = is_config }
-
-    abbrev facts : List ℕ → MatcherFacts F
-    facts literal = record {
-      meaning = literal_meaning literal;
-      fails = λ _ _. ⊥;
-      is_lawful = λ _. Unit {0};
-    }
-
-    -- the calls over the lines that were seen: no binary byte is looked for
-    reported : (ended : Bool) (pieces : List (List ℕ)) (seen : List ℕ)
-        → GoesOnWith (Prints write_step) errors (facts (string_bytes options.literal)) (settings_of_options options)
-        (λ calls point. (bytes : List ℕ) → IsInput (settings_of_options options) ended pieces bytes
-        → point ≡ None) (calls_of options seen) old new
-        → ArePut write_step (settings_of_options options) old (calls_of options seen) new
-    reported ended pieces seen (point, at, goes_on, made_all) =
-        reported-put write_step (settings_of_options options) (calls_of options seen) (made seen) old all_true new
-        (subst (λ (p : Option BinaryPoint). AreMade (Prints write_step) (settings_of_options options) old
-        (calls_with p (calls_of options seen)) all_true new)
-        (at (bytes_of (settings_of_options options) pieces)
-        (nothing-more (settings_of_options options) ended pieces)) made_all)
-
     -- the calls of a whole search
-    run : (taken : Taken remaining read_step reader reader')
-        → ((bytes : List ℕ) → Input options taken bytes
-        → ArePut write_step (settings_of_options options) old (calls_of options bytes) new)
-        → old.found ≡ false → IsSearched (Ok tt)
-    run taken all none = record {
-      same_writer = (all (bytes_of (settings_of_options options) taken.pieces)
-          (nothing-more (settings_of_options options) taken.ended taken.pieces)).same_writer;
-      printed = end;
-      of_writer = tt;
-      of_reading = tt;
-    }
+    whole : (taken : Taken remaining read_step reader reader')
+        → ((bytes : List ℕ) → Input options taken bytes → Put (calls_of options bytes)) → HasSearched (Ok tt)
+    whole taken all = record { printed = end; of_writer = tt; of_reading = tt }
       where
-        its_text : (result : Result (Unit {0}) Error) (writer : W)
-            → Writes write_step new.writer.now new.pending.now result writer
+        its_text : (result : Result (Unit {0}) Error) (writer : W) → Left result writer
             → (bytes : List ℕ) → Input options taken bytes
-            → Writes write_step old.writer.now (whole_text options (calls_of options bytes)) result writer
+            → Writes write_step old (whole_text options (calls_of options bytes)) result writer
         its_text result writer rest bytes input = uncounted write_step options (count_text (calls_of options bytes))
-            (text (calls_of options bytes)) old.writer.now result writer uncounts
-            (then_written (text (calls_of options bytes)) (all bytes input).put result writer rest)
+            (text (calls_of options bytes)) old result writer uncounts
+            (then_written (calls_of options bytes) (all bytes input) result writer rest)
 
-        end : (result : Result (Unit {0}) Error) (writer : W)
-            → Writes write_step new.writer.now new.pending.now result writer
-            → EndsRun result writer
+        end : (result : Result (Unit {0}) Error) (writer : W) → Left result writer
+            → EndsRun remaining read_step write_step options reader reader' old now ended.printer.now
+            ended.format.progress.has_match result writer
         end (Ok u) writer rest = record {
           taken = taken;
           written = its_text (Ok u) writer rest;
-          is_found = λ bytes input. (all bytes input).is_found ∙ ap (λ b. b || has_match (calls_of options bytes)) none;
+          is_found = λ bytes input. (all bytes input).is_found;
         }
         end (Err error) writer rest = of_write taken (its_text (Err error) writer rest)
 
-    -- under the options' settings, with the matcher of their literal, no search is refused, and none looks for binary
-    -- bytes
-    searched : InputsAreSearched (Prints write_step) errors (facts (string_bytes options.literal)) remaining read_step
-        → (result : Result (Unit {0}) (SearchError Global)) → old.found ≡ false → old.has_failed ≡ false
-        → IsReaderSearched remaining read_step (Prints write_step) errors (facts (string_bytes options.literal))
-        (numbering options false) reader old result reader' new
-        → IsSearched result
-    searched inputs (Ok u) none ok search =
-        let whole : IsReaderSearch remaining read_step (Prints write_step) errors (facts (string_bytes options.literal))
-        (numbering options false) nowhere reader old (Ok u) reader' new = search (λ _. tt) in
-        run whole.taken (λ bytes input. search-put write_step (settings_of_options options) errors
-        (facts (string_bytes options.literal)) bytes (made bytes) (λ _ _ h. h) (length whole.seen)
-        old (Ok u) new (inputs (numbering options false) nowhere reader old (Ok u) reader' new whole bytes input)) none
-    searched inputs (Err e) none ok search = go (search (λ _. tt))
-      where
-        go : IsRead remaining read_step (Prints write_step) errors (facts (string_bytes options.literal))
-            (numbering options false) nowhere
-            reader old (Err e) reader' new → IsSearched (Err e)
-        go (inl whole) =
-            cut e whole.taken (λ bytes input. search-put write_step (settings_of_options options) errors
-            (facts (string_bytes options.literal)) bytes (made bytes) (λ _ _ h. h) (length whole.seen)
-            old (Err e) new (inputs (numbering options false) nowhere reader old (Err e) reader' new whole bytes input))
-        go (inr short) = by short.begun refl
-          where
-            by : (begun : Bool) → short.begun ≡ begun → IsSearched (Err e)
-            by true is =
-                unread true short.seen short.error e short.made ok (
-                  short.mid,
-                  short.taken,
-                  subst (λ b. Searches.IsCut remaining read_step (numbering options false)
-                      (meaning_of options) reader short.mid reader' short.taken short.seen b short.error) is short.cause,
-                )
-                (reported short.taken.ended short.taken.pieces short.seen (short.calls is))
-            by false is =
-                unread false short.seen short.error e short.made ok (
-                  short.mid,
-                  short.taken,
-                  subst (λ b. Searches.IsCut remaining read_step (numbering options false)
-                      (meaning_of options) reader short.mid reader' short.taken short.seen b short.error) is short.cause,
-                )
-                (subst (ArePut write_step (settings_of_options options) old []) (sym (short.none is))
-                (put-none write_step (settings_of_options options) old))
+    -- nothing is pending at first, and then nothing is written
+    nothing_written : ended ≡ begun → (result : Result (Unit {0}) Error) (writer : W) → Left result writer
+        → Writes write_step old [] result writer
+    nothing_written same result writer rest =
+        subst (λ p. Writes write_step old p result writer) is.pending
+        (subst (λ (sink : PrinterSink StandardFormat M W). Writes write_step sink.writer.now
+        (pending_bytes sink.printer.now.pending) result writer) same rest)
 
-    -- the same, if the searcher and the matcher are known to be these
-    pub reader-searched : (state : SearcherState) (literal : List ℕ) (result : Result (Unit {0}) (SearchError Global))
-        → state ≡ searcher_of options → literal ≡ string_bytes options.literal → old.found ≡ false
-        → old.has_failed ≡ false
-        → InputsAreSearched (Prints write_step) errors (facts literal) remaining read_step
-        → IsReaderSearched remaining read_step (Prints write_step) errors (facts literal) state reader old result
-        reader' new
-        → IsSearched result
-    reader-searched state literal result same_state same_literal none ok inputs search =
-        searched
-        (subst (λ l. InputsAreSearched (Prints write_step) errors (facts l) remaining read_step) same_literal inputs)
-        result none ok
-        (subst (λ l. IsReaderSearched remaining read_step (Prints write_step) errors (facts l)
-        (numbering options false) reader old result reader' new)
-        same_literal
-        (subst (λ s. IsReaderSearched remaining read_step (Prints write_step) errors (facts literal) s reader old result
-        reader' new)
-        (same_state ∙ ap (numbering options) uncounts) search))
+    -- what a search of a source printed
+    source-searched : (result : Result (Unit {0}) (SearchError Global))
+        → IsSourcePrinted standard_rules output facts first_at write_step remaining read_step (numbering options false)
+        reader begun result reader' ended
+        → HasSearched result
+    source-searched (Ok u) (of_input taken count printed) =
+        whole taken (λ bytes input. input-put output facts first_at write_step options begun is known infallible bytes
+        count (Ok u) ended (printed bytes input))
+    source-searched (Err e) (of_input taken count printed) =
+        cut e taken (λ bytes input. input-put output facts first_at write_step options begun is known infallible bytes
+        count (Err e) ended (printed bytes input))
+    source-searched (Err e) (of_reading taken true seen error cause (point, at, goes, calls)) =
+        let put = goes-put output facts first_at write_step options begun is (calls_of options seen) ended
+        (subst (λ meaning. PrintsCalls standard_rules output facts first_at write_step begun settings
+        (search_plan settings meaning seen).calls ended) known
+        (subst (λ (p : Option BinaryPoint). PrintsCalls standard_rules output facts first_at write_step begun
+        settings (calls_with p (search_plan settings (facts begun.matcher).meaning seen).calls) ended)
+        (at (bytes_of settings taken.pieces) (nothing-more settings taken.ended taken.pieces)) calls)) in
+        ends-unread true seen error (
+          _,
+          taken,
+          subst (λ meaning. Searches.IsCut remaining read_step
+              (numbering options false) meaning reader _ reader' taken seen true error) known cause,
+        )
+        (then_written (calls_of options seen) put) put.has_failed
+    source-searched (Err e) (of_reading taken false seen error cause same) =
+        ends-unread false seen error (
+          _,
+          taken,
+          subst (λ meaning. Searches.IsCut remaining read_step
+              (numbering options false) meaning reader _ reader' taken seen false error) known cause,
+        )
+        (nothing_written same)
+        (ap (λ (sink : PrinterSink StandardFormat M W). sink.printer.now.has_failed) same ∙ is.has_failed)
+
+    -- no search with the matcher of a literal is refused, and it can be trusted
+    searched : (state : SearcherState) (result : Result (Unit {0}) (SearchError Global))
+        → state ≡ searcher_of options
+        → ((terminator : LineTerminator) → (facts begun.matcher).is_lawful terminator)
+        → IsSearchPrinted standard_rules output facts first_at write_step remaining read_step state reader begun
+        result reader' ended
+        → HasSearched result
+    searched state result same trusted printed = source-searched result (unrefused (λ ahead. trusted _))
+      where
+        Refused : Option ConfigError → Type 0
+        Refused = IsUnlessRefusedBy (search_errors output) (facts begun.matcher) (numbering options false).settings
+            begun result ended (reader' ≡ reader)
+            (IsSourcePrinted standard_rules output facts first_at write_step remaining read_step
+            (numbering options false) reader begun result reader' ended)
+
+        here : IsSearchPrinted standard_rules output facts first_at write_step remaining read_step
+            (numbering options false) reader begun result reader' ended
+        here = subst (λ s. IsSearchPrinted standard_rules output facts first_at write_step remaining read_step s reader
+            begun result reader' ended) (same ∙ ap (numbering options) uncounts) printed
+
+        unrefused : Refused None
+        unrefused = subst (λ meaning. Refused (refusal_of (numbering options false).settings meaning)) known here
+
+-- the search of a printer of lines alone that has printed nothing
+pub printer-searched : {R W M E : Type 0} {remaining : R → Option (List ℕ)}
+    {read_step : R → ReadResult → R → Type 0} {write_step : W → OutputCall → W → Type 0}
+    {output : E → Option (List ℕ)} {facts : M → MatcherFacts E} {first_at : M → List ℕ → ℕ → Option (ℕ × ℕ)}
+    {state : SearcherState} {matcher : M} {path : Option (Bor (List ℕ))} {reader reader' : R} {writer writer' : W}
+    {printer printer' : Printer StandardFormat} {search : Searched} (options : Options) → options.count ≡ false
+    → state ≡ searcher_of options → (facts matcher).meaning ≡ meaning_of options
+    → IsInfallible (facts matcher).fails
+    → ((terminator : LineTerminator) → (facts matcher).is_lawful terminator)
+    → path ≡ None → printer.format.config ≡ default_config → pending_bytes printer.pending ≡ []
+    → printer.has_failed ≡ false
+    → IsPrintedBy standard_rules output facts first_at write_step remaining read_step state matcher path reader writer
+    printer search reader' writer' printer'
+    → IsSearched remaining read_step write_step options reader reader' writer writer' printer' search.has_match
+    search.result
+printer-searched {remaining = remaining} {read_step = read_step} {write_step = write_step} {output = output}
+    {facts = facts} {first_at = first_at} {state = state} {reader = reader} {reader' = reader'} {writer' = writer'}
+    {printer' = printer'} {search = search} options uncounts is_state known infallible trusted unnamed plain pending
+    works by =
+    let own = by.begins.asks in
+    let begun : IsBegun by.begun = record {
+      path = by.begins.names ∙ unnamed;
+      config = ap (λ (format : StandardFormat). format.config) by.begins.format ∙ plain;
+      has_match = ap (λ (format : StandardFormat). format.progress.has_match) by.begins.format;
+      pending = ap (λ (p : Printer StandardFormat). pending_bytes p.pending) by.begins.is_of ∙ pending;
+      has_failed = ap (λ (p : Printer StandardFormat). p.has_failed) by.begins.is_of ∙ works;
+    } in
+    let here = searched remaining read_step write_step output facts first_at options uncounts reader reader' by.begun
+    by.ended begun (ap (λ m. (facts m).meaning) own ∙ known)
+    (subst (λ m. IsInfallible (facts m).fails) (sym own) infallible) state search.result is_state
+    (subst (λ m. (terminator : LineTerminator) → (facts m).is_lawful terminator) (sym own) trusted)
+    by.searches in
+    subst (λ w. IsSearched remaining read_step write_step options reader reader' w writer' printer' search.has_match
+    search.result) by.begins.writes_to
+    (subst (λ w. IsSearched remaining read_step write_step options reader reader' by.begun.writer.now w printer'
+    search.has_match search.result) by.wrote
+    (subst (λ p. IsSearched remaining read_step write_step options reader reader' by.begun.writer.now
+    by.ended.writer.now p search.has_match search.result) by.ends
+    (subst (λ found. IsSearched remaining read_step write_step options reader reader' by.begun.writer.now
+    by.ended.writer.now by.ended.printer.now found search.result) (sym by.has_match) here)))

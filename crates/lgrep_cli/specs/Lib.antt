@@ -2,6 +2,5 @@ pub mod CommandLine
 pub mod Messages
 pub mod Numerals
 pub mod OptionSettings
-pub mod Printers
 pub mod ProgramRuns
 pub mod PrintedTexts

@@ -7,11 +7,8 @@
 #![tactic(auto)]
 
 mod exit;
-mod lines;
 mod messages;
 mod options;
-mod pending;
-mod printer;
 mod program;
 mod search;
 

@@ -1,6 +1,6 @@
 //! A search of a reader or a file, with the text of its lines written.
 ghost use Rattle.std.specs.Prelude.{◌≡◌, ◌∷◌, ◌++◌, [], true, false, decimal, nat_lt, string_bytes};
-ghost use Rattle.std.specs.Prelude.{Ok, Err, OnOk, IfOk, IfErr, MatchResult};
+ghost use Rattle.std.specs.Prelude.{Ok, Err, IfOk, IfErr, MatchResult};
 ghost use Rattle.std.specs.Path.{path_bytes};
 ghost use Rattle.std.specs.declared.io.Error.{Error};
 ghost use Rattle.lgrep_cli.specs.OptionSettings.{searched_settings};
@@ -10,14 +10,10 @@ ghost use Rattle.lgrep_cli.specs.ProgramRuns.{IsPrinted, IsFailure, IsProgramRun
 ghost use Rattle.lgrep_cli.specs.ProgramRuns.{IsRunAt};
 
 use crate::options::Options;
-use crate::pending::Pending;
-use crate::printer::Printer;
 use grep_matcher::LiteralMatcher;
 use grep_output::{Output, write_number};
-use grep_searcher::laws::{
-    inputs_are_searched, matches_are_matched_lines, numbers_change_no_count, reader_searches_run,
-    runs_count_matches,
-};
+use grep_printer::{Searched, StandardBuilder};
+use grep_searcher::laws::{numbers_change_no_count, reader_searches_run, runs_count_matches};
 use grep_searcher::sinks::Count;
 use grep_searcher::{Open, Reading, SearchError, Searcher, SearcherBuilder, Source};
 use std::alloc::Global;
@@ -29,16 +25,14 @@ use std::path::{AsPath, Path};
 /// the search needs. With `multi_line` and a literal that contains a line feed the search is across
 /// lines: then the reader is read to its end first.
 ///
-/// The text is put together in 64 KiB of memory, and written whenever a line doesn't fit into what
-/// is left of them, and at the end; a line that never fits is written by itself. So the writer
-/// needs no buffer of its own.
+/// The text is kept until there are 64 KiB of it, and written then and at the end; where there is no
+/// memory to keep it, it is written line by line. So the writer needs no buffer of its own.
 ///
 /// With `count` nothing is written for what is found: once the search is done, the number of match
 /// reports and a line feed are.
 ///
 /// An error is a `SearchError::Io`:
-/// - of kind `OutOfMemory`, if there is no memory for the search or its text: nothing is read or
-///   written;
+/// - of kind `OutOfMemory`, if there is no memory for the search: nothing is read or written;
 /// - an error of reading: the reader's own, or of kind `OutOfMemory`, if there is no memory for a
 ///   line that is longer than the buffer, or across lines for the input, or of kind `InvalidData`,
 ///   if the decoded input is longer than 2^64 - 1 bytes. The text of the lines before it is
@@ -120,12 +114,10 @@ fn write_text<R: Source, W: Output>(
         reader.old writer.old error reader.new writer.new) }
 {
     if options.count {
-        return write_count(alloc, options, reader, writer);
+        write_count(alloc, options, reader, writer)
+    } else {
+        print(alloc, options, reader, writer)
     }
-    let mut pending = pending(alloc)?;
-    let mut printer = Printer::new(writer, &mut pending);
-    print(alloc, options, reader, &mut printer)?;
-    Ok(printer.found)
 }
 
 // Writes how many matches a search of what a reader gives reports, and returns whether one was.
@@ -172,42 +164,48 @@ fn write_matches<W: Output>(writer: &mut W, matches: u64) -> Result<bool, Search
     }
 }
 
-// Searches what a reader gives with a printer to which nothing is reported yet, and writes what is
-// pending then. After an error of reading the writer is flushed.
+// Searches what a reader gives, writes the lines that are reported, and returns whether a match
+// was. After an error of reading the writer is flushed.
 fn print<R: Source, W: Output>(
     alloc: Global,
     options: &Options,
     reader: &mut R,
-    printer: &mut Printer<'_, W>,
-) -> Result<(), SearchError>
-    requires count { options.now.count ≡ false }
-    requires pending { printer.old.pending.now ≡ [] }
-    requires found { printer.old.found ≡ false }
-    requires has_failed { printer.old.has_failed ≡ false }
-    ensures same_writer { printer.new.writer.ghost_name ≡ printer.old.writer.ghost_name }
-    ensures printed { OnOk result (IsPrinted R.remaining R.step W.step options.now
-        reader.old printer.old.writer.now printer.new.found reader.new printer.new.writer.now) }
+    writer: &mut W,
+) -> Result<bool, SearchError>
+    requires { options.now.count ≡ false }
+    ensures printed { IfOk result (λ found. IsPrinted R.remaining R.step W.step options.now
+        reader.old writer.old found reader.new writer.new) }
     ensures failed { IfErr result (λ error. IsFailure R.remaining R.step W.step options.now
-        reader.old printer.old.writer.now error reader.new printer.new.writer.now) }
+        reader.old writer.old error reader.new writer.new) }
 {
     let mut searcher = searcher(alloc, options)?;
     let matcher = matcher(alloc, options)?;
-    matches_are_matched_lines();
-    inputs_are_searched::<Global, LiteralMatcher, R, Printer<'_, W>>(printer);
-    match searcher.search_reader(matcher, reader, printer) {
-        Ok(()) => match printer.write_pending() {
-            Ok(()) => Ok(()),
+    let mut printer = StandardBuilder::new().build(alloc);
+    let Searched { has_match, result } = printer.search(
+        &mut searcher,
+        &matcher,
+        None,
+        reader,
+        writer,
+    );
+    match result {
+        Ok(()) => match printer.write_pending(writer) {
+            Ok(()) => Ok(has_match),
             Err(error) => Err(SearchError::Io(error)),
         },
-        Err(error) if printer.has_failed => Err(error),
-        Err(error) => match printer.write_pending() {
-            Ok(()) => {
-                // Whatever the flush returns, the error of reading came first.
-                let _ = printer.writer.flush();
-                Err(error)
+        Err(error) => {
+            if printer.has_failed() {
+                return Err(error);
             }
-            Err(error) => Err(SearchError::Io(error)),
-        },
+            match printer.write_pending(writer) {
+                Ok(()) => {
+                    // Whatever the flush returns, the error of reading came first.
+                    let _ = writer.flush();
+                    Err(error)
+                }
+                Err(error) => Err(SearchError::Io(error)),
+            }
+        }
     }
 }
 
@@ -227,14 +225,6 @@ fn searcher(alloc: Global, options: &Options) -> Result<Searcher, SearchError>
         .max_matches(options.max)
         .build(alloc)
         .map_err(|_| out_of_memory())
-}
-
-// The text that isn't written yet, which is none.
-fn pending(alloc: Global) -> Result<Pending, SearchError>
-    ensures pending { IfOk result (λ pending. pending ≡ []) }
-    ensures memory { IfErr result IsOutOfMemory }
-{
-    Pending::new(alloc).map_err(|_| out_of_memory())
 }
 
 // A matcher of the literal.

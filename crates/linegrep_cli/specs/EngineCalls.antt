@@ -2,7 +2,7 @@
 use Rattle.std.specs.Prelude.{ℕ, Bool, List, Option, Result}
 use Rattle.std.specs.Borrow.{Bor}
 use Rattle.std.specs.declared.io.Error.{Error}
-use Rattle.linegrep_cli.specs.declared.printers.Searched.{Searched}
+use Rattle.grep_printer.specs.declared.printed_search.Searched.{Searched}
 
 -- a call, with what it was given and what it returned: a search of a file, or of standard input, with
 -- a path if there is one; the path of a file that isn't searched; a text on standard error; whether

@@ -1,4 +1,4 @@
--- The writer of an engine's printer, and its error.
+-- What is known of a failed writer.
 use Rattle.std.specs.Prelude.{◌≡◌, Bool}
 use Rattle.std.specs.Global.{Global}
 use Rattle.std.specs.IoError.{error_kind}
@@ -10,17 +10,8 @@ use Rattle.linegrep_cli.specs.declared.printers.Printer.{Printer}
 use Rattle.linegrep_cli.specs.declared.printers.Printer.TheVariants.{Json, Lines, Parts, ReplacedLines}
 use Rattle.linegrep_cli.specs.declared.printers.Printer.TheVariants.{ReplacedParts, Summary}
 
--- the writer of a printer
-abbrev pub writer_of : {M W : Type 0} → Printer M W → W
-writer_of (Lines run) = run.printer.writer
-writer_of (Parts run) = run.printer.writer
-writer_of (ReplacedLines run) = run.printer.writer
-writer_of (ReplacedParts run) = run.printer.writer
-writer_of (Summary run) = run.printer.writer
-writer_of (Json run) = run.printer.writer
-
--- it failed
-abbrev pub has_failed : {M W : Type 0} → Printer M W → Bool
+-- the writer of a printer failed
+abbrev pub has_failed : {M : Type 0} → Printer M → Bool
 has_failed (Lines run) = run.printer.has_failed
 has_failed (Parts run) = run.printer.has_failed
 has_failed (ReplacedLines run) = run.printer.has_failed

@@ -17,7 +17,7 @@ use Rattle.grep_printer.specs.declared.printer.PrinterSink.{PrinterSink}
 use Rattle.grep_printer.specs.declared.stats.Stats.{Stats}
 use Rattle.grep_printer.specs.PrintedSearches.{IsSearchPrinted, IsSinkFor}
 use Rattle.linegrep_cli.specs.declared.json_run.JsonRun.{JsonRun}
-use Rattle.linegrep_cli.specs.declared.printers.Searched.{Searched}
+use Rattle.grep_printer.specs.declared.printed_search.Searched.{Searched}
 
 -- what a search counts is added to the totals, if it ended in `Ok`
 abbrev pub AreCounted : Stats → Result Stats (SearchError Global)
@@ -29,38 +29,41 @@ module _ {W : Type 0} (write_step : W → OutputCall → W → Type 0) where
   -- after a search that ended in `Ok` comes the message about its end, if it reported something,
   -- with how long it took; and it gives what it counts
   abbrev pub IsEndPut : {M : Type 0} → PrinterSink JsonFormat M W
-      → Result (Unit {0}) (SearchError Global) → ℕ → Result Stats (SearchError Global)
-      → Printer JsonFormat W → Type 0
-  IsEndPut sink (Ok u) elapsed counts new = MatchResult counts
+      → Result (Unit {0}) (SearchError Global) → ℕ → Result Stats (SearchError Global) → W
+      → Printer JsonFormat → Type 0
+  IsEndPut sink (Ok u) elapsed counts writer new = MatchResult counts
       (λ stats. (stats ≡ stats_of sink.format.progress elapsed)
-      × PutsText write_step sink.printer.now (end_text sink.path sink.format.progress elapsed) new)
-      (λ e. FailsToPutText write_step sink.printer.now
-      (end_text sink.path sink.format.progress elapsed) e new)
-  IsEndPut sink (Err e) elapsed counts new = (counts ≡ Err e) × (new ≡ sink.printer.now)
+      × PutsText write_step sink.writer.now sink.printer.now
+      (end_text sink.path sink.format.progress elapsed) writer new)
+      (λ e. FailsToPutText write_step sink.writer.now sink.printer.now
+      (end_text sink.path sink.format.progress elapsed) e writer new)
+  IsEndPut sink (Err e) elapsed counts writer new =
+      (counts ≡ Err e) × (writer ≡ sink.writer.now) × (new ≡ sink.printer.now)
 
   -- the message about all searches comes, or fails to
-  abbrev pub AreTotalsPut : Printer JsonFormat W → Stats → ℕ
-      → Result (Unit {0}) (SearchError Global) → Printer JsonFormat W → Type 0
-  AreTotalsPut old totals elapsed result new = MatchResult result
-      (λ _. PutsText write_step old (json_line (summary_json totals elapsed)) new)
-      (λ e. FailsToPutText write_step old (json_line (summary_json totals elapsed)) e new)
+  abbrev pub AreTotalsPut : W → Printer JsonFormat → Stats → ℕ
+      → Result (Unit {0}) (SearchError Global) → W → Printer JsonFormat → Type 0
+  AreTotalsPut writer old totals elapsed result writer' new = MatchResult result
+      (λ _. PutsText write_step writer old (json_line (summary_json totals elapsed)) writer' new)
+      (λ e. FailsToPutText write_step writer old (json_line (summary_json totals elapsed)) e
+      writer' new)
 
 module _ {M W E : Type 0} (output : E → Option (List ℕ)) (facts : M → MatcherFacts E)
     (first_at : M → List ℕ → ℕ → Option (ℕ × ℕ)) (write_step : W → OutputCall → W → Type 0)
     {R : Type 0} (remaining : R → Option (List ℕ)) (read_step : R → ReadResult → R → Type 0)
     (state : SearcherState) (matcher : M) (path : Option (Bor (List ℕ))) where
   -- a search is written as messages
-  pub record IsJsonWritten (reader : R) (old : JsonRun W) (searched : Searched) (reader' : R)
-      (new : JsonRun W) : Type 0 where
+  pub record IsJsonWritten (reader : R) (writer : W) (old : JsonRun) (searched : Searched)
+      (reader' : R) (writer' : W) (new : JsonRun) : Type 0 where
     pub begun : PrinterSink JsonFormat M W
     pub ended : PrinterSink JsonFormat M W
     pub result : Result (Unit {0}) (SearchError Global)
     pub elapsed : ℕ
     pub counts : Result Stats (SearchError Global)
-    pub begins : IsSinkFor json_rules old.printer matcher path begun
+    pub begins : IsSinkFor json_rules old.printer writer matcher path begun
     pub searches : IsSearchPrinted json_rules output facts first_at write_step remaining read_step
         state reader begun result reader' ended
     pub has_match : searched.has_match ≡ json_rules.has_match ended.format
-    pub ends : IsEndPut write_step ended result elapsed counts new.printer
+    pub ends : IsEndPut write_step ended result elapsed counts writer' new.printer
     pub totals : AreCounted old.stats counts searched.result new.stats
     pub start : new.start ≡ old.start

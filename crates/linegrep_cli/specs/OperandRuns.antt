@@ -16,7 +16,7 @@ use Rattle.linegrep_cli.specs.EngineCalls.{searches_input, sets_quits}
 use Rattle.linegrep_cli.specs.EngineSteps.{IsWrittenError}
 use Rattle.linegrep_cli.specs.declared.file_run.Scope.{Scope}
 use Rattle.linegrep_cli.specs.declared.visit.Visit.{Visit}
-use Rattle.linegrep_cli.specs.declared.printers.Searched.{Searched}
+use Rattle.grep_printer.specs.declared.printed_search.Searched.{Searched}
 use Rattle.linegrep_files.specs.FileIds.{is_same_file}
 use Rattle.linegrep_files.specs.FolderFacts.{FolderFacts}
 use Rattle.linegrep_files.specs.Orders.{is_by_time}

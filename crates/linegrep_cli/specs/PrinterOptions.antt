@@ -164,18 +164,16 @@ summary_settings options kind colors = record {
   color_specs = colors;
 }
 
--- the printer has written nothing yet, writes to this writer, and at once if options ask for that
-pub record IsNew {F W : Type 0} (options : Options) (writer : W) (printer : Writer F W) : Type 0 where
-  pub writes_to : printer.writer ≡ writer
+-- the printer has written nothing yet, and writes at once if options ask for that
+pub record IsNew {F : Type 0} (options : Options) (printer : Writer F) : Type 0 where
   pub pending : pending_bytes printer.pending ≡ []
   pub has_written : printer.has_written ≡ false
   pub has_failed : printer.has_failed ≡ false
   pub room : is_line_buffered options ≡ true → printer.room ≡ 0
 
 -- so has the printer of a run, and nothing was counted: it counts if options ask for that
-pub record IsNewRun {F W : Type 0} (options : Options) (writer : W)
-    (run : CountedRun F W) : Type 0 where
-  pub printer : IsNew options writer run.printer
+pub record IsNewRun {F : Type 0} (options : Options) (run : CountedRun F) : Type 0 where
+  pub printer : IsNew options run.printer
   pub counts : run.printer.format.is_counting ≡ counts_all options
   pub stats : run.stats ≡ no_stats
 
@@ -187,45 +185,43 @@ IsReplacing matcher (Some template) format =
 
 -- the printer is the one that options ask for, by line or across lines, with some separators, if
 -- there is a template with each match replaced, and with some colors
-abbrev pub IsPrinterFor : {M W : Type 0} → Options → Bool → Option (Bor Separators) → M → Option
-    (Bor Template) → W
-    → ColorSpecs → Printer M W → Type 0
-IsPrinterFor options is_across separators matcher template writer colors (Lines run) =
+abbrev pub IsPrinterFor : {M : Type 0} → Options → Bool → Option (Bor Separators) → M
+    → Option (Bor Template) → ColorSpecs → Printer M → Type 0
+IsPrinterFor options is_across separators matcher template colors (Lines run) =
     (summary_kind options is_across ≡ None) × (has options Json ≡ false)
     × (is_vimgrep options ≡ false) × (template ≡ None)
     × (run.printer.format.format.config ≡ line_settings options colors separators)
-    × IsNewRun options writer run
-IsPrinterFor options is_across separators matcher template writer colors (Parts run) =
+    × IsNewRun options run
+IsPrinterFor options is_across separators matcher template colors (Parts run) =
     (summary_kind options is_across ≡ None) × (has options Json ≡ false)
     × (is_vimgrep options ≡ true) × (template ≡ None)
     × (run.printer.format.format.lines.config ≡ vimgrep_config
     (line_settings options colors separators))
-    × IsNewRun options writer run
-IsPrinterFor options is_across separators matcher template writer colors (ReplacedLines run) =
+    × IsNewRun options run
+IsPrinterFor options is_across separators matcher template colors (ReplacedLines run) =
     (summary_kind options is_across ≡ None) × (has options Json ≡ false)
     × (is_vimgrep options ≡ false) × IsReplacing matcher template run.printer.format.format
     × (run.printer.format.format.format.config ≡ line_settings options colors separators)
-    × IsNewRun options writer run
-IsPrinterFor options is_across separators matcher template writer colors (ReplacedParts run) =
+    × IsNewRun options run
+IsPrinterFor options is_across separators matcher template colors (ReplacedParts run) =
     (summary_kind options is_across ≡ None) × (has options Json ≡ false)
     × (is_vimgrep options ≡ true) × IsReplacing matcher template run.printer.format.format
     × (run.printer.format.format.format.lines.config
     ≡ vimgrep_config (line_settings options colors separators))
-    × IsNewRun options writer run
-IsPrinterFor options is_across separators matcher template writer colors (Summary run) =
+    × IsNewRun options run
+IsPrinterFor options is_across separators matcher template colors (Summary run) =
     (kind : SummaryKind) × (summary_kind options is_across ≡ Some kind)
     × (run.printer.format.format.config ≡ summary_settings options kind colors)
-    × IsNewRun options writer run
-IsPrinterFor options is_across separators matcher template writer colors (Messages run) =
+    × IsNewRun options run
+IsPrinterFor options is_across separators matcher template colors (Messages run) =
     (summary_kind options is_across ≡ None) × (has options Json ≡ true)
-    × (run.printer.format.always_begin_end ≡ false) × IsNew options writer run.printer
+    × (run.printer.format.always_begin_end ≡ false) × IsNew options run.printer
 
 -- so with the colors that they ask for
-abbrev pub IsPrinterOf : {M W : Type 0} → Options → Bool → Option (Bor Separators) → Option
-    (Bor ColorTexts)
-    → M → Option (Bor Template) → W → Printer M W → Type 0
-IsPrinterOf options is_across separators chosen matcher template writer printer =
+abbrev pub IsPrinterOf : {M : Type 0} → Options → Bool → Option (Bor Separators)
+    → Option (Bor ColorTexts) → M → Option (Bor Template) → Printer M → Type 0
+IsPrinterOf options is_across separators chosen matcher template printer =
     (colors : ColorSpecs)
     × IfSome (known_colors chosen (color_choice options) options.streams.is_terminal)
     (λ known. colors ≡ known)
-    × IsPrinterFor options is_across separators matcher template writer colors printer
+    × IsPrinterFor options is_across separators matcher template colors printer

@@ -20,64 +20,66 @@ use Rattle.linegrep_cli.specs.WriterFlushes.{IsWriterFlushed}
 use Rattle.linegrep_cli.specs.declared.printers.Printer.{Printer}
 use Rattle.linegrep_cli.specs.declared.printers.Printer.TheVariants.{Json, Lines, Parts, ReplacedLines}
 use Rattle.linegrep_cli.specs.declared.printers.Printer.TheVariants.{ReplacedParts, Summary}
-use Rattle.linegrep_cli.specs.declared.printers.Searched.{Searched}
+use Rattle.grep_printer.specs.declared.printed_search.Searched.{Searched}
 
 module _ {M W E : Type 0} (output : E → Option (List ℕ)) (facts : M → MatcherFacts E)
     (first_at : M → List ℕ → ℕ → Option (ℕ × ℕ)) (groups_at : M → List ℕ → ℕ → List (Option (ℕ × ℕ)))
     (write_step : W → OutputCall → W → Type 0) {R : Type 0} (remaining : R → Option (List ℕ)) (read_step : R → ReadResult → R → Type 0)
     (state : SearcherState) (matcher : M) (path : Option (Bor (List ℕ))) where
   -- what a search of a source writes, by what is written of searches
-  abbrev pub IsSearchWritten : R → Printer M W → Searched → R → Printer M W → Type 0
-  IsSearchWritten reader (Lines old) searched reader' (Lines new) =
+  abbrev pub IsSearchWritten : R → W → Printer M → Searched → R → W → Printer M → Type 0
+  IsSearchWritten reader writer (Lines old) searched reader' writer' (Lines new) =
       IsCountedSearch standard_rules output facts first_at write_step remaining read_step state
-      matcher path reader old searched reader' new
-  IsSearchWritten reader (Parts old) searched reader' (Parts new) =
+      matcher path reader writer old searched reader' writer' new
+  IsSearchWritten reader writer (Parts old) searched reader' writer' (Parts new) =
       IsCountedSearch vimgrep_rules output facts first_at write_step remaining read_step state
-      matcher path reader old searched reader' new
-  IsSearchWritten reader (ReplacedLines old) searched reader' (ReplacedLines new) =
+      matcher path reader writer old searched reader' writer' new
+  IsSearchWritten reader writer (ReplacedLines old) searched reader' writer' (ReplacedLines new) =
       IsCountedSearch (replaced_rules standard_rules groups_at (λ m. (facts m).meaning)) output
-      facts first_at write_step remaining read_step state matcher path reader old searched reader' new
-  IsSearchWritten reader (ReplacedParts old) searched reader' (ReplacedParts new) =
+      facts first_at write_step remaining read_step state matcher path reader writer old searched reader' writer' new
+  IsSearchWritten reader writer (ReplacedParts old) searched reader' writer' (ReplacedParts new) =
       IsCountedSearch (replaced_rules vimgrep_rules groups_at (λ m. (facts m).meaning)) output facts
-      first_at write_step remaining read_step state matcher path reader old searched reader' new
-  IsSearchWritten reader (Summary old) searched reader' (Summary new) =
+      first_at write_step remaining read_step state matcher path reader writer old searched reader' writer' new
+  IsSearchWritten reader writer (Summary old) searched reader' writer' (Summary new) =
       IsCountedSearch summary_rules output facts first_at write_step remaining read_step state
-      matcher path reader old searched reader' new
-  IsSearchWritten reader (Json old) searched reader' (Json new) =
+      matcher path reader writer old searched reader' writer' new
+  IsSearchWritten reader writer (Json old) searched reader' writer' (Json new) =
       IsJsonWritten output facts first_at write_step remaining read_step state matcher path reader
-      old searched reader' new
-  IsSearchWritten reader old searched reader' new = ⊥
+      writer old searched reader' writer' new
+  IsSearchWritten reader writer old searched reader' writer' new = ⊥
 
 module _ {M W : Type 0} (write_step : W → OutputCall → W → Type 0) where
   -- so does the printer of a run
-  abbrev pub IsFlushed : Printer M W → Result (Unit {0}) Error → Printer M W → Type 0
-  IsFlushed (Lines old) result (Lines new) = IsRunFlushed write_step old result new
-  IsFlushed (Parts old) result (Parts new) = IsRunFlushed write_step old result new
-  IsFlushed (ReplacedLines old) result (ReplacedLines new) = IsRunFlushed write_step old result new
-  IsFlushed (ReplacedParts old) result (ReplacedParts new) = IsRunFlushed write_step old result new
-  IsFlushed (Summary old) result (Summary new) = IsRunFlushed write_step old result new
-  IsFlushed (Json old) result (Json new) = IsWriterFlushed write_step old.printer result new.printer
+  abbrev pub IsFlushed : W → Printer M → Result (Unit {0}) Error → W → Printer M → Type 0
+  IsFlushed writer (Lines old) result writer' (Lines new) = IsRunFlushed write_step writer old result writer' new
+  IsFlushed writer (Parts old) result writer' (Parts new) = IsRunFlushed write_step writer old result writer' new
+  IsFlushed writer (ReplacedLines old) result writer' (ReplacedLines new) = IsRunFlushed write_step writer old result writer' new
+  IsFlushed writer (ReplacedParts old) result writer' (ReplacedParts new) = IsRunFlushed write_step writer old result writer' new
+  IsFlushed writer (Summary old) result writer' (Summary new) = IsRunFlushed write_step writer old result writer' new
+  IsFlushed writer (Json old) result writer' (Json new) = IsWriterFlushed write_step writer old.printer result writer' new.printer
       × (new ≡ record old { printer = new.printer })
-  IsFlushed old result new = ⊥
+  IsFlushed writer old result writer' new = ⊥
 
   -- the totals of all searches come after what they wrote, if they are asked for
-  abbrev pub HasTotals : Printer M W → Result (Unit {0}) (SearchError Global) → Printer M W → Type 0
-  HasTotals (Json old) result (Json new) =
-      (elapsed : ℕ) × AreTotalsPut write_step old.printer old.stats elapsed result new.printer
+  abbrev pub HasTotals : W → Printer M → Result (Unit {0}) (SearchError Global) → W → Printer M → Type 0
+  HasTotals writer (Json old) result writer' (Json new) =
+      (elapsed : ℕ) × AreTotalsPut write_step writer old.printer old.stats elapsed result writer' new.printer
       × (new ≡ record old { printer = new.printer })
-  HasTotals (Lines old) result (Lines new) = AreStatsPut write_step old result new
-  HasTotals (Parts old) result (Parts new) = AreStatsPut write_step old result new
-  HasTotals (ReplacedLines old) result (ReplacedLines new) = AreStatsPut write_step old result new
-  HasTotals (ReplacedParts old) result (ReplacedParts new) = AreStatsPut write_step old result new
-  HasTotals (Summary old) result (Summary new) = AreStatsPut write_step old result new
-  HasTotals old result new = ⊥
+  HasTotals writer (Lines old) result writer' (Lines new) = AreStatsPut write_step writer old result writer' new
+  HasTotals writer (Parts old) result writer' (Parts new) = AreStatsPut write_step writer old result writer' new
+  HasTotals writer (ReplacedLines old) result writer' (ReplacedLines new) = AreStatsPut write_step writer old result writer' new
+  HasTotals writer (ReplacedParts old) result writer' (ReplacedParts new) = AreStatsPut write_step writer old result writer' new
+  HasTotals writer (Summary old) result writer' (Summary new) = AreStatsPut write_step writer old result writer' new
+  HasTotals writer old result writer' new = ⊥
 
   -- the totals of all searches come, and all is written and flushed
-  pub data IsFinished (old : Printer M W) : Result (Unit {0}) (SearchError Global) → Printer M W
-      → Type 0 where
-    of_totals : {e : SearchError Global} {new : Printer M W} → HasTotals old (Err e) new
-        → IsFinished old (Err e) new
-    of_flush : (mid : Printer M W) {new : Printer M W} → HasTotals old (Ok tt) mid → IsFlushed mid (Ok tt) new
-        → IsFinished old (Ok tt) new
-    of_failed_flush : {error : Error} (mid : Printer M W) {new : Printer M W} → HasTotals old (Ok tt) mid
-        → IsFlushed mid (Err error) new → IsFinished old (Err (Io error)) new
+  pub data IsFinished (writer : W) (old : Printer M) : Result (Unit {0}) (SearchError Global) → W
+      → Printer M → Type 0 where
+    of_totals : {e : SearchError Global} {writer' : W} {new : Printer M}
+        → HasTotals writer old (Err e) writer' new → IsFinished writer old (Err e) writer' new
+    of_flush : (between : W) (mid : Printer M) {writer' : W} {new : Printer M}
+        → HasTotals writer old (Ok tt) between mid → IsFlushed between mid (Ok tt) writer' new
+        → IsFinished writer old (Ok tt) writer' new
+    of_failed_flush : {error : Error} (between : W) (mid : Printer M) {writer' : W} {new : Printer M}
+        → HasTotals writer old (Ok tt) between mid → IsFlushed between mid (Err error) writer' new
+        → IsFinished writer old (Err (Io error)) writer' new

@@ -21,7 +21,7 @@ use Rattle.linegrep_cli.specs.PathSeparators.{IsShown}
 use Rattle.linegrep_cli.specs.PrinterSearches.{IsFinished, IsFlushed, IsSearchWritten}
 use Rattle.linegrep_cli.specs.declared.engine.PrintingEngine.{PrintingEngine}
 use Rattle.linegrep_cli.specs.declared.haystacks.Haystack.{Haystack}
-use Rattle.linegrep_cli.specs.declared.printers.Searched.{Searched}
+use Rattle.grep_printer.specs.declared.printed_search.Searched.{Searched}
 
 -- what is done about a binary file, if its search may end where that shows
 abbrev pub detection_with : Bool → BinaryDetection → BinaryDetection
@@ -66,11 +66,12 @@ module _ {F M R W X E : Type 0} (output : E → Option (List ℕ)) (facts : M �
     pub written : IsSearchWritten output facts first_at groups_at write_step
         (remaining_of file_remaining remaining) (IsPulled file_remaining remaining read_step)
         old.searcher old.matcher path (record { file = file; reader = old.haystack.reader })
-        old.printer searched left new.printer
+        old.writer old.printer searched left new.writer new.printer
     pub settings : new.searcher.settings ≡ old.searcher.settings
     pub others : new ≡ record old {
       searcher = new.searcher;
       printer = new.printer;
+      writer = new.writer;
       haystack = record { file = None; reader = left.reader };
     }
 
@@ -82,23 +83,31 @@ module _ {F M R W X E : Type 0} (output : E → Option (List ℕ)) (facts : M �
     pub is_line : line.now ≡ 10 ∷ []
     pub written : IsSearchWritten output facts first_at groups_at write_step (λ s. Some s.now)
         IsLineRead old.searcher old.matcher path line
-        old.printer searched left new.printer
+        old.writer old.printer searched left new.writer new.printer
     pub settings : new.searcher.settings ≡ old.searcher.settings
-    pub others : new ≡ record old { searcher = new.searcher; printer = new.printer }
+    pub others : new ≡ record old {
+      searcher = new.searcher;
+      printer = new.printer;
+      writer = new.writer;
+    }
 
   -- what was found before a text on standard error is written first
   pub record IsSaidAfter (old : PrintingEngine F M R W X) (result : Result (Unit {0}) Error)
       (new : PrintingEngine F M R W X) : Type 0 where
-    pub flushed : IsFlushed write_step old.printer result new.printer
-    pub others : new ≡ record old { printer = new.printer; errors = new.errors }
+    pub flushed : IsFlushed write_step old.writer old.printer result new.writer new.printer
+    pub others : new ≡ record old {
+      printer = new.printer;
+      writer = new.writer;
+      errors = new.errors;
+    }
 
   -- all is written in the end
   pub record IsAllWritten (old : PrintingEngine F M R W X) (result : Result (Unit {0}) Error)
       (new : PrintingEngine F M R W X) : Type 0 where
     pub ended : Result (Unit {0}) (SearchError Global)
-    pub finished : IsFinished write_step old.printer ended new.printer
+    pub finished : IsFinished write_step old.writer old.printer ended new.writer new.printer
     pub is_result : IsWrittenResult ended result
-    pub others : new ≡ record old { printer = new.printer }
+    pub others : new ≡ record old { printer = new.printer; writer = new.writer }
 
   -- what one call does
   abbrev pub IsEngineStep : PrintingEngine F M R W X → EngineCall F → PrintingEngine F M R W X

@@ -22,7 +22,7 @@ use Rattle.grep_searcher.specs.Plans.{is_across}
 use Rattle.grep_searcher.specs.Source.{ReadResult}
 use Rattle.grep_searcher.specs.declared.LineTerminator.{LineTerminator}
 use Rattle.linegrep_cli.specs.ColorOptions.{AreColorsLent}
-use Rattle.linegrep_cli.specs.EngineSteps.{has_failed, writer_of}
+use Rattle.linegrep_cli.specs.EngineSteps.{has_failed}
 use Rattle.linegrep_cli.specs.FileChoices.{AreChoicesOf}
 use Rattle.linegrep_cli.specs.OperandRuns.{IsRunOver}
 use Rattle.linegrep_cli.specs.OptionMeanings.{paths_of}
@@ -66,7 +66,8 @@ module _ {F M R W X E : Type 0} (output : E → Option (List ℕ)) (facts : M �
     pub printer : IsPrinterOf options
         (is_across (searcher_settings options)
         (facts matcher).meaning) separators chosen matcher template
-        writer engine.printer
+        engine.printer
+    pub writes_to : engine.writer ≡ writer
     pub haystack : engine.haystack ≡ record { file = None; reader = input }
     pub says : engine.errors.now ≡ errors
     pub path_separator : engine.path_separator ≡ path_separator_of options
@@ -87,7 +88,7 @@ module _ {F M R W X E : Type 0} (output : E → Option (List ℕ)) (facts : M �
         (IsEngineStep output facts first_at groups_at write_step file_remaining remaining read_step)
         (λ engine. has_failed engine.printer) scope choices (paths_of options) first status last
     pub input_after : input' ≡ last.haystack.reader
-    pub writer_after : writer' ≡ writer_of last.printer
+    pub writer_after : writer' ≡ last.writer
 
   -- a run for a regular expression is one with a matcher of it, and a template for its groups, if there is one
   pub record IsRunFor (options : Options) (regex : Regex) (input : R) (writer : W)

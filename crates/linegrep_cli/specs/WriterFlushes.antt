@@ -7,9 +7,9 @@ use Rattle.grep_printer.specs.declared.printer.Printer.{Printer as Writer}
 
 module _ {W : Type 0} (write_step : W → OutputCall → W → Type 0) where
   -- a printer of any format writes what is pending, and flushes its writer
-  pub record IsWriterFlushed {F : Type 0} (old : Writer F W) (result : Result (Unit {0}) Error)
-      (new : Writer F W) : Type 0 where
-    pub flushed : Flushes write_step old.writer (pending_bytes old.pending) result new.writer
+  pub record IsWriterFlushed {F : Type 0} (writer : W) (old : Writer F)
+      (result : Result (Unit {0}) Error) (writer' : W) (new : Writer F) : Type 0 where
+    pub flushed : Flushes write_step writer (pending_bytes old.pending) result writer'
     pub emptied : pending_bytes new.pending ≡ []
     pub format : new.format ≡ old.format
     pub has_written : new.has_written ≡ old.has_written

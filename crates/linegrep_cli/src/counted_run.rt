@@ -6,9 +6,8 @@ ghost use Rattle.linegrep_cli.specs.CountedRuns.{IsRunFlushed};
 
 use crate::clock::elapsed;
 use crate::haystacks::end;
-use crate::printers::Searched;
 use grep_output::Output;
-use grep_printer::{CountedFormat, Format, Printer, Stats, search};
+use grep_printer::{CountedFormat, Format, Printer, Searched, Stats, search};
 use grep_searcher::{FindAt, SearchError, Searcher, Source};
 use std::io;
 use std::time::Instant;
@@ -16,15 +15,15 @@ use std::time::Instant;
 /// A printer, with the counts of the searches so far and when the run began, if it counts. Where
 /// the clock fails a time is 0.
 #[derive(Drop)]
-pub struct CountedRun<F, W> {
-    printer: Printer<CountedFormat<F>, W>,
+pub struct CountedRun<F> {
+    printer: Printer<CountedFormat<F>>,
     stats: Stats,
     start: Option<Instant>,
 }
 
-impl<F, W> CountedRun<F, W> {
+impl<F> CountedRun<F> {
     /// A run that begins now.
-    pub fn new(rt: &HostRuntime, printer: Printer<CountedFormat<F>, W>) -> CountedRun<F, W>
+    pub fn new(rt: &HostRuntime, printer: Printer<CountedFormat<F>>) -> CountedRun<F>
         ensures printer { result.printer ≡ printer }
         ensures stats { result.stats ≡ no_stats }
     {
@@ -37,36 +36,24 @@ impl<F, W> CountedRun<F, W> {
     }
 }
 
-impl<F: Format, W> CountedRun<F, W> {
-    /// The writer back, without what isn't written yet.
-    pub fn into_writer(self) -> W
-        ensures { result ≡ self.printer.writer }
-    {
-        let CountedRun {
-            printer,
-            stats: _,
-            start: _,
-        } = self;
-        printer.into_parts().0
-    }
-}
-
-impl<F: Format, W: Output> CountedRun<F, W> {
+impl<F: Format> CountedRun<F> {
     /// Searches a haystack, and writes what the format makes of it, with a path if there is one.
-    pub fn search<M: FindAt + Copy, H: Source>(
+    pub fn search<M: FindAt + Copy, H: Source, W: Output>(
         &mut self,
         rt: &HostRuntime,
         searcher: &mut Searcher,
         matcher: M,
         haystack: &mut H,
+        writer: &mut W,
         path: Option<&str>,
     ) -> Searched
         ensures settings { searcher.new.settings ≡ searcher.old.settings }
         ensures printed { IsCountedSearch F.rules M.Error.output M.facts M.first_at W.step H.remaining H.step
-            searcher.old matcher path.entry haystack.old self.old result haystack.new self.new }
+            searcher.old matcher path.entry haystack.old writer.old self.old result haystack.new
+            writer.new self.new }
     {
         let start = now(rt, &self.printer);
-        let mut sink = self.printer.sink(matcher, path);
+        let mut sink = self.printer.sink(writer, matcher, path);
         let result = search(searcher, matcher, haystack, &mut sink);
         let counted = sink.stats(elapsed(rt, start));
         let has_match = end(sink);
@@ -75,22 +62,26 @@ impl<F: Format, W: Output> CountedRun<F, W> {
 
     /// Writes what was counted in all searches, if it was. An error is the writer's, or one of
     /// being out of memory.
-    pub fn write_totals(&mut self, rt: &HostRuntime) -> Result<(), SearchError>
-        ensures { AreStatsPut W.step self.old result self.new }
+    pub fn write_totals<W: Output>(
+        &mut self,
+        rt: &HostRuntime,
+        writer: &mut W,
+    ) -> Result<(), SearchError>
+        ensures { AreStatsPut W.step writer.old self.old result writer.new self.new }
     {
         if self.printer.is_counting() {
             self.printer
-                .write_stats(&self.stats, elapsed(rt, self.start))
+                .write_stats(writer, &self.stats, elapsed(rt, self.start))
         } else {
             Ok(())
         }
     }
 
     /// Writes what isn't written yet, and flushes the writer. An error is the writer's.
-    pub fn flush(&mut self) -> io::Result<()>
-        ensures { IsRunFlushed W.step self.old result self.new }
+    pub fn flush<W: Output>(&mut self, writer: &mut W) -> io::Result<()>
+        ensures { IsRunFlushed W.step writer.old self.old result writer.new self.new }
     {
-        self.printer.flush()
+        self.printer.flush(writer)
     }
 
     /// Whether the writer failed.
@@ -101,7 +92,7 @@ impl<F: Format, W: Output> CountedRun<F, W> {
     }
 }
 
-impl<F, W> CountedRun<F, W> {
+impl<F> CountedRun<F> {
     // Adds the counts of a search, unless it failed.
     fn keep(
         &mut self,
@@ -132,7 +123,7 @@ impl<F, W> CountedRun<F, W> {
 }
 
 // What the clock says, if a printer counts.
-fn now<F, W>(rt: &HostRuntime, printer: &Printer<CountedFormat<F>, W>) -> Option<Instant> {
+fn now<F>(rt: &HostRuntime, printer: &Printer<CountedFormat<F>>) -> Option<Instant> {
     if printer.is_counting() {
         Instant::now(rt).ok()
     } else {

@@ -2,15 +2,16 @@
 ghost use Rattle.std.specs.Prelude.{◌≡◌, Bool, None, Some};
 ghost use Rattle.linegrep_cli.specs.EngineCalls.{EngineCall, finishes, lists, says};
 ghost use Rattle.linegrep_cli.specs.EngineCalls.{searches_file, searches_input, sets_quits};
-ghost use Rattle.linegrep_cli.specs.EngineSteps.{IsWrittenError, writer_of};
+ghost use Rattle.linegrep_cli.specs.EngineSteps.{IsWrittenError};
 ghost use Rattle.linegrep_cli.specs.PrintingEngines.{IsDoneShown, IsPathWritten, IsSearched};
 ghost use Rattle.linegrep_cli.specs.PrintingEngines.{IsUnsearched, detection_with};
 
 use crate::failures::say;
 use crate::haystacks::Haystack;
-use crate::printers::{Printer, Searched};
+use crate::printers::Printer;
 use crate::separators::with_separator;
 use grep_output::Output;
+use grep_printer::Searched;
 use grep_replace::CapturesAt;
 use grep_searcher::{BinaryDetection, SearchError, Searcher, Source};
 use std::io;
@@ -66,7 +67,8 @@ pub struct PrintingEngine<'e, F, M, R, W, E> {
     rt: &'e HostRuntime,
     searcher: Searcher,
     matcher: M,
-    printer: Printer<'e, M, W>,
+    printer: Printer<'e, M>,
+    writer: W,
     // Standard input, and the file that is searched.
     haystack: Haystack<F, R>,
     errors: &'e mut E,
@@ -83,7 +85,8 @@ impl<'e, F, M, R, W, E> PrintingEngine<'e, F, M, R, W, E> {
         rt: &'e HostRuntime,
         searcher: Searcher,
         matcher: M,
-        printer: Printer<'e, M, W>,
+        printer: Printer<'e, M>,
+        writer: W,
         input: R,
         errors: &'e mut E,
         path_separator: Option<u8>,
@@ -91,6 +94,7 @@ impl<'e, F, M, R, W, E> PrintingEngine<'e, F, M, R, W, E> {
         ensures searcher { result.searcher ≡ searcher }
         ensures matcher { result.matcher ≡ matcher }
         ensures printer { result.printer ≡ printer.entry }
+        ensures writer { result.writer ≡ writer }
         ensures haystack { result.haystack ≡ record { file = None; reader = input } }
         ensures errors { result.errors.now ≡ errors.old }
         ensures path_separator { result.path_separator ≡ path_separator }
@@ -102,6 +106,7 @@ impl<'e, F, M, R, W, E> PrintingEngine<'e, F, M, R, W, E> {
             searcher,
             matcher,
             printer,
+            writer,
             haystack: Haystack {
                 file: None,
                 reader: input,
@@ -118,20 +123,21 @@ impl<'e, F, M, R, W, E> PrintingEngine<'e, F, M, R, W, E> {
         F: Drop,
         M: CapturesAt + Copy,
         ensures input { result.0 ≡ self.entry.haystack.reader }
-        ensures writer { result.1 ≡ writer_of self.entry.printer }
+        ensures writer { result.1 ≡ self.entry.writer }
     {
         let PrintingEngine {
             rt: _,
             searcher: _,
             matcher: _,
-            printer,
+            printer: _,
+            writer,
             haystack,
             errors: _,
             path_separator: _,
             detection: _,
         } = self;
         let Haystack { file: _, reader } = haystack;
-        (reader, printer.into_writer())
+        (reader, writer)
     }
 }
 
@@ -171,6 +177,7 @@ impl<'e, F: Read + Drop, M: CapturesAt + Copy, R: Source, W: Output, E: Output> 
             &mut self.searcher,
             self.matcher,
             &mut self.haystack,
+            &mut self.writer,
             path,
         );
         self.haystack.file = None;
@@ -188,6 +195,7 @@ impl<'e, F: Read + Drop, M: CapturesAt + Copy, R: Source, W: Output, E: Output> 
             &mut self.searcher,
             self.matcher,
             &mut line,
+            &mut self.writer,
             Some(path),
         )
     }
@@ -222,7 +230,7 @@ impl<'e, F: Read + Drop, M: CapturesAt + Copy, R: Source, W: Output, E: Output> 
     }
 
     fn say(&mut self, text: &str) -> io::Result<()> {
-        let flushed = self.printer.flush();
+        let flushed = self.printer.flush(&mut self.writer);
         say(self.errors, text);
         flushed
     }
@@ -237,7 +245,7 @@ impl<'e, F: Read + Drop, M: CapturesAt + Copy, R: Source, W: Output, E: Output> 
     }
 
     fn finish(&mut self) -> io::Result<()> {
-        match self.printer.finish(self.rt) {
+        match self.printer.finish(self.rt, &mut self.writer) {
             Ok(()) => Ok(()),
             Err(error) => Err(written_error(error)),
         }

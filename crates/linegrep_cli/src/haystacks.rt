@@ -39,7 +39,8 @@ impl<F: Read, R: Source> Source for Haystack<F, R> {
 
 /// Ends a sink, and says whether its search found what it is for.
 pub fn end<F: Format, M: FindAt + Copy, W: Output>(sink: PrinterSink<'_, F, M, W>) -> bool
-    ensures left { sink.exit.0.now ≡ sink.entry.printer.now }
+    ensures printer { sink.exit.0.now ≡ sink.entry.printer.now }
+    ensures writer { sink.exit.1.0.now ≡ sink.entry.writer.now }
     ensures has_match { result ≡ F.rules.has_match sink.entry.format }
 {
     sink.has_match()

@@ -5,9 +5,8 @@ ghost use Rattle.linegrep_cli.specs.WriterFlushes.{IsWriterFlushed};
 
 use crate::clock::elapsed;
 use crate::haystacks::end;
-use crate::printers::Searched;
 use grep_output::Output;
-use grep_printer::{Json, JsonSink, Stats, search};
+use grep_printer::{Json, JsonSink, Searched, Stats, search};
 use grep_searcher::{FindAt, SearchError, Searcher, Source};
 use std::io;
 use std::time::Instant;
@@ -15,29 +14,15 @@ use std::time::Instant;
 /// A printer of JSON, with the totals of the searches so far, and when the run began. Where the
 /// clock fails a time is 0.
 #[derive(Drop)]
-pub struct JsonRun<W> {
-    printer: Json<W>,
+pub struct JsonRun {
+    printer: Json,
     stats: Stats,
     start: Option<Instant>,
 }
 
-impl<W> JsonRun<W> {
-    /// The writer back, without what isn't written yet.
-    pub fn into_writer(self) -> W
-        ensures { result ≡ self.printer.writer }
-    {
-        let JsonRun {
-            printer,
-            stats: _,
-            start: _,
-        } = self;
-        printer.into_parts().0
-    }
-}
-
-impl<W: Output> JsonRun<W> {
+impl JsonRun {
     /// A run that begins now.
-    pub fn new(rt: &HostRuntime, printer: Json<W>) -> JsonRun<W>
+    pub fn new(rt: &HostRuntime, printer: Json) -> JsonRun
         ensures { result.printer ≡ printer }
     {
         JsonRun {
@@ -48,20 +33,22 @@ impl<W: Output> JsonRun<W> {
     }
 
     /// Searches a haystack, which messages name by a path.
-    pub fn search<M: FindAt + Copy, H: Source>(
+    pub fn search<M: FindAt + Copy, H: Source, W: Output>(
         &mut self,
         rt: &HostRuntime,
         searcher: &mut Searcher,
         matcher: M,
         haystack: &mut H,
+        writer: &mut W,
         path: Option<&str>,
     ) -> Searched
         ensures settings { searcher.new.settings ≡ searcher.old.settings }
         ensures written { IsJsonWritten M.Error.output M.facts M.first_at W.step H.remaining H.step
-            searcher.old matcher path.entry haystack.old self.old result haystack.new self.new }
+            searcher.old matcher path.entry haystack.old writer.old self.old result haystack.new
+            writer.new self.new }
     {
         let start = Instant::now(rt).ok();
-        let mut sink = self.printer.sink(matcher, path);
+        let mut sink = self.printer.sink(writer, matcher, path);
         let result = search(searcher, matcher, haystack, &mut sink);
         let ended = write_end(rt, &mut sink, start, result);
         let has_match = end(sink);
@@ -69,21 +56,26 @@ impl<W: Output> JsonRun<W> {
     }
 
     /// Writes the totals of all searches. An error is the writer's, or one of being out of memory.
-    pub fn write_totals(&mut self, rt: &HostRuntime) -> Result<(), SearchError>
-        ensures totals { (elapsed : ℕ) × AreTotalsPut W.step self.old.printer self.old.stats elapsed
-            result self.new.printer }
+    pub fn write_totals<W: Output>(
+        &mut self,
+        rt: &HostRuntime,
+        writer: &mut W,
+    ) -> Result<(), SearchError>
+        ensures totals { (elapsed : ℕ) × AreTotalsPut W.step writer.old self.old.printer
+            self.old.stats elapsed result writer.new self.new.printer }
         ensures rest { self.new ≡ record self.old { printer = self.new.printer } }
     {
         self.printer
-            .write_summary(&self.stats, elapsed(rt, self.start))
+            .write_summary(writer, &self.stats, elapsed(rt, self.start))
     }
 
     /// Writes what isn't written yet, and flushes the writer. An error is the writer's.
-    pub fn flush(&mut self) -> io::Result<()>
-        ensures flushed { IsWriterFlushed W.step self.old.printer result self.new.printer }
+    pub fn flush<W: Output>(&mut self, writer: &mut W) -> io::Result<()>
+        ensures flushed { IsWriterFlushed W.step writer.old self.old.printer result writer.new
+            self.new.printer }
         ensures rest { self.new ≡ record self.old { printer = self.new.printer } }
     {
-        self.printer.flush()
+        self.printer.flush(writer)
     }
 
     /// Whether the writer failed.
@@ -119,9 +111,11 @@ fn write_end<M: FindAt, W: Output>(
     searched: Result<(), SearchError>,
 ) -> Result<Stats, SearchError>
     ensures printer { sink.new.printer.ghost_name ≡ sink.old.printer.ghost_name }
+    ensures writer { sink.new.writer.ghost_name ≡ sink.old.writer.ghost_name }
     ensures format { sink.new.format ≡ sink.old.format }
     ensures end { (elapsed : ℕ)
-        × IsEndPut W.step sink.old searched elapsed result sink.new.printer.now }
+        × IsEndPut W.step sink.old searched elapsed result sink.new.writer.now
+        sink.new.printer.now }
 {
     match searched {
         Ok(()) => sink.write_end(elapsed(rt, start)),

@@ -1,79 +1,60 @@
 //! What writes what is found.
 ghost use Rattle.std.specs.Prelude.{◌≡◌};
-ghost use Rattle.linegrep_cli.specs.EngineSteps.{has_failed, writer_of};
+ghost use Rattle.linegrep_cli.specs.EngineSteps.{has_failed};
 ghost use Rattle.linegrep_cli.specs.PrinterSearches.{HasTotals, IsFinished, IsFlushed, IsSearchWritten};
 
 use crate::counted_run::CountedRun;
 use crate::json_run::JsonRun;
 use grep_output::Output;
-use grep_printer::{ReplacedFormat, StandardFormat, SummaryFormat, VimgrepFormat};
+use grep_printer::{ReplacedFormat, Searched, StandardFormat, SummaryFormat, VimgrepFormat};
 use grep_replace::CapturesAt;
 use grep_searcher::{SearchError, Searcher, Source};
 use std::io;
 
 /// What writes what is found.
 #[derive(Drop)]
-pub enum Printer<'c, M, W> {
+pub enum Printer<'c, M> {
     /// Writes lines.
-    Lines(CountedRun<StandardFormat<'c>, W>),
+    Lines(CountedRun<StandardFormat<'c>>),
     /// Writes of each part that matches the line.
-    Parts(CountedRun<VimgrepFormat<'c>, W>),
+    Parts(CountedRun<VimgrepFormat<'c>>),
     /// Writes lines in which each match is replaced, by the groups that a matcher finds.
-    ReplacedLines(CountedRun<ReplacedFormat<'c, StandardFormat<'c>, M>, W>),
+    ReplacedLines(CountedRun<ReplacedFormat<'c, StandardFormat<'c>, M>>),
     /// Writes such a line for each match.
-    ReplacedParts(CountedRun<ReplacedFormat<'c, VimgrepFormat<'c>, M>, W>),
+    ReplacedParts(CountedRun<ReplacedFormat<'c, VimgrepFormat<'c>, M>>),
     /// Writes a count or a path for each file, or nothing.
-    Summary(CountedRun<SummaryFormat<'c>, W>),
+    Summary(CountedRun<SummaryFormat<'c>>),
     /// Writes messages in JSON.
-    Json(JsonRun<W>),
+    Json(JsonRun),
 }
 
-/// What came of one search.
-#[derive(Drop)]
-pub struct Searched {
-    /// Whether it found a match.
-    pub has_match: bool,
-    /// Why it ended early, if it did.
-    pub result: Result<(), SearchError>,
-}
-
-impl<'c, M: CapturesAt + Copy, W> Printer<'c, M, W> {
-    /// The writer back, without what isn't written yet: nothing right after a `flush`.
-    pub fn into_writer(self) -> W
-        ensures { result ≡ writer_of self.entry }
-    {
-        match self {
-            Printer::Lines(run) => run.into_writer(),
-            Printer::Parts(run) => run.into_writer(),
-            Printer::ReplacedLines(run) => run.into_writer(),
-            Printer::ReplacedParts(run) => run.into_writer(),
-            Printer::Summary(run) => run.into_writer(),
-            Printer::Json(run) => run.into_writer(),
-        }
-    }
-}
-
-impl<'c, M: CapturesAt + Copy, W: Output> Printer<'c, M, W> {
+impl<'c, M: CapturesAt + Copy> Printer<'c, M> {
     /// Searches a haystack, and writes what is found in it, with a path if there is one.
-    pub fn search<H: Source>(
+    pub fn search<H: Source, W: Output>(
         &mut self,
         rt: &HostRuntime,
         searcher: &mut Searcher,
         matcher: M,
         haystack: &mut H,
+        writer: &mut W,
         path: Option<&str>,
     ) -> Searched
         ensures settings { searcher.new.settings ≡ searcher.old.settings }
         ensures written { IsSearchWritten M.Error.output M.facts M.first_at M.groups_at W.step H.remaining H.step
-            searcher.old matcher path.entry haystack.old self.old result haystack.new self.new }
+            searcher.old matcher path.entry haystack.old writer.old self.old result haystack.new
+            writer.new self.new }
     {
         match self {
-            Printer::Lines(run) => run.search(rt, searcher, matcher, haystack, path),
-            Printer::Parts(run) => run.search(rt, searcher, matcher, haystack, path),
-            Printer::ReplacedLines(run) => run.search(rt, searcher, matcher, haystack, path),
-            Printer::ReplacedParts(run) => run.search(rt, searcher, matcher, haystack, path),
-            Printer::Summary(run) => run.search(rt, searcher, matcher, haystack, path),
-            Printer::Json(run) => run.search(rt, searcher, matcher, haystack, path),
+            Printer::Lines(run) => run.search(rt, searcher, matcher, haystack, writer, path),
+            Printer::Parts(run) => run.search(rt, searcher, matcher, haystack, writer, path),
+            Printer::ReplacedLines(run) => run.search(
+                rt, searcher, matcher, haystack, writer, path,
+            ),
+            Printer::ReplacedParts(run) => run.search(
+                rt, searcher, matcher, haystack, writer, path,
+            ),
+            Printer::Summary(run) => run.search(rt, searcher, matcher, haystack, writer, path),
+            Printer::Json(run) => run.search(rt, searcher, matcher, haystack, writer, path),
         }
     }
 
@@ -93,44 +74,48 @@ impl<'c, M: CapturesAt + Copy, W: Output> Printer<'c, M, W> {
 
     /// Writes the totals of all searches, if they are asked for, and flushes the writer. An error
     /// is the writer's, or one of being out of memory.
-    pub fn finish(&mut self, rt: &HostRuntime) -> Result<(), SearchError>
-        ensures { IsFinished W.step self.old result self.new }
+    pub fn finish<W: Output>(&mut self, rt: &HostRuntime, writer: &mut W) -> Result<(), SearchError>
+        ensures { IsFinished W.step writer.old self.old result writer.new self.new }
     {
-        match self.write_totals(rt) {
+        match self.write_totals(rt, writer) {
             Ok(()) => {}
             Err(error) => return Err(error),
         }
-        match self.flush() {
+        match self.flush(writer) {
             Ok(()) => Ok(()),
             Err(error) => Err(SearchError::Io(error)),
         }
     }
 
     // Writes the totals of all searches, if they are asked for.
-    fn write_totals(&mut self, rt: &HostRuntime) -> Result<(), SearchError>
-        ensures { HasTotals W.step self.old result self.new }
+    fn write_totals<W: Output>(
+        &mut self,
+        rt: &HostRuntime,
+        writer: &mut W,
+    ) -> Result<(), SearchError>
+        ensures { HasTotals W.step writer.old self.old result writer.new self.new }
     {
         match self {
-            Printer::Lines(run) => run.write_totals(rt),
-            Printer::Parts(run) => run.write_totals(rt),
-            Printer::ReplacedLines(run) => run.write_totals(rt),
-            Printer::ReplacedParts(run) => run.write_totals(rt),
-            Printer::Summary(run) => run.write_totals(rt),
-            Printer::Json(run) => run.write_totals(rt),
+            Printer::Lines(run) => run.write_totals(rt, writer),
+            Printer::Parts(run) => run.write_totals(rt, writer),
+            Printer::ReplacedLines(run) => run.write_totals(rt, writer),
+            Printer::ReplacedParts(run) => run.write_totals(rt, writer),
+            Printer::Summary(run) => run.write_totals(rt, writer),
+            Printer::Json(run) => run.write_totals(rt, writer),
         }
     }
 
     /// Writes what isn't written yet, and flushes the writer. An error is the writer's.
-    pub fn flush(&mut self) -> io::Result<()>
-        ensures { IsFlushed W.step self.old result self.new }
+    pub fn flush<W: Output>(&mut self, writer: &mut W) -> io::Result<()>
+        ensures { IsFlushed W.step writer.old self.old result writer.new self.new }
     {
         match self {
-            Printer::Lines(run) => run.flush(),
-            Printer::Parts(run) => run.flush(),
-            Printer::ReplacedLines(run) => run.flush(),
-            Printer::ReplacedParts(run) => run.flush(),
-            Printer::Summary(run) => run.flush(),
-            Printer::Json(run) => run.flush(),
+            Printer::Lines(run) => run.flush(writer),
+            Printer::Parts(run) => run.flush(writer),
+            Printer::ReplacedLines(run) => run.flush(writer),
+            Printer::ReplacedParts(run) => run.flush(writer),
+            Printer::Summary(run) => run.flush(writer),
+            Printer::Json(run) => run.flush(writer),
         }
     }
 }

@@ -291,13 +291,14 @@ fn search_with<'r, M: CapturesAt + Copy, S: System, R: Source + Drop, W: Output 
     let scope = Scope::new(system, options);
     let is_across = searcher.multi_line_with_matcher(matcher);
     let printer = build_printer(
-        rt, options, is_across, separators, colors, matcher, template, output,
+        rt, options, is_across, separators, colors, matcher, template,
     );
     let mut engine: PrintingEngine<'_, S::File, M, R, W, E> = PrintingEngine::new(
         rt,
         searcher,
         matcher,
         printer,
+        output,
         input,
         errors,
         path_separator,

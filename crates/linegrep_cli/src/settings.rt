@@ -128,10 +128,9 @@ fn looks_for_mark(label: Option<&str>) -> bool
     !matches!(label, Some("none"))
 }
 
-/// The printer that the options ask for, which writes to `writer` what searches find, by line or
-/// across lines. If there is a template, each match is replaced by it, for the groups that the matcher
+/// The printer that the options ask for, which writes what searches find, by line or across lines. If there is a template, each match is replaced by it, for the groups that the matcher
 /// finds. A terminal gets headings, and colors.
-pub fn build_printer<'c, M: Copy, W: Output>(
+pub fn build_printer<'c, M: Copy>(
     rt: &HostRuntime,
     options: &Options<'_, '_>,
     is_across: bool,
@@ -139,20 +138,19 @@ pub fn build_printer<'c, M: Copy, W: Output>(
     chosen: Option<&'c ColorTexts>,
     matcher: M,
     template: Option<&'c Template>,
-    writer: W,
-) -> Printer<'c, M, W>
+) -> Printer<'c, M>
     ensures { IsPrinterOf options.now is_across separators.entry chosen.entry matcher template.entry
-        writer result }
+        result }
 {
     let colors = color_specs(rt, options.color(), chosen, options.streams.is_terminal);
     if let Some(kind) = options.summary_kind(is_across) {
-        let printer = summary(options, kind, colors).build(rt.alloc(), writer);
+        let printer = summary(options, kind, colors).build(rt.alloc());
         Printer::Summary(run_of(rt, options, printer))
     } else if options.has(OptionId::Json) {
-        let printer = JsonBuilder::new().build(rt.alloc(), writer);
+        let printer = JsonBuilder::new().build(rt.alloc());
         Printer::Json(JsonRun::new(rt, buffered(options.is_line_buffered(), printer)))
     } else if options.is_vimgrep() {
-        let printer = lines(options, colors, separators).build_vimgrep(rt.alloc(), writer);
+        let printer = lines(options, colors, separators).build_vimgrep(rt.alloc());
         match template {
             None => Printer::Parts(run_of(rt, options, printer)),
             Some(template) => {
@@ -160,7 +158,7 @@ pub fn build_printer<'c, M: Copy, W: Output>(
             }
         }
     } else {
-        let printer = lines(options, colors, separators).build(rt.alloc(), writer);
+        let printer = lines(options, colors, separators).build(rt.alloc());
         match template {
             None => Printer::Lines(run_of(rt, options, printer)),
             Some(template) => {
@@ -172,26 +170,26 @@ pub fn build_printer<'c, M: Copy, W: Output>(
 
 // A run of searches with a printer, which counts if the options ask for that, and may have to write
 // each text at once.
-fn run_of<F, W>(
+fn run_of<F>(
     rt: &HostRuntime,
     options: &Options<'_, '_>,
-    printer: grep_printer::Printer<F, W>,
-) -> CountedRun<F, W>
+    printer: grep_printer::Printer<F>,
+) -> CountedRun<F>
     requires pending { pending_bytes printer.pending ≡ [] }
     requires has_written { printer.has_written ≡ false }
     requires has_failed { printer.has_failed ≡ false }
     ensures format { result.printer.format.format ≡ printer.format }
-    ensures new { IsNewRun options.now printer.writer result }
+    ensures new { IsNewRun options.now result }
 {
     let printer = printer.counting(options.counts_all());
     CountedRun::new(rt, buffered(options.is_line_buffered(), printer))
 }
 
 // A printer that may have to write each text at once.
-fn buffered<F, W>(
+fn buffered<F>(
     is_line_buffered: bool,
-    mut printer: grep_printer::Printer<F, W>,
-) -> grep_printer::Printer<F, W>
+    mut printer: grep_printer::Printer<F>,
+) -> grep_printer::Printer<F>
     ensures { result
         ≡ record printer { room = if is_line_buffered then 0 else printer.room } }
 {

@@ -3,7 +3,7 @@ use crate::failing::Failing;
 use crate::row::{Kind, Row};
 use crate::texts::{LONG_PATH, Searched, compile, long_text, texts};
 use grep_output::{Output, Writing};
-use grep_printer::{Json, Standard, Stats, Summary, Vimgrep};
+use grep_printer::{Format, Json, Stats};
 use grep_regex::Regex;
 use grep_searcher::{FindAt, SearchError, Searcher, Sink};
 use std::alloc::Global;
@@ -32,7 +32,7 @@ fn print_line<W: io::Write>(alloc: Global, line: &str, output: &mut W) -> io::Re
 
 fn print_row<W: io::Write>(alloc: Global, row: &Row<'_>, output: &mut W) -> io::Result<()> {
     let mut text = Vec::new(alloc);
-    let ended = print_search(alloc, row, Writing::new(&mut text));
+    let ended = print_search(alloc, row, &mut Writing::new(&mut text));
     write_shortened(&text, output)?;
     match ended {
         Ok(()) => Ok(()),
@@ -58,10 +58,10 @@ fn write_run<W: io::Write>(run: &[u8], output: &mut W) -> io::Result<()> {
 }
 
 // Writes what the printer of a row makes of its search.
-fn print_search<W: Output + Drop>(
+fn print_search<W: Output>(
     alloc: Global,
     row: &Row<'_>,
-    writer: W,
+    writer: &mut W,
 ) -> Result<(), SearchError> {
     if row.fails {
         return print_matches(alloc, row, &Failing, writer);
@@ -70,70 +70,72 @@ fn print_search<W: Output + Drop>(
     print_regex(alloc, row, &regex, writer)
 }
 
-fn print_regex<W: Output + Drop>(
+fn print_regex<W: Output>(
     alloc: Global,
     row: &Row<'_>,
     regex: &Regex,
-    writer: W,
+    writer: &mut W,
 ) -> Result<(), SearchError> {
     let matcher = regex.matcher(alloc)?;
     print_matches(alloc, row, &matcher, writer)
 }
 
 // Writes what a matcher finds, by the printer that the row asks for.
-fn print_matches<M: FindAt, W: Output + Drop>(
+fn print_matches<M: FindAt, W: Output>(
     alloc: Global,
     row: &Row<'_>,
     matcher: &M,
-    writer: W,
+    writer: &mut W,
 ) -> Result<(), SearchError> {
     match row.kind {
-        Kind::Lines => print_by(alloc, row, matcher, &mut row.lines.build(alloc, writer)),
+        Kind::Lines => print_by(alloc, row, matcher, &mut row.lines.build(alloc), writer),
         Kind::Vimgrep => {
-            let mut printer = row.lines.build_vimgrep(alloc, writer);
-            print_by(alloc, row, matcher, &mut printer)
+            let mut printer = row.lines.build_vimgrep(alloc);
+            print_by(alloc, row, matcher, &mut printer, writer)
         }
-        Kind::Summary => print_by(alloc, row, matcher, &mut row.summary.build(alloc, writer)),
+        Kind::Summary => print_by(alloc, row, matcher, &mut row.summary.build(alloc), writer),
         Kind::Json => {
             let mut messages = Messages {
-                printer: row.json.build(alloc, writer),
+                printer: row.json.build(alloc),
                 stats: Stats::new(),
             };
-            print_by(alloc, row, matcher, &mut messages)
+            print_by(alloc, row, matcher, &mut messages, writer)
         }
     }
 }
 
 // Searches the texts of a row, and has a printer write what is found.
-fn print_by<M: FindAt, P: Printer>(
+fn print_by<M: FindAt, P: Printer, W: Output>(
     alloc: Global,
     row: &Row<'_>,
     matcher: &M,
     printer: &mut P,
+    writer: &mut W,
 ) -> Result<(), SearchError> {
-    match print_texts(alloc, row, matcher, printer) {
-        Ok(()) => printer.finish(),
+    match print_texts(alloc, row, matcher, printer, writer) {
+        Ok(()) => printer.finish(writer),
         Err(error) => {
-            printer.flush_text()?;
+            printer.flush_text(writer)?;
             Err(error)
         }
     }
 }
 
 // Searches the texts of a row in turn.
-fn print_texts<M: FindAt, P: Printer>(
+fn print_texts<M: FindAt, P: Printer, W: Output>(
     alloc: Global,
     row: &Row<'_>,
     matcher: &M,
     printer: &mut P,
+    writer: &mut W,
 ) -> Result<(), SearchError> {
     let mut searcher = row.search.build(alloc)?;
     if let Searched::Long = row.searched {
         let text = long_text(alloc)?;
-        printer.print(&mut searcher, matcher, LONG_PATH, &text)?;
+        printer.print(&mut searcher, matcher, LONG_PATH, &text, writer)?;
     }
     for (path, text) in texts(row.searched) {
-        printer.print(&mut searcher, matcher, path, text)?;
+        printer.print(&mut searcher, matcher, path, text, writer)?;
     }
     Ok(())
 }
@@ -141,114 +143,75 @@ fn print_texts<M: FindAt, P: Printer>(
 // What writes the reports of searches.
 trait Printer {
     // Searches a text, and writes what is found in it.
-    fn print<M: FindAt>(
+    fn print<M: FindAt, W: Output>(
         &mut self,
         searcher: &mut Searcher,
         matcher: &M,
         path: &str,
         text: &[u8],
+        writer: &mut W,
     ) -> Result<(), SearchError>;
 
     // Writes what is left after all searches.
-    fn finish(&mut self) -> Result<(), SearchError>;
+    fn finish<W: Output>(&mut self, writer: &mut W) -> Result<(), SearchError>;
 
     // Writes the text that isn't written yet.
-    fn flush_text(&mut self) -> Result<(), SearchError>;
+    fn flush_text<W: Output>(&mut self, writer: &mut W) -> Result<(), SearchError>;
 }
 
-impl<'c, W: Output> Printer for Standard<'c, W> {
-    fn print<M: FindAt>(
+impl<F: Format> Printer for grep_printer::Printer<F> {
+    fn print<M: FindAt, W: Output>(
         &mut self,
         searcher: &mut Searcher,
         matcher: &M,
         path: &str,
         text: &[u8],
+        writer: &mut W,
     ) -> Result<(), SearchError> {
-        let mut sink = self.sink(matcher, Some(path));
+        let mut sink = self.sink(writer, matcher, Some(path));
         search(searcher, matcher, text, &mut sink)
     }
 
-    fn finish(&mut self) -> Result<(), SearchError> {
-        self.flush_text()
+    fn finish<W: Output>(&mut self, writer: &mut W) -> Result<(), SearchError> {
+        self.flush_text(writer)
     }
 
-    fn flush_text(&mut self) -> Result<(), SearchError> {
-        end_of_flush(self.flush())
-    }
-}
-
-impl<'c, W: Output> Printer for Vimgrep<'c, W> {
-    fn print<M: FindAt>(
-        &mut self,
-        searcher: &mut Searcher,
-        matcher: &M,
-        path: &str,
-        text: &[u8],
-    ) -> Result<(), SearchError> {
-        let mut sink = self.sink(matcher, Some(path));
-        search(searcher, matcher, text, &mut sink)
-    }
-
-    fn finish(&mut self) -> Result<(), SearchError> {
-        self.flush_text()
-    }
-
-    fn flush_text(&mut self) -> Result<(), SearchError> {
-        end_of_flush(self.flush())
-    }
-}
-
-impl<'c, W: Output> Printer for Summary<'c, W> {
-    fn print<M: FindAt>(
-        &mut self,
-        searcher: &mut Searcher,
-        matcher: &M,
-        path: &str,
-        text: &[u8],
-    ) -> Result<(), SearchError> {
-        let mut sink = self.sink(matcher, Some(path));
-        search(searcher, matcher, text, &mut sink)
-    }
-
-    fn finish(&mut self) -> Result<(), SearchError> {
-        self.flush_text()
-    }
-
-    fn flush_text(&mut self) -> Result<(), SearchError> {
-        end_of_flush(self.flush())
+    fn flush_text<W: Output>(&mut self, writer: &mut W) -> Result<(), SearchError> {
+        end_of_flush(self.flush(writer))
     }
 }
 
 // A printer of JSON, and what all searches have come to.
 #[derive(Drop)]
-struct Messages<W> {
-    printer: Json<W>,
+struct Messages {
+    printer: Json,
     stats: Stats,
 }
 
-impl<W: Output> Printer for Messages<W> {
-    fn print<M: FindAt>(
+impl Printer for Messages {
+    fn print<M: FindAt, W: Output>(
         &mut self,
         searcher: &mut Searcher,
         matcher: &M,
         path: &str,
         text: &[u8],
+        writer: &mut W,
     ) -> Result<(), SearchError> {
-        let mut sink = self.printer.sink(matcher, Some(path));
+        let mut sink = self.printer.sink(writer, matcher, Some(path));
         search(searcher, matcher, text, &mut sink)?;
         let stats = sink.write_end(Duration::from_nanos(ELAPSED))?;
         self.stats.add(&stats);
         Ok(())
     }
 
-    fn finish(&mut self) -> Result<(), SearchError> {
-        self.printer
-            .write_summary(&self.stats, Duration::from_nanos(ELAPSED))?;
-        self.flush_text()
+    fn finish<W: Output>(&mut self, writer: &mut W) -> Result<(), SearchError> {
+        let elapsed = Duration::from_nanos(ELAPSED);
+        self.printer.write_summary(writer, &self.stats, elapsed)?;
+        self.flush_text(writer)
     }
 
-    fn flush_text(&mut self) -> Result<(), SearchError> {
-        end_of_flush(self.printer.flush())
+    fn flush_text<W: Output>(&mut self, writer: &mut W) -> Result<(), SearchError> {
+        end_of_flush(self.printer.flush(writer))
     }
 }
 

@@ -1,4 +1,4 @@
-//! A printer of lines that searches, and whose text is written and flushed in two steps.
+//! A printer of lines that searches, and whose text is written at the end.
 use grep_matcher::LiteralMatcher;
 use grep_output::Writing;
 use grep_printer::{Standard, StandardBuilder};
@@ -13,13 +13,14 @@ const TEXT: &[u8] = b"a:1:one\na:3:two\n1:to\n";
 fn search(
     alloc: Global,
     searcher: &mut Searcher,
-    printer: &mut Standard<'_, Writing<Vec<u8>>>,
+    printer: &mut Standard<'_>,
     path: Option<&str>,
     bytes: &[u8],
+    writer: &mut Writing<Vec<u8>>,
 ) -> Result<bool, SearchError> {
     let matcher = LiteralMatcher::new(alloc, b"o")?;
     let mut input = bytes;
-    let searched = printer.search(searcher, &matcher, path, &mut input);
+    let searched = printer.search(searcher, &matcher, path, &mut input, writer);
     match searched.result {
         Ok(()) => Ok(searched.has_match),
         Err(error) => Err(error),
@@ -29,29 +30,26 @@ fn search(
 // What a printer writes of three searches, one of which finds nothing.
 fn text(alloc: Global) -> Result<Vec<u8>, SearchError> {
     let mut searcher = SearcherBuilder::new().build(alloc)?;
-    let mut printer = StandardBuilder::new().build(alloc, Writing::new(Vec::new(alloc)));
-    let first = search(
+    let mut printer = StandardBuilder::new().build(alloc);
+    let mut writer = Writing::new(Vec::new(alloc));
+    let (a, b) = (Some("a"), Some("b"));
+    let text = b"one\nx\ntwo";
+    let first = search(alloc, &mut searcher, &mut printer, a, text, &mut writer)?;
+    let second = search(alloc, &mut searcher, &mut printer, b, b"x\n", &mut writer)?;
+    let third = search(
         alloc,
         &mut searcher,
         &mut printer,
-        Some("a"),
-        b"one\nx\ntwo",
+        None,
+        b"to\n",
+        &mut writer,
     )?;
-    let second = search(alloc, &mut searcher, &mut printer, Some("b"), b"x\n")?;
-    let third = search(alloc, &mut searcher, &mut printer, None, b"to\n")?;
-    finish(&mut printer)?;
-    let (writer, left) = printer.into_parts();
-    if first && !second && third && left.is_empty() {
+    search_result(printer.write_pending(&mut writer))?;
+    if first && !second && third {
         Ok(writer.into_inner())
     } else {
         Ok(Vec::new(alloc))
     }
-}
-
-// Writes what a printer has kept, and flushes its writer.
-fn finish(printer: &mut Standard<'_, Writing<Vec<u8>>>) -> Result<(), SearchError> {
-    search_result(printer.write_pending())?;
-    search_result(printer.flush_writer())
 }
 
 // What a search returns whose writer returned this.

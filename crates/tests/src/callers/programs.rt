@@ -447,34 +447,28 @@ fn push_line(bytes: &mut Vec<u8>, length: usize) -> Result<(), AllocError> {
     Ok(())
 }
 
-// How many bytes are taken if so many writes are: the text that is kept twice, the number of the
-// long line, the line, and the text after it.
-const TAKEN_ROWS: &[(usize, usize)] = &[
-    (0, 0),
-    (1, 65_519),
-    (2, 108_886),
-    (3, 108_892),
-    (4, 208_893),
-];
-
-// Whether so many bytes of a text are taken if so many writes are.
-fn takes(alloc: Global, input: &[u8], text: &[u8], (left, length): (usize, usize)) -> bool {
-    let mut writer = full_after(alloc, left);
+// Whether a search whose writer takes so many writes fails after whole lines of a text, of which each
+// write took 64 KiB at least.
+fn takes(alloc: Global, input: &[u8], text: &[u8], writes: usize) -> bool {
+    let mut writer = full_after(alloc, writes);
     let mut reader = input;
     let ended = search(alloc, "a", &mut reader, &mut writer);
     is_fault(ended, io::ErrorKind::BrokenPipe)
-        && is_front(writer.into_inner().taken.as_slice(), text, length)
+        && are_lines(writer.into_inner().taken.as_slice(), text, writes)
 }
 
-// Whether these are so many first bytes of a text.
-fn is_front(taken: &[u8], text: &[u8], length: usize) -> bool {
-    taken.len() == length && text.starts_with(taken)
+// Whether these are first lines of a text, of 64 KiB at least for each write.
+fn are_lines(taken: &[u8], text: &[u8], writes: usize) -> bool {
+    taken.len() / 65_536 >= writes
+        && text.starts_with(taken)
+        && (writes == 0 || taken.ends_with(b"\n"))
 }
 
-// Whether each row is so, and the text is written if all writes are taken.
+// Whether it is so for each number of writes but that of all, and the text is written if all are
+// taken: the first takes the lines up to the long one.
 fn takes_all(alloc: Global, input: &[u8], text: &[u8]) -> bool {
-    for row in TAKEN_ROWS {
-        if !takes(alloc, input, text, *row) {
+    for count in 0..2 {
+        if !takes(alloc, input, text, count) {
             return false;
         }
     }

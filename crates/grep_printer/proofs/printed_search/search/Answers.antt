@@ -8,6 +8,13 @@ returns-clause-printer g c =
     c.search_reader.new.reader c.search_reader.new.sink c.args.matcher c.requires _ c.search_reader.result
     c.search_reader.ensures.searched c.search_reader.ensures.in_order).printer
 
+pub returns-clause-writer : goal.returns-clause-writer
+returns-clause-writer g c =
+    (search-same g.F.Format.rules g.M.Error.Display.output g.M.Matcher.facts g.M.FindAt.first_at g.W.Output.step
+    g.H.Source.remaining g.H.Source.step c.args.searcher.now c.args.haystack.now c.args.sink.now
+    c.search_reader.new.reader c.search_reader.new.sink c.args.matcher c.requires _ c.search_reader.result
+    c.search_reader.ensures.searched c.search_reader.ensures.in_order).writer
+
 pub returns-clause-printed : goal.returns-clause-printed
 returns-clause-printed g c =
     search-printed g.F.Format.rules g.M.Error.Display.output g.M.Matcher.facts g.M.FindAt.first_at g.W.Output.step

@@ -20,11 +20,12 @@ returns g c = record {
     chosen = c.args.colors;
     colored = c.requires.colored;
     printer = subst (λ printer. IsPrinterOf c.args.options.now (is_across (searcher_settings c.args.options.now)
-        (g.M.Matcher.facts c.args.matcher).meaning) c.args.separators c.args.colors c.args.matcher c.args.template c.args.output printer) (sym c.new-engine.ensures.printer)
-        (subst (λ across. IsPrinterOf c.args.options.now across c.args.separators c.args.colors c.args.matcher c.args.template c.args.output
+        (g.M.Matcher.facts c.args.matcher).meaning) c.args.separators c.args.colors c.args.matcher c.args.template printer) (sym c.new-engine.ensures.printer)
+        (subst (λ across. IsPrinterOf c.args.options.now across c.args.separators c.args.colors c.args.matcher c.args.template
         c.build_printer-printer.result)
         (c.multi_line_with_matcher-is_across.ensures ∙ ap (λ settings. is_across settings
         (g.M.Matcher.facts c.args.matcher).meaning) c.requires.settings) c.build_printer-printer.ensures);
+    writes_to = c.new-engine.ensures.writer;
     haystack = c.new-engine.ensures.haystack;
     says = c.new-engine.ensures.errors;
     path_separator = c.new-engine.ensures.path_separator ∙ c.requires.path_separator;

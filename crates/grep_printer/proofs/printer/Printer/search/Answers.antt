@@ -7,6 +7,7 @@ returns-clause-printed g c = record {
   ended = c.search-result.new.sink;
   begins = record {
     is_of = c.sink-sink.ensures.now;
+    writes_to = c.sink-sink.ensures.writes_to;
     asks = c.sink-sink.ensures.matcher;
     names = c.sink-sink.ensures.path;
     format = c.sink-sink.ensures.format;
@@ -14,4 +15,5 @@ returns-clause-printed g c = record {
   searches = c.search-result.ensures.printed;
   has_match = c.end-has_match.ensures.has_match;
   ends = search rules;
+  wrote = search rules;
 }

@@ -1,4 +1,4 @@
-use Rattle.std.proofs.Common.{◌∙◌, subst, sym}
+use Rattle.std.proofs.Common.{◌∙◌, rules, subst, sym}
 use Rattle.grep_printer.specs.StatsSums.{nanos_of}
 use Rattle.linegrep_cli.specs.CountedRuns.{AreAdded}
 use Rattle.linegrep_cli.proofs.counted_run.CountedRun.search.Goals as goal
@@ -10,13 +10,15 @@ returns-clause-printed g c = record {
     ended = c.search-result.new.sink;
     begins = record {
       is_of = c.sink-sink.ensures.now;
+      writes_to = c.sink-sink.ensures.writes_to;
       asks = c.sink-sink.ensures.matcher;
       names = c.sink-sink.ensures.path;
       format = c.sink-sink.ensures.format;
     };
     searches = rw c.keep.ensures.result c.search-result.ensures.printed;
     has_match = c.keep.ensures.has_match ∙ c.end-has_match.ensures.has_match;
-    ends = sym (c.keep.ensures.printer ∙ c.end-has_match.ensures.left);
+    ends = sym (c.keep.ensures.printer ∙ c.end-has_match.ensures.printer);
+    wrote = search rules;
   };
   elapsed = nanos_of c.elapsed.result;
   totals = rw c.keep.ensures.result

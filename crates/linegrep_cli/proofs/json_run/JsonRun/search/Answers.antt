@@ -1,5 +1,6 @@
-use Rattle.std.proofs.Common.{◌≡◌, ◌∙◌, ap, rules}
+use Rattle.std.proofs.Common.{◌≡◌, ◌∙◌, ap, rules, subst}
 use Rattle.grep_printer.specs.declared.json_printer.JsonFormat.{JsonFormat}
+use Rattle.linegrep_cli.specs.JsonRuns.{IsEndPut}
 use Rattle.linegrep_cli.proofs.json_run.JsonRun.search.Goals as goal
 
 pub returns-clause-written : goal.returns-clause-written
@@ -11,6 +12,7 @@ returns-clause-written g c = record {
   counts = c.write_end-ended.result;
   begins = record {
     is_of = c.sink-sink.ensures.now;
+    writes_to = c.sink-sink.ensures.writes_to;
     asks = c.sink-sink.ensures.matcher;
     names = c.sink-sink.ensures.path;
     format = c.sink-sink.ensures.format;
@@ -20,7 +22,10 @@ returns-clause-written g c = record {
       ∙ ap (λ (format : JsonFormat). format.progress.has_match) c.write_end-ended.ensures.format);
   ends =
       let printer : c.keep.new.self.printer ≡ c.write_end-ended.new.sink.printer.now = search rules in
-      rw printer c.write_end-ended.ensures.end.1;
+      subst (λ w. IsEndPut g.W.Output.step c.search-result.new.sink c.search-result.result
+      c.write_end-ended.ensures.end.0 c.write_end-ended.result w c.keep.new.self.printer)
+      {x = c.write_end-ended.new.sink.writer.now} (search rules)
+      (rw printer c.write_end-ended.ensures.end.1);
   totals = c.keep.ensures.stats;
   start = c.keep.ensures.start;
 }

@@ -5,7 +5,8 @@ pub returns-in-Err : goal.returns-in-Err
 returns-in-Err g c = of_totals c.in-Err.ensures
 
 pub returns-in-Ok-flush : goal.returns-in-Ok-flush
-returns-in-Ok-flush g c = of_flush c.write_totals.new.self c.in-Ok.ensures c.in-Ok-flush.ensures
+returns-in-Ok-flush g c = of_flush c.write_totals.new.writer c.write_totals.new.self c.in-Ok.ensures c.in-Ok-flush.ensures
 
 pub returns-in-Err-flush : goal.returns-in-Err-flush
-returns-in-Err-flush g c = of_failed_flush c.write_totals.new.self c.in-Ok.ensures c.in-Err-flush.ensures
+returns-in-Err-flush g c = of_failed_flush c.write_totals.new.writer c.write_totals.new.self c.in-Ok.ensures
+    c.in-Err-flush.ensures
