@@ -56,16 +56,19 @@ impl<F: Format> Printer<F> {
     {
         let mut sink = self.sink(writer, matcher, path);
         let result = search(searcher, matcher, haystack, &mut sink);
-        let has_match = end(sink);
+        let has_match = sink.end();
         Searched { has_match, result }
     }
 }
 
-// Ends a sink, and returns whether its search found what it is for.
-fn end<F: Format, M: FindAt + Copy, W: Output>(sink: PrinterSink<'_, F, M, W>) -> bool
-    ensures printer { sink.exit.0.now ≡ sink.entry.printer.now }
-    ensures writer { sink.exit.1.0.now ≡ sink.entry.writer.now }
-    ensures has_match { result ≡ F.rules.has_match sink.entry.format }
-{
-    sink.has_match()
+impl<'s, F: Format, M: FindAt + Copy, W: Output> PrinterSink<'s, F, M, W> {
+    /// Ends the sink, so that its printer and writer may be used again, and returns whether the
+    /// search found what it is for, as `has_match` does.
+    pub fn end(self) -> bool
+        ensures printer { self.exit.0.now ≡ self.entry.printer.now }
+        ensures writer { self.exit.1.0.now ≡ self.entry.writer.now }
+        ensures has_match { result ≡ F.rules.has_match self.entry.format }
+    {
+        self.has_match()
+    }
 }

@@ -5,7 +5,6 @@ ghost use Rattle.linegrep_cli.specs.CountedRuns.{AreAdded, AreStatsPut, IsCounte
 ghost use Rattle.linegrep_cli.specs.CountedRuns.{IsRunFlushed};
 
 use crate::clock::elapsed;
-use crate::haystacks::end;
 use grep_output::Output;
 use grep_printer::{CountedFormat, Format, Printer, Searched, Stats, search};
 use grep_searcher::{FindAt, SearchError, Searcher, Source};
@@ -56,7 +55,7 @@ impl<F: Format> CountedRun<F> {
         let mut sink = self.printer.sink(writer, matcher, path);
         let result = search(searcher, matcher, haystack, &mut sink);
         let counted = sink.stats(elapsed(rt, start));
-        let has_match = end(sink);
+        let has_match = sink.end();
         self.keep(has_match, result, &counted)
     }
 

@@ -1,9 +1,5 @@
 //! What is searched.
-ghost use Rattle.std.specs.Prelude.{◌≡◌};
-
-use grep_output::Output;
-use grep_printer::{Format, PrinterSink};
-use grep_searcher::{FindAt, Source};
+use grep_searcher::Source;
 use std::io;
 use std::io::Read;
 
@@ -35,13 +31,4 @@ impl<F: Read, R: Source> Source for Haystack<F, R> {
             None => self.reader.pull(buffer),
         }
     }
-}
-
-/// Ends a sink, and says whether its search found what it is for.
-pub fn end<F: Format, M: FindAt + Copy, W: Output>(sink: PrinterSink<'_, F, M, W>) -> bool
-    ensures printer { sink.exit.0.now ≡ sink.entry.printer.now }
-    ensures writer { sink.exit.1.0.now ≡ sink.entry.writer.now }
-    ensures has_match { result ≡ F.rules.has_match sink.entry.format }
-{
-    sink.has_match()
 }

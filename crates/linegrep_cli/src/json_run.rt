@@ -4,7 +4,6 @@ ghost use Rattle.linegrep_cli.specs.JsonRuns.{AreCounted, AreTotalsPut, IsEndPut
 ghost use Rattle.linegrep_cli.specs.WriterFlushes.{IsWriterFlushed};
 
 use crate::clock::elapsed;
-use crate::haystacks::end;
 use grep_output::Output;
 use grep_printer::{Json, JsonSink, Searched, Stats, search};
 use grep_searcher::{FindAt, SearchError, Searcher, Source};
@@ -51,7 +50,7 @@ impl JsonRun {
         let mut sink = self.printer.sink(writer, matcher, path);
         let result = search(searcher, matcher, haystack, &mut sink);
         let ended = write_end(rt, &mut sink, start, result);
-        let has_match = end(sink);
+        let has_match = sink.end();
         self.keep(has_match, ended)
     }
 
