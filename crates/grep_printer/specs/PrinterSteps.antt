@@ -34,6 +34,15 @@ pub record IsPreparing {F M W : Type 0} (old new : PrinterSink F M W) : Type 0 w
   pub has_written : new.printer.now.has_written ≡ old.printer.now.has_written
   pub has_failed : new.printer.now.has_failed ≡ old.printer.now.has_failed
 
+-- a sink as it was, of which the parts at hand may be others
+pub record IsAsBefore {F M W : Type 0} (old new : PrinterSink F M W) : Type 0 where
+  pub same : IsSameSink old new
+  pub format : new.format ≡ old.format
+  pub writer : new.writer.now ≡ old.writer.now
+  pub pending : pending_bytes new.printer.now.pending ≡ pending_bytes old.printer.now.pending
+  pub has_written : new.printer.now.has_written ≡ old.printer.now.has_written
+  pub has_failed : new.printer.now.has_failed ≡ old.printer.now.has_failed
+
 -- what the texts of a sink's calls depend on
 abbrev pub scene_of : {F M W : Type 0} → PrinterSink F M W → Settings → Scene
 scene_of sink settings = record { path = sink.path; settings = settings }

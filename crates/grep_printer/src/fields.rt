@@ -265,7 +265,7 @@ impl<'c, 'p> Layout<'c, 'p> {
 }
 
 // Pushes a number, in a color if there is one, and a mark, if there is a number.
-#[inline]
+#[inline(always)]
 pub(crate) fn push_number(text: &mut Pending, color: Option<&str>, number: Option<u64>, mark: &[u8])
     ensures { Adds text.old text.new (number_field (color_of color.entry) mark.now number) }
 {

@@ -1,6 +1,6 @@
 //! A printer of any format, and the sink of one search after another.
 ghost use Rattle.std.specs.Prelude.{◌≡◌, ◌⊎◌, ◌+◌, ◌<◌, ◌^◌, ◌&&◌, ◌||◌, [], true, false, IfErr};
-ghost use Rattle.std.specs.Prelude.{Err, MatchResult, Ok, OnErr, OnOk, ◌++◌};
+ghost use Rattle.std.specs.Prelude.{Err, IfNone, IfSome, MatchResult, Ok, OnErr, OnOk, ◌++◌};
 ghost use Rattle.grep_output.specs.Outputs.{Writes};
 ghost use Rattle.std.specs.Prelude.{MatchBool, if◌then◌else◌, is_ok, length};
 ghost use Rattle.grep_output.specs.PendingTexts.{Flushes, Puts, pending_bytes};
@@ -12,8 +12,8 @@ ghost use Rattle.grep_printer.specs.BareTexts.{bare_text};
 ghost use Rattle.grep_printer.specs.CallParts.{FailsAtParts, around_match, has_match};
 ghost use Rattle.grep_printer.specs.Formats.{is_text};
 ghost use Rattle.grep_printer.specs.MatchedParts.{AreInOrder};
-ghost use Rattle.grep_printer.specs.PrinterSteps.{HasFound, IsPreparing, PrintsCall};
-ghost use Rattle.grep_printer.specs.PrinterSteps.{PrintsShown};
+ghost use Rattle.grep_printer.specs.PrinterSteps.{HasFound, IsAsBefore, IsPreparing, Prints};
+ghost use Rattle.grep_printer.specs.PrinterSteps.{PrintsCall, PrintsShown};
 ghost use Rattle.grep_printer.specs.Reports.{FitsEvent, IsAround, IsShownEvent, event_call, event_surroundings};
 
 use crate::bare::write_call;
@@ -300,7 +300,7 @@ impl<'s, F: Format, M: FindAt, W: Output> PrinterSink<'s, F, M, W> {
     }
 
     // Finds the parts of a call's report that match, where they are asked for.
-    #[inline(never)]
+    #[inline(always)]
     fn find_parts<A: Allocator + Copy>(
         &mut self,
         searcher: &Searcher<A>,
@@ -344,35 +344,8 @@ impl<'s, F: Format, M: FindAt, W: Output> PrinterSink<'s, F, M, W> {
         self.printer.parts.clear();
     }
 
-    // Has the parts of a call's report at hand that match, where they are asked for, and else none.
-    #[inline(always)]
-    fn prepare_parts<A: Allocator + Copy>(
-        &mut self,
-        searcher: &Searcher<A>,
-        event: &Event<'_>,
-    ) -> Result<(), SearchError>
-        requires shown { IsShownEvent event.now }
-        ensures same { IsPreparing self.old self.new }
-        ensures parts { OnOk result (HasFound F.rules (IsAround event.now) M.facts M.first_at
-            self.old searcher.now.settings self.old.format
-            (record { call = event_call event.now; around = event_surroundings event.now; parts = self.new.printer.now.parts.items })) }
-        ensures ordered { OnOk result (AreInOrder 0 (length (reported_bytes (event_call event.now)))
-            self.new.printer.now.parts.items) }
-        ensures error { IfErr result (λ e. ((has_match searcher.now.settings (event_call event.now)
-            && F.rules.asks self.old.format (event_call event.now)) ≡ true)
-            × (IsOutOfMemory e
-            ⊎ FailsAtParts (IsAround event.now) M.Error.output (M.facts self.old.matcher)
-            searcher.now.settings (event_call event.now) e)) }
-    {
-        if self.asks(searcher, event) {
-            return self.find_parts(searcher, event);
-        }
-        self.clear_parts(searcher, event);
-        Ok(())
-    }
-
     // Prints a call, and returns whether the search goes on. It is inlined, so that each method
-    // knows which call it prints; where nothing can fail, no room for an error is copied.
+    // knows which call it prints; room for an error is made only where one may come.
     #[inline(always)]
     fn print<A: Allocator + Copy>(
         &mut self,
@@ -387,10 +360,95 @@ impl<'s, F: Format, M: FindAt, W: Output> PrinterSink<'s, F, M, W> {
         ensures step { PrintsCall F.rules M.Error.output M.facts M.first_at W.step
             self.old searcher.now.settings (event_call event.now) result self.new }
     {
-        match self.prepare_parts(searcher, event) {
+        if self.asks(searcher, event) {
+            return self.print_with_parts(searcher, event);
+        }
+        self.clear_parts(searcher, event);
+        match self.keep_call(searcher, event) {
+            Some(goes_on) => Ok(goes_on),
+            None => self.print_call(searcher, event),
+        }
+    }
+
+    // Prints a call of whose report the parts are asked for.
+    #[inline(always)]
+    fn print_with_parts<A: Allocator + Copy>(
+        &mut self,
+        searcher: &Searcher<A>,
+        event: &Event<'_>,
+    ) -> Result<bool, SearchError>
+        requires fits { FitsEvent event.now }
+        requires shown { IsShownEvent event.now }
+        requires asked { (has_match searcher.now.settings (event_call event.now)
+            && F.rules.asks self.old.format (event_call event.now)) ≡ true }
+        ensures { PrintsShown F.rules M.Error.output M.facts M.first_at W.step
+            (IsAround event.now) self.old searcher.now.settings (event_call event.now) result
+            self.new }
+    {
+        match self.find_parts(searcher, event) {
             Ok(()) => {}
             Err(error) => return Err(error),
         }
+        match self.keep_call(searcher, event) {
+            Some(goes_on) => Ok(goes_on),
+            None => self.print_call(searcher, event),
+        }
+    }
+
+    // Keeps the text of a call whose parts are at hand, if there is memory and room for it, and
+    // returns whether the search goes on. If there isn't, nothing has changed.
+    #[inline(always)]
+    fn keep_call<A: Allocator + Copy>(
+        &mut self,
+        searcher: &Searcher<A>,
+        event: &Event<'_>,
+    ) -> Option<bool>
+        requires fits { FitsEvent event.now }
+        requires shown { IsShownEvent event.now }
+        requires found { HasFound F.rules (IsAround event.now) M.facts M.first_at
+            self.old searcher.now.settings self.old.format
+            (record { call = event_call event.now; around = event_surroundings event.now; parts = self.old.printer.now.parts.items }) }
+        requires ordered { AreInOrder 0 (length (reported_bytes (event_call event.now)))
+            self.old.printer.now.parts.items }
+        ensures kept { IfSome result (λ goes_on. Prints F.rules M.Error.output M.facts M.first_at
+            W.step (IsAround event.now) self.old searcher.now.settings (event_call event.now)
+            goes_on self.new) }
+        ensures unkept { IfNone result (IsAsBefore self.old self.new) }
+        ensures parts { IfNone result
+            (self.new.printer.now.parts.items ≡ self.old.printer.now.parts.items) }
+    {
+        let before = self.format;
+        let printer = &mut *self.printer;
+        printer.pending.begin();
+        let (text, parts) = (&mut printer.pending, &printer.parts);
+        let goes_on = self.format.push(text, searcher, self.path, event, parts);
+        if !printer.pending.has_failed() && printer.keeps_text() {
+            return Some(goes_on);
+        }
+        printer.pending.cancel();
+        self.format = before;
+        None
+    }
+
+    // Writes the text of a call whose parts are at hand, after those that are kept, and returns
+    // whether the search goes on.
+    #[inline(never)]
+    fn print_call<A: Allocator + Copy>(
+        &mut self,
+        searcher: &Searcher<A>,
+        event: &Event<'_>,
+    ) -> Result<bool, SearchError>
+        requires fits { FitsEvent event.now }
+        requires shown { IsShownEvent event.now }
+        requires found { HasFound F.rules (IsAround event.now) M.facts M.first_at
+            self.old searcher.now.settings self.old.format
+            (record { call = event_call event.now; around = event_surroundings event.now; parts = self.old.printer.now.parts.items }) }
+        requires ordered { AreInOrder 0 (length (reported_bytes (event_call event.now)))
+            self.old.printer.now.parts.items }
+        ensures { PrintsShown F.rules M.Error.output M.facts M.first_at W.step
+            (IsAround event.now) self.old searcher.now.settings (event_call event.now) result
+            self.new }
+    {
         let before = self.format;
         let printer = &mut *self.printer;
         printer.pending.begin();
@@ -407,9 +465,6 @@ impl<'s, F: Format, M: FindAt, W: Output> PrinterSink<'s, F, M, W> {
             }
             self.format = before;
             return Err(SearchError::from(AllocError));
-        }
-        if printer.keeps_text() {
-            return Ok(goes_on);
         }
         match self.printer.end_text(self.writer) {
             Ok(()) => Ok(goes_on),
