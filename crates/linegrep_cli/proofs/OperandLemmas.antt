@@ -15,12 +15,13 @@ use Rattle.linegrep_cli.specs.declared.file_run.Scope.{Scope}
 use Rattle.linegrep_cli.specs.declared.visit.Visit.{Visit}
 use Rattle.linegrep_files.specs.Choices.{AreAlike}
 use Rattle.linegrep_files.specs.FolderFacts.{FolderFacts}
+use Rattle.linegrep_files.specs.Folders.{name_of}
 use Rattle.linegrep_files.specs.Trees.{AreAllOf, AreFirstOf, are_first, are_none}
 use Rattle.linegrep_files.specs.declared.choices.Choices.{Choices}
 use Rattle.linegrep_files.specs.declared.entry.Entry.{Entry}
 use Rattle.linegrep_files.specs.declared.file_id.FileId.{FileId}
 use Rattle.linegrep_files.specs.declared.walk.Route.{Route}
-use Rattle.linegrep_files.proofs.AlikeLemmas.{alike-then}
+use Rattle.linegrep_files.proofs.AlikeLemmas.{taken-by}
 
 -- a run that has visited nothing isn't over
 pub not-over : (scope : Scope) → is_over scope no_visit ≡ false
@@ -48,14 +49,14 @@ first-of : (folders : FolderFacts) (route : Route) (old choices : Choices) (fold
     → AreFirstOf folders route old folder visited
 first-of folders route old choices folder _ alike are_none = are_none
 first-of folders route old choices folder visited alike (are_first begun path root are is root_is first) =
-    are_first begun path root (alike-then old choices begun alike are) is root_is first
+    are_first begun path root (taken-by folders (name_of folder) old choices begun alike are) is root_is first
 
 all-of : (folders : FolderFacts) (route : Route) (old choices : Choices) (folder : List ℕ)
     (visited : List Entry) → AreAlike old choices → AreAllOf folders route choices folder visited
     → AreAllOf folders route old folder visited
 all-of folders route old choices folder visited alike are = record {
   begun = are.begun;
-  are_begun = alike-then old choices are.begun alike are.are_begun;
+  are_begun = taken-by folders (name_of folder) old choices are.begun alike are.are_begun;
   path = are.path;
   is_path = are.is_path;
   root = are.root;

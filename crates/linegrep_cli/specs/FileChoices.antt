@@ -15,6 +15,7 @@ use Rattle.linegrep_cli.specs.declared.option_id.OptionId.TheVariants.{NoRequire
 use Rattle.linegrep_cli.specs.declared.option_id.OptionId.TheVariants.{Unrestricted}
 use Rattle.linegrep_cli.specs.declared.options.Options.{Options}
 use Rattle.linegrep_files.specs.Choices.{AreChoices}
+use Rattle.linegrep_files.specs.FolderFacts.{FolderFacts}
 use Rattle.linegrep_files.specs.declared.choices.Choices.{Choices}
 use Rattle.linegrep_files.specs.declared.file_options.FileOptions.{FileOptions}
 use Rattle.linegrep_files.specs.declared.ignores.Sources.{Sources}
@@ -72,7 +73,8 @@ pub record AreFileOptions (options : Options) (files : FileOptions) : Type 0 whe
   pub hidden : files.shows_hidden ≡ shows_hidden options
 
 -- which files of folders are searched is what options say
-pub record AreChoicesOf (options : Options) (choices : Choices) : Type 0 where
-  pub files : FileOptions
-  pub are_files : AreFileOptions options files
-  pub are_choices : AreChoices files choices
+pub record AreChoicesOf (folders : FolderFacts) (options : Options) (choices : Choices) : Type 0
+  where
+    pub files : FileOptions
+    pub are_files : AreFileOptions options files
+    pub are_choices : AreChoices folders files choices

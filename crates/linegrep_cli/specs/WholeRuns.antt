@@ -82,7 +82,7 @@ module _ {F M R W X E : Type 0} (output : E → Option (List ℕ)) (facts : M �
     pub last : PrintingEngine F M R W X
     pub is_scope : IsScopeOf finds options scope
     pub choices : Choices
-    pub are_choices : AreChoicesOf options choices
+    pub are_choices : AreChoicesOf folders options choices
     pub begins : IsEngineFor options matcher template input writer errors first
     pub run : IsRunOver folders finds opens identifies
         (IsEngineStep output facts first_at groups_at write_step file_remaining remaining read_step)

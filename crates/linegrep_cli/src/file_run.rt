@@ -17,7 +17,8 @@ ghost use Rattle.linegrep_cli.specs.OperandRuns.{IsPathVisited, IsReported, IsRu
 ghost use Rattle.linegrep_cli.specs.OperandRuns.{IsLeftOut, IsSaid, has_found, is_input, is_over};
 ghost use Rattle.linegrep_cli.specs.OperandRuns.{IsTreeVisited, error_of, is_same, no_visit};
 ghost use Rattle.linegrep_cli.specs.OperandRuns.{path_of, status_of};
-ghost use Rattle.linegrep_files.specs.Choices.{AreAlike, SaysTheSame};
+ghost use Rattle.linegrep_files.specs.Choices.{AreAlike, AreTakenUp, SaysTheSame};
+ghost use Rattle.linegrep_files.specs.Folders.{name_of};
 ghost use Rattle.linegrep_files.specs.Trees.{IsPassed};
 
 use crate::engine::{Engine, written_error};
@@ -308,7 +309,7 @@ impl<'r, S: System> Run<'r, S> {
         ensures choices { is_over self.now.scope result ≡ false
             → AreAlike choices.old choices.new }
     {
-        match choices.begin(folder) {
+        match choices.begin(self.system, folder) {
             Ok(()) => self.visit_entries(engine, choices, folder),
             Err(_) => Visit::failed(Some(io::Error::from(io::ErrorKind::OutOfMemory))),
         }
@@ -321,12 +322,14 @@ impl<'r, S: System> Run<'r, S> {
         choices: &mut Choices<'r>,
         folder: &str,
     ) -> Visit
-        ensures visited { (first : Choices) → AreAlike first choices.old
+        ensures visited { (first : Choices)
+            → AreTakenUp (S.facts self.now.system.now) (name_of folder.now) first choices.old
             → IsTreeVisited (S.facts self.now.system.now) (S.opens self.now.system.now)
             (S.identifies self.now.system.now) E.step E.has_failed self.now.scope first folder.now
             engine.old result engine.new }
-        ensures choices { is_over self.now.scope result ≡ false
-            → AreAlike choices.old choices.new }
+        ensures choices { (first : Choices)
+            → AreTakenUp (S.facts self.now.system.now) (name_of folder.now) first choices.old
+            → is_over self.now.scope result ≡ false → AreAlike first choices.new }
     {
         let mut walk = Walk::new(self.rt, self.system, self.scope.route, folder);
         let mut total = Visit::none();

@@ -77,8 +77,9 @@ struct Prepared<'r> {
 
 // What the options ask a search to be made with. An error is that of a setting, of a pattern that
 // can't be compiled, of a glob that isn't well formed, or of being out of memory.
-fn prepare<'r>(
+fn prepare<'r, S: System>(
     rt: &'r HostRuntime,
+    system: &S,
     options: &Options<'_, '_>,
     patterns: &[String],
 ) -> Result<Prepared<'r>, Failure>
@@ -95,7 +96,8 @@ fn prepare<'r>(
         IsTemplate options.now prepared.regex prepared.template) }
     ensures path_separator { IfOk result (λ prepared.
         prepared.path_separator ≡ path_separator_of options.now) }
-    ensures choices { IfOk result (λ prepared. AreChoicesOf options.now prepared.choices) }
+    ensures choices { IfOk result (λ prepared.
+        AreChoicesOf (S.facts system.now) options.now prepared.choices) }
     ensures refused { IfErr result (λ failure. has_cause failure ≡ true
         → IsCause options.now patterns.now) }
 {
@@ -117,7 +119,7 @@ fn prepare<'r>(
         Err(failure) => return Err(failure),
     };
     options.order().check(rt)?;
-    let choices = match Choices::read(rt, &file_options(options)) {
+    let choices = match Choices::read(rt, system, &file_options(options)) {
         Ok(choices) => choices,
         Err(failure) => return Err(failure),
     };
@@ -155,7 +157,7 @@ pub fn search_all<S: System, R: Source + Drop, W: Output + Drop, E: Output>(
         (S.facts system.now) (S.finds system.now) (S.opens system.now) (S.identifies system.now) options.now patterns.now
         input output errors.old result.status result.input result.output }
 {
-    match prepare(rt, options, patterns) {
+    match prepare(rt, system, options, patterns) {
         Ok(prepared) => {
             let Prepared {
                 searcher,
@@ -210,7 +212,7 @@ where
     requires colored { AreColorsLent options.now colors }
     requires path_separator { path_separator ≡ path_separator_of options.now }
     requires template { IsTemplateLent options.now regex.now template }
-    requires choices { AreChoicesOf options.now choices.old }
+    requires choices { AreChoicesOf (S.facts system.now) options.now choices.old }
     ensures { ((patterns : List (String Global)) → IsRefusedFor E.step options.now patterns input
         output errors.old result.status result.input result.output errors.new)
         ⊎ (IsRunFor ⟦<AllocError as Display>⟧.output literal_facts literal_first_at
@@ -282,7 +284,7 @@ fn search_with<'r, M: CapturesAt + Copy, S: System, R: Source + Drop, W: Output 
     requires lent { AreLent options.now separators }
     requires colored { AreColorsLent options.now colors }
     requires path_separator { path_separator ≡ path_separator_of options.now }
-    requires choices { AreChoicesOf options.now choices.old }
+    requires choices { AreChoicesOf (S.facts system.now) options.now choices.old }
     ensures { IsRunWith M.Error.output M.facts M.first_at M.groups_at W.step S.File.remaining
         R.remaining R.step (S.facts system.now) (S.finds system.now) (S.opens system.now) (S.identifies system.now)
         options.now matcher template.entry input output errors.old result.status result.input

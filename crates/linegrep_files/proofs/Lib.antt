@@ -1,8 +1,10 @@
 pub mod AlikeLemmas
+pub mod BaseLemmas
 pub mod ChoiceLemmas
 pub mod GlobRuleLemmas
 pub mod FoundLemmas
 pub mod IgnoreFileLemmas
+pub mod ParentLemmas
 pub mod PartLemmas
 pub mod PieceLemmas
 pub mod SuffixLemmas

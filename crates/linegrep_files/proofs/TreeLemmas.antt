@@ -8,7 +8,7 @@ use Rattle.std.specs.Global.{Global}
 use Rattle.std.specs.List.Sorted.{IsPermutation}
 use Rattle.std.proofs.lemmas.List.{length-append, reverse-append}
 use Rattle.std.proofs.lemmas.List.Sorted.{length_permutation}
-use Rattle.linegrep_files.specs.Choices.{AreAlike}
+use Rattle.linegrep_files.specs.Choices.{AreTakenUp}
 use Rattle.linegrep_files.specs.FolderFacts.{FolderFacts}
 use Rattle.linegrep_files.specs.Folders.{is_folder, name_of, path_of}
 use Rattle.linegrep_files.specs.Orders.{is_by_time}
@@ -314,13 +314,13 @@ module _ {S : Type 0} (facts : S → FolderFacts) where
 
   pub walks-end : (system : Bor S) (route : Route) (folder : List ℕ) (begun walk end : Walk S)
       (first choices inside : Choices) (visited : List Entry) → is_by_time route.order ≡ false
-      → AreAlike first choices → IsBegun system route folder begun
+      → AreTakenUp (facts system.now) (name_of folder) first choices → IsBegun system route folder begun
       → IsWalked facts begun choices visited walk inside → walk.is_out_of_memory ≡ false
       → IsPopped walk None end → AreAllOf (facts system.now) route first folder visited
-  walks-end system route folder begun walk end first choices inside visited by_path alike is walked memory
+  walks-end system route folder begun walk end first choices inside visited by_path taken is walked memory
       (of_end left pending dated still) = record {
         begun = choices;
-        are_begun = alike;
+        are_begun = taken;
         path = is.path;
         is_path = is.is;
         root = begun.finder.root;
@@ -339,7 +339,7 @@ module _ {S : Type 0} (facts : S → FolderFacts) where
             (subst (λ l. AreOf begun.finder begun.order inside l [] inside) (sym (ap reverse pending))
             (no_entry inside)))));
       }
-  walks-end system route folder begun walk end first choices inside visited by_path alike is walked memory
+  walks-end system route folder begun walk end first choices inside visited by_path taken is walked memory
       (of_memory out still) = absurd (true≢false (sym out ∙ memory))
 
   -- an entry comes first, whatever it is
@@ -353,12 +353,13 @@ module _ {S : Type 0} (facts : S → FolderFacts) where
 
   pub walks-begin : (system : Bor S) (route : Route) (folder : List ℕ) (begun walk new : Walk S)
       (first choices inside : Choices) (visited : List Entry) (entry : Entry)
-      → is_by_time route.order ≡ false → AreAlike first choices → IsBegun system route folder begun
+      → is_by_time route.order ≡ false
+      → AreTakenUp (facts system.now) (name_of folder) first choices → IsBegun system route folder begun
       → IsWalked facts begun choices visited walk inside → IsPopped walk (Some entry) new
       → AreFirstOf (facts system.now) route first folder (visited ++ entry ∷ [])
-  walks-begin system route folder begun walk new first choices inside visited entry by_path alike is walked
+  walks-begin system route folder begun walk new first choices inside visited entry by_path taken is walked
       (of_pending _ memory popped dated on) =
-      are_first choices is.path begun.finder.root alike is.is is.root
+      are_first choices is.path begun.finder.root taken is.is is.root
       (as-begun (λ folders by top. AreFirst folders by top begun.finder.root choices (Folder is.path ∷ [])
       (visited ++ entry ∷ [])) system route folder begun is
       (subst (λ l. AreBegin begun.finder begun.order choices l (visited ++ entry ∷ [])) (ap reverse is.pending)
@@ -369,7 +370,7 @@ module _ {S : Type 0} (facts : S → FolderFacts) where
       choices walk inside visited (entry ∷ []) (ap is_by_time is.order ∙ by_path) is.dated walked
       (subst (λ l. AreBegin begun.finder begun.order inside l (entry ∷ [])) (sym (first-popped _ _ entry popped))
       (comes-first _ _ _ _ inside entry (reverse new.pending.items))))))
-  walks-begin system route folder begun walk new first choices inside visited entry by_path alike is walked
+  walks-begin system route folder begun walk new first choices inside visited entry by_path taken is walked
       (of_dated file memory empty same pending on) =
       absurd (not-dated _ _ file same
       (kept begun choices walk inside _ (ap is_by_time is.order ∙ by_path) is.dated walked).dated)

@@ -11,9 +11,11 @@ use Rattle.grep_ignore.specs.Decisions.{is_kept}
 use Rattle.grep_ignore.specs.Layers.{IsFirst}
 use Rattle.grep_ignore.specs.declared.rules.Decision.{Decision}
 use Rattle.linegrep_files.specs.FileTypes.{AreNoTypes, IsTypeChoice, are_none}
+use Rattle.linegrep_files.specs.FolderFacts.{FolderFacts}
 use Rattle.linegrep_files.specs.Globs.{AreGlobs, IsGlobChoice, may_be_malformed_in, is_chosen}
 use Rattle.linegrep_files.specs.IgnoreFiles.{AreWithin, HasSource, ReadsTheSame}
 use Rattle.linegrep_files.specs.Limits.{AreLimits}
+use Rattle.linegrep_files.specs.ParentFiles.{AreBegun, AreIgnores, base_of}
 use Rattle.linegrep_files.specs.declared.choices.Choices.{Choices}
 use Rattle.linegrep_files.specs.declared.file_options.FileOptions.{FileOptions}
 use Rattle.linegrep_files.specs.declared.globs.Choice.{Choice}
@@ -72,13 +74,23 @@ pub record SaysTheSame (old new : Choices) : Type 0 where
   pub shows_hidden : new.shows_hidden ≡ old.shows_hidden
   pub ignores : IgnoresTheSame old.ignores new.ignores
 
--- choices differ from others in the ignore files of folders alone
+-- choices differ from others in the ignore files alone that belong to folders
 pub record AreAlike (one other : Choices) : Type 0 where
   pub globs : other.globs ≡ one.globs
   pub types : other.types ≡ one.types
   pub limits : other.limits ≡ one.limits
   pub shows_hidden : other.shows_hidden ≡ one.shows_hidden
   pub ignores : ReadsTheSame one.ignores other.ignores
+  pub base : base_of other.ignores.layers ≡ base_of one.ignores.layers
+
+-- a folder is taken up, with a name for the system: choices say the same, but for the ignore files
+-- that count there
+pub record AreTakenUp (folders : FolderFacts) (name : List ℕ) (old new : Choices) : Type 0 where
+  pub globs : new.globs ≡ old.globs
+  pub types : new.types ≡ old.types
+  pub limits : new.limits ≡ old.limits
+  pub shows_hidden : new.shows_hidden ≡ old.shows_hidden
+  pub ignores : AreBegun folders name old.ignores new.ignores
 
 -- in a folder with some names, at a path below the one that is searched, choices say the same, but
 -- for the ignore files that count there, by what reading files may return
@@ -96,9 +108,11 @@ abbrev pub may_be_refused : FileOptions → Bool
 may_be_refused options = may_be_malformed_in options.globs.now || may_be_malformed_in options.iglobs.now
     || not (are_none options.types) || is_some options.max_filesize
 
--- choices are what options say
-pub record AreChoices (options : FileOptions) (choices : Choices) : Type 0 where
-  pub globs : AreGlobs options.globs.now options.iglobs.now options.ignores_glob_case choices.globs
-  pub types : are_none options.types ≡ true → AreNoTypes choices.types
-  pub limits : AreLimits options choices.limits
-  pub hidden : choices.shows_hidden ≡ options.shows_hidden
+-- choices are what options say, with the ignore files that count everywhere
+pub record AreChoices (folders : FolderFacts) (options : FileOptions) (choices : Choices) : Type 0
+  where
+    pub globs : AreGlobs options.globs.now options.iglobs.now options.ignores_glob_case choices.globs
+    pub types : are_none options.types ≡ true → AreNoTypes choices.types
+    pub limits : AreLimits options choices.limits
+    pub hidden : choices.shows_hidden ≡ options.shows_hidden
+    pub ignores : AreIgnores folders options.sources options.ignore_files.now choices.ignores

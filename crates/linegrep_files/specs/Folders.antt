@@ -2,7 +2,7 @@
 use Rattle.std.specs.Prelude.{◌≡◌, ◌≢◌, ℕ, Bool, true, false, not, ◌||◌, ◌==◌, if◌then◌else◌}
 use Rattle.std.specs.Prelude.{List, [], ◌∷◌, None, Option, Some, Result, Ok, Err, String, codes}
 use Rattle.std.specs.Prelude.{string_bytes}
-use Rattle.std.specs.Prelude.{◌+◌, ◌<◌, ◌≤◌, drop, filter, length, slice_index}
+use Rattle.std.specs.Prelude.{drop, filter, length}
 use Rattle.std.specs.Global.{Global}
 use Rattle.std.specs.IoError.{error_kind}
 use Rattle.std.specs.Str.{IsUtf8, bytes_eq}
@@ -29,12 +29,6 @@ is_name name = not (bytes_eq name (codes ".") || bytes_eq name (codes ".."))
 -- the names of what is in a folder, by a listing in which each ends in a NUL
 abbrev pub names_of : List ℕ → List (List ℕ)
 names_of listing = filter is_name (parts_of 0 listing)
-
--- how many bytes a path has without the slashes at its end
-pub record IsRoot (path : List ℕ) (root : ℕ) : Type 0 where
-  pub within : root ≤ length path
-  pub slashes : (k : ℕ) → root ≤ k → k < length path → slice_index path k ≡ 47
-  pub other : (k : ℕ) → root ≡ k + 1 → slice_index path k ≢ 47
 
 -- the path of a folder below the walk's own, the path of which has so many bytes
 abbrev pub without_slashes : List ℕ → List ℕ

@@ -8,6 +8,7 @@ pub mod Globs
 pub mod IgnoreFiles
 pub mod Limits
 pub mod Orders
+pub mod ParentFiles
 pub mod Paths
 pub mod Trees
 pub mod Walks

@@ -1,5 +1,6 @@
 -- Paths, and the parts of texts.
-use Rattle.std.specs.Prelude.{ℕ, Bool, not, ◌&&◌, ◌==◌, if◌then◌else◌, List, ◌∷◌, ◌++◌, filter}
+use Rattle.std.specs.Prelude.{◌≡◌, ◌≢◌, ℕ, ◌+◌, ◌<◌, ◌≤◌, Bool, not, ◌&&◌, ◌==◌, if◌then◌else◌}
+use Rattle.std.specs.Prelude.{List, ◌∷◌, ◌++◌, filter, length, slice_index}
 use Rattle.std.specs.List.{slice_split}
 use Rattle.grep_ignore.specs.Classes.{is_empty}
 use Rattle.grep_ignore.specs.Lines.{ends_with}
@@ -11,6 +12,12 @@ parts_of end text = filter (λ part. not (is_empty part)) (slice_split (λ byte.
 -- a slash is between the path of a folder and a name
 abbrev pub needs_slash : List ℕ → Bool
 needs_slash folder = not (is_empty folder) && not (ends_with 47 folder)
+
+-- how many bytes a path has without the slashes at its end
+pub record IsRoot (path : List ℕ) (root : ℕ) : Type 0 where
+  pub within : root ≤ length path
+  pub slashes : (k : ℕ) → root ≤ k → k < length path → slice_index path k ≡ 47
+  pub other : (k : ℕ) → root ≡ k + 1 → slice_index path k ≢ 47
 
 -- the path of a name in a folder
 abbrev pub joined : List ℕ → List ℕ → List ℕ

@@ -5,12 +5,13 @@ use Rattle.std.specs.Borrow.{Bor}
 use Rattle.std.specs.Global.{Global}
 use Rattle.std.specs.List.Sorted.{IsPermutation, IsSortedBy}
 use Rattle.std.specs.declared.io.Error.{Error}
-use Rattle.linegrep_files.specs.Choices.{AreAlike, IsWithin, SaysTheSame}
+use Rattle.linegrep_files.specs.Choices.{AreTakenUp, IsWithin, SaysTheSame}
 use Rattle.linegrep_files.specs.FolderFacts.{FolderFacts}
-use Rattle.linegrep_files.specs.Folders.{AreFound, IsRoot, below_of, depth_of, is_folder, listed_path}
+use Rattle.linegrep_files.specs.Folders.{AreFound, below_of, depth_of, is_folder, listed_path}
 use Rattle.linegrep_files.specs.Folders.{name_of, names_of}
 use Rattle.linegrep_files.specs.Limits.{allows_depth}
 use Rattle.linegrep_files.specs.Orders.{is_by_time}
+use Rattle.linegrep_files.specs.Paths.{IsRoot}
 use Rattle.linegrep_files.specs.Walks.{GoesOn, IsBegun, IsEntered, IsPopped, comes_before, waits}
 use Rattle.linegrep_files.specs.declared.choices.Choices.{Choices}
 use Rattle.linegrep_files.specs.declared.entry.Entry.{Entry}
@@ -73,7 +74,7 @@ module _ (folders : FolderFacts) (route : Route) (choices : Choices) (folder : L
   -- all that is visited of a folder, by choices for it: the folder itself, and what is in it
   pub record AreAllOf (visited : List Entry) : Type 0 where
     pub begun : Choices
-    pub are_begun : AreAlike choices begun
+    pub are_begun : AreTakenUp folders (name_of folder) choices begun
     pub path : String Global
     pub is_path : string_bytes path ≡ folder
     pub root : ℕ
@@ -86,7 +87,8 @@ module _ (folders : FolderFacts) (route : Route) (choices : Choices) (folder : L
   pub data AreFirstOf : List Entry → Type 0 where
     are_none : AreFirstOf []
     are_first : {visited : List Entry} (begun : Choices) (path : String Global) (root : ℕ)
-        → AreAlike choices begun → string_bytes path ≡ folder → IsRoot folder root
+        → AreTakenUp folders (name_of folder) choices begun → string_bytes path ≡ folder
+        → IsRoot folder root
         → AreFirst folders route (name_of folder) root begun (Folder path ∷ []) visited
         → AreFirstOf visited
 
@@ -117,7 +119,8 @@ module _ {S : Type 0} (facts : S → FolderFacts) where
   abbrev pub WalksEnd : Type 0
   WalksEnd = (system : Bor S) (route : Route) (folder : List ℕ) (begun walk end : Walk S)
       (first choices inside : Choices) (visited : List Entry) → is_by_time route.order ≡ false
-      → AreAlike first choices → IsBegun system route folder begun
+      → AreTakenUp (facts system.now) (name_of folder) first choices
+      → IsBegun system route folder begun
       → IsWalked begun choices visited walk inside → walk.is_out_of_memory ≡ false
       → IsPopped walk None end → AreAllOf (facts system.now) route first folder visited
 
@@ -126,7 +129,7 @@ module _ {S : Type 0} (facts : S → FolderFacts) where
   abbrev pub WalksBegin : Type 0
   WalksBegin = (system : Bor S) (route : Route) (folder : List ℕ) (begun walk new : Walk S)
       (first choices inside : Choices) (visited : List Entry) (entry : Entry)
-      → is_by_time route.order ≡ false → AreAlike first choices
-      → IsBegun system route folder begun → IsWalked begun choices visited walk inside
+      → is_by_time route.order ≡ false
+      → AreTakenUp (facts system.now) (name_of folder) first choices → IsBegun system route folder begun → IsWalked begun choices visited walk inside
       → IsPopped walk (Some entry) new
       → AreFirstOf (facts system.now) route first folder (visited ++ entry ∷ [])

@@ -8,11 +8,12 @@ use Rattle.std.specs.Ordering.{is_lt}
 use Rattle.std.specs.declared.io.Error.{Error}
 use Rattle.linegrep_files.specs.Choices.{IsWithin, SaysTheSame}
 use Rattle.linegrep_files.specs.FolderFacts.{FolderFacts}
-use Rattle.linegrep_files.specs.Folders.{AreFound, IsRoot, below_of, depth_of, listed_path, name_of}
+use Rattle.linegrep_files.specs.Folders.{AreFound, below_of, depth_of, listed_path, name_of}
 use Rattle.linegrep_files.specs.Folders.{names_of}
 use Rattle.linegrep_files.specs.Folders.{path_of}
 use Rattle.linegrep_files.specs.Limits.{allows_depth}
 use Rattle.linegrep_files.specs.Orders.{is_by_time, order_of}
+use Rattle.linegrep_files.specs.Paths.{IsRoot}
 use Rattle.linegrep_files.specs.declared.choices.Choices.{Choices}
 use Rattle.linegrep_files.specs.declared.entry.Entry.{Entry}
 use Rattle.linegrep_files.specs.declared.entry.Entry.TheVariants.{File, Folder, Unread}

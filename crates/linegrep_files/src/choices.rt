@@ -1,7 +1,8 @@
 //! Which of the files and folders of a folder are visited.
 ghost use Rattle.std.specs.Prelude.{◌≡◌, false, true, IfErr, IfOk, OnOk};
-ghost use Rattle.linegrep_files.specs.Choices.{AreAlike, AreChoices, IsChosen, IsUnmatchedChosen};
+ghost use Rattle.linegrep_files.specs.Choices.{AreChoices, AreTakenUp, IsChosen, IsUnmatchedChosen};
 ghost use Rattle.linegrep_files.specs.Choices.{IsWithin};
+ghost use Rattle.linegrep_files.specs.Folders.{name_of};
 ghost use Rattle.linegrep_files.specs.Choices.{SaysTheSame, is_shown, may_be_refused};
 ghost use Rattle.linegrep_files.specs.Failures.{has_cause};
 
@@ -28,10 +29,14 @@ pub struct Choices<'r> {
 }
 
 impl<'r> Choices<'r> {
-    /// What the options say. An error is that a glob, a type or a size isn't well formed, or that
-    /// there is no memory.
-    pub fn read(rt: &'r HostRuntime, options: &FileOptions<'_, '_>) -> Result<Choices<'r>, Failure>
-        ensures ok { IfOk result (AreChoices options.now) }
+    /// What the options say, with the ignore files that count everywhere, as a system has them. An
+    /// error is that a glob, a type or a size isn't well formed, or that there is no memory.
+    pub fn read<S: Folders>(
+        rt: &'r HostRuntime,
+        system: &S,
+        options: &FileOptions<'_, '_>,
+    ) -> Result<Choices<'r>, Failure>
+        ensures ok { IfOk result (AreChoices (S.facts system.now) options.now) }
         ensures err { IfErr result (λ failure. has_cause failure ≡ true
             → may_be_refused options.now ≡ true) }
     {
@@ -43,7 +48,7 @@ impl<'r> Choices<'r> {
         )?;
         let types = Types::read(rt.alloc(), &options.types)?;
         let limits = Limits::read(rt.alloc(), options)?;
-        match Ignores::read(rt, options.sources, options.ignore_files) {
+        match Ignores::read(rt, system, options.sources, options.ignore_files) {
             Ok(ignores) => Ok(Choices {
                 globs,
                 ignores,
@@ -56,11 +61,13 @@ impl<'r> Choices<'r> {
         }
     }
 
-    /// Takes up a folder that is searched. An error is one of being out of memory, as those below.
-    pub fn begin(&mut self, folder: &str) -> Result<(), AllocError>
-        ensures { AreAlike self.old self.new }
+    /// Takes up a folder that is searched, as a system has it. An error is one of being out of
+    /// memory, as those below.
+    pub fn begin<S: Folders>(&mut self, system: &S, folder: &str) -> Result<(), AllocError>
+        ensures { OnOk result (AreTakenUp (S.facts system.now) (name_of folder.now) self.old
+            self.new) }
     {
-        self.ignores.begin(folder)
+        self.ignores.begin(system, folder)
     }
 
     /// Goes on in a folder with some names, which is at a path below the folder that is searched,

@@ -4,11 +4,12 @@ ghost use Rattle.std.specs.Prelude.{Ok, drop, string_bytes, true};
 ghost use Rattle.std.specs.Str.{IsUtf8};
 ghost use Rattle.linegrep_files.specs.Choices.{IsChosen, SaysTheSame};
 ghost use Rattle.grep_ignore.specs.Classes.{is_empty};
-ghost use Rattle.linegrep_files.specs.Folders.{AreFound, IsAt, IsElsewhere, IsFolderAt, IsFound, IsRoot, LeadsBack};
+ghost use Rattle.linegrep_files.specs.Folders.{AreFound, IsAt, IsElsewhere, IsFolderAt, IsFound};
+ghost use Rattle.linegrep_files.specs.Folders.{LeadsBack};
 ghost use Rattle.linegrep_files.specs.Folders.{MayEnter, below_of, depth_of, is_name, listed_path};
 ghost use Rattle.linegrep_files.specs.Folders.{name_of, names_of};
 ghost use Rattle.linegrep_files.specs.Folders.{path_of};
-ghost use Rattle.linegrep_files.specs.Paths.{joined};
+ghost use Rattle.linegrep_files.specs.Paths.{IsRoot, joined};
 
 use crate::choices::Choices;
 use crate::class::{begins_with, is_empty, tail};

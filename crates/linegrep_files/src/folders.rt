@@ -52,6 +52,11 @@ pub trait Folders {
     /// What the file at a path has. An error is the system's own, or one of being out of memory.
     fn read(&self, alloc: Global, path: &str) -> io::Result<Vec<u8>>
         ensures { (facts self.now).reads path.now result };
+
+    /// The path from the root of the system on, without links, of what is at a path. An error is the
+    /// system's own, or one of being out of memory.
+    fn resolve(&self, alloc: Global, path: &str) -> io::Result<String>
+        ensures { (facts self.now).resolves path.now result };
 }
 
 /// The system. What it may return isn't known.
@@ -60,6 +65,7 @@ impl<R: Files> Folders for R {
       lists = λ _ _. Unit {0};
       looks = λ _ _ _. Unit {0};
       reads = λ _ _. Unit {0};
+      resolves = λ _ _. Unit {0};
     } };
 
     fn names(&self, alloc: Global, path: &str) -> io::Result<Vec<u8>> {
@@ -92,6 +98,11 @@ impl<R: Files> Folders for R {
         let mut file = File::open(self, path)?;
         file.read_to_end(&mut contents)?;
         Ok(contents)
+    }
+
+    fn resolve(&self, alloc: Global, path: &str) -> io::Result<String> {
+        let path = self.canonicalize(alloc, path)?;
+        Ok(String::from_str(alloc, path.as_str())?)
     }
 }
 

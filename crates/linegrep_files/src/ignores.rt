@@ -1,6 +1,6 @@
 //! The ignore files that count in a folder, and what they say of what is in it.
-ghost use Rattle.std.specs.Prelude.{◌≡◌, ◌&&◌, ◌||◌, ◌++◌, ◌∷◌, [], ℕ, IfOk, List, OnOk, filter};
-ghost use Rattle.std.specs.Prelude.{if◌then◌else◌, length, nat_lt, MatchBool};
+ghost use Rattle.std.specs.Prelude.{◌≡◌, ◌&&◌, ◌||◌, ◌++◌, ◌∷◌, [], ℕ, Bool, IfOk, List, OnOk};
+ghost use Rattle.std.specs.Prelude.{if◌then◌else◌, filter, length, nat_lt, take, MatchBool};
 ghost use Rattle.std.specs.Str.{bytes_eq};
 ghost use Rattle.grep_ignore.specs.declared.layers.Origin.TheVariants.{GitExclude};
 ghost use Rattle.linegrep_files.specs.Choices.{IgnoresTheSame, IsIgnoreDecision, repository_of};
@@ -9,15 +9,21 @@ ghost use Rattle.linegrep_files.specs.IgnoreFiles.{HasPlace};
 ghost use Rattle.linegrep_files.specs.IgnoreFiles.{HasSource, IsFileRead, depth_in, is_idle};
 ghost use Rattle.linegrep_files.specs.IgnoreFiles.{ReadsTheSame, is_top};
 ghost use Rattle.linegrep_files.specs.IgnoreFiles.{marks_of, path_below, with_mark};
-ghost use Rattle.linegrep_files.specs.Paths.{joined};
+ghost use Rattle.linegrep_files.specs.ParentFiles.{AreBegun, AreIgnores, AreNamedRead};
+ghost use Rattle.linegrep_files.specs.ParentFiles.{AreParentsRead, IsGlobalRead, IsParentRead};
+ghost use Rattle.linegrep_files.specs.ParentFiles.{IsStart, IsThere, IsTopAt, has_git, is_within};
+ghost use Rattle.linegrep_files.specs.ParentFiles.{any_marks, parents_of, rooted, start_in};
+ghost use Rattle.linegrep_files.specs.Folders.{name_of};
+ghost use Rattle.linegrep_files.specs.Paths.{IsRoot, joined};
 
-use crate::class::is_empty;
+use crate::class::{begins_with, is_empty};
 use crate::failures::Failure;
+use crate::finder::{name_of, root_of};
 use crate::folders::Folders;
 use crate::git_settings;
 use crate::paths::{join, split_part};
 use grep_ignore::{Decision, Layer, Layers, Misread, Origin, Rules};
-use std::alloc::AllocError;
+use std::alloc::{AllocError, Global};
 use std::{env, fs, io, str};
 
 /// Which ignore files are read, and how.
@@ -49,7 +55,7 @@ impl Sources {
 
     // Whether any of git's is read.
     fn has_git(&self) -> bool
-        ensures { result ≡ (self.now.git || self.now.exclude || self.now.global) }
+        ensures { result ≡ has_git self.now }
     {
         self.git || self.exclude || self.global
     }
@@ -148,12 +154,15 @@ pub struct Ignores<'r> {
 
 impl<'r> Ignores<'r> {
     /// What the files of some sources say, and those at some paths, of which a later one decides
-    /// before an earlier one. An error is one of being out of memory.
-    pub fn read(
+    /// before an earlier one, as a system has them. An error is one of being out of memory.
+    pub fn read<S: Folders>(
         rt: &'r HostRuntime,
+        system: &S,
         sources: Sources,
         paths: &[&str],
-    ) -> Result<Ignores<'r>, AllocError> {
+    ) -> Result<Ignores<'r>, AllocError>
+        ensures { IfOk result (AreIgnores (S.facts system.now) sources paths.now) }
+    {
         let mut ignores = Ignores {
             rt,
             sources,
@@ -166,19 +175,33 @@ impl<'r> Ignores<'r> {
             row: Vec::new(rt.alloc()),
             warnings: Vec::new(rt.alloc()),
         };
-        for path in paths {
-            ignores.add_file(rt, Origin::Named, 0, path, true)?;
-        }
+        ignores.add_named(system, paths)?;
         if sources.global {
-            ignores.add_global()?;
+            ignores.add_global(system)?;
         }
         Ok(ignores)
     }
 
+    // Adds the rules of the files at some paths, which count everywhere.
+    fn add_named<S: Folders>(&mut self, system: &S, paths: &[&str]) -> Result<(), AllocError>
+        requires layers { self.old.layers ≡ [] }
+        requires path { self.old.path.items ≡ [] }
+        ensures named { OnOk result (AreNamedRead (S.facts system.now)
+            self.old.sources.ignores_case paths.now self.new.layers) }
+        ensures place { HasPlace self.old self.new }
+    {
+        for path in paths {
+            self.add_file(system, Origin::Named, 0, path, true)?;
+        }
+        Ok(())
+    }
+
     /// Takes up a folder that is searched, which may be the current one, with an empty path: what
-    /// the folders say that it is in.
-    pub fn begin(&mut self, folder: &str) -> Result<(), AllocError>
-        ensures { ReadsTheSame self.old self.new }
+    /// the folders say that it is in, as a system has them.
+    pub fn begin<S: Folders>(&mut self, system: &S, folder: &str) -> Result<(), AllocError>
+        ensures same { ReadsTheSame self.old self.new }
+        ensures begun { OnOk result (AreBegun (S.facts system.now) (name_of folder.now) self.old
+            self.new) }
     {
         self.path.clear();
         self.repositories.clear();
@@ -186,45 +209,84 @@ impl<'r> Ignores<'r> {
         if self.is_idle() {
             return Ok(());
         }
-        match fs::canonicalize(self.rt, if folder.is_empty() { "." } else { folder }) {
-            Ok(path) => self.begin_at(path.as_str().trim_end_matches('/')),
-            Err(_) => self.begin_at(""),
+        match system.resolve(self.rt.alloc(), name_of(folder)) {
+            Ok(path) => {
+                self.begin_at(system, without_slashes(path.as_str()))?;
+                Ok(())
+            }
+            Err(_) => {
+                self.begin_at(system, "")?;
+                Ok(())
+            }
         }
     }
 
     // Takes up the folder at a path from the root of the system on, without a slash at its end.
-    fn begin_at(&mut self, path: &str) -> Result<(), AllocError>
-        ensures { ReadsTheSame self.old self.new }
+    fn begin_at<S: Folders>(&mut self, system: &S, path: &str) -> Result<(), AllocError>
+        requires { self.old.repositories.items ≡ [] }
+        ensures same { ReadsTheSame self.old self.new }
+        ensures root { OnOk result (self.new.root ≡ length path.now) }
+        ensures start { OnOk result (IsStart (S.facts system.now) path.now self.new.start) }
+        ensures path { OnOk result (self.new.path.items ≡ path.now ++ 47 ∷ []) }
+        ensures parents { OnOk result (AreParentsRead (S.facts system.now) self.old.sources
+            self.old.layers (parents_of path.now) self.new.layers self.new.repositories.items) }
     {
         self.root = path.len();
-        self.start = match env::current_dir(self.rt) {
-            Ok(current) => start_in(path, current.as_str().trim_end_matches('/')),
-            Err(_) => 1,
-        };
-        for (at, letter) in path.char_indices() {
-            if letter == '/' {
-                self.set_path(path.get(..at).unwrap_or(""))?;
-                self.add_parent(if at == 0 {
-                    "/"
-                } else {
-                    path.get(..at).unwrap_or("")
-                })?;
-            }
-        }
+        self.start = start_of(self.rt.alloc(), system, path.as_bytes());
+        self.add_parents(system, path)?;
         self.set_path(path)
     }
 
-    // Adds what a folder says that the searched one is in. It is in a repository, whether the files
-    // of such folders are read or not.
-    fn add_parent(&mut self, folder: &str) -> Result<(), AllocError>
-        ensures { ReadsTheSame self.old self.new }
+    // Adds what the folders say that the one at a path is in.
+    fn add_parents<S: Folders>(&mut self, system: &S, path: &str) -> Result<(), AllocError>
+        requires { self.old.repositories.items ≡ [] }
+        ensures place { HasSource self.old self.new }
+        ensures parents { OnOk result (AreParentsRead (S.facts system.now) self.old.sources
+            self.old.layers (parents_of path.now) self.new.layers self.new.repositories.items) }
     {
-        if self.sources.has_git() && (self.has(folder, ".git")? || self.has(folder, ".jj")?) {
+        for at in 0..path.len() {
+            if path.as_bytes()[at] != b'/' {
+                continue;
+            }
+            self.add_parent(system, &path[..at])?;
+        }
+        Ok(())
+    }
+
+    // Adds what a folder says that the searched one is in, the path of which is before a slash. It is
+    // in a repository, whether the files of such folders are read or not.
+    fn add_parent<S: Folders>(&mut self, system: &S, above: &str) -> Result<(), AllocError>
+        ensures place { HasSource self.old self.new }
+        ensures read { OnOk result (IsParentRead (S.facts system.now) self.old.sources above.now
+            self.old.layers self.old.repositories.items self.new.layers
+            self.new.repositories.items) }
+    {
+        self.set_path(above)?;
+        let folder = rooted(above);
+        self.add_top(system, folder)?;
+        if self.sources.parents {
+            self.add_files(system, folder, ANY_MARKS)?;
+        }
+        Ok(())
+    }
+
+    // Adds the repository of which a folder is the top, if git's files are read and it is one.
+    fn add_top<S: Folders>(&mut self, system: &S, folder: &str) -> Result<(), AllocError>
+        ensures place { HasSource self.old self.new }
+        ensures layers { self.new.layers ≡ self.old.layers }
+        ensures path { self.new.path ≡ self.old.path }
+        ensures top { OnOk result (MatchBool (has_git self.old.sources) ((is_top : Bool)
+            × IsTopAt (S.facts system.now) folder.now is_top
+            × (self.new.repositories.items ≡ (if is_top then self.old.repositories.items
+            ++ depth_in self.old.path.items ∷ [] else self.old.repositories.items)))
+            (self.new.repositories.items ≡ self.old.repositories.items)) }
+    {
+        if !self.sources.has_git() {
+            return Ok(());
+        }
+        if is_top_at(self.rt.alloc(), system, folder)? {
             let depth = self.depth();
             self.repositories.push(depth)?;
-        }
-        if self.sources.parents {
-            self.add_files(self.rt, folder, ANY_MARKS)?;
         }
         Ok(())
     }
@@ -341,7 +403,10 @@ impl<'r> Ignores<'r> {
 
     // Goes to the folder at a path without a slash at its end.
     fn set_path(&mut self, path: &str) -> Result<(), AllocError>
-        ensures { ReadsTheSame self.old self.new }
+        ensures path { OnOk result (self.new.path.items ≡ path.now ++ 47 ∷ []) }
+        ensures place { HasSource self.old self.new }
+        ensures layers { self.new.layers ≡ self.old.layers }
+        ensures repositories { self.new.repositories ≡ self.old.repositories }
     {
         self.path.clear();
         self.path.extend_from_slice(path.as_bytes())?;
@@ -399,12 +464,6 @@ impl<'r> Ignores<'r> {
         Ok(())
     }
 
-    // Whether a folder has something with a name.
-    fn has(&self, folder: &str, name: &str) -> Result<bool, AllocError> {
-        let path = join(self.rt.alloc(), folder, name)?;
-        Ok(fs::metadata(self.rt, path.as_str()).is_ok())
-    }
-
     // Adds the rules of a file of a folder, if it is there and is read.
     fn add_in<S: Folders>(
         &mut self,
@@ -431,18 +490,31 @@ impl<'r> Ignores<'r> {
 
     // Adds the rules of the user's file for all repositories, if it is there: that which git's
     // settings name, or else the one that git has by default.
-    fn add_global(&mut self) -> Result<(), AllocError> {
+    fn add_global<S: Folders>(&mut self, system: &S) -> Result<(), AllocError>
+        requires { self.old.path.items ≡ [] }
+        ensures global { OnOk result (IsGlobalRead (S.facts system.now)
+            self.old.sources.ignores_case self.old.layers self.new.layers) }
+        ensures place { HasPlace self.old self.new }
+    {
+        match self.global_path()? {
+            Some(path) => self.add_file(system, Origin::GitGlobal, 0, path.as_str(), false),
+            None => Ok(()),
+        }
+    }
+
+    // The path of the user's file for all repositories, if there is one.
+    fn global_path(&self) -> Result<Option<String>, AllocError> {
         let home = variable(self.rt, "HOME")?;
         let config = config_folder(self.rt, home.as_str())?;
         let home = home.as_str();
         let config = config.as_str();
-        match self.excludes_file(home, home, ".gitconfig")? {
-            Some(path) => self.add_file(self.rt, Origin::GitGlobal, 0, path.as_str(), false),
-            None => match self.excludes_file(home, config, "git/config")? {
-                Some(path) => self.add_file(self.rt, Origin::GitGlobal, 0, path.as_str(), false),
-                None if config.is_empty() => Ok(()),
-                None => self.add_in(self.rt, true, Origin::GitGlobal, 0, config, "git/ignore"),
-            },
+        if let Some(path) = self.excludes_file(home, home, ".gitconfig")? {
+            return Ok(Some(path));
+        }
+        match self.excludes_file(home, config, "git/config")? {
+            Some(path) => Ok(Some(path)),
+            None if config.is_empty() => Ok(None),
+            None => Ok(Some(join(self.rt.alloc(), config, "git/ignore")?)),
         }
     }
 
@@ -591,12 +663,78 @@ fn retain_above(repositories: &mut Vec<usize>, depth: usize)
     repositories.retain(|top| *top < depth);
 }
 
+// The path of a folder for the system, by what is before the slash at its end.
+fn rooted(above: &str) -> &str
+    ensures { result.now ≡ rooted above.now }
+{
+    if is_empty(above.as_bytes()) {
+        "/"
+    } else {
+        above
+    }
+}
+
+// A path without the slashes at its end.
+fn without_slashes(path: &str) -> &str
+    ensures { (root : ℕ) × IsRoot path.now root × (result.now ≡ take root path.now) }
+{
+    &path[..root_of(path.as_bytes())]
+}
+
+// Whether a folder is the top of a repository.
+fn is_top_at<S: Folders>(alloc: Global, system: &S, folder: &str) -> Result<bool, AllocError>
+    ensures { IfOk result (IsTopAt (S.facts system.now) folder.now) }
+{
+    if is_there(alloc, system, folder, ".git")? {
+        return Ok(true);
+    }
+    let is_top = is_there(alloc, system, folder, ".jj")?;
+    Ok(is_top)
+}
+
+// Whether a folder has something with a name.
+fn is_there<S: Folders>(
+    alloc: Global,
+    system: &S,
+    folder: &str,
+    name: &str,
+) -> Result<bool, AllocError>
+    ensures { IfOk result (IsThere (S.facts system.now) folder.now name.now) }
+{
+    let path = join(alloc, folder, name)?;
+    Ok(system.look(path.as_str(), true).is_ok())
+}
+
 // How many bytes of the path of a folder are before what is in the current one, or if it isn't in
 // that before the first name.
-fn start_in(folder: &str, current: &str) -> usize {
-    match folder.strip_prefix(current) {
-        Some(rest) if rest.is_empty() || rest.starts_with('/') => current.len().saturating_add(1),
-        _ => 1,
+fn start_of<S: Folders>(alloc: Global, system: &S, folder: &[u8]) -> usize
+    ensures { IsStart (S.facts system.now) folder.now result }
+{
+    match system.resolve(alloc, ".") {
+        Ok(here) => start_in(without_slashes(here.as_str()).as_bytes(), folder),
+        Err(_) => 1,
+    }
+}
+
+// How many bytes of the path of a folder are before what is in another, or if it isn't in that before
+// the first name.
+fn start_in(other: &[u8], folder: &[u8]) -> usize
+    ensures { result ≡ start_in other.now folder.now }
+{
+    if is_within(other, folder) {
+        other.len() + 1
+    } else {
+        1
+    }
+}
+
+// Whether a folder is another, or in it.
+fn is_within(other: &[u8], folder: &[u8]) -> bool
+    ensures { result ≡ is_within other.now folder.now }
+{
+    match folder.strip_prefix(other) {
+        Some(rest) => is_empty(rest) || begins_with(rest, b'/'),
+        None => false,
     }
 }
 

@@ -14,22 +14,22 @@ loop-init g c = (
 )
 
 pub returns-then-not-is_out_of_memory-clause-visited : goal.returns-then-not-is_out_of_memory-clause-visited
-returns-then-not-is_out_of_memory-clause-visited g c = λ first alike. record {
+returns-then-not-is_out_of_memory-clause-visited g c = λ first taken. record {
   visited = c.loop.invariant.0;
   total = c.loop.total;
   entries = c.loop.invariant.1;
   walked = λ by_path. inl (along-end _ _ _ _ _ _ _ _ c.pop.new.self _ first c.loop.invariant.3
-      (rw c.in_default.is at c.pop.ensures) (search rules) by_path alike);
+      (rw c.in_default.is at c.pop.ensures) (search rules) by_path taken);
   visit_is = inl refl;
 }
 
 pub returns-then-not-is_out_of_memory-clause-choices : goal.returns-then-not-is_out_of_memory-clause-choices
-returns-then-not-is_out_of_memory-clause-choices g c = λ on.
-    along-alike _ _ _ _ _ _ _ _ c.pop.new.self _ c.loop.invariant.3
-    (rw c.in_default.is at c.pop.ensures) (search rules)
+returns-then-not-is_out_of_memory-clause-choices g c = λ first taken on.
+    along-alike _ _ _ _ _ _ _ _ c.pop.new.self _ first c.loop.invariant.3
+    (rw c.in_default.is at c.pop.ensures) (search rules) taken
 
 pub returns-then-is_over-clause-visited : goal.returns-then-is_over-clause-visited
-returns-then-is_over-clause-visited g c = λ first alike.
+returns-then-is_over-clause-visited g c = λ first taken.
     let over : is_over c.args.self.now.scope c.add.new.self ≡ true = sym c.is_over.ensures ∙ c.if-is_over.true in
     record {
       visited = c.loop.invariant.0 ++ c.in-Some.entry ∷ [];
@@ -39,13 +39,13 @@ returns-then-is_over-clause-visited g c = λ first alike.
       walked = λ by_path. inr (
         over,
         (along-next _ _ _ _ _ _ _ _ _ _ _ _ _ c.loop.invariant.3
-            (rw c.in-Some.is at c.pop.ensures) c.visit_entry.ensures.passed).are_first by_path first alike,
+            (rw c.in-Some.is at c.pop.ensures) c.visit_entry.ensures.passed).are_first by_path first taken,
       );
       visit_is = inl refl;
     }
 
 pub returns-then-is_over-clause-choices : goal.returns-then-is_over-clause-choices
-returns-then-is_over-clause-choices g c = λ on.
+returns-then-is_over-clause-choices g c = λ first taken on.
     absurd (true≢false (sym (sym c.is_over.ensures ∙ c.if-is_over.true) ∙ on))
 
 pub loop-preserved : goal.loop-preserved
