@@ -12,7 +12,7 @@ use Rattle.grep_line_buffer.specs.declared.fill_error.FillError.TheVariants.{Off
 use Rattle.grep_line_buffer.specs.Appends.{Reads}
 use Rattle.grep_line_buffer.specs.BufferStates.{IsWithin}
 use Rattle.grep_line_buffer.specs.Contents.{first_size, IsBelow, ContentsFail}
-use Rattle.grep_line_buffer.specs.Room.{IsFullFault, IsLarge, next_size}
+use Rattle.grep_line_buffer.specs.Room.{HasFirstRoom, IsFullFault, next_size}
 use Rattle.grep_line_buffer.proofs.ReadLemmas.{HasRead, HasRead-more}
 
 -- a number that is less than one within the limit is below it
@@ -36,14 +36,15 @@ below-next (Some most) least size n below = (omega (arith, below), omega (arith,
 -- why a vector with no more room can't grow
 pub contents-full : (limit : Option ℕ) (size was now : ℕ) (bytes : List ℕ) (e : FillError)
     → length bytes ≡ size → IsWithin limit size
-    → IsLarge limit size → was ≤ now → IsFullFault limit size e
-    → (limit ≢ Some size → now < next_size first_size limit size) → ContentsFail limit was bytes e
-contents-full limit size was now bytes (Read e) len within large kept fault memory = absurd fault
-contents-full limit size was now bytes HeapLimit len within large kept fault memory =
+    → was ≤ now → IsFullFault limit size e
+    → (limit ≢ Some size → now < next_size first_size limit size)
+    → (limit ≢ Some size → 0 < size → first_size ≤ size) → ContentsFail limit was bytes e
+contents-full limit size was now bytes (Read e) len within kept fault memory later = absurd fault
+contents-full limit size was now bytes HeapLimit len within kept fault memory later =
     fault
     ∙ ap Some (sym len)
-contents-full limit size was now bytes Offset len within large kept fault memory = absurd fault
-contents-full limit size was now bytes Memory len within large kept fault memory =
+contents-full limit size was now bytes Offset len within kept fault memory later = absurd fault
+contents-full limit size was now bytes Memory len within kept fault memory later =
     grind (arith, below-next, below-other, max)
 
 module _ {R : Type 0} (remaining : R → Option (List ℕ)) (step : R → ReadResult → R → Type 0) where
@@ -54,7 +55,7 @@ module _ {R : Type 0} (remaining : R → Option (List ℕ)) (step : R → ReadRe
     pub read : HasRead remaining step d r (take len items) d' r'
     pub fits : len ≤ length items
     pub within : IsWithin limit (length items)
-    pub large : IsLarge limit (length items)
+    pub first : HasFirstRoom limit (length items) capacity'
     pub kept : capacity ≤ capacity'
 
   -- it begins with an empty vector
@@ -67,9 +68,9 @@ module _ {R : Type 0} (remaining : R → Option (List ℕ)) (step : R → ReadRe
   pub IsReading-room : (limit : Option ℕ) (capacity now now' len : ℕ) (d d1 : DecoderState)
       (r r1 : R) (items made : List ℕ)
       → IsReading limit capacity d r len items now d1 r1 → take len made ≡ take len items → len
-      < length made → IsWithin limit (length made) → IsLarge limit (length made) → now ≤ now'
+      < length made → IsWithin limit (length made) → HasFirstRoom limit (length made) now' → now ≤ now'
       → IsReading limit capacity d r len made now' d1 r1
-  IsReading-room limit capacity now now' len d d1 r r1 items made before front room within large kept = grind arith
+  IsReading-room limit capacity now now' len d d1 r r1 items made before front room within first kept = grind arith
 
   -- one read
   pub IsReading-more : (limit : Option ℕ) (capacity now len count : ℕ) (d d1 d2 : DecoderState)
@@ -88,7 +89,7 @@ module _ {R : Type 0} (remaining : R → Option (List ℕ)) (step : R → ReadRe
             (take count (drop len bytes)) before.read reads held);
         fits = bound;
         within = subst (IsWithin limit) (sym same) before.within;
-        large = subst (IsLarge limit) (sym same) before.large;
+        first = subst (λ n. HasFirstRoom limit n now) (sym same) before.first;
         kept = before.kept;
       })
 

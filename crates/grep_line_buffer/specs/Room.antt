@@ -1,6 +1,6 @@
 -- How a full vector grows, and why it can't. Of these definitions public contracts cite `next_size`
 -- alone.
-use Rattle.std.specs.Prelude.{◌≡◌, ◌≢◌, ◌⊎◌, ℕ, ◌*◌, ◌<◌, ◌≤◌, max, min, Option, Some, None}
+use Rattle.std.specs.Prelude.{◌≡◌, ◌≢◌, ℕ, ◌*◌, ◌<◌, ◌≤◌, max, min, Option, Some, None}
 use Rattle.grep_line_buffer.specs.declared.fill_error.FillError.{FillError}
 use Rattle.grep_line_buffer.specs.declared.fill_error.FillError.TheVariants.{Read, HeapLimit}
 use Rattle.grep_line_buffer.specs.declared.fill_error.FillError.TheVariants.{Offset, Memory}
@@ -19,6 +19,11 @@ IsFullFault limit size Memory = limit ≢ Some size
 IsFullFault limit size Offset = ⊥
 IsFullFault limit size (Read e) = ⊥
 
--- there is no room, or as much as at first, or as much as the limit allows
-abbrev pub IsLarge : Option ℕ → ℕ → Type 0
-IsLarge limit size = 0 < size → (first_size ≤ size) ⊎ (limit ≡ Some size)
+-- for how many bytes a vector has room at first
+abbrev pub first_room : Option ℕ → ℕ
+first_room None = first_size
+first_room (Some most) = min most first_size
+
+-- a vector of this size and capacity is empty, or has as much room as at first
+abbrev pub HasFirstRoom : Option ℕ → ℕ → ℕ → Type 0
+HasFirstRoom limit size capacity = 0 < size → first_room limit ≤ capacity

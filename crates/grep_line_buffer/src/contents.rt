@@ -1,6 +1,6 @@
 //! All decoded bytes of a reader, for a search across lines.
-ghost use Rattle.std.specs.Prelude.{◌≡◌, ◌≢◌, ◌+◌, ◌-◌, ◌<◌, ◌≤◌, ◌++◌, [], Some, length};
-ghost use Rattle.std.specs.Prelude.{OnOk, OnErr, IfErr, replicate, take, vec_len, vec_capacity};
+ghost use Rattle.std.specs.Prelude.{◌≡◌, ◌≢◌, ◌+◌, ◌-◌, ◌<◌, ◌≤◌, ◌^◌, ◌++◌, [], Some, length};
+ghost use Rattle.std.specs.Prelude.{OnOk, OnErr, IfErr, if◌then◌else◌, nat_lt, replicate, take, vec_len, vec_capacity};
 ghost use Rattle.std.specs.Io.KnownBytes.{Consumes, IsAtEnd};
 ghost use Rattle.grep_decode.specs.Reading.{FailsWith};
 ghost use Rattle.grep_decode.specs.declared.mode.Mode.TheVariants.{Passing};
@@ -10,15 +10,19 @@ ghost use Rattle.grep_decode.specs.DecoderStates.{runs_ahead, yet};
 ghost use Rattle.grep_line_buffer.specs.Contents.{first_size, IsBelow, ContentsFail, FailsAfter};
 ghost use Rattle.grep_line_buffer.specs.BufferStates.{IsWithin};
 ghost use Rattle.grep_line_buffer.specs.Fills.{IfRead, UnlessRead};
-ghost use Rattle.grep_line_buffer.specs.Room.{IsFullFault, IsLarge, next_size};
+ghost use Rattle.grep_line_buffer.specs.Room.{HasFirstRoom, IsFullFault, next_size};
 
 use crate::fill_error::FillError;
 use crate::room::{larger_size, read_after, show_zeros};
 use grep_decode::{Decoder, Source};
 use std::alloc::Allocator;
 
-// For how many bytes there is room at first, if the limit isn't lower.
+// For how many bytes there is room at first, if the limit isn't lower, and how many are set to zero
+// at a time at most.
 const FIRST_SIZE: usize = 65_536;
+
+// How many bytes are set to zero at first.
+const FIRST_ZEROS: usize = 4_096;
 
 /// Reads the decoded bytes of a reader to its end. `contents` is cleared first, and its memory is
 /// kept.
@@ -26,8 +30,8 @@ const FIRST_SIZE: usize = 65_536;
 /// The contents have to be shorter than `limit`, if there is one: once `limit` bytes have come, the
 /// error is `FillError::HeapLimit`, and nothing more is read. There is room for 65,536 bytes at
 /// first, and then for twice as many whenever it is used up, but never for more than the limit. Of
-/// that, at most 65,536 bytes at a time are set to zero, and each read asks for what is left of
-/// these. Once a read has returned none, no other is made.
+/// that, as many bytes at a time are set to zero as have come, but 4,096 at least and 65,536 at most,
+/// and each read asks for what is left of these. Once a read has returned none, no other is made.
 ///
 /// `FillError::Read` is the reader's own error, also one of kind `Interrupted`, and `Memory` means
 /// that the room was used up, might grow, and there was no memory. `Offset` isn't returned. After
@@ -94,17 +98,19 @@ fn make_room<A: Allocator>(
 ) -> Result<(), FillError>
     requires fits { len ≤ vec_len contents.old }
     requires within { IsWithin limit (vec_len contents.old) }
-    requires large { IsLarge limit (vec_len contents.old) }
+    requires first { HasFirstRoom limit (vec_len contents.old) (vec_capacity contents.old) }
     ensures kept { vec_capacity contents.old ≤ vec_capacity contents.new }
     ensures front { take len contents.new.items ≡ take len contents.old.items }
     ensures room { OnOk result (len < length contents.new.items) }
     ensures within { OnOk result (IsWithin limit (length contents.new.items)) }
-    ensures large { OnOk result (IsLarge limit (length contents.new.items)) }
+    ensures first { OnOk result
+        (HasFirstRoom limit (length contents.new.items) (vec_capacity contents.new)) }
     ensures full { OnErr result ((contents.new.items ≡ contents.old.items)
         × (length contents.old.items ≡ len)) }
     ensures error { IfErr result (λ e. IsFullFault limit len e) }
     ensures memory { OnErr result (limit ≢ Some len
         → vec_capacity contents.old < next_size first_size limit len) }
+    ensures later { OnErr result (limit ≢ Some len → 0 < len → first_size ≤ len) }
 {
     if len < contents.len() {
         return Ok(());
@@ -112,8 +118,22 @@ fn make_room<A: Allocator>(
     let Some(size) = larger_size(len, FIRST_SIZE, limit) else {
         return Err(FillError::HeapLimit);
     };
-    if show_zeros(contents, size.min(len + FIRST_SIZE), size).is_err() {
+    let needed = size.min(room_needed(len));
+    let shown = needed.min((len * 2).max(FIRST_ZEROS));
+    if show_zeros(contents, shown, needed, size).is_err() {
         return Err(FillError::Memory);
     }
     Ok(())
+}
+
+// For how many bytes there has to be room once `len` have come.
+fn room_needed(len: usize) -> usize
+    requires { len < 2 ^ 63 }
+    ensures { result ≡ (if nat_lt len first_size then first_size else len + first_size) }
+{
+    if len < FIRST_SIZE {
+        FIRST_SIZE
+    } else {
+        len + FIRST_SIZE
+    }
 }

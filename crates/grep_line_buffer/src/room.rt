@@ -34,7 +34,7 @@ pub(crate) fn enlarge<A: Allocator>(
     let Some(wanted) = larger_size(bytes.len(), 1, limit) else {
         return Err(FillError::HeapLimit);
     };
-    if show_zeros(bytes, wanted, wanted).is_err() {
+    if show_zeros(bytes, wanted, wanted, wanted).is_err() {
         return Err(FillError::Memory);
     }
     Ok(())
@@ -59,25 +59,28 @@ pub(crate) fn larger_size(size: usize, least: usize, limit: Option<usize>) -> Op
     }
 }
 
-// Fills up with zeros to `wanted` bytes; if there is no room for them, room for `size` is made.
-// An error leaves the bytes as they are.
+// Fills up with zeros to `shown` bytes. If there is no room for `needed`, room for `size` is made
+// first. An error leaves the bytes as they are.
 pub(crate) fn show_zeros<A: Allocator>(
     bytes: &mut Vec<u8, A>,
-    wanted: usize,
+    shown: usize,
+    needed: usize,
     size: usize,
 ) -> Result<(), AllocError>
-    requires larger { vec_len bytes.old ≤ wanted }
-    requires within { wanted ≤ size }
+    requires larger { vec_len bytes.old ≤ shown }
+    requires fits { shown ≤ needed }
+    requires within { needed ≤ size }
     ensures capacity { vec_capacity bytes.old ≤ vec_capacity bytes.new }
+    ensures room { OnOk result (needed ≤ vec_capacity bytes.new) }
     ensures ok { OnOk result (bytes.new.items
-        ≡ bytes.old.items ++ replicate (wanted - vec_len bytes.old) 0) }
+        ≡ bytes.old.items ++ replicate (shown - vec_len bytes.old) 0) }
     ensures err { OnErr result ((bytes.new.items ≡ bytes.old.items)
-        × (vec_capacity bytes.old < wanted)) }
+        × (vec_capacity bytes.old < needed)) }
 {
-    if bytes.capacity() < wanted {
+    if bytes.capacity() < needed {
         bytes.reserve_exact(size - bytes.len())?;
     }
-    bytes.resize(wanted, 0)
+    bytes.resize(shown, 0)
 }
 
 // Reads once into the bytes from `end` on.

@@ -107,9 +107,9 @@ fn has_room(alloc: Global, bytes: &[u8], below: (usize, bool), taken: (usize, u6
 fn has_rooms(alloc: Global) -> bool {
     match vec![in alloc; 7u8; 200_000] {
         Ok(bytes) => {
-            has_room(alloc, &bytes, (1_000_000, true), (262_144, 5))
-                && has_room(alloc, &bytes, (200_001, true), (200_001, 5))
-                && has_room(alloc, &bytes, (200_000, false), (200_000, 4))
+            has_room(alloc, &bytes, (1_000_000, true), (262_144, 9))
+                && has_room(alloc, &bytes, (200_001, true), (200_001, 9))
+                && has_room(alloc, &bytes, (200_000, false), (200_000, 8))
         }
         Err(_) => false,
     }

@@ -4,7 +4,6 @@ use Rattle.std.proofs.lemmas.List.{with_items_is}
 use Rattle.std.proofs.lemmas.Result.{err_from_is_err_and}
 use Rattle.grep_decode.proofs.DecoderLemmas.{Decodes-none, reads-fail}
 use Rattle.grep_line_buffer.specs.BufferStates.{IsWithin}
-use Rattle.grep_line_buffer.specs.Room.{IsLarge}
 use Rattle.grep_line_buffer.proofs.ContentsLemmas.{below-within, contents-full, HasRead-last}
 use Rattle.grep_line_buffer.proofs.ContentsLemmas.{IsReading-first, IsReading-room, IsReading-more}
 use Rattle.grep_line_buffer.proofs.FillPartLemmas.{if-read-full, unless-read}
@@ -38,8 +37,7 @@ returns-in_err-make_room g c =
       error = contents-full c.args.limit c.reads.len c.args.contents.now.cap c.reads.contents.cap
           items e (ap length full.full.0 ∙ full.full.1)
           (subst (IsWithin c.args.limit) full.full.1 before.within)
-          (subst (IsLarge c.args.limit) full.full.1 before.large) before.kept full.error
-          full.memory;
+          before.kept full.error full.memory full.later;
       fault = if-read-full (Unit {0}) c.args.limit c.reads.len e _ full.error;
       ahead = unless-read (Unit {0}) e out.ahead;
       settled = tt;
@@ -61,7 +59,7 @@ returns-in-Ok-eq0 g c =
     let room = IsReading-room rem step c.args.limit c.args.contents.now.cap c.reads.contents.cap
     w.cap len
     c.args.decoder.now c.reads.decoder c.args.reader.now c.reads.reader c.reads.contents.items
-    w.items c.reads.invariant made.front made.room made.within made.large made.kept in
+    w.items c.reads.invariant made.front made.room made.within made.first made.kept in
     let all = c.truncate.ensures.items ∙ ap (take len) (with_items_is w bytes whole) in
     let read = c.in-Ok-eq0.ensures.reads in
     let front = c.read_after.ensures.front ∙ ap (take len) c.deref_mut.ensures.value in
@@ -105,7 +103,7 @@ returns-in-Err g c =
     let room = IsReading-room rem step c.args.limit c.args.contents.now.cap c.reads.contents.cap
     w.cap len
     c.args.decoder.now c.reads.decoder c.args.reader.now c.reads.reader c.reads.contents.items
-    w.items c.reads.invariant made.front made.room made.within made.large made.kept in
+    w.items c.reads.invariant made.front made.room made.within made.first made.kept in
     let all = c.truncate-in-Err.ensures.items ∙ ap (take len) (with_items_is w bytes whole) in
     let front = c.read_after.ensures.front ∙ ap (take len) c.deref_mut.ensures.value in
     let given = c.truncate-in-Err.new.self.items in
@@ -154,7 +152,7 @@ reads-preserved g c =
     let room = IsReading-room g.R.Source.remaining g.R.Source.step c.args.limit
     c.args.contents.now.cap c.reads.contents.cap w.cap c.reads.len
     c.args.decoder.now c.reads.decoder c.args.reader.now c.reads.reader c.reads.contents.items
-    w.items c.reads.invariant made.front made.room made.within made.large made.kept in
+    w.items c.reads.invariant made.front made.room made.within made.first made.kept in
     IsReading-more g.R.Source.remaining g.R.Source.step c.args.limit c.args.contents.now.cap w.cap
     c.reads.len c.in-Ok.count
     c.args.decoder.now c.reads.decoder c.read_after.new.decoder c.args.reader.now c.reads.reader
