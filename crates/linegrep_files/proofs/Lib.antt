@@ -1,13 +1,16 @@
 pub mod AlikeLemmas
 pub mod BaseLemmas
+pub mod BraceLemmas
 pub mod ChoiceLemmas
 pub mod GlobRuleLemmas
+pub mod GlobTextLemmas
 pub mod FoundLemmas
 pub mod IgnoreFileLemmas
 pub mod ParentLemmas
 pub mod PartLemmas
 pub mod PieceLemmas
-pub mod SuffixLemmas
+pub mod ClassTextLemmas
+pub mod SizeLemmas
 pub mod TreeLemmas
 pub mod TypeLemmas
 pub mod WalkLemmas

@@ -1,7 +1,7 @@
 -- Which of the files and folders of a folder are visited: globs decide first, then ignore files,
 -- and of files types.
 use Rattle.std.specs.Prelude.{◌≡◌, ℕ, ◌-◌, Bool, true, false, not, ◌||◌, if◌then◌else◌, List}
-use Rattle.std.specs.Prelude.{◌++◌, length, MatchBool, None, Option, Some, is_some, slice_get}
+use Rattle.std.specs.Prelude.{◌++◌, length, MatchBool, None, Option, Some, slice_get}
 use Rattle.std.specs.Prelude.{Result, Vec}
 use Rattle.std.specs.Global.{Global}
 use Rattle.std.specs.Option.{option_or}
@@ -14,7 +14,7 @@ use Rattle.linegrep_files.specs.FileTypes.{AreNoTypes, IsTypeChoice, are_none}
 use Rattle.linegrep_files.specs.FolderFacts.{FolderFacts}
 use Rattle.linegrep_files.specs.Globs.{AreGlobs, IsGlobChoice, may_be_malformed_in, is_chosen}
 use Rattle.linegrep_files.specs.IgnoreFiles.{AreWithin, HasSource, ReadsTheSame}
-use Rattle.linegrep_files.specs.Limits.{AreLimits}
+use Rattle.linegrep_files.specs.Limits.{AreLimits, has_no_size}
 use Rattle.linegrep_files.specs.ParentFiles.{AreBegun, AreIgnores, base_of}
 use Rattle.linegrep_files.specs.declared.choices.Choices.{Choices}
 use Rattle.linegrep_files.specs.declared.file_options.FileOptions.{FileOptions}
@@ -103,10 +103,10 @@ pub record IsWithin (reads : List ℕ → Result (Vec ℕ Global) Error → Type
   pub ignores : AreWithin reads folder below names old.ignores new.ignores
 
 -- what options say of files may be refused: one of the globs has brackets, braces or backslashes,
--- types are named or defined, or a size is given
+-- types are named or defined, or a size is given that is none
 abbrev pub may_be_refused : FileOptions → Bool
 may_be_refused options = may_be_malformed_in options.globs.now || may_be_malformed_in options.iglobs.now
-    || not (are_none options.types) || is_some options.max_filesize
+    || not (are_none options.types) || has_no_size options.max_filesize
 
 -- choices are what options say, with the ignore files that count everywhere
 pub record AreChoices (folders : FolderFacts) (options : FileOptions) (choices : Choices) : Type 0

@@ -13,6 +13,8 @@ use Rattle.grep_ignore.specs.Lines.{glob_of, is_anchored, keeps_of, names_folder
 use Rattle.grep_ignore.specs.Matches.{Matches}
 use Rattle.grep_ignore.specs.declared.wildcards.Piece.{Piece}
 use Rattle.grep_ignore.specs.declared.wildcards.Piece.TheVariants.{Folders, One, Many}
+use Rattle.linegrep_files.specs.Braces.{AreTextsOf, has_braces}
+use Rattle.linegrep_files.specs.ClassTexts.{is_class}
 use Rattle.linegrep_files.specs.declared.glob.Glob.{Glob}
 use Rattle.linegrep_files.specs.declared.globs.Choice.{Choice}
 use Rattle.linegrep_files.specs.declared.globs.Choice.TheVariants.{Chosen, LeftOut, Unmatched}
@@ -78,17 +80,13 @@ IsGlobChoice globs path is_folder choice = IsLastChoice globs (path_from_here pa
 abbrev pub has_stars : List ℕ → Bool
 has_stars text = begins_with 42 text && begins_with 42 (drop 1 text) && begins_with 42 (drop 2 text)
 
--- a text ends in another
-abbrev pub IsSuffix : List ℕ → List ℕ → Type 0
-IsSuffix text rest = (front : List ℕ) × (text ≡ front ++ rest)
-
 -- A text without braces begins with the text of a piece, and goes on with a rest: a class in
 -- brackets, which is one byte of a set; a star before two more, which are no whole name; or as in a
 -- line of an ignore file. `begins` says whether a name begins where the text does, and `next` where
 -- the rest does.
 pub data IsPieceText (ignores_case begins : Bool) (text : List ℕ) : Piece → Bool → List ℕ → Type 0 where
-  of_class : (set : List Bool) (class rest : List ℕ) → text ≡ 91 ∷ class → IsSuffix class (93 ∷ rest)
-      → IsPieceText ignores_case begins text (One set) false rest
+  of_class : (set : List Bool) (class rest : List ℕ) → text ≡ 91 ∷ (class ++ 93 ∷ rest)
+      → is_class class ≡ true → IsPieceText ignores_case begins text (One set) false rest
   of_stars : (set : List Bool) (rest : List ℕ) → has_stars text ≡ true → text ≡ 42 ∷ rest
       → IsSet set is_name_byte → IsPieceText ignores_case begins text (Many set) false rest
   of_other : {piece : Piece} {next : Bool} {rest : List ℕ} → begins_with 91 text ≡ false
@@ -113,14 +111,7 @@ ArePieces is_of_names ignores_case text pieces = (spelled : List Piece)
     × IsGlob ignores_case text spelled
     × (pieces ≡ (if is_of_names then Folders ∷ spelled else spelled))
 
--- a text has braces, which stand for choices
-abbrev pub is_brace : ℕ → Bool
-is_brace byte = (byte == 123) || (byte == 125)
-
-abbrev pub has_braces : List ℕ → Bool
-has_braces text = list_any is_brace text
-
--- it has a bracket that opens a class, or a backslash
+-- a text has a bracket that opens a class, or a backslash
 abbrev pub has_brackets : List ℕ → Bool
 has_brackets text = list_any (λ byte. (byte == 91) || (byte == 92)) text
 
@@ -128,10 +119,18 @@ has_brackets text = list_any (λ byte. (byte == 91) || (byte == 92)) text
 abbrev pub may_be_malformed : List ℕ → Bool
 may_be_malformed text = has_braces text || has_brackets text
 
--- the glob of a text without braces stands for this text alone
+-- each of some choices has the pieces of one of some texts
+abbrev pub AreOfTexts : Bool → Bool → List (List ℕ) → List (List Piece) → Type 0
+AreOfTexts is_of_names ignores_case [] choices = choices ≡ []
+AreOfTexts is_of_names ignores_case (text ∷ later) choices =
+    (pieces : List Piece) × (others : List (List Piece)) × (choices ≡ pieces ∷ others)
+    × ArePieces is_of_names ignores_case text pieces
+    × AreOfTexts is_of_names ignores_case later others
+
+-- the glob of a text: what the texts match that it stands for
 abbrev pub IsGlobOf : Bool → Bool → List ℕ → Glob → Type 0
-IsGlobOf is_of_names ignores_case text glob = has_braces text ≡ false → (pieces : List Piece)
-    × (glob.choices.items ≡ pieces ∷ []) × ArePieces is_of_names ignores_case text pieces
+IsGlobOf is_of_names ignores_case text glob = (texts : List (List ℕ)) × AreTextsOf text texts
+    × AreOfTexts is_of_names ignores_case texts glob.choices.items
 
 -- the text of a glob; an exclamation mark alone leaves everything out
 abbrev pub said_glob : List ℕ → List ℕ
@@ -142,8 +141,7 @@ abbrev pub glob_text : List ℕ → List ℕ
 glob_text text = path_glob (glob_of (said_glob text))
 
 -- the glob of a text: an exclamation mark leaves paths out, a slash at the end means folders alone,
--- and without another slash it is about names in any folder. What it matches is said of one without
--- braces
+-- and without another slash it is about names in any folder
 pub record IsGlobRule (ignores_case : Bool) (text : List ℕ) (rule : GlobRule) : Type 0 where
   pub exclusion : rule.is_exclusion ≡ keeps_of (said_glob text)
   pub folders : rule.names_folders ≡ names_folders_of (said_glob text)

@@ -1,4 +1,6 @@
+pub mod Braces
 pub mod Choices
+pub mod ClassTexts
 pub mod Failures
 pub mod FileIds
 pub mod FileTypes

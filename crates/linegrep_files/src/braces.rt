@@ -1,6 +1,12 @@
 //! The braces of a glob: the texts without them that it stands for, each with one of their choices
 //! in their place.
-use crate::class::read_class;
+ghost use Rattle.std.specs.Prelude.{◌≡◌, ◌≢◌, ◌<◌, ◌≤◌, ◌&&◌, ◌++◌, ◌∷◌, [], Bool, List, ℕ, false};
+ghost use Rattle.std.specs.Prelude.{IfOk, OnOk, length, map, take, true};
+ghost use Rattle.grep_ignore.specs.Classes.{begins_with};
+ghost use Rattle.linegrep_files.specs.Braces.{BeginsPart, HasPart, IsPartBefore, IsRead, StandsFor};
+ghost use Rattle.linegrep_files.specs.Braces.{bytes_of, each_with, has_braces, is_brace, is_inside};
+
+use crate::class::{begins_with, is_empty, read_class, tail};
 use grep_ignore::GlobError;
 use std::alloc::{AllocError, Global};
 use std::mem;
@@ -10,15 +16,36 @@ const MOST_TEXTS: usize = 1000;
 
 const TOO_MANY: &str = "its braces have too many choices";
 
+const UNOPENED: &str = "a brace isn't opened";
+
+const UNCLOSED: &str = "a brace isn't closed";
+
+const ENDS_IN_BACKSLASH: &str = "a backslash is at its end";
+
+/// Whether a text has braces.
+pub fn has_braces(text: &[u8]) -> bool
+    ensures { result ≡ has_braces text.now }
+{
+    text.iter().any(|byte| is_brace(*byte))
+}
+
+fn is_brace(byte: u8) -> bool
+    ensures { result ≡ is_brace byte }
+{
+    byte == b'{' || byte == b'}'
+}
+
 /// The texts that a glob stands for. An error is that a brace isn't opened or closed, that a class
 /// isn't well formed, that the texts are more than 1000, or that there is no memory.
-pub fn texts_of(alloc: Global, glob: &[u8]) -> Result<Vec<Vec<u8>>, GlobError> {
+pub fn texts_of(alloc: Global, glob: &[u8]) -> Result<Vec<Vec<u8>>, GlobError>
+    ensures { IfOk result (λ texts. StandsFor false glob.now (bytes_of texts.items)) }
+{
     let mut texts = match Texts::new(alloc) {
         Ok(texts) => texts,
         Err(_) => return Err(GlobError::OutOfMemory),
     };
     let mut rest = glob;
-    for _ in glob {
+    while !rest.is_empty() {
         rest = texts.add_first(rest)?;
     }
     texts.complete()
@@ -41,7 +68,10 @@ struct Brace {
 }
 
 impl Texts {
-    fn new(alloc: Global) -> Result<Texts, AllocError> {
+    fn new(alloc: Global) -> Result<Texts, AllocError>
+        ensures { IfOk result (λ texts. (texts.braces.items ≡ [])
+            × (bytes_of texts.texts.items ≡ [] ∷ [])) }
+    {
         Ok(Texts {
             alloc,
             texts: empty_text(alloc)?,
@@ -50,116 +80,230 @@ impl Texts {
     }
 
     // Adds what a glob begins with, and gives what follows it.
-    fn add_first<'g>(&mut self, glob: &'g [u8]) -> Result<&'g [u8], GlobError> {
-        match glob {
-            [] => Ok(glob),
-            [b'{', rest @ ..] => self.open(rest),
-            [b'}', rest @ ..] => self.close(rest),
-            [b',', rest @ ..] if !self.braces.is_empty() => self.begin_choice(rest),
-            [b'[', class @ ..] => match read_class(class, false) {
-                Ok(class) => self.add(glob, class.rest),
-                Err(cause) => Err(GlobError::Malformed(cause)),
-            },
-            [b'\\', _, rest @ ..] => self.add(glob, rest),
-            [_, rest @ ..] => self.add(glob, rest),
+    fn add_first<'g>(&mut self, glob: &'g [u8]) -> Result<&'g [u8], GlobError>
+        requires { glob.now ≢ [] }
+        ensures shorter { IfOk result (λ rest. length rest.now < length glob.now) }
+        ensures read { IfOk result (λ rest. (part : List ℕ) × (glob.now ≡ part ++ rest.now)
+            × ((done : List ℕ) → IsRead self.old.braces.items (bytes_of self.old.texts.items) done
+            → IsRead self.new.braces.items (bytes_of self.new.texts.items) (done ++ part))) }
+    {
+        if begins_with(glob, b'{') {
+            return match self.open() {
+                Ok(()) => Ok(tail(glob)),
+                Err(_) => Err(GlobError::OutOfMemory),
+            };
         }
+        if begins_with(glob, b'}') {
+            return match self.close() {
+                Ok(()) => Ok(tail(glob)),
+                Err(error) => Err(error),
+            };
+        }
+        if self.ends_choice(glob) {
+            return match self.begin_choice() {
+                Ok(()) => Ok(tail(glob)),
+                Err(_) => Err(GlobError::OutOfMemory),
+            };
+        }
+        self.add_part(glob)
     }
 
-    // Adds to each text the bytes of a glob that a rest of it follows.
-    fn add<'g>(&mut self, glob: &[u8], rest: &'g [u8]) -> Result<&'g [u8], GlobError> {
-        let bytes = glob
-            .get(..glob.len().saturating_sub(rest.len()))
-            .unwrap_or(glob);
-        for text in self.texts.iter_mut() {
-            if text.extend_from_slice(bytes).is_err() {
-                return Err(GlobError::OutOfMemory);
-            }
-        }
-        Ok(rest)
-    }
-
-    fn open<'g>(&mut self, rest: &'g [u8]) -> Result<&'g [u8], GlobError> {
-        match self.try_open() {
+    // Adds to each text the part without braces that a glob begins with, and gives what follows it.
+    fn add_part<'g>(&mut self, glob: &'g [u8]) -> Result<&'g [u8], GlobError>
+        requires some { glob.now ≢ [] }
+        requires part { BeginsPart (is_inside self.old.braces.items) glob.now }
+        ensures braces { self.new.braces ≡ self.old.braces }
+        ensures part { IfOk result (λ rest. IsPartBefore (is_inside self.old.braces.items) glob.now
+            (bytes_of self.old.texts.items) rest.now (bytes_of self.new.texts.items)) }
+    {
+        let count = part_len(glob)?;
+        let (part, rest) = glob.split_at(count);
+        match extend_each(&mut self.texts, part) {
             Ok(()) => Ok(rest),
             Err(_) => Err(GlobError::OutOfMemory),
         }
     }
 
-    fn try_open(&mut self) -> Result<(), AllocError> {
+    // Whether a glob begins with the end of a choice.
+    fn ends_choice(&self, glob: &[u8]) -> bool
+        ensures { result ≡ (is_inside self.now.braces.items && begins_with 44 glob.now) }
+    {
+        self.is_inside() && begins_with(glob, b',')
+    }
+
+    // Whether a brace is open.
+    fn is_inside(&self) -> bool
+        ensures { result ≡ is_inside self.now.braces.items }
+    {
+        !self.braces.is_empty()
+    }
+
+    fn open(&mut self) -> Result<(), AllocError>
+        ensures { OnOk result ((brace : Brace)
+            × (self.new.braces.items ≡ self.old.braces.items ++ brace ∷ [])
+            × (brace.before ≡ self.old.texts) × (brace.choices.items ≡ [])
+            × (bytes_of self.new.texts.items ≡ [] ∷ [])) }
+    {
         let before = mem::replace(&mut self.texts, empty_text(self.alloc)?);
         let choices = Vec::new(self.alloc);
         Ok(self.braces.push(Brace { before, choices })?)
     }
 
     // Goes on with the next choice of the innermost brace.
-    fn begin_choice<'g>(&mut self, rest: &'g [u8]) -> Result<&'g [u8], GlobError> {
-        match self.try_begin_choice() {
-            Ok(()) => Ok(rest),
-            Err(_) => Err(GlobError::OutOfMemory),
-        }
-    }
-
-    fn try_begin_choice(&mut self) -> Result<(), AllocError> {
-        let texts = mem::replace(&mut self.texts, empty_text(self.alloc)?);
-        if let Some(brace) = self.braces.last_mut() {
-            for text in texts {
-                brace.choices.push(text)?;
-            }
+    fn begin_choice(&mut self) -> Result<(), AllocError>
+        requires { is_inside self.old.braces.items ≡ true }
+        ensures { OnOk result ((braces : List Brace) × (old : Brace) × (new : Brace)
+            × (self.old.braces.items ≡ braces ++ old ∷ [])
+            × (self.new.braces.items ≡ braces ++ new ∷ [])
+            × (new.before ≡ old.before)
+            × (new.choices.items ≡ old.choices.items ++ self.old.texts.items)
+            × (bytes_of self.new.texts.items ≡ [] ∷ [])) }
+    {
+        if let Some(mut brace) = self.braces.pop() {
+            brace.choices.append(&mut self.texts)?;
+            self.braces.push(brace)?;
+            self.texts = empty_text(self.alloc)?;
         }
         Ok(())
     }
 
-    fn close<'g>(&mut self, rest: &'g [u8]) -> Result<&'g [u8], GlobError> {
-        let rest = self.begin_choice(rest)?;
+    // Closes the innermost brace.
+    fn close(&mut self) -> Result<(), GlobError>
+        ensures { OnOk result ((brace : Brace)
+            × (self.old.braces.items ≡ self.new.braces.items ++ brace ∷ [])
+            × (bytes_of self.new.texts.items ≡ each_with (bytes_of brace.before.items)
+            (bytes_of brace.choices.items ++ bytes_of self.old.texts.items))) }
+    {
         match self.braces.pop() {
-            Some(brace) => {
-                self.texts = joined(self.alloc, &brace)?;
-                Ok(rest)
-            }
-            None => Err(GlobError::Malformed("a brace isn't opened")),
+            Some(mut brace) => match brace.choices.append(&mut self.texts) {
+                Ok(()) => {
+                    self.texts = joined(
+                        self.alloc,
+                        brace.before.as_slice(),
+                        brace.choices.as_slice(),
+                    )?;
+                    Ok(())
+                }
+                Err(_) => Err(GlobError::OutOfMemory),
+            },
+            None => Err(GlobError::Malformed(UNOPENED)),
         }
     }
 
     // The texts, if no brace is open.
-    fn complete(self) -> Result<Vec<Vec<u8>>, GlobError> {
+    fn complete(self) -> Result<Vec<Vec<u8>>, GlobError>
+        ensures { IfOk result (λ texts. (self.braces.items ≡ []) × (texts ≡ self.texts)) }
+    {
         if self.braces.is_empty() {
             Ok(self.texts)
         } else {
-            Err(GlobError::Malformed("a brace isn't closed"))
+            Err(GlobError::Malformed(UNCLOSED))
         }
     }
 }
 
+// How many bytes the part without braces has that a glob begins with.
+fn part_len(glob: &[u8]) -> Result<usize, GlobError>
+    requires { glob.now ≢ [] }
+    ensures { (is_choice : Bool) → BeginsPart is_choice glob.now
+        → IfOk result (HasPart is_choice glob.now) }
+{
+    if begins_with(glob, b'[') {
+        return class_len(glob);
+    }
+    if begins_with(glob, b'\\') {
+        return escape_len(glob);
+    }
+    Ok(1)
+}
+
+// How many bytes a backslash and the byte after it have that a glob begins with.
+fn escape_len(glob: &[u8]) -> Result<usize, GlobError>
+    requires { begins_with 92 glob.now ≡ true }
+    ensures { (is_choice : Bool) → IfOk result (HasPart is_choice glob.now) }
+{
+    if is_empty(tail(glob)) {
+        Err(GlobError::Malformed(ENDS_IN_BACKSLASH))
+    } else {
+        Ok(2)
+    }
+}
+
+// How many bytes the class has that a glob begins with.
+fn class_len(glob: &[u8]) -> Result<usize, GlobError>
+    requires { begins_with 91 glob.now ≡ true }
+    ensures { (is_choice : Bool) → IfOk result (HasPart is_choice glob.now) }
+{
+    match read_class(tail(glob), false) {
+        Ok(class) => Ok(glob.len() - class.rest.len()),
+        Err(cause) => Err(GlobError::Malformed(cause)),
+    }
+}
+
 // One text, without a byte.
-fn empty_text(alloc: Global) -> Result<Vec<Vec<u8>>, AllocError> {
+fn empty_text(alloc: Global) -> Result<Vec<Vec<u8>>, AllocError>
+    ensures { IfOk result (λ texts. bytes_of texts.items ≡ [] ∷ []) }
+{
     let mut texts = Vec::new(alloc);
     texts.push(Vec::new(alloc))?;
     Ok(texts)
 }
 
+// Adds bytes to each of some texts.
+fn extend_each(texts: &mut Vec<Vec<u8>>, bytes: &[u8]) -> Result<(), AllocError>
+    ensures { OnOk result (bytes_of texts.new.items
+        ≡ map (λ text. text ++ bytes.now) (bytes_of texts.old.items)) }
+{
+    for text in texts.iter_mut() {
+        text.extend_from_slice(bytes)?;
+    }
+    Ok(())
+}
+
 // Each text before a brace with each of its choices after it.
-fn joined(alloc: Global, brace: &Brace) -> Result<Vec<Vec<u8>>, GlobError> {
+fn joined(alloc: Global, before: &[Vec<u8>], choices: &[Vec<u8>]) -> Result<Vec<Vec<u8>>, GlobError>
+    ensures { IfOk result (λ texts. bytes_of texts.items
+        ≡ each_with (bytes_of before.now) (bytes_of choices.now)) }
+{
     let mut texts = Vec::new(alloc);
-    for before in brace.before.iter() {
-        for choice in brace.choices.iter() {
-            if texts.len() >= MOST_TEXTS {
-                return Err(GlobError::Malformed(TOO_MANY));
-            }
-            if push_joined(alloc, &mut texts, before.as_slice(), choice.as_slice()).is_err() {
-                return Err(GlobError::OutOfMemory);
-            }
-        }
+    for text in before {
+        add_joined(alloc, &mut texts, text.as_slice(), choices)?;
     }
     Ok(texts)
+}
+
+// Adds a text with each of some choices after it.
+fn add_joined(
+    alloc: Global,
+    texts: &mut Vec<Vec<u8>>,
+    text: &[u8],
+    choices: &[Vec<u8>],
+) -> Result<(), GlobError>
+    ensures { OnOk result (bytes_of texts.new.items ≡ bytes_of texts.old.items
+        ++ map (λ choice. text.now ++ choice) (bytes_of choices.now)) }
+{
+    for choice in choices {
+        if texts.len() >= MOST_TEXTS {
+            return Err(GlobError::Malformed(TOO_MANY));
+        }
+        match push_joined(alloc, texts, text, choice.as_slice()) {
+            Ok(()) => {}
+            Err(_) => return Err(GlobError::OutOfMemory),
+        }
+    }
+    Ok(())
 }
 
 fn push_joined(
     alloc: Global,
     texts: &mut Vec<Vec<u8>>,
-    before: &[u8],
+    text: &[u8],
     choice: &[u8],
-) -> Result<(), AllocError> {
-    let mut text = Vec::from_slice(alloc, before)?;
-    text.extend_from_slice(choice)?;
-    Ok(texts.push(text)?)
+) -> Result<(), AllocError>
+    ensures { OnOk result (bytes_of texts.new.items
+        ≡ bytes_of texts.old.items ++ (text.now ++ choice.now) ∷ []) }
+{
+    let mut joined = Vec::from_slice(alloc, text)?;
+    joined.extend_from_slice(choice)?;
+    Ok(texts.push(joined)?)
 }

@@ -1,7 +1,8 @@
 //! A class of a glob, which is in brackets: the bytes that it stands for.
-ghost use Rattle.std.specs.Prelude.{◌≡◌, ◌∷◌, drop, IfOk};
-ghost use Rattle.grep_ignore.specs.Classes.{begins_with, is_empty};
-ghost use Rattle.linegrep_files.specs.Globs.{IsSuffix};
+ghost use Rattle.std.specs.Prelude.{◌≡◌, ◌≢◌, ◌∷◌, drop, false, IfOk, MatchOption};
+ghost use Rattle.grep_ignore.specs.Classes.{begins_range, begins_with, is_empty, is_negated};
+ghost use Rattle.grep_ignore.specs.Lines.{ends_with};
+ghost use Rattle.linegrep_files.specs.ClassTexts.{AreMembersBefore, IsClassBefore};
 
 use grep_matcher::ByteSet;
 
@@ -31,37 +32,44 @@ const REVERSED: &str = "a range ends before it begins";
 /// moves its end. If `ignores_case` is set, letters of ASCII stand for both cases. An error is that
 /// it isn't closed, or that a range ends before it begins.
 pub fn read_class(text: &[u8], ignores_case: bool) -> Result<Class<'_>, &'static str>
-    ensures { IfOk result (λ class. IsSuffix text.now (93 ∷ class.rest.now)) }
+    ensures { IfOk result (λ class. IsClassBefore text.now class.rest.now) }
 {
-    match text {
-        [b'!' | b'^', members @ ..] => {
-            let class = read_members(members, ignores_case)?;
-            Ok(Class {
-                set: others(&class.set),
-                rest: class.rest,
-            })
-        }
-        _ => read_members(text, ignores_case),
+    if is_negated(text) {
+        let class = read_members(tail(text), ignores_case)?;
+        return Ok(Class {
+            set: others(&class.set),
+            rest: class.rest,
+        });
     }
+    read_members(text, ignores_case)
+}
+
+fn is_negated(text: &[u8]) -> bool
+    ensures { result ≡ is_negated text.now }
+{
+    begins_with(text, b'!') || begins_with(text, b'^')
 }
 
 // Reads the members of a class, and its closing bracket.
 fn read_members(text: &[u8], ignores_case: bool) -> Result<Class<'_>, &'static str>
-    ensures { IfOk result (λ class. IsSuffix text.now (93 ∷ class.rest.now)) }
+    ensures { IfOk result (λ class. AreMembersBefore text.now (93 ∷ class.rest.now)) }
 {
     let mut set = ByteSet::empty();
     let mut member = read_member(text)?;
     for _ in text {
-        match member.rest {
-            [b']', rest @ ..] => {
-                add_range(&mut set, member.first, member.last, ignores_case);
-                return Ok(Class { set, rest });
-            }
-            [b'-', last, rest @ ..] if *last != b']' => {
-                member = range(member.first, *last, rest)?;
+        if begins_with(member.rest, b']') {
+            add_range(&mut set, member.first, member.last, ignores_case);
+            return Ok(Class {
+                set,
+                rest: tail(member.rest),
+            });
+        }
+        match range_end(member.rest) {
+            Some(last) => {
+                member = range(member.first, last, tail(tail(member.rest)))?;
                 continue;
             }
-            _ => {
+            None => {
                 add_range(&mut set, member.first, member.last, ignores_case);
                 member = read_member(member.rest)?;
                 continue;
@@ -74,12 +82,32 @@ fn read_members(text: &[u8], ignores_case: bool) -> Result<Class<'_>, &'static s
 // The member that some members of a class begin with: a byte, or two with a dash between them,
 // which make a range.
 fn read_member(text: &[u8]) -> Result<Member<'_>, &'static str>
-    ensures { IfOk result (λ member. IsSuffix text.now member.rest.now) }
+    ensures { IfOk result (λ member. AreMembersBefore text.now member.rest.now) }
 {
     match text {
-        [first, b'-', last, rest @ ..] if *last != b']' => range(*first, *last, rest),
-        [byte, rest @ ..] => range(*byte, *byte, rest),
         [] => Err(UNCLOSED),
+        [first, after @ ..] => match range_end(after) {
+            Some(last) => range(*first, last, tail(tail(after))),
+            None => range(*first, *first, after),
+        },
+    }
+}
+
+// The last byte of a range that goes on with a text: one after a dash, but no closing bracket.
+fn range_end(after: &[u8]) -> Option<u8>
+    ensures { MatchOption result (begins_range after.now ≡ false)
+        (λ last. (after.now ≡ 45 ∷ last ∷ drop 2 after.now) × (last ≢ 93)) }
+{
+    match after {
+        [] => None,
+        [_] => None,
+        [dash, last, ..] => {
+            if *dash == b'-' && *last != b']' {
+                Some(*last)
+            } else {
+                None
+            }
+        }
     }
 }
 
@@ -144,6 +172,14 @@ pub fn begins_with(text: &[u8], first: u8) -> bool
         [] => false,
         [byte, ..] => *byte == first,
     }
+}
+
+/// Whether a text ends in a byte.
+pub fn ends_with(text: &[u8], last: u8) -> bool
+    ensures { result ≡ ends_with last text.now }
+{
+    let count = text.len();
+    count > 0 && text[count - 1] == last
 }
 
 /// Whether a text has no byte.

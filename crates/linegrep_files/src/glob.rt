@@ -1,14 +1,14 @@
 //! A glob: the paths that it matches.
 ghost use Rattle.std.specs.Prelude.{◌≡◌, ◌≢◌, ◌↔◌, ◌++◌, ◌∷◌, [], Bool, List, true};
-ghost use Rattle.std.specs.Prelude.{IfErr, IfOk, IsTrue, OnErr};
+ghost use Rattle.std.specs.Prelude.{IfErr, IfOk, IsTrue, OnErr, OnOk};
 ghost use Rattle.grep_ignore.specs.Classes.{IsSet, begins_with, is_name_byte};
 ghost use Rattle.grep_ignore.specs.Globs.{OnMalformed};
 ghost use Rattle.grep_ignore.specs.declared.wildcards.Piece.{Piece};
-ghost use Rattle.linegrep_files.specs.Globs.{ArePieces, IsGlob, IsGlobOf, IsPieceText, MatchesOne};
-ghost use Rattle.linegrep_files.specs.Globs.{has_braces, has_brackets, has_stars, is_brace};
-ghost use Rattle.linegrep_files.specs.Globs.{may_be_malformed};
+ghost use Rattle.linegrep_files.specs.Braces.{bytes_of};
+ghost use Rattle.linegrep_files.specs.Globs.{AreOfTexts, ArePieces, IsGlob, IsGlobOf, IsPieceText};
+ghost use Rattle.linegrep_files.specs.Globs.{MatchesOne, has_brackets, has_stars, may_be_malformed};
 
-use crate::braces::texts_of;
+use crate::braces::{has_braces, texts_of};
 use crate::class::{begins_with, read_class, tail};
 use grep_ignore::{GlobError, Piece, Step, Wildcards, read_piece};
 use grep_matcher::ByteSet;
@@ -36,15 +36,31 @@ impl Glob {
         let mut glob = Glob {
             choices: Vec::new(alloc),
         };
-        if !has_braces(text) {
-            glob.add(alloc, text, is_of_names, ignores_case)?;
+        if has_braces(text) {
+            let texts = texts_of(alloc, text)?;
+            glob.add_all(alloc, texts.as_slice(), is_of_names, ignores_case)?;
             return Ok(glob);
         }
-        let texts = texts_of(alloc, text)?;
-        for text in texts.iter() {
-            glob.add(alloc, text.as_slice(), is_of_names, ignores_case)?;
-        }
+        glob.add(alloc, text, is_of_names, ignores_case)?;
         Ok(glob)
+    }
+
+    // Adds texts without braces that the glob stands for.
+    fn add_all(
+        &mut self,
+        alloc: Global,
+        texts: &[Vec<u8>],
+        is_of_names: bool,
+        ignores_case: bool,
+    ) -> Result<(), GlobError>
+        requires { self.old.choices.items ≡ [] }
+        ensures { OnOk result (AreOfTexts is_of_names ignores_case (bytes_of texts.now)
+            self.new.choices.items) }
+    {
+        for text in texts {
+            self.add(alloc, text.as_slice(), is_of_names, ignores_case)?;
+        }
+        Ok(())
     }
 
     // Adds a text without braces that the glob stands for.
@@ -185,16 +201,4 @@ fn name_bytes() -> ByteSet
     let mut set = ByteSet::full();
     set.remove(b'/');
     set
-}
-
-fn has_braces(text: &[u8]) -> bool
-    ensures { result ≡ has_braces text.now }
-{
-    text.iter().any(|byte| is_brace(*byte))
-}
-
-fn is_brace(byte: u8) -> bool
-    ensures { result ≡ is_brace byte }
-{
-    byte == b'{' || byte == b'}'
 }

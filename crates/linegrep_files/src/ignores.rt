@@ -10,13 +10,13 @@ ghost use Rattle.linegrep_files.specs.IgnoreFiles.{HasSource, IsFileRead, depth_
 ghost use Rattle.linegrep_files.specs.IgnoreFiles.{ReadsTheSame, is_top};
 ghost use Rattle.linegrep_files.specs.IgnoreFiles.{marks_of, path_below, with_mark};
 ghost use Rattle.linegrep_files.specs.ParentFiles.{AreBegun, AreIgnores, AreNamedRead};
-ghost use Rattle.linegrep_files.specs.ParentFiles.{AreParentsRead, IsGlobalRead, IsParentRead};
-ghost use Rattle.linegrep_files.specs.ParentFiles.{IsStart, IsThere, IsTopAt, has_git, is_within};
-ghost use Rattle.linegrep_files.specs.ParentFiles.{any_marks, parents_of, rooted, start_in};
+ghost use Rattle.linegrep_files.specs.ParentFiles.{IsGlobalRead, has_git};
 ghost use Rattle.linegrep_files.specs.Folders.{name_of};
 ghost use Rattle.linegrep_files.specs.Paths.{IsRoot, joined};
 
-use crate::class::{begins_with, is_empty};
+mod parents;
+
+use crate::class::is_empty;
 use crate::failures::Failure;
 use crate::finder::{name_of, root_of};
 use crate::folders::Folders;
@@ -70,15 +70,6 @@ pub struct Marks {
     has_git: bool,
     has_jj: bool,
 }
-
-// What a folder may have whose names aren't known.
-const ANY_MARKS: Marks = Marks {
-    has_rgignore: true,
-    has_ignore: true,
-    has_gitignore: true,
-    has_git: true,
-    has_jj: true,
-};
 
 impl Marks {
     /// Those among names that end in a NUL each.
@@ -219,76 +210,6 @@ impl<'r> Ignores<'r> {
                 Ok(())
             }
         }
-    }
-
-    // Takes up the folder at a path from the root of the system on, without a slash at its end.
-    fn begin_at<S: Folders>(&mut self, system: &S, path: &str) -> Result<(), AllocError>
-        requires { self.old.repositories.items ≡ [] }
-        ensures same { ReadsTheSame self.old self.new }
-        ensures root { OnOk result (self.new.root ≡ length path.now) }
-        ensures start { OnOk result (IsStart (S.facts system.now) path.now self.new.start) }
-        ensures path { OnOk result (self.new.path.items ≡ path.now ++ 47 ∷ []) }
-        ensures parents { OnOk result (AreParentsRead (S.facts system.now) self.old.sources
-            self.old.layers (parents_of path.now) self.new.layers self.new.repositories.items) }
-    {
-        self.root = path.len();
-        self.start = start_of(self.rt.alloc(), system, path.as_bytes());
-        self.add_parents(system, path)?;
-        self.set_path(path)
-    }
-
-    // Adds what the folders say that the one at a path is in.
-    fn add_parents<S: Folders>(&mut self, system: &S, path: &str) -> Result<(), AllocError>
-        requires { self.old.repositories.items ≡ [] }
-        ensures place { HasSource self.old self.new }
-        ensures parents { OnOk result (AreParentsRead (S.facts system.now) self.old.sources
-            self.old.layers (parents_of path.now) self.new.layers self.new.repositories.items) }
-    {
-        for at in 0..path.len() {
-            if path.as_bytes()[at] != b'/' {
-                continue;
-            }
-            self.add_parent(system, &path[..at])?;
-        }
-        Ok(())
-    }
-
-    // Adds what a folder says that the searched one is in, the path of which is before a slash. It is
-    // in a repository, whether the files of such folders are read or not.
-    fn add_parent<S: Folders>(&mut self, system: &S, above: &str) -> Result<(), AllocError>
-        ensures place { HasSource self.old self.new }
-        ensures read { OnOk result (IsParentRead (S.facts system.now) self.old.sources above.now
-            self.old.layers self.old.repositories.items self.new.layers
-            self.new.repositories.items) }
-    {
-        self.set_path(above)?;
-        let folder = rooted(above);
-        self.add_top(system, folder)?;
-        if self.sources.parents {
-            self.add_files(system, folder, ANY_MARKS)?;
-        }
-        Ok(())
-    }
-
-    // Adds the repository of which a folder is the top, if git's files are read and it is one.
-    fn add_top<S: Folders>(&mut self, system: &S, folder: &str) -> Result<(), AllocError>
-        ensures place { HasSource self.old self.new }
-        ensures layers { self.new.layers ≡ self.old.layers }
-        ensures path { self.new.path ≡ self.old.path }
-        ensures top { OnOk result (MatchBool (has_git self.old.sources) ((is_top : Bool)
-            × IsTopAt (S.facts system.now) folder.now is_top
-            × (self.new.repositories.items ≡ (if is_top then self.old.repositories.items
-            ++ depth_in self.old.path.items ∷ [] else self.old.repositories.items)))
-            (self.new.repositories.items ≡ self.old.repositories.items)) }
-    {
-        if !self.sources.has_git() {
-            return Ok(());
-        }
-        if is_top_at(self.rt.alloc(), system, folder)? {
-            let depth = self.depth();
-            self.repositories.push(depth)?;
-        }
-        Ok(())
     }
 
     /// Goes on in a folder with some names, which is at a path below the folder that is searched:
@@ -663,79 +584,11 @@ fn retain_above(repositories: &mut Vec<usize>, depth: usize)
     repositories.retain(|top| *top < depth);
 }
 
-// The path of a folder for the system, by what is before the slash at its end.
-fn rooted(above: &str) -> &str
-    ensures { result.now ≡ rooted above.now }
-{
-    if is_empty(above.as_bytes()) {
-        "/"
-    } else {
-        above
-    }
-}
-
 // A path without the slashes at its end.
 fn without_slashes(path: &str) -> &str
     ensures { (root : ℕ) × IsRoot path.now root × (result.now ≡ take root path.now) }
 {
     &path[..root_of(path.as_bytes())]
-}
-
-// Whether a folder is the top of a repository.
-fn is_top_at<S: Folders>(alloc: Global, system: &S, folder: &str) -> Result<bool, AllocError>
-    ensures { IfOk result (IsTopAt (S.facts system.now) folder.now) }
-{
-    if is_there(alloc, system, folder, ".git")? {
-        return Ok(true);
-    }
-    let is_top = is_there(alloc, system, folder, ".jj")?;
-    Ok(is_top)
-}
-
-// Whether a folder has something with a name.
-fn is_there<S: Folders>(
-    alloc: Global,
-    system: &S,
-    folder: &str,
-    name: &str,
-) -> Result<bool, AllocError>
-    ensures { IfOk result (IsThere (S.facts system.now) folder.now name.now) }
-{
-    let path = join(alloc, folder, name)?;
-    Ok(system.look(path.as_str(), true).is_ok())
-}
-
-// How many bytes of the path of a folder are before what is in the current one, or if it isn't in
-// that before the first name.
-fn start_of<S: Folders>(alloc: Global, system: &S, folder: &[u8]) -> usize
-    ensures { IsStart (S.facts system.now) folder.now result }
-{
-    match system.resolve(alloc, ".") {
-        Ok(here) => start_in(without_slashes(here.as_str()).as_bytes(), folder),
-        Err(_) => 1,
-    }
-}
-
-// How many bytes of the path of a folder are before what is in another, or if it isn't in that before
-// the first name.
-fn start_in(other: &[u8], folder: &[u8]) -> usize
-    ensures { result ≡ start_in other.now folder.now }
-{
-    if is_within(other, folder) {
-        other.len() + 1
-    } else {
-        1
-    }
-}
-
-// Whether a folder is another, or in it.
-fn is_within(other: &[u8], folder: &[u8]) -> bool
-    ensures { result ≡ is_within other.now folder.now }
-{
-    match folder.strip_prefix(other) {
-        Some(rest) => is_empty(rest) || begins_with(rest, b'/'),
-        None => false,
-    }
 }
 
 // Whether an error is that there is no file at a path.

@@ -1,7 +1,9 @@
 //! Which folders are too deep or elsewhere, and which files are too large.
-ghost use Rattle.std.specs.Prelude.{◌≡◌, true, IfOk, OnErr, is_some};
-ghost use Rattle.linegrep_files.specs.Limits.{AreLimits, allows_depth, allows_size};
+ghost use Rattle.std.specs.Prelude.{◌≡◌, true, IfOk, OnErr};
+ghost use Rattle.linegrep_files.specs.Limits.{AreLimits, allows_depth, allows_size, digits_of};
+ghost use Rattle.linegrep_files.specs.Limits.{factor_of, has_no_size, number_of, size_of};
 
+use crate::class::ends_with;
 use crate::failures::Failure;
 use crate::file_options::FileOptions;
 use std::alloc::Global;
@@ -21,7 +23,7 @@ impl Limits {
     /// Those of the options. The only error is that of a size that isn't well formed.
     pub fn read(alloc: Global, options: &FileOptions<'_, '_>) -> Result<Limits, Failure>
         ensures ok { IfOk result (AreLimits options.now) }
-        ensures err { OnErr result (is_some options.now.max_filesize ≡ true) }
+        ensures err { OnErr result (has_no_size options.now.max_filesize ≡ true) }
     {
         let max_size = match options.max_filesize {
             None => None,
@@ -66,20 +68,51 @@ impl Limits {
 }
 
 // The number of bytes that a text says: digits, and then a K, an M or a G, or nothing.
-fn size_of(text: &str) -> Option<u64> {
-    let (digits, factor) = match text.strip_suffix('K') {
-        Some(digits) => (digits, 1 << 10),
-        None => match text.strip_suffix('M') {
-            Some(digits) => (digits, 1 << 20),
-            None => match text.strip_suffix('G') {
-                Some(digits) => (digits, 1 << 30),
-                None => (text, 1),
-            },
-        },
-    };
-    let has_digits = digits.bytes().all(|byte| byte.is_ascii_digit());
+fn size_of(text: &str) -> Option<u64>
+    ensures { result ≡ size_of text.now }
+{
+    let factor = factor_of(text.as_bytes());
+    match number_of(digits_of(text)) {
+        Some(number) => number.checked_mul(factor),
+        None => None,
+    }
+}
+
+// What the letter at the end of a size multiplies it by.
+fn factor_of(text: &[u8]) -> u64
+    ensures { result ≡ factor_of text.now }
+{
+    if ends_with(text, b'K') {
+        1 << 10
+    } else if ends_with(text, b'M') {
+        1 << 20
+    } else if ends_with(text, b'G') {
+        1 << 30
+    } else {
+        1
+    }
+}
+
+// A size without the letter at its end.
+fn digits_of(text: &str) -> &str
+    ensures { result.now ≡ digits_of text.now }
+{
+    if factor_of(text.as_bytes()) > 1 {
+        &text[..text.len() - 1]
+    } else {
+        text
+    }
+}
+
+// The number that digits say.
+fn number_of(digits: &str) -> Option<u64>
+    ensures { result ≡ number_of digits.now }
+{
+    if digits.starts_with('+') {
+        return None;
+    }
     match digits.parse::<u64>() {
-        Ok(count) if has_digits => count.checked_mul(factor),
-        _ => None,
+        Ok(number) => Some(number),
+        Err(_) => None,
     }
 }

@@ -1,7 +1,13 @@
-use Rattle.std.proofs.Common.{◌∷◌}
-use Rattle.linegrep_files.proofs.SuffixLemmas.{rest-suffix, suffix-trans}
+use Rattle.std.proofs.Common.{◌∙◌, ◌∷◌, subst, sym}
+use Rattle.linegrep_files.specs.ClassTexts.{AreMembersBefore}
+use Rattle.linegrep_files.proofs.ClassTextLemmas.{class-marked, plain-members}
 use Rattle.linegrep_files.proofs.class.read_class.Goals as goal
 
-pub returns-in_ok-class-in-33 : goal.returns-in_ok-class-in-33
-returns-in_ok-class-in-33 c = suffix-trans c.args.text.now _ (93 ∷ c.in_ok-class-in-33.class.rest.now)
-    (rest-suffix 1 c.args.text.now) c.in_ok-class-in-33.ensures
+pub returns-then-is_negated : goal.returns-then-is_negated
+returns-then-is_negated c = class-marked c.args.text.now c.in_ok-class.class.rest.now
+    (sym c.is_negated.ensures ∙ c.if-is_negated.true)
+    (subst (λ t. AreMembersBefore t (93 ∷ c.in_ok-class.class.rest.now)) c.tail.ensures c.in_ok-class.ensures)
+
+pub returns : goal.returns
+returns c = plain-members c.read_members-2.result c.args.text.now
+    (sym c.is_negated.ensures ∙ c.if-is_negated.false) c.read_members-2.ensures

@@ -1,9 +1,12 @@
-use Rattle.linegrep_files.proofs.SuffixLemmas.{rest-suffix, member-suffix}
+use Rattle.std.proofs.Common.{◌∙◌, ap, drop}
+use Rattle.linegrep_files.proofs.ClassTextLemmas.{first-rest, member-byte, member-range}
 use Rattle.linegrep_files.proofs.class.read_member.Goals as goal
 
-pub returns-in-45 : goal.returns-in-45
-returns-in-45 c = member-suffix c.range.result c.args.text.now _ (rest-suffix 3 c.args.text.now) c.range.ensures
+pub returns-in-Some : goal.returns-in-Some
+returns-in-Some c = member-range c.range.result c.args.text.now _ _ _ c.in-Some.last
+    (first-rest c.args.text.now c.in-len1-up.len_at_least) c.in-Some.ensures.0 c.in-Some.ensures.1
+    (c.tail-in-Some.ensures ∙ ap (drop 1) c.tail.ensures) c.range.ensures
 
-pub returns-in-len1-up : goal.returns-in-len1-up
-returns-in-len1-up c =
-    member-suffix c.range-in-len1-up.result c.args.text.now _ (rest-suffix 1 c.args.text.now) c.range-in-len1-up.ensures
+pub returns-in-None : goal.returns-in-None
+returns-in-None c = member-byte c.range-in-None.result c.args.text.now _ _
+    (first-rest c.args.text.now c.in-len1-up.len_at_least) c.range-in-None.ensures

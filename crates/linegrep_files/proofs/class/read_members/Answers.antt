@@ -1,13 +1,12 @@
-use Rattle.std.proofs.Common.{subst, sym}
-use Rattle.linegrep_files.specs.Globs.{IsSuffix}
-use Rattle.linegrep_files.proofs.SuffixLemmas.{rest-suffix, suffix-trans}
+use Rattle.std.proofs.Common.{◌∙◌, ap, drop, sym}
+use Rattle.linegrep_files.proofs.ClassTextLemmas.{members-next, members-range}
 use Rattle.linegrep_files.proofs.class.read_members.Goals as goal
 
-pub loop-preserved-in-45 : goal.loop-preserved-in-45
-loop-preserved-in-45 c = subst (λ rest. IsSuffix c.args.text.now rest) (sym c.in_ok-member-in-45.ensures)
-    (suffix-trans c.args.text.now c.loop.member.rest.now _ c.loop.invariant
-    (rest-suffix 2 c.loop.member.rest.now))
+pub loop-preserved-in-Some : goal.loop-preserved-in-Some
+loop-preserved-in-Some c = members-range c.args.text.now c.loop.member.rest.now _ c.in-Some.last c.loop.invariant
+    c.in-Some.ensures.0 c.in-Some.ensures.1
+    (c.in_ok-member-in-Some.ensures ∙ c.tail-in-Some-2.ensures ∙ ap (drop 1) c.tail-in-Some.ensures)
 
 pub loop-preserved : goal.loop-preserved
-loop-preserved c = suffix-trans c.args.text.now c.loop.member.rest.now _ c.loop.invariant
-    c.in_ok-member-in_default.ensures
+loop-preserved c = members-next c.args.text.now c.loop.member.rest.now _ c.loop.invariant
+    (sym c.begins_with.ensures ∙ c.if-begins_with.false) c.in_ok-member-in-None.ensures

@@ -1,8 +1,10 @@
-use Rattle.std.proofs.Common.{◌∷◌, subst}
+use Rattle.std.proofs.Common.{◌∙◌, ◌∷◌, ap, sym}
 use Rattle.grep_ignore.proofs.ClassLemmas.{begins-is}
-use Rattle.linegrep_files.specs.Globs.{IsSuffix, of_class}
+use Rattle.linegrep_files.specs.Globs.{of_class}
 use Rattle.linegrep_files.proofs.glob.class_step.Goals as goal
 
 pub returns : goal.returns
-returns c = λ begins. of_class _ _ _ (begins-is 91 c.args.text.now c.requires)
-    (subst (λ text. IsSuffix text (93 ∷ c.in_ok-class.class.rest.now)) c.tail.ensures c.in_ok-class.ensures)
+returns c =
+    let (class, is, closes) = c.in_ok-class.ensures in
+    λ begins. of_class _ class _
+    (begins-is 91 c.args.text.now c.requires ∙ ap (λ l. 91 ∷ l) (sym c.tail.ensures ∙ is)) closes

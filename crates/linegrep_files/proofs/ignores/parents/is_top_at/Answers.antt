@@ -1,5 +1,5 @@
 use Rattle.linegrep_files.specs.ParentFiles.{of_git, of_jj}
-use Rattle.linegrep_files.proofs.ignores.is_top_at.Goals as goal
+use Rattle.linegrep_files.proofs.ignores.parents.is_top_at.Goals as goal
 
 pub returns-then-branch : goal.returns-then-branch
 returns-then-branch g c = of_git (rw c.if-branch.true at c.in_ok-is_there.ensures)

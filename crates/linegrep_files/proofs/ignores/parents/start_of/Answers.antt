@@ -2,7 +2,7 @@ use Rattle.std.proofs.Common.{◌≡◌, ◌∙◌, ℕ, ◌+◌, Bool, true, fa
 use Rattle.std.specs.Prelude.{if◌then◌else◌}
 use Rattle.linegrep_files.specs.ParentFiles.{is_within, of_none, start_in}
 use Rattle.linegrep_files.proofs.ParentLemmas.{place-of}
-use Rattle.linegrep_files.proofs.ignores.start_of.Goals as goal
+use Rattle.linegrep_files.proofs.ignores.parents.start_of.Goals as goal
 
 -- without another folder the first name is what counts
 start-alone : (folder : List ℕ) → 1 ≡ start_in [] folder

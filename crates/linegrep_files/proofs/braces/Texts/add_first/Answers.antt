@@ -1,0 +1,38 @@
+use Rattle.std.proofs.Common.{◌∙◌, ◌∷◌, [], ap, sym}
+use Rattle.grep_ignore.proofs.ClassLemmas.{begins-is}
+use Rattle.linegrep_files.specs.Braces.{bytes_of}
+use Rattle.linegrep_files.proofs.BraceLemmas.{choice-begins, choices-with, part-read, read-choice, read-close, read-open}
+use Rattle.linegrep_files.proofs.braces.Texts.add_first.Goals as goal
+
+pub returns-in-Ok-clause-read : goal.returns-in-Ok-clause-read
+returns-in-Ok-clause-read c =
+    let (brace, is, before, choices, empty) = c.in-Ok.ensures in (
+      123 ∷ [],
+      begins-is 123 c.args.glob.now (sym c.begins_with.ensures ∙ c.if-begins_with.true)
+          ∙ ap (λ l. 123 ∷ l) (sym c.tail.ensures),
+      λ done. read-open _ _ _ _ brace done is (ap (λ t. bytes_of t.items) before) (ap bytes_of choices) empty,
+    )
+
+pub returns-in-Ok-close-clause-read : goal.returns-in-Ok-close-clause-read
+returns-in-Ok-close-clause-read c =
+    let (brace, is, texts) = c.in-Ok-close.ensures in (
+      125 ∷ [],
+      begins-is 125 c.args.glob.now (sym c.begins_with-2.ensures ∙ c.if-begins_with-2.true)
+          ∙ ap (λ l. 125 ∷ l) (sym c.tail-in-Ok-close.ensures),
+      λ done. read-close _ _ brace _ _ done is texts,
+    )
+
+pub returns-in-Ok-begin_choice-clause-read : goal.returns-in-Ok-begin_choice-clause-read
+returns-in-Ok-begin_choice-clause-read c =
+    let (braces, old, brace, are, is, before, choices, empty) = c.in-Ok-begin_choice.ensures in (
+      44 ∷ [],
+      begins-is 44 c.args.glob.now
+          (choice-begins _ c.args.glob.now (sym c.ends_choice.ensures ∙ c.if-ends_choice.true))
+          ∙ ap (λ l. 44 ∷ l) (sym c.tail-in-Ok-begin_choice.ensures),
+      λ done. read-choice braces _ _ old brace _ _ done are is (ap (λ t. bytes_of t.items) before)
+          (choices-with _ _ _ choices) empty,
+    )
+
+pub returns-clause-read : goal.returns-clause-read
+returns-clause-read c = part-read c.add_part.result _ _ _ _ c.args.glob.now
+    (ap (λ braces. braces.items) c.add_part.ensures.braces) c.add_part.ensures.part

@@ -1,0 +1,162 @@
+//! The ignore files of the folders that a searched folder is in.
+ghost use Rattle.std.specs.Prelude.{◌≡◌, ◌++◌, ◌∷◌, [], Bool, IfOk, OnOk, if◌then◌else◌, length};
+ghost use Rattle.std.specs.Prelude.{MatchBool};
+ghost use Rattle.linegrep_files.specs.IgnoreFiles.{HasSource, ReadsTheSame, depth_in};
+ghost use Rattle.linegrep_files.specs.ParentFiles.{AreParentsRead, IsParentRead, IsStart, IsThere};
+ghost use Rattle.linegrep_files.specs.ParentFiles.{IsTopAt, has_git, is_within, parents_of, rooted};
+ghost use Rattle.linegrep_files.specs.ParentFiles.{start_in};
+
+use super::{Ignores, Marks, without_slashes};
+use crate::class::{begins_with, is_empty};
+use crate::folders::Folders;
+use crate::paths::join;
+use std::alloc::{AllocError, Global};
+
+// What a folder may have whose names aren't known.
+const ANY_MARKS: Marks = Marks {
+    has_rgignore: true,
+    has_ignore: true,
+    has_gitignore: true,
+    has_git: true,
+    has_jj: true,
+};
+
+impl Ignores<'_> {
+    // Takes up the folder at a path from the root of the system on, without a slash at its end.
+    pub(super) fn begin_at<S: Folders>(&mut self, system: &S, path: &str) -> Result<(), AllocError>
+        requires { self.old.repositories.items ≡ [] }
+        ensures same { ReadsTheSame self.old self.new }
+        ensures root { OnOk result (self.new.root ≡ length path.now) }
+        ensures start { OnOk result (IsStart (S.facts system.now) path.now self.new.start) }
+        ensures path { OnOk result (self.new.path.items ≡ path.now ++ 47 ∷ []) }
+        ensures parents { OnOk result (AreParentsRead (S.facts system.now) self.old.sources
+            self.old.layers (parents_of path.now) self.new.layers self.new.repositories.items) }
+    {
+        self.root = path.len();
+        self.start = start_of(self.rt.alloc(), system, path.as_bytes());
+        self.add_parents(system, path)?;
+        self.set_path(path)
+    }
+
+    // Adds what the folders say that the one at a path is in.
+    fn add_parents<S: Folders>(&mut self, system: &S, path: &str) -> Result<(), AllocError>
+        requires { self.old.repositories.items ≡ [] }
+        ensures place { HasSource self.old self.new }
+        ensures parents { OnOk result (AreParentsRead (S.facts system.now) self.old.sources
+            self.old.layers (parents_of path.now) self.new.layers self.new.repositories.items) }
+    {
+        for at in 0..path.len() {
+            if path.as_bytes()[at] != b'/' {
+                continue;
+            }
+            self.add_parent(system, &path[..at])?;
+        }
+        Ok(())
+    }
+
+    // Adds what a folder says that the searched one is in, the path of which is before a slash. It is
+    // in a repository, whether the files of such folders are read or not.
+    fn add_parent<S: Folders>(&mut self, system: &S, above: &str) -> Result<(), AllocError>
+        ensures place { HasSource self.old self.new }
+        ensures read { OnOk result (IsParentRead (S.facts system.now) self.old.sources above.now
+            self.old.layers self.old.repositories.items self.new.layers
+            self.new.repositories.items) }
+    {
+        self.set_path(above)?;
+        let folder = rooted(above);
+        self.add_top(system, folder)?;
+        if self.sources.parents {
+            self.add_files(system, folder, ANY_MARKS)?;
+        }
+        Ok(())
+    }
+
+    // Adds the repository of which a folder is the top, if git's files are read and it is one.
+    fn add_top<S: Folders>(&mut self, system: &S, folder: &str) -> Result<(), AllocError>
+        ensures place { HasSource self.old self.new }
+        ensures layers { self.new.layers ≡ self.old.layers }
+        ensures path { self.new.path ≡ self.old.path }
+        ensures top { OnOk result (MatchBool (has_git self.old.sources) ((is_top : Bool)
+            × IsTopAt (S.facts system.now) folder.now is_top
+            × (self.new.repositories.items ≡ (if is_top then self.old.repositories.items
+            ++ depth_in self.old.path.items ∷ [] else self.old.repositories.items)))
+            (self.new.repositories.items ≡ self.old.repositories.items)) }
+    {
+        if !self.sources.has_git() {
+            return Ok(());
+        }
+        if is_top_at(self.rt.alloc(), system, folder)? {
+            let depth = self.depth();
+            self.repositories.push(depth)?;
+        }
+        Ok(())
+    }
+}
+
+// The path of a folder for the system, by what is before the slash at its end.
+fn rooted(above: &str) -> &str
+    ensures { result.now ≡ rooted above.now }
+{
+    if is_empty(above.as_bytes()) {
+        "/"
+    } else {
+        above
+    }
+}
+
+// Whether a folder is the top of a repository.
+fn is_top_at<S: Folders>(alloc: Global, system: &S, folder: &str) -> Result<bool, AllocError>
+    ensures { IfOk result (IsTopAt (S.facts system.now) folder.now) }
+{
+    if is_there(alloc, system, folder, ".git")? {
+        return Ok(true);
+    }
+    let is_top = is_there(alloc, system, folder, ".jj")?;
+    Ok(is_top)
+}
+
+// Whether a folder has something with a name.
+fn is_there<S: Folders>(
+    alloc: Global,
+    system: &S,
+    folder: &str,
+    name: &str,
+) -> Result<bool, AllocError>
+    ensures { IfOk result (IsThere (S.facts system.now) folder.now name.now) }
+{
+    let path = join(alloc, folder, name)?;
+    Ok(system.look(path.as_str(), true).is_ok())
+}
+
+// How many bytes of the path of a folder are before what is in the current one, or if it isn't in
+// that before the first name.
+fn start_of<S: Folders>(alloc: Global, system: &S, folder: &[u8]) -> usize
+    ensures { IsStart (S.facts system.now) folder.now result }
+{
+    match system.resolve(alloc, ".") {
+        Ok(here) => start_in(without_slashes(here.as_str()).as_bytes(), folder),
+        Err(_) => 1,
+    }
+}
+
+// How many bytes of the path of a folder are before what is in another, or if it isn't in that before
+// the first name.
+fn start_in(other: &[u8], folder: &[u8]) -> usize
+    ensures { result ≡ start_in other.now folder.now }
+{
+    if is_within(other, folder) {
+        other.len() + 1
+    } else {
+        1
+    }
+}
+
+// Whether a folder is another, or in it.
+fn is_within(other: &[u8], folder: &[u8]) -> bool
+    ensures { result ≡ is_within other.now folder.now }
+{
+    match folder.strip_prefix(other) {
+        Some(rest) => is_empty(rest) || begins_with(rest, b'/'),
+        None => false,
+    }
+}
