@@ -97,20 +97,21 @@ names-take text (byte ∷ more) rest split some named =
     takes true is = refl
     takes false is = absurd (false≢true is)
 
-module _ {looks : Bool → List ℕ → Result Found Error → Type 0} {follows : Bool} {top : List ℕ} where
+module _ {looks : Bool → List ℕ → Result Found Error → Type 0} {follows : Bool} {top : List ℕ}
+    {root : ℕ} where
   -- what is found by choices that say the same is the same
   pub found-same : (old new : Choices) (folder name : List ℕ) (entry : Option Entry)
-      → SaysTheSame old new → IsFound looks follows top new.limits new folder name entry
-      → IsFound looks follows top old.limits old folder name entry
+      → SaysTheSame old new → IsFound looks follows top root new.limits new folder name entry
+      → IsFound looks follows top root old.limits old folder name entry
   found-same old new folder name _ same (of_nothing valid at) =
-      of_nothing valid (subst (λ l. IsAt looks follows top l (joined folder name) None) same.limits at)
+      of_nothing valid (subst (λ l. IsAt looks follows top root l (joined folder name) None) same.limits at)
   found-same old new folder name _ same (of_chosen entry valid at chosen) =
       of_chosen entry valid
-      (subst (λ l. IsAt looks follows top l (joined folder name) (Some entry)) same.limits at)
+      (subst (λ l. IsAt looks follows top root l (joined folder name) (Some entry)) same.limits at)
       (chosen-same old new _ name _ true same chosen)
   found-same old new folder name _ same (of_left_out entry valid at left) =
       of_left_out entry valid
-      (subst (λ l. IsAt looks follows top l (joined folder name) (Some entry)) same.limits at)
+      (subst (λ l. IsAt looks follows top root l (joined folder name) (Some entry)) same.limits at)
       (chosen-same old new _ name _ false same left)
   found-same old new folder name _ same (of_escaped text error invalid chosen kind) =
       of_escaped text error invalid (unmatched-same old new name false true true same chosen) kind
@@ -121,8 +122,8 @@ module _ {looks : Bool → List ℕ → Result Found Error → Type 0} {follows 
   pub found-chosen : (choices : Choices) (folder name path : List ℕ) (limits : Limits) (entry : Entry)
       {asked : List ℕ} {is : Bool} → IsUtf8 name → path_of entry ≡ path → path ≡ joined folder name
       → limits ≡ choices.limits → asked ≡ path_of entry → is ≡ is_folder entry
-      → IsAt looks follows top limits path (Some entry) → IsChosen choices asked name is true
-      → IsFound looks follows top choices.limits choices folder name (Some entry)
+      → IsAt looks follows top root limits path (Some entry) → IsChosen choices asked name is true
+      → IsFound looks follows top root choices.limits choices folder name (Some entry)
   found-chosen choices folder name path limits entry valid of is_path of_choices is_asked is at chosen =
       of_chosen entry valid (rw (of_choices, is_path) at at)
       (rw (is, is_asked, of, is_path) at chosen)
@@ -130,52 +131,53 @@ module _ {looks : Bool → List ℕ → Result Found Error → Type 0} {follows 
   pub found-left : (choices : Choices) (folder name path : List ℕ) (limits : Limits) (entry : Entry)
       {asked : List ℕ} {is : Bool} → IsUtf8 name → path_of entry ≡ path → path ≡ joined folder name
       → limits ≡ choices.limits → asked ≡ path_of entry → is ≡ is_folder entry
-      → IsAt looks follows top limits path (Some entry) → IsChosen choices asked name is false
-      → IsFound looks follows top choices.limits choices folder name None
+      → IsAt looks follows top root limits path (Some entry) → IsChosen choices asked name is false
+      → IsFound looks follows top root choices.limits choices folder name None
   found-left choices folder name path limits entry valid of is_path of_choices is_asked is at left =
       of_left_out entry valid (rw (of_choices, is_path) at at) (rw (is, is_asked, of, is_path) at left)
 
   pub found-nothing : (choices : Choices) (folder name path : List ℕ) (limits : Limits)
       → IsUtf8 name → path ≡ joined folder name → limits ≡ choices.limits
-      → IsAt looks follows top limits path None
-      → IsFound looks follows top choices.limits choices folder name None
+      → IsAt looks follows top root limits path None
+      → IsFound looks follows top root choices.limits choices folder name None
   found-nothing choices folder name path limits valid is_path of_choices at =
       of_nothing valid (rw (of_choices, is_path) at at)
 
-module _ (looks : Bool → List ℕ → Result Found Error → Type 0) (follows : Bool) (top : List ℕ) where
+module _ (looks : Bool → List ℕ → Result Found Error → Type 0) (follows : Bool) (top : List ℕ)
+    (root : ℕ) where
   -- what is found of names from some on is found of all, after what was found before
   abbrev pub GoesOn : Choices → List ℕ → List ℕ → List ℕ → List Entry → Type 0
   GoesOn choices folder listing rest found = (later : List Entry)
-      → AreFound looks follows top choices.limits choices folder (names_of rest) later
-      → AreFound looks follows top choices.limits choices folder (names_of listing) (found ++ later)
+      → AreFound looks follows top root choices.limits choices folder (names_of rest) later
+      → AreFound looks follows top root choices.limits choices folder (names_of listing) (found ++ later)
 
   pub goes-with : (choices : Choices) (folder listing text part rest : List ℕ) (found : List Entry)
       (entry : Entry)
       → parts_of 0 text ≡ (if is_empty part then parts_of 0 rest else part ∷ parts_of 0 rest)
       → is_empty part ≡ false → is_name part ≡ true
-      → IsFound looks follows top choices.limits choices folder part (Some entry)
+      → IsFound looks follows top root choices.limits choices folder part (Some entry)
       → GoesOn choices folder listing text found
       → GoesOn choices folder listing rest (found ++ entry ∷ [])
   goes-with choices folder listing text part rest found entry split some named is on later are =
-      subst (AreFound looks follows top choices.limits choices folder (names_of listing))
+      subst (AreFound looks follows top root choices.limits choices folder (names_of listing))
       (sym (append_assoc found (entry ∷ []) later))
       (on (entry ∷ later)
-      (subst (λ names. AreFound looks follows top choices.limits choices folder names (entry ∷ later))
+      (subst (λ names. AreFound looks follows top root choices.limits choices folder names (entry ∷ later))
       (sym (names-take text part rest split some named)) (found_name part (names_of rest) entry later is are)))
 
   pub goes-without : (choices : Choices) (folder listing text part rest : List ℕ) (found : List Entry)
       → parts_of 0 text ≡ (if is_empty part then parts_of 0 rest else part ∷ parts_of 0 rest)
       → is_empty part ≡ false → is_name part ≡ true
-      → IsFound looks follows top choices.limits choices folder part None
+      → IsFound looks follows top root choices.limits choices folder part None
       → GoesOn choices folder listing text found → GoesOn choices folder listing rest found
   goes-without choices folder listing text part rest found split some named is on later are = on later
-      (subst (λ names. AreFound looks follows top choices.limits choices folder names later)
+      (subst (λ names. AreFound looks follows top root choices.limits choices folder names later)
       (sym (names-take text part rest split some named)) (other_name part (names_of rest) later is are))
 
   pub goes-end : (choices : Choices) (folder listing rest : List ℕ) (found : List Entry)
       → is_empty rest ≡ true → GoesOn choices folder listing rest found
-      → AreFound looks follows top choices.limits choices folder (names_of listing) found
+      → AreFound looks follows top root choices.limits choices folder (names_of listing) found
   goes-end choices folder listing [] found none on =
-      subst (AreFound looks follows top choices.limits choices folder (names_of listing))
+      subst (AreFound looks follows top root choices.limits choices folder (names_of listing))
       (append-nil found) (on [] no_name)
   goes-end choices folder listing (byte ∷ rest) found none on = absurd (false≢true none)

@@ -2,7 +2,7 @@
 use Rattle.std.specs.Prelude.{◌≡◌, ◌≢◌, ℕ, Bool, true, false, not, ◌||◌, ◌==◌, if◌then◌else◌}
 use Rattle.std.specs.Prelude.{List, [], ◌∷◌, None, Option, Some, Result, Ok, Err, String, codes}
 use Rattle.std.specs.Prelude.{string_bytes}
-use Rattle.std.specs.Prelude.{drop, filter, length}
+use Rattle.std.specs.Prelude.{◌<◌, drop, filter, get_or, length, take}
 use Rattle.std.specs.Global.{Global}
 use Rattle.std.specs.IoError.{error_kind}
 use Rattle.std.specs.Str.{IsUtf8, bytes_eq}
@@ -63,23 +63,41 @@ is_folder (Unread path error) = false
 
 -- By what looking at paths may return, with whether links are followed.
 module _ (looks : Bool → List ℕ → Result Found Error → Type 0) where
-  -- what has an id is at a path
-  abbrev pub IsElsewhere : FileId → Type 0
-  IsElsewhere id = (path : List ℕ) × (there : Found) × looks true path (Ok there)
-      × (is_same_file there.id id ≡ true)
+  -- whether what is at a path has an id
+  pub data HasId (id : FileId) (path : List ℕ) : Bool → Type 0 where
+    of_found : (there : Found) → looks true path (Ok there)
+        → HasId id path (is_same_file there.id id)
+    of_unseen : (error : Error) → looks true path (Err error) → HasId id path false
 
-  -- a link that is followed leads to a folder of an id, which is at another path too
-  pub record LeadsBack (follows : Bool) (path : List ℕ) (id : FileId) : Type 0 where
-    pub follows_links : follows ≡ true
-    pub link : Found
-    pub is_seen : looks false path (Ok link)
-    pub is_link : link.kind ≡ IsLink
-    pub elsewhere : IsElsewhere id
+  -- whether one of the folders that a path goes through has an id: the walk's own, which has a name
+  -- and a path of so many bytes, or one below it, after the path of which comes a slash
+  pub data GoesThrough (top : List ℕ) (root : ℕ) (id : FileId) (path : List ℕ) : Bool → Type 0
+    where
+      of_top : HasId id top true → GoesThrough top root id path true
+      of_below : (at : ℕ) → root < at → at < length path → get_or path at 0 ≡ 47
+          → HasId id (take at path) true → GoesThrough top root id path true
+      of_none : HasId id top false
+          → ((at : ℕ) → root < at → at < length path → get_or path at 0 ≡ 47
+          → HasId id (take at path) false)
+          → GoesThrough top root id path false
 
--- By what looking at paths may return, with whether links are followed; `top` is the path of the
--- walk's own folder.
+  -- whether there is a link at a path, which was followed to a folder of an id that it is in
+  pub data LeadsBack (follows : Bool) (top : List ℕ) (root : ℕ) (id : FileId) (path : List ℕ)
+      : Bool → Type 0 where
+    of_unfollowed : follows ≡ false → LeadsBack follows top root id path false
+    of_unlooked : (error : Error) → looks false path (Err error)
+        → LeadsBack follows top root id path false
+    of_unlinked : (there : Found) → looks false path (Ok there) → there.kind ≢ IsLink
+        → LeadsBack follows top root id path false
+    of_link : {leads_back : Bool} (link : Found) → follows ≡ true → looks false path (Ok link)
+        → link.kind ≡ IsLink → GoesThrough top root id path leads_back
+        → LeadsBack follows top root id path leads_back
+
+-- By what looking at paths may return, with whether links are followed; `top` is the name of the
+-- walk's own folder for the system, the path of which has so many bytes without the slashes at its
+-- end.
 module _ (looks : Bool → List ℕ → Result Found Error → Type 0) (follows : Bool) (top : List ℕ)
-    (limits : Limits) where
+    (root : ℕ) (limits : Limits) where
   -- a folder may be entered, by the file system that it is on: that of the walk's own, unless that
   -- isn't asked or can't be told
   pub data MayEnter (id : FileId) : Bool → Type 0 where
@@ -92,9 +110,10 @@ module _ (looks : Bool → List ℕ → Result Found Error → Type 0) (follows 
   -- a folder of an id at a path, or that it can't be read, as a link that leads back
   abbrev pub IsFolderAt : List ℕ → FileId → Entry → Type 0
   IsFolderAt path id (File text) = ⊥
-  IsFolderAt path id (Folder text) = string_bytes text ≡ path
-  IsFolderAt path id (Unread text error) = LeadsBack looks follows path id × (string_bytes text ≡ path)
-      × (error_kind error ≡ FilesystemLoop)
+  IsFolderAt path id (Folder text) = LeadsBack looks follows top root id path false
+      × (string_bytes text ≡ path)
+  IsFolderAt path id (Unread text error) = LeadsBack looks follows top root id path true
+      × (string_bytes text ≡ path) × (error_kind error ≡ FilesystemLoop)
 
   -- what is found at a path by what looking at it returned: a regular file that isn't too large, a
   -- folder that may be entered, or that it can't be read. A link that was followed can't be if it

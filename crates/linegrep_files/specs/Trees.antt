@@ -35,7 +35,7 @@ module _ (folders : FolderFacts) (route : Route) (top : List ℕ) (root : ℕ) w
         → allows_depth choices.limits (depth_of root folder) ≡ true
         → folders.lists (listed_path folder) (Ok names)
         → IsWithin folders.reads folder (below_of root folder) names.items choices within
-        → AreFound folders.looks route.follows_links top within.limits within folder
+        → AreFound folders.looks route.follows_links top root within.limits within folder
         (names_of names.items) found
         → IsPermutation (filter (λ entry. not (waits route.order entry)) found) next
         → IsSortedBy (λ one other. comes_before route.order other one) next

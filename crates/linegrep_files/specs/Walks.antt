@@ -80,7 +80,7 @@ pub record AreNamesAdded {S : Type 0} (facts : S → FolderFacts) (old : Walk S)
   pub are_within : IsWithin (facts old.finder.system.now).reads folder
       (below_of old.finder.root folder) names choices within
   pub are_found : AreFound (facts old.finder.system.now).looks old.finder.follows_links
-      (string_bytes old.finder.top) within.limits within folder (names_of names) found
+      (string_bytes old.finder.top) old.finder.root within.limits within folder (names_of names) found
   pub are_added : AreAdded old found new
   pub same : SaysTheSame within inside
 

@@ -4,8 +4,8 @@ ghost use Rattle.std.specs.Prelude.{Ok, drop, string_bytes, true};
 ghost use Rattle.std.specs.Str.{IsUtf8};
 ghost use Rattle.linegrep_files.specs.Choices.{IsChosen, SaysTheSame};
 ghost use Rattle.grep_ignore.specs.Classes.{is_empty};
-ghost use Rattle.linegrep_files.specs.Folders.{AreFound, IsAt, IsElsewhere, IsFolderAt, IsFound};
-ghost use Rattle.linegrep_files.specs.Folders.{LeadsBack};
+ghost use Rattle.linegrep_files.specs.Folders.{AreFound, GoesThrough, HasId, IsAt, IsFolderAt};
+ghost use Rattle.linegrep_files.specs.Folders.{IsFound, LeadsBack};
 ghost use Rattle.linegrep_files.specs.Folders.{MayEnter, below_of, depth_of, is_name, listed_path};
 ghost use Rattle.linegrep_files.specs.Folders.{name_of, names_of};
 ghost use Rattle.linegrep_files.specs.Folders.{path_of};
@@ -111,8 +111,8 @@ impl<'r, S: Folders> Finder<'r, S> {
         names: &[u8],
     ) -> Result<Vec<Entry>, AllocError>
         ensures found { IfOk result (λ found. AreFound (S.facts self.now.system.now).looks
-            self.now.follows_links (string_bytes self.now.top) choices.old.limits choices.old
-            folder.now (names_of names.now) found.items) }
+            self.now.follows_links (string_bytes self.now.top) self.now.root choices.old.limits
+            choices.old folder.now (names_of names.now) found.items) }
         ensures same { SaysTheSame choices.old choices.new }
     {
         let mut found = Vec::new(self.alloc);
@@ -139,7 +139,8 @@ impl<'r, S: Folders> Finder<'r, S> {
         name: &[u8],
     ) -> Result<Option<Entry>, AllocError>
         ensures found { IfOk result (IsFound (S.facts self.now.system.now).looks self.now.follows_links
-            (string_bytes self.now.top) choices.old.limits choices.old folder.now name.now) }
+            (string_bytes self.now.top) self.now.root choices.old.limits choices.old folder.now
+            name.now) }
         ensures same { SaysTheSame choices.old choices.new }
     {
         match str::from_utf8(name) {
@@ -157,7 +158,8 @@ impl<'r, S: Folders> Finder<'r, S> {
     ) -> Result<Option<Entry>, AllocError>
         requires { IsUtf8 name.now }
         ensures found { IfOk result (IsFound (S.facts self.now.system.now).looks self.now.follows_links
-            (string_bytes self.now.top) choices.old.limits choices.old folder.now name.now) }
+            (string_bytes self.now.top) self.now.root choices.old.limits choices.old folder.now
+            name.now) }
         ensures same { SaysTheSame choices.old choices.new }
     {
         let path = join(self.alloc, folder, name)?;
@@ -181,7 +183,8 @@ impl<'r, S: Folders> Finder<'r, S> {
     ) -> Result<Option<Entry>, AllocError>
         requires { IsUtf8 name.now → ⊥ }
         ensures found { IfOk result (IsFound (S.facts self.now.system.now).looks self.now.follows_links
-            (string_bytes self.now.top) choices.old.limits choices.old folder.now name.now) }
+            (string_bytes self.now.top) self.now.root choices.old.limits choices.old folder.now
+            name.now) }
         ensures same { SaysTheSame choices.old choices.new }
     {
         if choices.is_name_chosen(name)? {
@@ -196,7 +199,7 @@ impl<'r, S: Folders> Finder<'r, S> {
     // What is at a path, unless it is neither a file nor a folder, or not within limits.
     fn entry(&self, path: String, limits: Limits) -> Option<Entry>
         ensures at { IsAt (S.facts self.now.system.now).looks self.now.follows_links
-            (string_bytes self.now.top) limits (string_bytes path) result }
+            (string_bytes self.now.top) self.now.root limits (string_bytes path) result }
         ensures path { IfSome result (λ entry. path_of entry ≡ string_bytes path) }
     {
         match self.system.look(path.as_str(), self.follows_links) {
@@ -210,7 +213,7 @@ impl<'r, S: Folders> Finder<'r, S> {
         requires { (S.facts self.now.system.now).looks self.now.follows_links (string_bytes path)
             (Ok found) }
         ensures at { IsAt (S.facts self.now.system.now).looks self.now.follows_links
-            (string_bytes self.now.top) limits (string_bytes path) result }
+            (string_bytes self.now.top) self.now.root limits (string_bytes path) result }
         ensures path { IfSome result (λ entry. path_of entry ≡ string_bytes path) }
     {
         match found.kind {
@@ -234,7 +237,7 @@ impl<'r, S: Folders> Finder<'r, S> {
     // Whether a folder may be entered, by the file system that it is on.
     fn may_enter(&self, id: FileId, limits: Limits) -> bool
         ensures { MayEnter (S.facts self.now.system.now).looks self.now.follows_links
-            (string_bytes self.now.top) limits id result }
+            (string_bytes self.now.top) self.now.root limits id result }
     {
         if !limits.is_one_system() {
             return true;
@@ -248,7 +251,7 @@ impl<'r, S: Folders> Finder<'r, S> {
     // The folder at a path, which can't be read if it is a link to a folder that it is in.
     fn folder(&self, path: String, id: FileId, limits: Limits) -> Entry
         ensures { IsFolderAt (S.facts self.now.system.now).looks self.now.follows_links
-            (string_bytes self.now.top) limits (string_bytes path) id result }
+            (string_bytes self.now.top) self.now.root limits (string_bytes path) id result }
     {
         if self.leads_back(path.as_str(), id) {
             let error = io::Error::new(io::ErrorKind::FilesystemLoop, IS_LOOP);
@@ -259,15 +262,15 @@ impl<'r, S: Folders> Finder<'r, S> {
 
     // Whether there is a link at a path that was followed to a folder of an id that it is in.
     fn leads_back(&self, path: &str, id: FileId) -> bool
-        ensures { result ≡ true → LeadsBack (S.facts self.now.system.now).looks self.now.follows_links
-            path.now id }
+        ensures { LeadsBack (S.facts self.now.system.now).looks self.now.follows_links
+            (string_bytes self.now.top) self.now.root id path.now result }
     {
         if !self.follows_links {
             return false;
         }
         match self.system.look(path, false) {
             Ok(found) => match found.kind {
-                Kind::Link => self.is_loop(path, id),
+                Kind::Link => self.goes_through(path, id),
                 Kind::File => false,
                 Kind::Folder => false,
                 Kind::Other => false,
@@ -276,24 +279,26 @@ impl<'r, S: Folders> Finder<'r, S> {
         }
     }
 
-    // Whether one of the folders that a path goes through is that of an id, from the walk's own on.
-    fn is_loop(&self, path: &str, id: FileId) -> bool
-        ensures { result ≡ true → IsElsewhere (S.facts self.now.system.now).looks id }
+    // Whether one of the folders that a path goes through has an id, from the walk's own on.
+    fn goes_through(&self, path: &str, id: FileId) -> bool
+        ensures { GoesThrough (S.facts self.now.system.now).looks (string_bytes self.now.top)
+            self.now.root id path.now result }
     {
-        if self.root == 0 && self.is_at(".", id) {
+        if self.has_id(self.top.as_str(), id) {
             return true;
         }
-        for (at, letter) in path.char_indices() {
-            if letter == '/' && at >= self.root && self.is_at(path.get(..at).unwrap_or(""), id) {
+        let bytes = path.as_bytes();
+        for at in 0..bytes.len() {
+            if at > self.root && bytes[at] == b'/' && self.has_id(&path[..at], id) {
                 return true;
             }
         }
         false
     }
 
-    // Whether the folder at a path is that of an id.
-    fn is_at(&self, path: &str, id: FileId) -> bool
-        ensures { result ≡ true → IsElsewhere (S.facts self.now.system.now).looks id }
+    // Whether what is at a path has an id.
+    fn has_id(&self, path: &str, id: FileId) -> bool
+        ensures { HasId (S.facts self.now.system.now).looks id path.now result }
     {
         match self.system.look(path, true) {
             Ok(found) => found.id.is(id),

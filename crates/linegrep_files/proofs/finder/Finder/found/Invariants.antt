@@ -8,7 +8,7 @@ abbrev pub invariant-loop-rest : goal.invariant-loop-rest
 invariant-loop-rest g l = record {
   same : SaysTheSame l.fn.choices l.choices;
   on : GoesOn (g.S.Folders.facts l.self.system.now).looks l.self.follows_links (string_bytes l.self.top)
-      l.fn.choices l.folder l.names l.rest l.found.items;
+      l.self.root l.fn.choices l.folder l.names l.rest l.found.items;
 }
 
 abbrev pub decreases-loop-rest : goal.decreases-loop-rest
