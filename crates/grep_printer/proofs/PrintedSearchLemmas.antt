@@ -145,7 +145,14 @@ module _ {F M W E : Type 0} (rules : Rules F) (output : E → Option (List ℕ))
         (calls-print rules output facts first_at write_step state.settings old calls new made).2.same
 
     is-same : new ≡ old → IsSameSink old new
-    is-same same = rw same (record { printer = refl; writer = refl; format = refl; matcher = refl; path = refl })
+    is-same same = rw same (record {
+      printer = refl;
+      writer = refl;
+      format = refl;
+      room = refl;
+      matcher = refl;
+      path = refl;
+    })
 
     order-same : (IsOfReading : Error → Type 0) (result : Result (Unit {0}) (SearchError Global))
         → IsInOrder StepOf (search_errors output) (facts old.matcher) state.settings IsOfReading old result new

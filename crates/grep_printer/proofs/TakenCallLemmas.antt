@@ -114,7 +114,7 @@ module _ {F M W E : Type 0} (rules : Rules F) (output : E → Option (List ℕ))
   lines-kept old new number index offset line (next ∷ later) text format texts kept = inl (
     mid,
     one-kept old mid number index offset line texts.2 texts.3 (record {
-      same = record { printer = refl; writer = refl; format = refl; matcher = refl; path = refl };
+      same = record { printer = refl; writer = refl; format = refl; room = refl; matcher = refl; path = refl };
       writer = refl;
       pending = append-nil (pending_bytes old.printer.now.pending ++ first);
       format = refl;
@@ -127,6 +127,7 @@ module _ {F M W E : Type 0} (rules : Rules F) (output : E → Option (List ℕ))
             printer = kept.same.printer;
             writer = kept.same.writer;
             format = kept.same.format;
+            room = kept.same.room;
             matcher = kept.same.matcher;
             path = kept.same.path;
           };

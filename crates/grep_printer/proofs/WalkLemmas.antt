@@ -26,6 +26,7 @@ same-more old mid new first later = record {
   printer = later.printer ∙ first.printer;
   writer = later.writer ∙ first.writer;
   format = later.format ∙ first.format;
+  room = later.room ∙ first.room;
   matcher = later.matcher ∙ first.matcher;
   path = later.path ∙ first.path;
 }
@@ -129,7 +130,7 @@ module _ {F M W E : Type 0} (rules : Rules F) (output : E → Option (List ℕ))
   -- nothing is printed yet
   printed-none : HasPrinted (record { format = start.format; text = [] }) start
   printed-none = record {
-    same = record { printer = refl; writer = refl; format = refl; matcher = refl; path = refl };
+    same = record { printer = refl; writer = refl; format = refl; room = refl; matcher = refl; path = refl };
     put = Puts-none write_step start.writer.now (pending_bytes start.printer.now.pending);
     format = refl;
     has_written = text-none start.printer.now.has_written;

@@ -18,6 +18,7 @@ module _ {F W : Type 0} (write_step : W → OutputCall → W → Type 0) where
     pub put : PutsAll write_step writer (pending_bytes old.pending) text writer'
         (pending_bytes new.pending)
     pub format : new.format ≡ old.format
+    pub room : new.room ≡ old.room
     pub has_written : new.has_written ≡ (old.has_written || is_text text)
     pub has_failed : new.has_failed ≡ old.has_failed
 
@@ -42,6 +43,7 @@ module _ {F W : Type 0} (write_step : W → OutputCall → W → Type 0) where
   pub record FailsToPutText (writer : W) (old : Printer F) (text : List ℕ) (e : SearchError Global)
       (writer' : W) (new : Printer F) : Type 0 where
     pub format : new.format ≡ old.format
+    pub room : new.room ≡ old.room
     pub has_written : new.has_written ≡ old.has_written
     pub cause : FailsAtText writer old text e writer' new
         ⊎ LacksMemoryForText writer old e writer' new

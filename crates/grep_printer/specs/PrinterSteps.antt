@@ -17,11 +17,12 @@ use Rattle.grep_printer.specs.Formats.{printed_by}
 use Rattle.grep_printer.specs.declared.printer.PrinterSink.{PrinterSink}
 
 -- the matcher and the path of a sink stay, and so do the printer and the writer that it refers to,
--- and what the printer gives its sinks to begin with
+-- what the printer gives its sinks to begin with, and how many bytes of text it keeps
 pub record IsSameSink {F M W : Type 0} (old new : PrinterSink F M W) : Type 0 where
   pub printer : new.printer.ghost_name ≡ old.printer.ghost_name
   pub writer : new.writer.ghost_name ≡ old.writer.ghost_name
   pub format : new.printer.now.format ≡ old.printer.now.format
+  pub room : new.printer.now.room ≡ old.printer.now.room
   pub matcher : new.matcher ≡ old.matcher
   pub path : new.path ≡ old.path
 

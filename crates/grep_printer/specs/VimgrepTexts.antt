@@ -1,8 +1,10 @@
 -- The text that a printer in the form of Vim's quickfix list writes: of each part of a report that
 -- matches the line in which it starts.
 use Rattle.std.specs.Prelude.{ℕ, ◌+◌, ◌-◌, ◌^◌, min, true, false, if◌then◌else◌, List, [], ◌∷◌, ◌++◌}
-use Rattle.std.specs.Prelude.{Option, Some, None, slice_range}
+use Rattle.std.specs.Prelude.{Option, slice_range}
+use Rattle.std.specs.Bool.{then_some}
 use Rattle.std.specs.List.{flat_map}
+use Rattle.std.specs.Option.{option_map}
 use Rattle.grep_lines.specs.Blocks.{block_end, block_start, lines_before}
 use Rattle.grep_searcher.specs.Plans.{Call, matches, context}
 use Rattle.grep_printer.specs.Formats.{Rules, Scene}
@@ -23,8 +25,7 @@ vimgrep_config config = record config { heading = false; only_matching = false }
 -- the number of a line after so many others, by the number of the first; it stays at the greatest
 -- of 64 bits
 abbrev pub number_after : Option ℕ → ℕ → Option ℕ
-number_after None count = None
-number_after (Some number) count = Some (min (number + count) (2 ^ 64 - 1))
+number_after number count = option_map (λ first. min (first + count) (2 ^ 64 - 1)) number
 
 -- the layout of the lines, what they belong to, and a report
 module _ (layout : Layout) (kind : LineKind) (offset : ℕ) (bytes : List ℕ) where
@@ -35,8 +36,8 @@ module _ (layout : Layout) (kind : LineKind) (offset : ℕ) (bytes : List ℕ) w
       line_text layout kind
       (record {
         number = number;
-        column = if layout.config.column
-            then Some (part.0 - block_start (end_byte layout) bytes (part.0, part.0) + 1) else None;
+        column = then_some layout.config.column
+            (part.0 - block_start (end_byte layout) bytes (part.0, part.0) + 1);
         offset = offset + part.0;
         start = block_start (end_byte layout) bytes (part.0, part.0);
       })

@@ -127,6 +127,7 @@ impl<F> Printer<F> {
             writer.new }
         ensures emptied { pending_bytes self.new.pending ≡ [] }
         ensures format { self.new.format ≡ self.old.format }
+        ensures room { self.new.room ≡ self.old.room }
         ensures has_written { self.new.has_written ≡ self.old.has_written }
         ensures has_failed { self.new.has_failed
             ≡ (if is_ok result then self.old.has_failed else true) }
@@ -144,6 +145,7 @@ impl<F> Printer<F> {
             writer.new }
         ensures emptied { pending_bytes self.new.pending ≡ [] }
         ensures format { self.new.format ≡ self.old.format }
+        ensures room { self.new.room ≡ self.old.room }
         ensures has_written { self.new.has_written ≡ self.old.has_written }
         ensures has_failed { self.new.has_failed
             ≡ (if is_ok result then self.old.has_failed else true) }
@@ -161,6 +163,7 @@ impl<F> Printer<F> {
             writer.new }
         ensures emptied { pending_bytes self.new.pending ≡ [] }
         ensures format { self.new.format ≡ self.old.format }
+        ensures room { self.new.room ≡ self.old.room }
         ensures has_written { self.new.has_written ≡ self.old.has_written }
         ensures has_failed { self.new.has_failed ≡ self.old.has_failed }
     {
@@ -179,6 +182,7 @@ impl<F> Printer<F> {
     fn keeps_text(&mut self) -> bool
         ensures pending { self.new.pending ≡ self.old.pending }
         ensures format { self.new.format ≡ self.old.format }
+        ensures room { self.new.room ≡ self.old.room }
         ensures has_written { result ≡ true → self.new.has_written
             ≡ (self.old.has_written || is_text self.old.pending.text) }
         ensures has_failed { self.new.has_failed ≡ self.old.has_failed }
@@ -203,6 +207,7 @@ impl<F> Printer<F> {
             ++ bare_text terminator (event_call event.now)) result writer.new }
         ensures emptied { pending_bytes self.new.pending ≡ [] }
         ensures format { self.new.format ≡ self.old.format }
+        ensures room { self.new.room ≡ self.old.room }
         ensures has_written { self.new.has_written ≡ (self.old.has_written
             || (is_ok result && is_text (bare_text terminator (event_call event.now)))) }
         ensures has_failed { self.new.has_failed
@@ -235,6 +240,7 @@ impl<F> Printer<F> {
             ++ bare_text terminator (event_call event.now)) (Err error) writer.new) }
         ensures emptied { pending_bytes self.new.pending ≡ [] }
         ensures format { self.new.format ≡ self.old.format }
+        ensures room { self.new.room ≡ self.old.room }
         ensures has_written { self.new.has_written ≡ self.old.has_written }
         ensures has_failed { self.new.has_failed ≡ self.old.has_failed }
     {
@@ -248,6 +254,7 @@ impl<F> Printer<F> {
             result writer.new (pending_bytes self.new.pending) }
         ensures emptied { OnErr result (pending_bytes self.new.pending ≡ []) }
         ensures format { self.new.format ≡ self.old.format }
+        ensures room { self.new.room ≡ self.old.room }
         ensures has_written { self.new.has_written
             ≡ (self.old.has_written || (is_ok result && is_text self.old.pending.text)) }
         ensures has_failed { self.new.has_failed

@@ -1,13 +1,12 @@
 //! The printer of a line for each part that matches.
 ghost use Rattle.std.specs.Prelude.{◌≡◌, ◌+◌, ◌<◌, ◌≤◌, ◌^◌, [], false, length};
-ghost use Rattle.std.specs.Prelude.{None, Some, if◌then◌else◌};
 ghost use Rattle.grep_printer.specs.MatchedParts.{AreInOrder};
 ghost use Rattle.grep_output.specs.PendingTexts.{Adds, pending_bytes};
 ghost use Rattle.grep_printer.specs.Reports.{line_kind};
 ghost use Rattle.grep_printer.specs.VimgrepTexts.{number_after, part_line, part_lines};
 ghost use Rattle.grep_printer.specs.VimgrepTexts.{vimgrep_config};
 
-use crate::config::{Config, StandardBuilder};
+use crate::config::StandardBuilder;
 use crate::fields::{Layout, Place};
 use crate::format::{Event, Format};
 use crate::printer::{Printer, PrinterSink};
@@ -117,49 +116,34 @@ fn push_part_lines(
     let mut rest = parts;
     while let Some((part, later)) = rest.split_first() {
         passed += count(&report.bytes[position..part.start()], terminator);
-        let number = number_after(report.number, passed);
-        push_part_line(layout, text, report, number, part);
+        push_part_line(layout, text, report, passed, part);
         position = part.start();
         rest = later;
     }
 }
 
-// Pushes the line in which a part of a report starts, after its number.
+// Pushes the line in which a part of a report starts, before which there are so many.
 fn push_part_line(
     layout: &Layout<'_, '_>,
     text: &mut Pending,
     report: &Report<'_>,
-    number: Option<u64>,
+    passed: u64,
     part: &Match,
 )
     requires fits { report.now.offset + length report.now.bytes.now < 2 ^ 64 }
     requires within { part.now.1 ≤ length report.now.bytes.now }
     ensures { Adds text.old text.new (part_line layout.now (line_kind report.now.kind)
-        report.now.offset report.now.bytes.now number part.now) }
+        report.now.offset report.now.bytes.now (number_after report.now.number passed) part.now) }
 {
     let at = part.start();
     let line = line_of(report.bytes, layout.terminator.as_byte(), at);
     let start = line.start();
     let place = Place {
-        number,
-        column: shown_column(&layout.config, (at - start) as u64 + 1),
+        number: report.number.map(|first| first.saturating_add(passed)),
+        column: layout.config.column.then_some((at - start) as u64 + 1),
         offset: report.offset + at as u64,
         start,
     };
     let bytes = &report.bytes[start..line.end()];
     layout.push_line(text, report.kind.line_kind(), &place, &[*part], bytes)
-}
-
-// A column, if columns are written.
-fn shown_column(config: &Config<'_>, column: u64) -> Option<u64>
-    ensures { result ≡ (if config.now.column then Some column else None) }
-{
-    if config.column { Some(column) } else { None }
-}
-
-// The number of a line after so many others.
-fn number_after(number: Option<u64>, count: u64) -> Option<u64>
-    ensures { result ≡ number_after number count }
-{
-    number.map(|number| number.saturating_add(count))
 }

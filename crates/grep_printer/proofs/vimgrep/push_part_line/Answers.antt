@@ -1,4 +1,5 @@
-use Rattle.std.proofs.Common.{arith}
+use Rattle.std.proofs.Common.{◌≡◌, arith, rules}
+use Rattle.grep_printer.specs.VimgrepTexts.{number_after}
 use Rattle.grep_printer.proofs.vimgrep.push_part_line.Goals as goal
 
 pub push_line-requires-clause-ordered : goal.push_line-requires-clause-ordered
@@ -9,6 +10,7 @@ push_line-requires-clause-ordered c =
 
 pub returns : goal.returns
 returns c =
+    let number : c.map.result ≡ number_after c.args.report.now.number c.args.passed = search rules in
     simp (
       c.line_of-line.ensures.value,
       c.start-at.ensures.value,
@@ -16,6 +18,7 @@ returns c =
       c.end.ensures.value,
       c.line_kind.ensures,
       c.as_byte.ensures,
-      c.shown_column.ensures,
+      c.then_some.ensures,
+      number,
     )
     at c.push_line.ensures

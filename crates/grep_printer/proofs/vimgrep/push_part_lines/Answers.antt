@@ -24,7 +24,7 @@ loop-part-preserved c =
     rw c.start-position.ensures.value (pushed-more old loop.text c.push_part_line.new.text
     (λ text. IsListing layout report old.text all text loop.passed loop.position loop.rest.now)
     (λ text. IsListing layout report old.text all text next part.0 later) _ loop.invariant
-    (rw c.number_after-number.ensures at c.push_part_line.ensures)
+    c.push_part_line.ensures
     (listing-more layout report old.text all loop.invariant.bytes loop.passed loop.position loop.rest.now part later next
     loop.invariant.is c.in-Some.ensures.cases.0 (ap (λ n. loop.passed + n)
     (simp (c.as_byte-terminator.ensures, c.start.ensures.value) at c.count-passed.ensures))))

@@ -17,6 +17,7 @@ returns-then-keeps_text-clause-kept g c =
         printer = search rules;
         writer = search rules;
         format = search rules;
+        room = search rules;
         matcher = search rules;
         path = search rules;
       };
