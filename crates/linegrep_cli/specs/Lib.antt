@@ -11,6 +11,7 @@ pub mod OptionMeanings
 pub mod OptionUses
 pub mod PathSeparators
 pub mod PatternOptions
+pub mod PreparedRuns
 pub mod PrinterOptions
 pub mod PrinterSearches
 pub mod PrintingEngines

@@ -28,9 +28,10 @@ abbrev pub sorts_by_time : Options → Bool
 sorts_by_time options = names_time (if has options Sort then options.sort
     else if has options Sortr then options.sortr else None)
 
--- why a run is refused: a label of an encoding that isn't known, patterns that aren't well formed or too
--- large, all as one or each by itself, a template that isn't used so, a separator that isn't one byte, colors that aren't well
--- formed, an order that the system may not have, or what is said of files
+-- why a run is refused: a label of an encoding that isn't known, patterns that aren't well formed
+-- or too large, all as one or each by itself, a template that isn't used so, a separator that isn't
+-- one byte, colors that aren't well formed, an order that the system may not have, or what is said
+-- of files
 pub data IsCause (options : Options) (patterns : List (String Global)) : Type 0 where
   of_label : refuses_label options ≡ true → IsCause options patterns
   of_pattern : (error : PatternError) → error ≢ Memory

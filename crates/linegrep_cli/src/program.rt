@@ -54,8 +54,9 @@ pub fn run<S: System, R: Source + Drop, W: Output + Drop, E: Output>(
     errors: &mut E,
 ) -> Ended<R, W>
     ensures { IsProgramRun ⟦<AllocError as Display>⟧.output W.step S.File.remaining R.remaining
-        R.step (S.facts system.now) (S.finds system.now) (S.opens system.now) (S.identifies system.now) streams input
-        output errors.old result.status result.input result.output }
+        R.step (S.facts system.now) (S.finds system.now) (S.opens system.now)
+        (S.identifies system.now) streams input output errors.old result.status result.input
+        result.output }
 {
     let Ok(words) = words(rt.alloc(), arguments) else {
         return Ended::refused(errors, &Failure::out_of_memory(), input, output);
@@ -142,8 +143,9 @@ fn run_options<S: System, R: Source + Drop, W: Output + Drop, E: Output>(
     errors: &mut E,
 ) -> Ended<R, W>
     ensures { IsProgramRun ⟦<AllocError as Display>⟧.output W.step S.File.remaining R.remaining
-        R.step (S.facts system.now) (S.finds system.now) (S.opens system.now) (S.identifies system.now) options.now.streams input
-        output errors.old result.status result.input result.output }
+        R.step (S.facts system.now) (S.finds system.now) (S.opens system.now)
+        (S.identifies system.now) options.now.streams input output errors.old result.status
+        result.input result.output }
 {
     if options.has(OptionId::Help) {
         return write_answer(rt.alloc(), HELP, input, output, errors);

@@ -1,15 +1,14 @@
 //! The search of all that the arguments name.
-ghost use Rattle.std.specs.Prelude.{◌≡◌, ◌⊎◌, List, String, true, IfErr, IfOk};
+ghost use Rattle.std.specs.Prelude.{◌≡◌, ◌⊎◌, List, Option, String, true, IfErr, IfOk};
+ghost use Rattle.std.specs.Borrow.{Bor};
 ghost use Rattle.std.specs.Global.{Global};
+ghost use Rattle.std.specs.Option.{option_copied};
+ghost use Rattle.grep_replace.specs.declared.template.Template.{Template};
 ghost use Rattle.grep_regex.specs.Views.{IsNamed, regex_options, regex_patterns};
-ghost use Rattle.linegrep_cli.specs.ColorOptions.{AreColorTexts, AreColorsLent};
-ghost use Rattle.linegrep_cli.specs.PathSeparators.{path_separator_of};
-ghost use Rattle.linegrep_cli.specs.FileChoices.{AreChoicesOf};
 ghost use Rattle.linegrep_cli.specs.PatternOptions.{pattern_options, pattern_texts};
+ghost use Rattle.linegrep_cli.specs.PreparedRuns.{IsPrepared};
 ghost use Rattle.linegrep_cli.specs.Refusals.{IsCause, IsRefusedFor, IsSaid};
-ghost use Rattle.linegrep_cli.specs.SearcherOptions.{searcher_settings};
-ghost use Rattle.linegrep_cli.specs.SeparatorOptions.{AreLent, IsSeparators};
-ghost use Rattle.linegrep_cli.specs.TemplateOptions.{IsTemplate, IsTemplateLent};
+ghost use Rattle.linegrep_cli.specs.TemplateOptions.{IsTemplate};
 ghost use Rattle.linegrep_cli.specs.WholeRuns.{IsRunFor, IsRunWith, IsWholeRun};
 ghost use Rattle.linegrep_cli.specs.WholeRuns.{literal_facts, literal_first_at, literal_groups_at};
 ghost use Rattle.linegrep_files.specs.Failures.{has_cause, text_of};
@@ -63,11 +62,10 @@ impl<R, W> Ended<R, W> {
     }
 }
 
-// What a search is made with.
+// What a search is made with, besides the expression.
 #[derive(Drop)]
 struct Prepared<'r> {
     searcher: Searcher,
-    regex: Regex,
     choices: Choices<'r>,
     separators: Option<Separators>,
     colors: Option<ColorTexts>,
@@ -75,29 +73,23 @@ struct Prepared<'r> {
     path_separator: Option<u8>,
 }
 
-// What the options ask a search to be made with. An error is that of a setting, of a pattern that
-// can't be compiled, of a glob that isn't well formed, or of being out of memory.
+// The expression that the options ask for, and what else a search is made with. An error is that of
+// a setting, of a pattern that can't be compiled, of a glob that isn't well formed, or of being out
+// of memory.
 fn prepare<'r, S: System>(
     rt: &'r HostRuntime,
     system: &S,
     options: &Options<'_, '_>,
     patterns: &[String],
-) -> Result<Prepared<'r>, Failure>
-    ensures settings { IfOk result (λ prepared.
-        prepared.searcher.settings ≡ searcher_settings options.now) }
-    ensures options { IfOk result (λ prepared.
-        regex_options prepared.regex ≡ pattern_options options.now patterns.now) }
-    ensures patterns { IfOk result (λ prepared.
-        regex_patterns prepared.regex ≡ pattern_texts options.now patterns.now) }
-    ensures separators { IfOk result (λ prepared.
-        IsSeparators options.now prepared.separators) }
-    ensures colors { IfOk result (λ prepared. AreColorTexts options.now prepared.colors) }
-    ensures template { IfOk result (λ prepared.
-        IsTemplate options.now prepared.regex prepared.template) }
-    ensures path_separator { IfOk result (λ prepared.
-        prepared.path_separator ≡ path_separator_of options.now) }
-    ensures choices { IfOk result (λ prepared.
-        AreChoicesOf (S.facts system.now) options.now prepared.choices) }
+) -> Result<(Regex, Prepared<'r>), Failure>
+    ensures options { IfOk result (λ (regex, prepared).
+        regex_options regex ≡ pattern_options options.now patterns.now) }
+    ensures patterns { IfOk result (λ (regex, prepared).
+        regex_patterns regex ≡ pattern_texts options.now patterns.now) }
+    ensures prepared { IfOk result (λ (regex, prepared).
+        IsPrepared (S.facts system.now) options.now prepared) }
+    ensures template { IfOk result (λ (regex, prepared).
+        IsTemplate options.now regex prepared.template) }
     ensures refused { IfErr result (λ failure. has_cause failure ≡ true
         → IsCause options.now patterns.now) }
 {
@@ -124,15 +116,17 @@ fn prepare<'r, S: System>(
         Err(failure) => return Err(failure),
     };
     match separators(rt.alloc(), options) {
-        Ok(separators) => Ok(Prepared {
-            searcher,
-            regex,
-            choices,
-            separators,
-            colors,
-            template,
-            path_separator,
-        }),
+        Ok(separators) => {
+            let prepared = Prepared {
+                searcher,
+                choices,
+                separators,
+                colors,
+                template,
+                path_separator,
+            };
+            Ok((regex, prepared))
+        }
         Err(_) => Err(Failure::out_of_memory()),
     }
 }
@@ -153,37 +147,16 @@ pub fn search_all<S: System, R: Source + Drop, W: Output + Drop, E: Output>(
     errors: &mut E,
 ) -> Ended<R, W>
     ensures { IsRefusedFor E.step options.now patterns.now input output errors.old result.status
-        result.input result.output errors.new ⊎ IsWholeRun ⟦<AllocError as Display>⟧.output W.step S.File.remaining R.remaining R.step
-        (S.facts system.now) (S.finds system.now) (S.opens system.now) (S.identifies system.now) options.now patterns.now
-        input output errors.old result.status result.input result.output }
+        result.input result.output errors.new
+        ⊎ IsWholeRun ⟦<AllocError as Display>⟧.output W.step S.File.remaining R.remaining R.step
+        (S.facts system.now) (S.finds system.now) (S.opens system.now) (S.identifies system.now)
+        options.now patterns.now input output errors.old result.status result.input
+        result.output }
 {
     match prepare(rt, system, options, patterns) {
-        Ok(prepared) => {
-            let Prepared {
-                searcher,
-                regex,
-                mut choices,
-                separators,
-                colors,
-                template,
-                path_separator,
-            } = prepared;
-            search_named::<Brand, S, R, W, E>(
-                rt,
-                system,
-                options,
-                &regex,
-                searcher,
-                &mut choices,
-                separators.as_ref(),
-                colors.as_ref(),
-                template.as_ref(),
-                path_separator,
-                input,
-                output,
-                errors,
-            )
-        }
+        Ok((regex, prepared)) => search_named::<Brand, S, R, W, E>(
+            rt, system, options, &regex, prepared, input, output, errors,
+        ),
         Err(failure) => Ended::refused(errors, &failure, input, output),
     }
 }
@@ -195,70 +168,39 @@ fn search_named<'r, N: Naming, S: System, R: Source + Drop, W: Output + Drop, E:
     system: &'r S,
     options: &Options<'_, '_>,
     regex: &Regex,
-    searcher: Searcher,
-    choices: &mut Choices<'r>,
-    separators: Option<&Separators>,
-    colors: Option<&ColorTexts>,
-    template: Option<&Template>,
-    path_separator: Option<u8>,
+    prepared: Prepared<'r>,
     input: R,
     output: W,
     errors: &mut E,
 ) -> Ended<R, W>
 where
     requires named { IsNamed N.options N.patterns regex.now }
-    requires settings { searcher.settings ≡ searcher_settings options.now }
-    requires lent { AreLent options.now separators }
-    requires colored { AreColorsLent options.now colors }
-    requires path_separator { path_separator ≡ path_separator_of options.now }
-    requires template { IsTemplateLent options.now regex.now template }
-    requires choices { AreChoicesOf (S.facts system.now) options.now choices.old }
+    requires prepared { IsPrepared (S.facts system.now) options.now prepared }
+    requires template { IsTemplate options.now regex.now prepared.template }
     ensures { ((patterns : List (String Global)) → IsRefusedFor E.step options.now patterns input
         output errors.old result.status result.input result.output errors.new)
         ⊎ (IsRunFor ⟦<AllocError as Display>⟧.output literal_facts literal_first_at
-        literal_groups_at W.step S.File.remaining R.remaining R.step (S.facts system.now) (S.finds system.now) (S.opens system.now)
-        (S.identifies system.now) options.now regex.now input output errors.old result.status
-        result.input result.output
-        ⊎ IsRunFor ⟦<AllocError as Display>⟧.output ⟦<&'static NamedMatcher<'static, N> as Matcher>⟧.facts
+        literal_groups_at W.step S.File.remaining R.remaining R.step (S.facts system.now)
+        (S.finds system.now) (S.opens system.now) (S.identifies system.now) options.now regex.now
+        input output errors.old result.status result.input result.output
+        ⊎ IsRunFor ⟦<AllocError as Display>⟧.output
+        ⟦<&'static NamedMatcher<'static, N> as Matcher>⟧.facts
         ⟦<&'static NamedMatcher<'static, N> as FindAt>⟧.first_at
-        ⟦<&'static NamedMatcher<'static, N> as CapturesAt>⟧.groups_at W.step S.File.remaining R.remaining R.step
-        (S.facts system.now) (S.finds system.now) (S.opens system.now) (S.identifies system.now) options.now regex.now
-        input output errors.old result.status result.input result.output) }
+        ⟦<&'static NamedMatcher<'static, N> as CapturesAt>⟧.groups_at W.step S.File.remaining
+        R.remaining R.step (S.facts system.now) (S.finds system.now) (S.opens system.now)
+        (S.identifies system.now) options.now regex.now input output errors.old result.status
+        result.input result.output) }
 {
-    if template.is_none() {
+    if prepared.template.is_none() {
         if let Some(matcher) = regex.literal_matcher() {
             return search_with(
-                rt,
-                system,
-                options,
-                &matcher,
-                searcher,
-                choices,
-                separators,
-                colors,
-                template,
-                path_separator,
-                input,
-                output,
-                errors,
+                rt, system, options, &matcher, prepared, input, output, errors,
             );
         }
     }
     match regex.named_matcher::<N>(rt.alloc()) {
         Ok(matcher) => search_with(
-            rt,
-            system,
-            options,
-            &matcher,
-            searcher,
-            choices,
-            separators,
-            colors,
-            template,
-            path_separator,
-            input,
-            output,
-            errors,
+            rt, system, options, &matcher, prepared, input, output, errors,
         ),
         Err(_) => Ended::refused(errors, &Failure::out_of_memory(), input, output),
     }
@@ -270,30 +212,37 @@ fn search_with<'r, M: CapturesAt + Copy, S: System, R: Source + Drop, W: Output 
     system: &'r S,
     options: &Options<'_, '_>,
     matcher: M,
-    searcher: Searcher,
-    choices: &mut Choices<'r>,
-    separators: Option<&Separators>,
-    colors: Option<&ColorTexts>,
-    template: Option<&Template>,
-    path_separator: Option<u8>,
+    prepared: Prepared<'r>,
     input: R,
     output: W,
     errors: &mut E,
 ) -> Ended<R, W>
-    requires settings { searcher.settings ≡ searcher_settings options.now }
-    requires lent { AreLent options.now separators }
-    requires colored { AreColorsLent options.now colors }
-    requires path_separator { path_separator ≡ path_separator_of options.now }
-    requires choices { AreChoicesOf (S.facts system.now) options.now choices.old }
-    ensures { IsRunWith M.Error.output M.facts M.first_at M.groups_at W.step S.File.remaining
-        R.remaining R.step (S.facts system.now) (S.finds system.now) (S.opens system.now) (S.identifies system.now)
-        options.now matcher template.entry input output errors.old result.status result.input
-        result.output }
+    requires { IsPrepared (S.facts system.now) options.now prepared }
+    ensures { (template : Option (Bor Template))
+        × (option_copied template ≡ prepared.entry.template)
+        × IsRunWith M.Error.output M.facts M.first_at M.groups_at W.step S.File.remaining
+        R.remaining R.step (S.facts system.now) (S.finds system.now) (S.opens system.now)
+        (S.identifies system.now) options.now matcher template input output errors.old
+        result.status result.input result.output }
 {
+    let Prepared {
+        searcher,
+        mut choices,
+        separators,
+        colors,
+        template,
+        path_separator,
+    } = prepared;
     let scope = Scope::new(system, options);
     let is_across = searcher.multi_line_with_matcher(matcher);
     let printer = build_printer(
-        rt, options, is_across, separators, colors, matcher, template,
+        rt,
+        options,
+        is_across,
+        separators.as_ref(),
+        colors.as_ref(),
+        matcher,
+        template.as_ref(),
     );
     let mut engine: PrintingEngine<'_, S::File, M, R, W, E> = PrintingEngine::new(
         rt,
@@ -306,7 +255,7 @@ fn search_with<'r, M: CapturesAt + Copy, S: System, R: Source + Drop, W: Output 
         path_separator,
     );
     let run = Run::new(rt, system, scope);
-    let status = run.complete(&mut engine, choices, options.paths());
+    let status = run.complete(&mut engine, &mut choices, options.paths());
     let (input, output) = engine.into_parts();
     Ended {
         status,

@@ -128,8 +128,9 @@ fn looks_for_mark(label: Option<&str>) -> bool
     !matches!(label, Some("none"))
 }
 
-/// The printer that the options ask for, which writes what searches find, by line or across lines. If there is a template, each match is replaced by it, for the groups that the matcher
-/// finds. A terminal gets headings, and colors.
+/// The printer that the options ask for, which writes what searches find, by line or across lines.
+/// If there is a template, each match is replaced by it, for the groups that the matcher finds. A
+/// terminal gets headings, and colors.
 pub fn build_printer<'c, M: Copy>(
     rt: &HostRuntime,
     options: &Options<'_, '_>,

@@ -5,7 +5,7 @@ pub returns-in-Ok : goal.returns-in-Ok
 returns-in-Ok g c = elim c.search_named.ensures [
   | inl refused ↦ inl (refused c.args.patterns.now)
   | inr run ↦ inr (record {
-    regex = c.in-Ok.prepared.regex;
+    regex = c.in-Ok.regex;
     has_options = c.in-Ok.ensures.options;
     has_patterns = c.in-Ok.ensures.patterns;
     run = run;
