@@ -120,7 +120,7 @@ module _ (reads : List ℕ → Result (Vec ℕ Global) Error → Type 0) where
       maybe-base _ read.with_ignore new _ (file-base _ _ depth start _ _ _ deep) read.rgignore
       ∙ maybe-base _ read.with_git read.with_ignore _ (file-base _ _ depth start _ _ _ deep) read.ignore
       ∙ maybe-base _ read.with_exclude read.with_git _ (file-base _ _ depth start _ _ _ deep) read.git
-      ∙ maybe-base _ old read.with_exclude _ (λ (path, exclude). file-base _ _ depth start path _ _ deep exclude)
+      ∙ maybe-base _ old read.with_exclude _ (λ (path, found, exclude). file-base _ _ depth start path _ _ deep exclude)
       read.exclude
 
   -- so it does in a folder below, where those files count too that belong to none

@@ -6,6 +6,7 @@ use Rattle.std.specs.List.{list_any}
 use Rattle.std.specs.Str.{bytes_eq}
 use Rattle.std.proofs.lemmas.Bool.{false≢true}
 use Rattle.grep_ignore.specs.Classes.{is_empty}
+use Rattle.linegrep_files.specs.GitFiles.{IsExcludePath}
 use Rattle.linegrep_files.specs.IgnoreFiles.{AreFilesRead, AreWithin, HasPlace, HasSource}
 use Rattle.linegrep_files.specs.IgnoreFiles.{IsFileRead}
 use Rattle.linegrep_files.specs.IgnoreFiles.{depth_in, has_name, is_idle, is_top, marks_of}
@@ -89,9 +90,9 @@ module _ (reads : List ℕ → Result (Vec ℕ Global) Error → Type 0) where
       MatchBool is_read (IsFileRead reads old.sources.ignores_case origin depth (length old.path.items)
       path old.layers new.layers) (new.layers ≡ old.layers)
 
-  abbrev pub IsExcludeRead : Bool → ℕ → Ignores → Ignores → Type 0
-  IsExcludeRead is_read depth old new =
-      MatchBool is_read ((path : List ℕ) × IsFileRead reads old.sources.ignores_case GitExclude depth
+  abbrev pub IsExcludeRead : Bool → List ℕ → ℕ → Ignores → Ignores → Type 0
+  IsExcludeRead is_read folder depth old new =
+      MatchBool is_read ((path : List ℕ) × IsExcludePath reads folder path × IsFileRead reads old.sources.ignores_case GitExclude depth
       (length old.path.items) path old.layers new.layers) (new.layers ≡ old.layers)
 
   pub read-on : (is_read : Bool) (origin : Origin) (depth : ℕ) (path : List ℕ) (first old new : Ignores)
@@ -104,7 +105,7 @@ module _ (reads : List ℕ → Result (Vec ℕ Global) Error → Type 0) where
 
   pub files-read : (marks : Marks) (depth : ℕ) (folder : List ℕ) (first second third fourth last : Ignores)
       → HasPlace first second → HasPlace second third → HasPlace third fourth
-      → IsExcludeRead (marks.has_git && first.sources.exclude) depth first second
+      → IsExcludeRead (marks.has_git && first.sources.exclude) folder depth first second
       → IsRead (marks.has_gitignore && first.sources.git) GitIgnore depth
       (joined folder (codes ".gitignore")) second third
       → IsRead (marks.has_ignore && first.sources.dot) Ignore depth

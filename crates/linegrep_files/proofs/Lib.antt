@@ -2,6 +2,7 @@ pub mod AlikeLemmas
 pub mod BaseLemmas
 pub mod BraceLemmas
 pub mod ChoiceLemmas
+pub mod GitFileLemmas
 pub mod GlobRuleLemmas
 pub mod GlobTextLemmas
 pub mod FoundLemmas
@@ -12,5 +13,6 @@ pub mod PieceLemmas
 pub mod ClassTextLemmas
 pub mod SizeLemmas
 pub mod TreeLemmas
+pub mod TypeDefinitionLemmas
 pub mod TypeLemmas
 pub mod WalkLemmas

@@ -10,7 +10,7 @@ use Rattle.grep_ignore.specs.Classes.{begins_with}
 use Rattle.grep_ignore.specs.Decisions.{is_kept}
 use Rattle.grep_ignore.specs.Layers.{IsFirst}
 use Rattle.grep_ignore.specs.declared.rules.Decision.{Decision}
-use Rattle.linegrep_files.specs.FileTypes.{AreNoTypes, IsTypeChoice, are_none}
+use Rattle.linegrep_files.specs.FileTypes.{AreTypes, IsTypeChoice, are_none}
 use Rattle.linegrep_files.specs.FolderFacts.{FolderFacts}
 use Rattle.linegrep_files.specs.Globs.{AreGlobs, IsGlobChoice, may_be_malformed_in, is_chosen}
 use Rattle.linegrep_files.specs.IgnoreFiles.{AreWithin, HasSource, ReadsTheSame}
@@ -112,7 +112,7 @@ may_be_refused options = may_be_malformed_in options.globs.now || may_be_malform
 pub record AreChoices (folders : FolderFacts) (options : FileOptions) (choices : Choices) : Type 0
   where
     pub globs : AreGlobs options.globs.now options.iglobs.now options.ignores_glob_case choices.globs
-    pub types : are_none options.types ≡ true → AreNoTypes choices.types
+    pub types : AreTypes options.types choices.types
     pub limits : AreLimits options choices.limits
     pub hidden : choices.shows_hidden ≡ options.shows_hidden
     pub ignores : AreIgnores folders options.sources options.ignore_files.now choices.ignores

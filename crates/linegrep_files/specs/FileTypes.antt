@@ -1,10 +1,12 @@
 -- What types of files say of a name: the last that has it decides.
-use Rattle.std.specs.Prelude.{◌≡◌, ℕ, ◌+◌, ◌<◌, ◌≤◌, ◌⊎◌, if◌then◌else◌, Bool, ◌&&◌, ◌==◌, List, []}
-use Rattle.std.specs.Prelude.{false, length, nat_eq, IsTrue}
+use Rattle.std.specs.Prelude.{◌≡◌, ℕ, ◌+◌, ◌<◌, ◌≤◌, ◌⊎◌, if◌then◌else◌, Bool, ◌&&◌, ◌||◌, ◌==◌, List}
+use Rattle.std.specs.Prelude.{[], ◌∷◌, ◌++◌, false, true, not, length, map, nat_eq, IsTrue}
 use Rattle.std.specs.Prelude.{slice_index_or, string_bytes}
 use Rattle.std.specs.Borrow.{Bor}
-use Rattle.std.specs.List.{ends_with}
-use Rattle.linegrep_files.specs.Globs.{MatchesOne}
+use Rattle.std.specs.List.{ends_with, list_all, list_any}
+use Rattle.linegrep_files.specs.Globs.{IsGlobOf, MatchesOne}
+use Rattle.linegrep_files.specs.TypeDefinitions.{Definitions, IsKnownBy, Known, Selections, globs_of}
+use Rattle.linegrep_files.specs.TypeDefinitions.{is_known}
 use Rattle.linegrep_files.specs.declared.file_options.TypeOptions.{TypeOptions}
 use Rattle.linegrep_files.specs.declared.globs.Choice.{Choice}
 use Rattle.linegrep_files.specs.declared.globs.Choice.TheVariants.{Chosen, LeftOut, Unmatched}
@@ -45,6 +47,45 @@ are_none options = is_empty options.asked.texts.now && is_empty options.left_out
     is_empty : List (Bor (List ℕ)) → Bool
     is_empty texts = length texts == 0
 
--- nothing is said of any file
-abbrev pub AreNoTypes : Types → Type 0
-AreNoTypes types = (types.globs.items ≡ []) × (types.are_asked ≡ false)
+-- a byte of a glob that may stand for something else
+abbrev pub is_wildcard : ℕ → Bool
+is_wildcard byte = (byte == 42) || (byte == 63) || (byte == 91) || (byte == 93) || (byte == 123)
+    || (byte == 125) || (byte == 92)
+
+abbrev pub has_wildcard : List ℕ → Bool
+has_wildcard glob = list_any is_wildcard glob
+
+-- names are those of a glob: its own bytes, those that end in what follows a star, or what it matches
+abbrev pub AreNames : List ℕ → Names → Type 0
+AreNames glob (Only only) = (has_wildcard glob ≡ false) × (string_bytes only ≡ glob)
+AreNames glob (EndingIn end) =
+    (has_wildcard (string_bytes end) ≡ false) × (glob ≡ 42 ∷ string_bytes end)
+AreNames glob (Matching matching) = IsGlobOf false false glob matching
+
+-- globs that are each for what is searched, or for what isn't
+abbrev pub with_choice : Bool → List (List ℕ) → List (List ℕ × Bool)
+with_choice is_exclusion globs = map (λ glob. (glob, is_exclusion)) globs
+
+abbrev pub AreTypeGlobs : List (List ℕ × Bool) → List TypeGlob → Type 0
+AreTypeGlobs [] globs = globs ≡ []
+AreTypeGlobs (one ∷ later) globs = (glob : TypeGlob) × (others : List TypeGlob)
+    × (globs ≡ glob ∷ others) × AreNames one.0 glob.names × (glob.is_exclusion ≡ one.1)
+    × AreTypeGlobs later others
+
+-- the globs of selected types, one type after another
+abbrev pub selected_globs : Definitions → Selections → List (List ℕ × Bool)
+selected_globs definitions [] = []
+selected_globs definitions (one ∷ later) =
+    with_choice one.1 (globs_of definitions one.0) ++ selected_globs definitions later
+
+-- types are those that are selected, each of which is known
+pub record AreSelected (known : Known) (types : Types) : Type 0 where
+  pub known_all : list_all (λ one. is_known known.definitions one.0) known.selections ≡ true
+  pub asked : types.are_asked ≡ list_any (λ one. not one.1) known.selections
+  pub globs : AreTypeGlobs (selected_globs known.definitions known.selections) types.globs.items
+
+-- types are those that options select, of what they know
+pub record AreTypes (options : TypeOptions) (types : Types) : Type 0 where
+  pub known : Known
+  pub is_known : IsKnownBy options known
+  pub are : AreSelected known types

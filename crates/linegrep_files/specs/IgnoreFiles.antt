@@ -16,6 +16,7 @@ use Rattle.grep_ignore.specs.declared.layers.Origin.TheVariants.{GitExclude, Git
 use Rattle.grep_ignore.specs.declared.layers.Origin.TheVariants.{RgIgnore}
 use Rattle.grep_ignore.specs.declared.rules.Misread.{Misread}
 use Rattle.grep_ignore.specs.declared.rules.Rule.{Rule}
+use Rattle.linegrep_files.specs.GitFiles.{IsExcludePath}
 use Rattle.linegrep_files.specs.Paths.{joined, parts_of}
 use Rattle.linegrep_files.specs.declared.ignores.Ignores.{Ignores}
 use Rattle.linegrep_files.specs.declared.ignores.Marks.{Marks}
@@ -109,6 +110,7 @@ module _ (reads : List ℕ → Result (Vec ℕ Global) Error → Type 0) where
     pub with_git : List Layer
     pub with_ignore : List Layer
     pub exclude : MatchBool (marks.has_git && sources.exclude) ((path : List ℕ)
+        × IsExcludePath reads folder path
         × IsFileRead sources.ignores_case GitExclude depth start path old with_exclude)
         (with_exclude ≡ old)
     pub git : MatchBool (marks.has_gitignore && sources.git)

@@ -6,6 +6,7 @@ pub mod FileIds
 pub mod FileTypes
 pub mod FolderFacts
 pub mod Folders
+pub mod GitFiles
 pub mod Globs
 pub mod IgnoreFiles
 pub mod Limits
@@ -13,4 +14,5 @@ pub mod Orders
 pub mod ParentFiles
 pub mod Paths
 pub mod Trees
+pub mod TypeDefinitions
 pub mod Walks

@@ -1,6 +1,7 @@
 //! A class of a glob, which is in brackets: the bytes that it stands for.
 ghost use Rattle.std.specs.Prelude.{◌≡◌, ◌≢◌, ◌∷◌, drop, false, IfOk, MatchOption};
 ghost use Rattle.grep_ignore.specs.Classes.{begins_range, begins_with, is_empty, is_negated};
+ghost use Rattle.std.specs.Str.{bytes_eq};
 ghost use Rattle.grep_ignore.specs.Lines.{ends_with};
 ghost use Rattle.linegrep_files.specs.ClassTexts.{AreMembersBefore, IsClassBefore};
 
@@ -190,4 +191,11 @@ pub fn is_empty(text: &[u8]) -> bool
         [] => true,
         _ => false,
     }
+}
+
+/// Whether two texts are the same.
+pub fn is_same(text: &[u8], other: &[u8]) -> bool
+    ensures { result ≡ bytes_eq text.now other.now }
+{
+    text == other
 }

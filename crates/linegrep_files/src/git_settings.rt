@@ -27,13 +27,6 @@ pub fn excludes_file(alloc: Global, contents: &[u8]) -> Result<Option<Vec<u8>>, 
     })
 }
 
-/// Where the folder of a repository is that the contents of a file say which stands in its place,
-/// as in a worktree.
-pub fn folder_in(contents: &str) -> Option<&str> {
-    let folder = contents.strip_prefix("gitdir:")?;
-    Some(folder.trim_ascii())
-}
-
 // What is read of settings.
 #[derive(Drop)]
 struct Settings {

@@ -1,9 +1,9 @@
 //! The ignore files that count in a folder, and what they say of what is in it.
 ghost use Rattle.std.specs.Prelude.{◌≡◌, ◌&&◌, ◌||◌, ◌++◌, ◌∷◌, [], ℕ, Bool, IfOk, List, OnOk};
 ghost use Rattle.std.specs.Prelude.{if◌then◌else◌, filter, length, nat_lt, take, MatchBool};
-ghost use Rattle.std.specs.Str.{bytes_eq};
 ghost use Rattle.grep_ignore.specs.declared.layers.Origin.TheVariants.{GitExclude};
 ghost use Rattle.linegrep_files.specs.Choices.{IgnoresTheSame, IsIgnoreDecision, repository_of};
+ghost use Rattle.linegrep_files.specs.GitFiles.{IsExcludePath};
 ghost use Rattle.linegrep_files.specs.IgnoreFiles.{AreFilesRead, AreRulesAdded, AreWithin};
 ghost use Rattle.linegrep_files.specs.IgnoreFiles.{HasPlace};
 ghost use Rattle.linegrep_files.specs.IgnoreFiles.{HasSource, IsFileRead, depth_in, is_idle};
@@ -16,10 +16,11 @@ ghost use Rattle.linegrep_files.specs.Paths.{IsRoot, joined};
 
 mod parents;
 
-use crate::class::is_empty;
+use crate::class::{is_empty, is_same};
 use crate::failures::Failure;
 use crate::finder::{name_of, root_of};
 use crate::folders::Folders;
+use crate::git_files::exclude_path;
 use crate::git_settings;
 use crate::paths::{join, split_part};
 use grep_ignore::{Decision, Layer, Layers, Misread, Origin, Rules};
@@ -114,12 +115,6 @@ fn both(one: bool, other: bool) -> bool
     ensures { result ≡ (one && other) }
 {
     one && other
-}
-
-fn is_same(name: &[u8], other: &[u8]) -> bool
-    ensures { result ≡ bytes_eq name.now other.now }
-{
-    name == other
 }
 
 /// The ignore files that count in a folder.
@@ -469,6 +464,7 @@ impl<'r> Ignores<'r> {
         folder: &str,
     ) -> Result<(), AllocError>
         ensures file { OnOk result (MatchBool is_read ((path : List ℕ)
+            × IsExcludePath (S.facts system.now).reads folder.now path
             × IsFileRead (S.facts system.now).reads self.old.sources.ignores_case GitExclude depth
             (length self.old.path.items) path self.old.layers self.new.layers)
             (self.new.layers ≡ self.old.layers)) }
@@ -477,7 +473,7 @@ impl<'r> Ignores<'r> {
         if !is_read {
             return Ok(());
         }
-        let path = exclude_path(self.rt, folder)?;
+        let path = exclude_path(self.rt.alloc(), system, folder)?;
         self.add_file(system, Origin::GitExclude, depth, path.as_str(), false)?;
         Ok(())
     }
@@ -632,47 +628,4 @@ fn in_home(rt: &HostRuntime, home: &str, path: &[u8]) -> Result<Option<String>, 
         Some(rest) => join(rt.alloc(), home, rest)?,
         None => String::from_str(rt.alloc(), path)?,
     }))
-}
-
-// The path of the exclude file of the repository at a folder.
-fn exclude_path(rt: &HostRuntime, folder: &str) -> Result<String, AllocError> {
-    match repository_folder(rt, folder)? {
-        Some(folder) => join(rt.alloc(), folder.as_str(), "info/exclude"),
-        None => join(rt.alloc(), folder, ".git/info/exclude"),
-    }
-}
-
-// The path of the folder that a file in place of `.git` stands for, or if several worktrees share
-// one the path of that. There is none if `.git` is a folder itself.
-fn repository_folder(rt: &HostRuntime, folder: &str) -> Result<Option<String>, AllocError> {
-    let path = join(rt.alloc(), folder, ".git")?;
-    let Some(named) = read_text(rt, path.as_str()) else {
-        return Ok(None);
-    };
-    let Some(named) = git_settings::folder_in(named.as_str()) else {
-        return Ok(None);
-    };
-    let named = resolve(rt, folder, named)?;
-    let path = join(rt.alloc(), named.as_str(), "commondir")?;
-    Ok(Some(match read_text(rt, path.as_str()) {
-        Some(shared) => resolve(rt, named.as_str(), shared.as_str().trim_ascii())?,
-        None => named,
-    }))
-}
-
-// The text of the file at a path, if there is one.
-fn read_text(rt: &HostRuntime, path: &str) -> Option<String> {
-    match fs::read_to_string(rt, path) {
-        Ok(text) => Some(text),
-        Err(_) => None,
-    }
-}
-
-// A path that begins in a folder, unless it begins with a slash.
-fn resolve(rt: &HostRuntime, folder: &str, path: &str) -> Result<String, AllocError> {
-    if path.starts_with('/') {
-        String::from_str(rt.alloc(), path)
-    } else {
-        join(rt.alloc(), folder, path)
-    }
 }

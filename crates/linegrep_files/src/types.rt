@@ -1,20 +1,20 @@
 //! Types of files, which choose among the files of folders by their names.
-ghost use Rattle.std.specs.Prelude.{◌≡◌, ◌↔◌, false, true, if◌then◌else◌, IfErr, IfOk, IsTrue, Ok};
-ghost use Rattle.linegrep_files.specs.FileTypes.{AreNoTypes, Have, IsTypeChoice, are_none};
-ghost use Rattle.linegrep_files.specs.FileTypes.{type_choice_of};
+ghost use Rattle.std.specs.Prelude.{◌≡◌, ◌↔◌, ◌++◌, ℕ, Bool, List, false, true, if◌then◌else◌};
+ghost use Rattle.std.specs.Prelude.{IfErr, IfOk, IsTrue, OnErr, OnOk, not};
+ghost use Rattle.std.specs.List.{list_any};
+ghost use Rattle.linegrep_files.specs.FileTypes.{AreNames, AreSelected, AreTypeGlobs, AreTypes, Have};
+ghost use Rattle.linegrep_files.specs.FileTypes.{IsTypeChoice, are_none, has_wildcard, is_wildcard};
+ghost use Rattle.linegrep_files.specs.FileTypes.{type_choice_of, with_choice};
+ghost use Rattle.linegrep_files.specs.TypeDefinitions.{globs_of, known_of, pairs_of};
 ghost use Rattle.linegrep_files.specs.Failures.{has_cause};
-ghost use Rattle.linegrep_files.specs.declared.types.Types.{Types};
 
 use crate::failures::Failure;
-use crate::file_options::{TypeOptions, Values};
+use crate::file_options::TypeOptions;
 use crate::glob::Glob;
 use crate::globs::Choice;
-use crate::known_types::TYPES;
+use crate::type_definitions::{KnownTypes, Selection, TypeError};
 use grep_ignore::GlobError;
-use std::alloc::{AllocError, AllocFailed, Global};
-
-// The name that stands for all types.
-const ALL: &str = "all";
+use std::alloc::{AllocError, Global};
 
 /// The types that are asked for or left out.
 #[derive(Drop)]
@@ -40,71 +40,11 @@ enum Names {
     Matching(Glob),
 }
 
-/// The types that are known, and which of them are selected.
-#[derive(Drop)]
-pub struct TypesBuilder<'t> {
-    alloc: Global,
-    definitions: Vec<Definition<'t>>,
-    selections: Vec<Selection<'t>>,
-}
-
-// What a type is called, and one of its globs.
-#[derive(Clone, Copy)]
-struct Definition<'t> {
-    name: &'t str,
-    glob: &'t str,
-}
-
-// A type that is asked for, or left out.
-#[derive(Clone, Copy)]
-struct Selection<'t> {
-    name: &'t str,
-    is_exclusion: bool,
-}
-
-// What an option says of types, and its place among the words.
-#[derive(Clone, Copy)]
-struct Change<'t> {
-    place: usize,
-    action: Action,
-    text: &'t str,
-}
-
-#[derive(Clone, Copy)]
-enum Action {
-    Add,
-    Clear,
-    Select { is_exclusion: bool },
-}
-
-// Why types can't be used.
-#[derive(Clone, Copy)]
-enum Error<'t> {
-    Unknown(&'t str),
-    // A definition that isn't well formed.
-    Malformed(&'t str),
-    // A glob that isn't, and why.
-    Glob(&'t str, &'static str),
-    OutOfMemory,
-}
-
-impl<'t> From<AllocError> for Error<'t> {
-    fn from(_: AllocError) -> Error<'t> {
-        Error::OutOfMemory
-    }
-}
-
-impl<'t, T: Drop> From<AllocFailed<T>> for Error<'t> {
-    fn from(_: AllocFailed<T>) -> Error<'t> {
-        Error::OutOfMemory
-    }
-}
-
 impl Types {
     /// The types that options ask for or leave out. An error is that one isn't known, that a
     /// definition isn't well formed, or that there is no memory.
     pub fn read(alloc: Global, options: &TypeOptions<'_, '_>) -> Result<Types, Failure>
-        ensures none { are_none options.now ≡ true → IfOk result AreNoTypes }
+        ensures ok { IfOk result (AreTypes options.now) }
         ensures err { IfErr result (λ failure. has_cause failure ≡ true
             → are_none options.now ≡ false) }
     {
@@ -129,6 +69,33 @@ impl Types {
             }
         }
         Ok(self.default_choice())
+    }
+
+    // Adds the globs of a selected type.
+    fn add_globs<'t>(
+        &mut self,
+        alloc: Global,
+        known: &KnownTypes<'t>,
+        selection: Selection<'t>,
+    ) -> Result<(), TypeError<'t>>
+        ensures asked { self.new.are_asked ≡ self.old.are_asked }
+        ensures globs { OnOk result ((before : List (List ℕ × Bool))
+            → AreTypeGlobs before self.old.globs.items → AreTypeGlobs (before
+            ++ with_choice selection.entry.is_exclusion
+            (globs_of (pairs_of known.now.definitions.items) selection.entry.name.now))
+            self.new.globs.items) }
+    {
+        for definition in known.definitions.iter() {
+            if definition.is_of(selection.name) {
+                let names = names_of(alloc, definition.glob)?;
+                self.globs.push(TypeGlob {
+                    names,
+                    is_exclusion: selection.is_exclusion,
+                })?;
+                continue;
+            }
+        }
+        Ok(())
     }
 
     // What they say of a file that none of them has.
@@ -165,9 +132,9 @@ pub fn type_list(alloc: Global, options: &TypeOptions<'_, '_>) -> Result<String,
     }
 }
 
-fn try_read<'t>(alloc: Global, options: &TypeOptions<'_, 't>) -> Result<Types, Error<'t>>
-    ensures none { are_none options.now ≡ true
-        → (types : Types) × (result ≡ Ok types) × AreNoTypes types }
+fn try_read<'t>(alloc: Global, options: &TypeOptions<'_, 't>) -> Result<Types, TypeError<'t>>
+    ensures types { IfOk result (AreTypes options.now) }
+    ensures err { OnErr result (are_none options.now ≡ false) }
 {
     if options.are_none() {
         return Ok(Types {
@@ -175,187 +142,36 @@ fn try_read<'t>(alloc: Global, options: &TypeOptions<'_, 't>) -> Result<Types, E
             are_asked: false,
         });
     }
-    TypesBuilder::read(alloc, options)?.build()
+    let known = KnownTypes::read(alloc, options)?;
+    build(alloc, &known)
 }
 
-fn try_list<'t>(alloc: Global, options: &TypeOptions<'_, 't>) -> Result<String, Error<'t>> {
-    Ok(TypesBuilder::read(alloc, options)?.list()?)
+fn try_list<'t>(alloc: Global, options: &TypeOptions<'_, 't>) -> Result<String, TypeError<'t>> {
+    Ok(KnownTypes::read(alloc, options)?.list(alloc)?)
 }
 
-impl<'t> TypesBuilder<'t> {
-    // The known types, with what options say of them.
-    fn read(alloc: Global, options: &TypeOptions<'_, 't>) -> Result<TypesBuilder<'t>, Error<'t>> {
-        let mut builder = TypesBuilder {
-            alloc,
-            definitions: Vec::new(alloc),
-            selections: Vec::new(alloc),
-        };
-        builder.add_known()?;
-        for change in changes(alloc, options)?.iter() {
-            builder.apply(change)?;
+// The types that are selected.
+fn build<'t>(alloc: Global, known: &KnownTypes<'t>) -> Result<Types, TypeError<'t>>
+    ensures { IfOk result (AreSelected (known_of known.now)) }
+{
+    let mut types = Types {
+        globs: Vec::new(alloc),
+        are_asked: are_asked(known.selections.as_slice()),
+    };
+    for selection in known.selections.iter() {
+        if !known.knows(selection.name) {
+            return Err(TypeError::Unknown(selection.name));
         }
-        Ok(builder)
+        types.add_globs(alloc, known, *selection)?;
     }
+    Ok(types)
+}
 
-    // Adds the types that are always known.
-    fn add_known(&mut self) -> Result<(), AllocError> {
-        for line in TYPES.lines() {
-            if let Some((name, globs)) = line.split_once(": ") {
-                for glob in globs.split(", ") {
-                    self.define(name, glob)?;
-                }
-            }
-        }
-        Ok(())
-    }
-
-    fn define(&mut self, name: &'t str, glob: &'t str) -> Result<(), AllocError> {
-        Ok(self.definitions.push(Definition { name, glob })?)
-    }
-
-    fn apply(&mut self, change: &Change<'t>) -> Result<(), Error<'t>> {
-        match change.action {
-            Action::Add => self.add(change.text),
-            Action::Clear => {
-                self.definitions
-                    .retain(|definition| definition.name != change.text);
-                Ok(())
-            }
-            Action::Select { is_exclusion } => Ok(self.select(change.text, is_exclusion)?),
-        }
-    }
-
-    // Adds what a definition says: a name and a glob, or the globs of other types.
-    fn add(&mut self, text: &'t str) -> Result<(), Error<'t>> {
-        let Some((name, meaning)) = text.split_once(':') else {
-            return Err(Error::Malformed(text));
-        };
-        if !is_type_name(name) {
-            return Err(Error::Malformed(text));
-        }
-        match meaning.split_once(':') {
-            None if !meaning.is_empty() => Ok(self.define(name, meaning)?),
-            Some(("include", others)) if !others.contains(':') => {
-                self.include_all(text, name, others)
-            }
-            _ => Err(Error::Malformed(text)),
-        }
-    }
-
-    // Adds the globs of some types to one.
-    fn include_all(
-        &mut self,
-        text: &'t str,
-        name: &'t str,
-        others: &'t str,
-    ) -> Result<(), Error<'t>> {
-        for other in others.split(',') {
-            if !self.knows(other) {
-                return Err(Error::Malformed(text));
-            }
-        }
-        for other in others.split(',') {
-            self.include(name, other)?;
-        }
-        Ok(())
-    }
-
-    // Adds the globs of a type to another.
-    fn include(&mut self, name: &'t str, other: &str) -> Result<(), AllocError> {
-        for at in 0..self.definitions.len() {
-            match self.definitions.get(at) {
-                Some(definition) if definition.name == other => {
-                    let glob = definition.glob;
-                    self.define(name, glob)?;
-                }
-                _ => {}
-            }
-        }
-        Ok(())
-    }
-
-    fn knows(&self, name: &str) -> bool {
-        self.definitions
-            .iter()
-            .any(|definition| definition.name == name)
-    }
-
-    // Selects a type, or all that are known by now.
-    fn select(&mut self, name: &'t str, is_exclusion: bool) -> Result<(), AllocError> {
-        if name != ALL {
-            return Ok(self.selections.push(Selection { name, is_exclusion })?);
-        }
-        let mut last = "";
-        for definition in self.definitions.iter() {
-            let name = definition.name;
-            if name != last {
-                self.selections.push(Selection { name, is_exclusion })?;
-                last = name;
-            }
-        }
-        Ok(())
-    }
-
-    // The types that are selected.
-    fn build(&self) -> Result<Types, Error<'t>> {
-        let mut types = Types {
-            globs: Vec::new(self.alloc),
-            are_asked: false,
-        };
-        for selection in self.selections.iter() {
-            if !self.knows(selection.name) {
-                return Err(Error::Unknown(selection.name));
-            }
-            types.are_asked = types.are_asked || !selection.is_exclusion;
-            self.add_globs(&mut types.globs, selection)?;
-        }
-        Ok(types)
-    }
-
-    // Adds the globs of a selected type.
-    fn add_globs(
-        &self,
-        globs: &mut Vec<TypeGlob>,
-        selection: &Selection<'t>,
-    ) -> Result<(), Error<'t>> {
-        for definition in self.definitions.iter() {
-            if definition.name == selection.name {
-                let names = names_of(self.alloc, definition.glob)?;
-                let is_exclusion = selection.is_exclusion;
-                globs.push(TypeGlob {
-                    names,
-                    is_exclusion,
-                })?;
-            }
-        }
-        Ok(())
-    }
-
-    // The list of the types, one a line.
-    fn list(&mut self) -> Result<String, AllocError> {
-        let mut text = String::new(self.alloc);
-        self.definitions.sort_unstable_by(|a, b| {
-            a.name.cmp(b.name).then_with(|| a.glob.cmp(b.glob))
-        });
-        let mut last = "";
-        for definition in self.definitions.iter() {
-            if definition.name == last {
-                text.push_str(", ")?;
-            } else {
-                if !text.is_empty() {
-                    text.push('\n')?;
-                }
-                text.push_str(definition.name)?;
-                text.push_str(": ")?;
-            }
-            text.push_str(definition.glob)?;
-            last = definition.name;
-        }
-        if !text.is_empty() {
-            text.push('\n')?;
-        }
-        Ok(text)
-    }
+// Whether one of some types is asked for.
+fn are_asked(selections: &[Selection<'_>]) -> bool
+    ensures { result ≡ list_any (λ one. not one.is_exclusion) selections.now }
+{
+    selections.iter().any(|selection| !selection.is_exclusion)
 }
 
 impl Names {
@@ -372,87 +188,57 @@ impl Names {
 }
 
 // The names that a glob matches.
-fn names_of<'t>(alloc: Global, glob: &'t str) -> Result<Names, Error<'t>> {
-    if !has_wildcard(glob) {
+fn names_of<'t>(alloc: Global, glob: &'t str) -> Result<Names, TypeError<'t>>
+    ensures { IfOk result (AreNames glob.now) }
+{
+    if !has_wildcard(glob.as_bytes()) {
         return Ok(Names::Only(String::from_str(alloc, glob)?));
     }
-    match glob.strip_prefix('*') {
-        Some(end) if !has_wildcard(end) => Ok(Names::EndingIn(String::from_str(alloc, end)?)),
-        _ => matching(alloc, glob),
+    if let Some(end) = glob.strip_prefix('*') {
+        if !has_wildcard(end.as_bytes()) {
+            return Ok(Names::EndingIn(String::from_str(alloc, end)?));
+        }
     }
+    matching(alloc, glob)
 }
 
-fn matching<'t>(alloc: Global, glob: &'t str) -> Result<Names, Error<'t>> {
+fn matching<'t>(alloc: Global, glob: &'t str) -> Result<Names, TypeError<'t>>
+    ensures { IfOk result (AreNames glob.now) }
+{
     match Glob::read(alloc, glob.as_bytes(), false, false) {
-        Ok(glob) => Ok(Names::Matching(glob)),
-        Err(GlobError::Malformed(cause)) => Err(Error::Glob(glob, cause)),
-        Err(GlobError::OutOfMemory) => Err(Error::OutOfMemory),
+        Ok(matching) => Ok(Names::Matching(matching)),
+        Err(GlobError::Malformed(cause)) => Err(TypeError::Glob(glob, cause)),
+        Err(GlobError::OutOfMemory) => Err(TypeError::OutOfMemory),
     }
 }
 
 // Whether a glob has more than letters.
-fn has_wildcard(glob: &str) -> bool {
-    glob.contains(|letter| matches!(letter, '*' | '?' | '[' | ']' | '{' | '}' | '\\'))
+fn has_wildcard(glob: &[u8]) -> bool
+    ensures { result ≡ has_wildcard glob.now }
+{
+    glob.iter().any(|byte| is_wildcard(*byte))
 }
 
-// Whether a type may have a name.
-fn is_type_name(name: &str) -> bool {
-    !name.is_empty() && name != ALL && name.chars().all(|letter| letter.is_alphanumeric())
-}
-
-// What options say of types, in their order.
-fn changes<'t>(
-    alloc: Global,
-    options: &TypeOptions<'_, 't>,
-) -> Result<Vec<Change<'t>>, AllocError> {
-    let mut changes = Vec::new(alloc);
-    add_changes(
-        &mut changes,
-        options.asked,
-        Action::Select {
-            is_exclusion: false,
-        },
-    )?;
-    add_changes(
-        &mut changes,
-        options.left_out,
-        Action::Select { is_exclusion: true },
-    )?;
-    add_changes(&mut changes, options.added, Action::Add)?;
-    add_changes(&mut changes, options.cleared, Action::Clear)?;
-    changes.sort_unstable_by(|a, b| a.place.cmp(&b.place));
-    Ok(changes)
-}
-
-fn add_changes<'t>(
-    changes: &mut Vec<Change<'t>>,
-    values: Values<'_, 't>,
-    action: Action,
-) -> Result<(), AllocError> {
-    for (text, place) in values.texts.iter().zip(values.places) {
-        changes.push(Change {
-            place: *place,
-            action,
-            text,
-        })?;
-    }
-    Ok(())
+fn is_wildcard(byte: u8) -> bool
+    ensures { result ≡ is_wildcard byte }
+{
+    matches!(byte, b'*' | b'?' | b'[' | b']' | b'{' | b'}' | b'\\')
 }
 
 // What is wrong with types.
-fn failure(alloc: Global, error: Error<'_>) -> Failure {
+fn failure(alloc: Global, error: TypeError<'_>) -> Failure {
     match error {
-        Error::Unknown(name) => {
+        TypeError::Unknown(name) => {
             Failure::of_text(format!(in alloc; "linegrep: there is no type of files {name}\n"))
         }
-        Error::Malformed(text) => Failure::of_cause(
+        TypeError::Malformed(text) => Failure::of_cause(
             alloc,
             text,
             &"a type is defined as NAME:GLOB or NAME:include:NAME,..",
         ),
-        Error::Glob(glob, cause) => {
+        TypeError::Glob(glob, cause) => {
             Failure::of_text(format!(in alloc; "linegrep: the glob {glob}: {cause}\n"))
         }
-        Error::OutOfMemory => Failure::out_of_memory(),
+        TypeError::OutOfMemory => Failure::out_of_memory(),
     }
 }

@@ -1,0 +1,177 @@
+-- The types of files that are known, and those that are selected, after each of some changes.
+use Rattle.std.specs.Prelude.{◌≡◌, ℕ, Bool, true, false, not, ◌&&◌, ◌||◌, ◌==◌, if◌then◌else◌, List, []}
+use Rattle.std.specs.Prelude.{◌∷◌, ◌++◌, None, Option, Some, codes, filter, fold, map}
+use Rattle.std.specs.Borrow.{Bor}
+use Rattle.std.specs.Char.Unicode.Alphabetic.{is_alphabetic}
+use Rattle.std.specs.Char.Unicode.Numeric.{is_numeric}
+use Rattle.std.specs.List.{after_first, before_first, list_all, list_any, slice_split, zip}
+use Rattle.std.specs.List.Sorted.{IsPermutation, IsSortedByKey}
+use Rattle.std.specs.Option.{option_and_then}
+use Rattle.std.specs.Ordering.{nat_cmp}
+use Rattle.std.specs.Str.{bytes_eq, chars}
+use Rattle.std.specs.Str.Lines.{lines}
+use Rattle.grep_ignore.specs.Classes.{is_empty}
+use Rattle.linegrep_files.specs.declared.known_types.TheConstants.{TYPES}
+use Rattle.linegrep_files.specs.declared.file_options.TypeOptions.{TypeOptions}
+use Rattle.linegrep_files.specs.declared.file_options.Values.{Values}
+use Rattle.linegrep_files.specs.declared.type_definitions.Action.{Action}
+use Rattle.linegrep_files.specs.declared.type_definitions.Action.TheVariants.{Add, Clear, Select}
+use Rattle.linegrep_files.specs.declared.type_definitions.Change.{Change}
+use Rattle.linegrep_files.specs.declared.type_definitions.Definition.{Definition}
+use Rattle.linegrep_files.specs.declared.type_definitions.KnownTypes.{KnownTypes}
+use Rattle.linegrep_files.specs.declared.type_definitions.Selection.{Selection}
+
+-- definitions: names of types, each with a glob
+abbrev pub Definitions : Type 0
+Definitions = List (List ℕ × List ℕ)
+
+-- selected types: their names, and whether each is left out
+abbrev pub Selections : Type 0
+Selections = List (List ℕ × Bool)
+
+abbrev pub pair_of : Definition → List ℕ × List ℕ
+pair_of definition = (definition.name.now, definition.glob.now)
+
+abbrev pub pairs_of : List Definition → Definitions
+pairs_of definitions = map pair_of definitions
+
+abbrev pub chosen_of : List Selection → Selections
+chosen_of selections = map (λ s. (s.name.now, s.is_exclusion)) selections
+
+-- the globs of a type
+abbrev pub globs_of : Definitions → List ℕ → List (List ℕ)
+globs_of definitions name = map (λ d. d.1) (filter (λ d. bytes_eq d.0 name) definitions)
+
+abbrev pub is_known : Definitions → List ℕ → Bool
+is_known definitions name = list_any (λ d. bytes_eq d.0 name) definitions
+
+-- the names of types, of which one that comes again at once counts once
+abbrev pub names_after : List ℕ → Definitions → List (List ℕ)
+names_after last [] = []
+names_after last (d ∷ later) =
+    if bytes_eq d.0 last then names_after d.0 later else d.0 ∷ names_after d.0 later
+
+-- a text has a colon, and what is before the first and after it
+abbrev pub is_colon : ℕ → Bool
+is_colon byte = byte == 58
+
+abbrev pub is_comma : ℕ → Bool
+is_comma byte = byte == 44
+
+abbrev pub has_colon : List ℕ → Bool
+has_colon text = list_any is_colon text
+
+-- a letter or a digit
+abbrev pub is_letter : ℕ → Bool
+is_letter letter = is_alphabetic letter || is_numeric letter
+
+-- a type may have a name: letters and digits alone, but not the name of all types
+abbrev pub is_type_name : List ℕ → Bool
+is_type_name name = not (is_empty name) && not (bytes_eq name (codes "all"))
+    && list_all is_letter (chars name)
+
+-- a type has a glob
+abbrev pub with_glob : List ℕ → Definitions → List ℕ → Definitions
+with_glob name definitions glob = definitions ++ (name, glob) ∷ []
+
+-- a type has the globs of another too
+abbrev pub with_globs_of : List ℕ → Definitions → List ℕ → Definitions
+with_globs_of name definitions other =
+    definitions ++ map (λ glob. (name, glob)) (globs_of definitions other)
+
+-- and of some, with commas between them, if all are known
+abbrev pub with_types : List ℕ → Definitions → List (List ℕ) → Option Definitions
+with_types name definitions others =
+    if list_all (is_known definitions) others then Some (fold (with_globs_of name) definitions others)
+    else None
+
+-- what follows a name and a colon: a glob, or the word for including other types and their names
+abbrev pub with_meaning : List ℕ → Definitions → List ℕ → Option Definitions
+with_meaning name definitions meaning =
+    if has_colon meaning then if bytes_eq (before_first is_colon meaning) (codes "include")
+    && not (has_colon (after_first is_colon meaning))
+    then with_types name definitions
+    (slice_split is_comma (after_first is_colon meaning)) else None
+    else if is_empty meaning then None else Some (with_glob name definitions meaning)
+
+-- a definition is added, if it is well formed
+abbrev pub added : Definitions → List ℕ → Option Definitions
+added definitions text =
+    if has_colon text && is_type_name (before_first is_colon text)
+    then with_meaning (before_first is_colon text) definitions (after_first is_colon text) else None
+
+-- a type is forgotten
+abbrev pub cleared : Definitions → List ℕ → Definitions
+cleared definitions name = filter (λ d. not (bytes_eq d.0 name)) definitions
+
+-- a type is selected, or all that are known by now
+abbrev pub selected : Definitions → Selections → List ℕ → Bool → Selections
+selected definitions selections name is_exclusion = selections
+    ++ map (λ one. (one, is_exclusion)) (if bytes_eq name (codes "all")
+    then names_after [] definitions else name ∷ [])
+
+-- what is known and what is selected
+pub record Known : Type 0 where
+  pub definitions : Definitions
+  pub selections : Selections
+
+abbrev pub known_of : KnownTypes → Known
+known_of types = record {
+  definitions = pairs_of types.definitions.items;
+  selections = chosen_of types.selections.items;
+}
+
+-- a change is made, if it is well formed
+abbrev pub changed : Known → Change → Option Known
+changed known change = by change.action
+  where
+    by : Action → Option Known
+    by Add = option_and_then
+        (λ definitions. Some (record { definitions = definitions; selections = known.selections }))
+        (added known.definitions change.text.now)
+    by Clear = Some (record {
+      definitions = cleared known.definitions change.text.now;
+      selections = known.selections;
+    })
+    by (Select is_exclusion) = Some (record {
+      definitions = known.definitions;
+      selections = selected known.definitions known.selections change.text.now is_exclusion;
+    })
+
+-- one change after another
+abbrev pub all_changed : Known → List Change → Option Known
+all_changed known [] = Some known
+all_changed known (change ∷ later) = option_and_then (λ next. all_changed next later) (changed known change)
+
+-- the known types: in each line of a table the name of one, a colon, and its globs with commas
+abbrev pub line_definitions : List ℕ → Definitions
+line_definitions line = map (λ glob. (before_first is_colon line, glob))
+    (slice_split is_comma (after_first is_colon line))
+
+unfoldable pub known_table : List ℕ
+known_table = TYPES.now
+
+abbrev pub known_types : Definitions
+known_types = fold (λ definitions line. definitions ++ line_definitions line) [] (lines known_table)
+
+-- what an option's texts ask for, each with its place among the words
+abbrev pub change_of : Action → Bor (List ℕ) × ℕ → Change
+change_of action pair = record { place = pair.1; action = action; text = pair.0 }
+
+abbrev pub changes_of : Action → Values → List Change
+changes_of action values = map (change_of action) (zip values.texts.now values.places.now)
+
+abbrev pub all_changes : TypeOptions → List Change
+all_changes options = changes_of (Select false) options.asked ++ changes_of (Select true) options.left_out
+    ++ changes_of Add options.added ++ changes_of Clear options.cleared
+
+-- the changes that options ask for, in the order of their words
+pub record AreChanges (options : TypeOptions) (changes : List Change) : Type 0 where
+  pub same : IsPermutation (all_changes options) changes
+  pub sorted : IsSortedByKey (λ change. change.place) nat_cmp changes
+
+-- what options know and select
+pub record IsKnownBy (options : TypeOptions) (known : Known) : Type 0 where
+  pub changes : List Change
+  pub are : AreChanges options changes
+  pub is : all_changed (record { definitions = known_types; selections = [] }) changes ≡ Some known
