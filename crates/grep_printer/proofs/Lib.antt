@@ -5,6 +5,7 @@ pub mod CallPartLemmas
 pub mod ColorLemmas
 pub mod CountedLemmas
 pub mod JsonBytesLemmas
+pub mod JsonLineLemmas
 pub mod FoundPartLemmas
 pub mod LineFeedLemmas
 pub mod PartTextLemmas

@@ -1,6 +1,6 @@
 -- What the counts of a printer come to after the calls of a search, one after another.
 use Rattle.std.proofs.Common.{◌≡◌, ◌∙◌, ℕ, suc, ◌+◌, List, [], ◌∷◌, ◌++◌, Bool, true, false, ap, arith}
-use Rattle.std.proofs.Common.{length, refl, sym, subst}
+use Rattle.std.proofs.Common.{length, Option, refl, sym, subst}
 use Rattle.std.proofs.lemmas.Bool.{ne_eqb}
 use Rattle.std.proofs.lemmas.List.{append-nil, length-append}
 use Rattle.std.proofs.lemmas.List.Elements.{All-head, All-tail}
@@ -16,12 +16,13 @@ use Rattle.json.specs.Tree.{json_tokens}
 use Rattle.grep_printer.proofs.SomeTextLemmas.{text-after, text-ended}
 use Rattle.grep_printer.specs.Formats.{Printed, PrintedCall, Scene, is_text, printed_with}
 use Rattle.grep_printer.specs.JsonMessages.{begin_json, json_line}
-use Rattle.grep_printer.specs.JsonTexts.{is_opened, json_progress, json_rules, json_text, new_json_progress}
+use Rattle.grep_printer.specs.JsonTexts.{is_opened, json_progress, json_rules, json_text, new_json_format, new_json_progress}
 use Rattle.grep_printer.specs.JsonTexts.{opening_line, with_end, with_match, with_text}
 use Rattle.grep_printer.specs.PlanCounts.{JsonCounts, SummariesCount, is_inner, json_counts, line_count_of, matched, part_count_of}
 use Rattle.grep_printer.specs.PlanCounts.{summary_counts}
 use Rattle.grep_printer.specs.StatsSums.{capped, capped_sum}
 use Rattle.grep_printer.specs.SummaryTexts.{counts_after, summary_rules, summary_text}
+use Rattle.grep_printer.specs.ReplacerTexts.{TextAt}
 use Rattle.grep_printer.specs.declared.json_printer.JsonFormat.{JsonFormat}
 use Rattle.grep_printer.specs.declared.json_printer.JsonProgress.{JsonProgress}
 use Rattle.grep_printer.specs.declared.summary.Counts.{Counts}
@@ -102,9 +103,12 @@ AreCounted terminator calls found lines parts progress made =
     IsCounted (found + length (matched calls)) (lines + sum_by (line_count_of terminator) (matched calls))
     (parts + sum_by part_count_of (matched calls)) progress made
 
-module _ (always : Bool) (scene : Scene) where
+module _ {R : Type 0} (text_at : R → TextAt) (always : Bool) (replacer : R) (scene : Scene) where
   abbrev terminator : ℕ
   terminator = byte_of scene.settings.line_terminator
+
+  abbrev format-with : JsonProgress → JsonFormat R
+  format-with progress = record { always_begin_end = always; replacer = replacer; progress = progress }
 
   -- the text of a report
   report-some : (progress : JsonProgress) (j : Json)
@@ -112,11 +116,12 @@ module _ (always : Bool) (scene : Scene) where
   report-some progress j = text-after (opening_line scene.path progress.is_begun) (json_line j) (text-line j)
 
   -- a call that isn't a match
-  counted-other : (found lines parts : ℕ) (progress : JsonProgress) (made : List ℕ) (call : Call) (ranges : List (ℕ × ℕ))
+  counted-other : (here : ℕ → Option (List ℕ)) (found lines parts : ℕ) (progress : JsonProgress) (made : List ℕ)
+      (call : Call) (ranges : List (ℕ × ℕ))
       → is_match call ≡ false → IsCounted found lines parts progress made
-      → IsCounted found lines parts (json_progress always scene progress call ranges)
-      (made ++ json_text always scene progress call ranges)
-  counted-other found lines parts progress made begins ranges other is = go (is_opened always progress)
+      → IsCounted found lines parts (json_progress always scene here progress call ranges)
+      (made ++ json_text always scene here progress call ranges)
+  counted-other here found lines parts progress made begins ranges other is = go (is_opened always progress)
     where
       go : (b : Bool) → IsCounted found lines parts
           (if b then with_text progress (if b then json_line (begin_json scene.path) else []) else progress)
@@ -124,15 +129,15 @@ module _ (always : Bool) (scene : Scene) where
       go true = counted-text found lines parts progress made (json_line (begin_json scene.path))
           (text-line (begin_json scene.path)) is
       go false = counted-same found lines parts progress made is
-  counted-other found lines parts progress made (matches number offset bytes) ranges other is = absurd cc
-  counted-other found lines parts progress made (context kind number offset bytes) ranges other is =
+  counted-other here found lines parts progress made (matches number offset bytes) ranges other is = absurd cc
+  counted-other here found lines parts progress made (context kind number offset bytes) ranges other is =
       counted-text found lines parts progress made
-      (json_text always scene progress (context kind number offset bytes) ranges) (report-some progress _) is
-  counted-other found lines parts progress made breaks ranges other is =
+      (json_text always scene here progress (context kind number offset bytes) ranges) (report-some progress _) is
+  counted-other here found lines parts progress made breaks ranges other is =
       counted-same found lines parts progress made is
-  counted-other found lines parts progress made (binary_data offset) ranges other is =
+  counted-other here found lines parts progress made (binary_data offset) ranges other is =
       counted-same found lines parts progress made is
-  counted-other found lines parts progress made (finishes count binary) ranges other is =
+  counted-other here found lines parts progress made (finishes count binary) ranges other is =
       let same = counted-same found lines parts progress made is in record {
         begun = same.begun;
         has_match = same.has_match;
@@ -145,10 +150,10 @@ module _ (always : Bool) (scene : Scene) where
   counted-all : (calls : List PrintedCall) (found lines parts : ℕ) (progress : JsonProgress) (made : List ℕ)
       → IsCounted found lines parts progress made
       → AreCounted terminator calls found lines parts
-      (fold (printed_with json_rules scene)
-      (record { format = record { always_begin_end = always; progress = progress }; text = made }) calls).format.progress
-      (fold (printed_with json_rules scene)
-      (record { format = record { always_begin_end = always; progress = progress }; text = made }) calls).text
+      (fold (printed_with (json_rules text_at) scene)
+      (record { format = format-with progress; text = made }) calls).format.progress
+      (fold (printed_with (json_rules text_at) scene)
+      (record { format = format-with progress; text = made }) calls).text
   counted-all [] found lines parts progress made is =
       let one : found ≡ found + 0 = omega arith in
       let two : lines ≡ lines + 0 = omega arith in
@@ -161,27 +166,25 @@ module _ (always : Bool) (scene : Scene) where
           → ((found lines parts : ℕ) (progress : JsonProgress) (made : List ℕ)
           → IsCounted found lines parts progress made
           → AreCounted terminator later found lines parts
-          (fold (printed_with json_rules scene)
-          (record { format = record { always_begin_end = always; progress = progress }; text = made }) later).format.progress
-          (fold (printed_with json_rules scene)
-          (record { format = record { always_begin_end = always; progress = progress }; text = made }) later).text)
+          (fold (printed_with (json_rules text_at) scene)
+          (record { format = format-with progress; text = made }) later).format.progress
+          (fold (printed_with (json_rules text_at) scene)
+          (record { format = format-with progress; text = made }) later).text)
           → AreCounted terminator (record { call = call; around = printed.around; parts = ranges } ∷ later) found lines parts
-          (fold (printed_with json_rules scene) (record {
-            format = record {
-              always_begin_end = always;
-              progress = json_progress always scene progress call ranges;
-            };
-            text = made ++ json_text always scene progress call ranges;
+          (fold (printed_with (json_rules text_at) scene) (record {
+            format = format-with (json_progress always scene (text_at replacer scene.settings printed.around call)
+                progress call ranges);
+            text = made ++ json_text always scene (text_at replacer scene.settings printed.around call) progress call ranges;
           }) later).format.progress
-          (fold (printed_with json_rules scene) (record {
-            format = record {
-              always_begin_end = always;
-              progress = json_progress always scene progress call ranges;
-            };
-            text = made ++ json_text always scene progress call ranges;
+          (fold (printed_with (json_rules text_at) scene) (record {
+            format = format-with (json_progress always scene (text_at replacer scene.settings printed.around call)
+                progress call ranges);
+            text = made ++ json_text always scene (text_at replacer scene.settings printed.around call) progress call ranges;
           }) later).text
       go begins ranges same others =
-          others found lines parts _ _ (counted-other found lines parts progress made begins ranges refl is)
+          others found lines parts _ _
+          (counted-other (text_at replacer scene.settings printed.around begins)
+          found lines parts progress made begins ranges refl is)
       go (matches number offset bytes) ranges same others =
           let one_call : PrintedCall =
           record { call = matches number offset bytes; around = printed.around; parts = ranges } in
@@ -189,7 +192,9 @@ module _ (always : Bool) (scene : Scene) where
           let count = length ranges in
           let end = others (suc found) (lines + more) (parts + count) _ _
           (counted-match found lines parts more count progress made
-          (json_text always scene progress (matches number offset bytes) ranges) (report-some progress _) is) in
+          (json_text always scene
+          (text_at replacer scene.settings printed.around (matches number offset bytes)) progress
+          (matches number offset bytes) ranges) (report-some progress _) is) in
           let first = sum_by-cons (line_count_of terminator) one_call (matched later) in
           let second = sum_by-cons part_count_of one_call (matched later) in
           counted-as (suc found + length (matched later)) (found + length (one_call ∷ matched later))
@@ -199,33 +204,41 @@ module _ (always : Bool) (scene : Scene) where
           _ _ (omega arith) (omega (arith, first)) (omega (arith, second)) end
       go (context kind number offset bytes) ranges same others =
           others found lines parts _ _
-          (counted-other found lines parts progress made (context kind number offset bytes) ranges refl is)
+          (counted-other (text_at replacer scene.settings printed.around (context kind number offset bytes))
+          found lines parts progress made (context kind number offset bytes) ranges refl is)
       go breaks ranges same others =
-          others found lines parts _ _ (counted-other found lines parts progress made breaks ranges refl is)
+          others found lines parts _ _
+          (counted-other (text_at replacer scene.settings printed.around breaks)
+          found lines parts progress made breaks ranges refl is)
       go (binary_data offset) ranges same others =
-          others found lines parts _ _ (counted-other found lines parts progress made (binary_data offset) ranges refl is)
+          others found lines parts _ _
+          (counted-other (text_at replacer scene.settings printed.around (binary_data offset))
+          found lines parts progress made (binary_data offset) ranges refl is)
       go (finishes count binary) ranges same others =
-          others found lines parts _ _ (counted-other found lines parts progress made (finishes count binary) ranges refl is)
+          others found lines parts _ _
+          (counted-other (text_at replacer scene.settings printed.around (finishes count binary))
+          found lines parts progress made (finishes count binary) ranges refl is)
 
 -- a search
-pub json-counts : JsonCounts
-json-counts always scene calls last count binary ends =
+pub json-counts : {R : Type 0} (text_at : R → TextAt) → JsonCounts text_at
+json-counts {R} text_at always replacer scene calls last count binary ends =
     let terminator = byte_of scene.settings.line_terminator in
-    let start : Printed JsonFormat =
-    record { format = record { always_begin_end = always; progress = new_json_progress }; text = [] } in
-    let before = fold (printed_with json_rules scene) start calls in
-    let all : fold (printed_with json_rules scene) start (calls ++ last ∷ [])
-    ≡ printed_with json_rules scene before last = fold-push (printed_with json_rules scene) calls last start in
+    let start : Printed (JsonFormat R) = record { format = new_json_format always replacer; text = [] } in
+    let here : Printed (JsonFormat R) → Call → ℕ → Option (List ℕ) =
+    λ before call. text_at before.format.replacer scene.settings last.around call in
+    let before = fold (printed_with (json_rules text_at) scene) start calls in
+    let all : fold (printed_with (json_rules text_at) scene) start (calls ++ last ∷ [])
+    ≡ printed_with (json_rules text_at) scene before last = fold-push (printed_with (json_rules text_at) scene) calls last start in
     ap (λ made. made.format.progress) all
-    ∙ (subst (λ call. json_progress before.format.always_begin_end scene before.format.progress call last.parts
+    ∙ (subst (λ call. json_progress before.format.always_begin_end scene (here before call) before.format.progress call last.parts
     ≡ json_counts terminator (matched calls)
-    (before.text ++ json_text before.format.always_begin_end scene before.format.progress call last.parts) count binary)
+    (before.text ++ json_text before.format.always_begin_end scene (here before call) before.format.progress call last.parts) count binary)
     (sym ends) (at-end before
-    (counted-all always scene calls 0 0 0 new_json_progress []
+    (counted-all text_at always replacer scene calls 0 0 0 new_json_progress []
     (record { begun = refl; has_match = refl; bytes = refl; line_sum = refl; match_sum = refl })))
     ∙ sym (ap (λ made. json_counts terminator (matched calls) made.text count binary) all))
   where
-    at-end : (before : Printed JsonFormat)
+    at-end : (before : Printed (JsonFormat R))
         → AreCounted (byte_of scene.settings.line_terminator) calls 0 0 0 before.format.progress before.text
         → with_end before.format.progress count binary
         ≡ json_counts (byte_of scene.settings.line_terminator) (matched calls) (before.text ++ []) count binary

@@ -79,32 +79,43 @@ stats-writable stats words =
       shallow = omega arith;
     }
 
-range-writable : (bytes : List ℕ) (range : ℕ × ℕ) → IsWordRange range
-    → IsWritable 2 (submatch_json bytes range)
+range-writable : (bytes : List ℕ) (text : Option (List ℕ)) (range : ℕ × ℕ) → IsWordRange range
+    → IsWritable 2 (submatch_json bytes text range)
 unfolding submatch_json
-range-writable bytes range small =
+range-writable bytes None range small =
     let found = bytes-writable _ in
     let shallow = found.shallow in record {
       numbers = (found.numbers, (IsNumber-decimal range.0 small.0, (IsNumber-decimal range.1 small.1, tt)));
       shallow = omega arith;
     }
+range-writable bytes (Some text) range small =
+    let found = bytes-writable _ in
+    let shallow = found.shallow in
+    let placed = bytes-writable text in
+    let flat = placed.shallow in record {
+      numbers = (
+        found.numbers,
+        (placed.numbers, (IsNumber-decimal range.0 small.0, (IsNumber-decimal range.1 small.1, tt))),
+      );
+      shallow = omega arith;
+    }
 
-ranges-numbers : (bytes : List ℕ) (ranges : List (ℕ × ℕ))
+ranges-numbers : (bytes : List ℕ) (text_at : ℕ → Option (List ℕ)) (ranges : List (ℕ × ℕ))
     → All IsWordRange ranges
-    → ItemsHaveNumbers (submatch_items bytes ranges)
-ranges-numbers bytes [] small = tt
-ranges-numbers bytes (range ∷ later) small = (
-  (range-writable bytes range (All-head IsWordRange range later small)).numbers,
-  ranges-numbers bytes later (All-tail IsWordRange range later small),
+    → ItemsHaveNumbers (submatch_items bytes text_at ranges)
+ranges-numbers bytes text_at [] small = tt
+ranges-numbers bytes text_at (range ∷ later) small = (
+  (range-writable bytes (text_at range.0) range (All-head IsWordRange range later small)).numbers,
+  ranges-numbers bytes text_at later (All-tail IsWordRange range later small),
 )
 
-ranges-shallow : (bytes : List ℕ) (ranges : List (ℕ × ℕ))
+ranges-shallow : (bytes : List ℕ) (text_at : ℕ → Option (List ℕ)) (ranges : List (ℕ × ℕ))
     → All IsWordRange ranges
-    → items_depth (submatch_items bytes ranges) ≤ 2
-ranges-shallow bytes [] small = omega arith
-ranges-shallow bytes (range ∷ later) small =
-    let first = (range-writable bytes range (All-head IsWordRange range later small)).shallow in
-    omega (arith, first, ranges-shallow bytes later (All-tail IsWordRange range later small))
+    → items_depth (submatch_items bytes text_at ranges) ≤ 2
+ranges-shallow bytes text_at [] small = omega arith
+ranges-shallow bytes text_at (range ∷ later) small =
+    let first = (range-writable bytes (text_at range.0) range (All-head IsWordRange range later small)).shallow in
+    omega (arith, first, ranges-shallow bytes text_at later (All-tail IsWordRange range later small))
 
 begin-writable : (path : Option (Bor (List ℕ))) → IsWritable 128 (begin_json path)
 unfolding begin_json
@@ -119,7 +130,7 @@ report-writable report is =
     let path = path-writable report.path in
     let bytes = bytes-writable report.bytes in
     let number = optional-writable report.number is.number in
-    let ranges = ranges-shallow report.bytes report.ranges is.ranges in
+    let ranges = ranges-shallow report.bytes report.text_at report.ranges is.ranges in
     let first = path.shallow in
     let second = bytes.shallow in
     let third = number.shallow in record {
@@ -134,7 +145,7 @@ report-writable report is =
                 number.numbers,
                 (
                   IsNumber-decimal report.offset is.offset,
-                  (ranges-numbers report.bytes report.ranges is.ranges, tt),
+                  (ranges-numbers report.bytes report.text_at report.ranges is.ranges, tt),
                 ),
               ),
             ),

@@ -1,6 +1,6 @@
 -- What the message of a report tells of it.
 use Rattle.std.proofs.Common.{◌≡◌, ◌≢◌, ◌∙◌, ℕ, ◌<◌, ◌^◌, List, [], ◌∷◌, Bool, true, false, Option, None, Some, ap}
-use Rattle.std.proofs.Common.{ap₂, arith, length, refl, sym}
+use Rattle.std.proofs.Common.{ap₂, arith, length, map, refl, sym}
 use Rattle.std.proofs.lemmas.Fmt.{decimal_injective}
 use Rattle.std.proofs.lemmas.List.Elements.{All-head, All-tail}
 use Rattle.std.specs.Borrow.{Bor}
@@ -10,10 +10,11 @@ use Rattle.std.specs.Str.{is_utf8}
 use Rattle.base64.proofs.EngineFacts.{decode_of-encode_of}
 use Rattle.base64.specs.Engines.{standard}
 use Rattle.base64.specs.GeneralPurpose.{IsBytes, decode_of, encode_of}
+use Rattle.json.specs.Json.{Json, Members, member, no_members}
 use Rattle.grep_printer.specs.JsonLaws.{BeginsTell, IsWordRange, MessagesTell, Reported, message_of_report}
 use Rattle.grep_printer.specs.JsonLaws.{path_text}
-use Rattle.grep_printer.specs.JsonMessages.{base64_json, begin_json, bytes_json, optional_json, path_json, report_json}
-use Rattle.grep_printer.specs.JsonMessages.{submatch_items, submatch_json, text_json}
+use Rattle.grep_printer.specs.JsonMessages.{base64_json, begin_json, bytes_json, number_json, optional_json, path_json}
+use Rattle.grep_printer.specs.JsonMessages.{report_json, submatch_items, submatch_json, text_json}
 
 path-told : (a b : Option (Bor (List ℕ))) → path_json a ≡ path_json b → path_text a ≡ path_text b
 path-told None None same = refl
@@ -48,43 +49,83 @@ bytes-told a b first later same = go (is_utf8 a) (is_utf8 b) same
         ∙ decode_of-encode_of standard b refl later) in
         cc
 
-range-told : (bytes others : List ℕ) (a b : ℕ × ℕ) → IsWordRange a → IsWordRange b
-    → submatch_json bytes a ≡ submatch_json others b → a ≡ b
-unfolding submatch_json
-range-told bytes others a b first later same =
-    let starts : decimal a.0 ≡ decimal b.0 = cc in
-    let ends : decimal a.1 ≡ decimal b.1 = cc in
+-- the last members of a match
+abbrev positions_json : ℕ × ℕ → Members
+positions_json range =
+    member (codes "start") (number_json range.0) (member (codes "end") (number_json range.1) no_members)
+
+-- a text in place of a match has another key than its start
+place-other : (text : List ℕ) (later rest : Members) (start : Json)
+    → member (codes "replacement") (bytes_json text) later ≡ member (codes "start") start rest → ⊥
+place-other text later rest start same =
+    let key : codes "replacement" ≡ codes "start" = cc in
+    let sizes = ap length key in
+    omega (arith, sizes)
+
+-- the positions of a match
+places-told : (a b : ℕ × ℕ) → IsWordRange a → IsWordRange b → decimal a.0 ≡ decimal b.0
+    → decimal a.1 ≡ decimal b.1 → a ≡ b
+places-told a b first later starts ends =
     ap₂ (λ (m n : ℕ). (m, n)) (decimal_injective a.0 b.0 first.0 later.0 starts)
     (decimal_injective a.1 b.1 first.1 later.1 ends)
 
-ranges-told : (bytes others : List ℕ) (a b : List (ℕ × ℕ)) → All IsWordRange a → All IsWordRange b
-    → submatch_items bytes a ≡ submatch_items others b → a ≡ b
-ranges-told bytes others [] [] first later same = refl
-ranges-told bytes others [] (y ∷ b) first later same = absurd cc
-ranges-told bytes others (x ∷ a) [] first later same = absurd cc
-ranges-told bytes others (x ∷ a) (y ∷ b) first later same =
-    let one : submatch_json bytes x ≡ submatch_json others y = cc in
-    let more : submatch_items bytes a ≡ submatch_items others b = cc in
-    ap₂ (λ (z : ℕ × ℕ) (c : List (ℕ × ℕ)). z ∷ c)
-    (range-told bytes others x y (All-head IsWordRange x a first) (All-head IsWordRange y b later) one)
-    (ranges-told bytes others a b (All-tail IsWordRange x a first) (All-tail IsWordRange y b later) more)
+range-told : (bytes others : List ℕ) (text other : Option (List ℕ)) (a b : ℕ × ℕ) → IfSome text IsBytes
+    → IfSome other IsBytes → IsWordRange a → IsWordRange b
+    → submatch_json bytes text a ≡ submatch_json others other b → (text ≡ other) × (a ≡ b)
+unfolding submatch_json
+range-told bytes others None None a b is also first later same =
+    let starts : decimal a.0 ≡ decimal b.0 = cc in
+    let ends : decimal a.1 ≡ decimal b.1 = cc in
+    (refl, places-told a b first later starts ends)
+range-told bytes others (Some text) None a b is also first later same =
+    let members : member (codes "replacement") (bytes_json text) (positions_json a) ≡ positions_json b = cc in
+    absurd (place-other text _ _ (number_json b.0) members)
+range-told bytes others None (Some other) a b is also first later same =
+    let members : member (codes "replacement") (bytes_json other) (positions_json b) ≡ positions_json a = cc in
+    absurd (place-other other _ _ (number_json a.0) members)
+range-told bytes others (Some text) (Some other) a b is also first later same =
+    let texts : bytes_json text ≡ bytes_json other = cc in
+    let starts : decimal a.0 ≡ decimal b.0 = cc in
+    let ends : decimal a.1 ≡ decimal b.1 = cc in
+    (ap Some (bytes-told text other is also texts), places-told a b first later starts ends)
+
+ranges-told : (bytes others : List ℕ) (text_at other_at : ℕ → Option (List ℕ)) (a b : List (ℕ × ℕ))
+    → ((position : ℕ) → IfSome (text_at position) IsBytes) → ((position : ℕ) → IfSome (other_at position) IsBytes)
+    → All IsWordRange a → All IsWordRange b → submatch_items bytes text_at a ≡ submatch_items others other_at b
+    → (map (λ range. text_at range.0) a ≡ map (λ range. other_at range.0) b) × (a ≡ b)
+ranges-told bytes others text_at other_at [] [] is also first later same = (refl, refl)
+ranges-told bytes others text_at other_at [] (y ∷ b) is also first later same = absurd cc
+ranges-told bytes others text_at other_at (x ∷ a) [] is also first later same = absurd cc
+ranges-told bytes others text_at other_at (x ∷ a) (y ∷ b) is also first later same =
+    let one : submatch_json bytes (text_at x.0) x ≡ submatch_json others (other_at y.0) y = cc in
+    let more : submatch_items bytes text_at a ≡ submatch_items others other_at b = cc in
+    let here = range-told bytes others (text_at x.0) (other_at y.0) x y (is x.0) (also y.0)
+    (All-head IsWordRange x a first) (All-head IsWordRange y b later) one in
+    let rest = ranges-told bytes others text_at other_at a b is also (All-tail IsWordRange x a first)
+    (All-tail IsWordRange y b later) more in (
+      ap₂ (λ (t : Option (List ℕ)) (ts : List (Option (List ℕ))). t ∷ ts) here.0 rest.0,
+      ap₂ (λ (z : ℕ × ℕ) (c : List (ℕ × ℕ)). z ∷ c) here.1 rest.1,
+    )
 
 -- all of a report
 pub messages-tell : MessagesTell
 unfolding report_json
-messages-tell a b first later same =
+messages-tell a b first later is also same =
     let path : path_json a.path ≡ path_json b.path = cc in
     let bytes : bytes_json a.bytes ≡ bytes_json b.bytes = cc in
     let number : optional_json a.number ≡ optional_json b.number = cc in
     let offset : decimal a.offset ≡ decimal b.offset = cc in
-    let ranges : submatch_items a.bytes a.ranges ≡ submatch_items b.bytes b.ranges = cc in
+    let items : submatch_items a.bytes a.text_at a.ranges ≡ submatch_items b.bytes b.text_at b.ranges = cc in
+    let ranges = ranges-told a.bytes b.bytes a.text_at b.text_at a.ranges b.ranges is also
+    first.ranges later.ranges items in
     record {
       type = cc;
       path = path-told a.path b.path path;
       bytes = bytes-told a.bytes b.bytes first.bytes later.bytes bytes;
       number = number-told a.number b.number first.number later.number number;
       offset = decimal_injective a.offset b.offset first.offset later.offset offset;
-      ranges = ranges-told a.bytes b.bytes a.ranges b.ranges first.ranges later.ranges ranges;
+      texts = ranges.0;
+      ranges = ranges.1;
     }
 
 -- the message that begins a search has no bytes

@@ -5,6 +5,8 @@ use Rattle.std.proofs.lemmas.List.{append-nil, same_from_push}
 use Rattle.std.proofs.lemmas.List.Elements.{All-append, All-cons, All-head, All-map, All-nil, All-tail, All-weaker}
 use Rattle.std.specs.Borrow.{Bor}
 use Rattle.std.specs.List.{AllZip, flat_map, fold, list_any}
+use Rattle.std.specs.Option.{IfSome}
+use Rattle.base64.specs.GeneralPurpose.{IsBytes}
 use Rattle.std.specs.Prelude.{All, ◌&&◌, ◌||◌, if◌then◌else◌, not}
 use Rattle.json.specs.Json.{Json, document}
 use Rattle.grep_matcher.proofs.LineLemmas.{lines-end, lines-inner}
@@ -13,11 +15,13 @@ use Rattle.grep_searcher.specs.Plans.{Call, begins, matches, context, breaks, bi
 use Rattle.grep_printer.proofs.ReadBackLemmas.{messages-read-back}
 use Rattle.grep_printer.proofs.ReportToldLemmas.{begin-other, messages-tell}
 use Rattle.grep_printer.specs.Formats.{PrintedCall, Scene, Surroundings, printed_by, printed_with}
-use Rattle.grep_printer.specs.JsonLaws.{IsLineOf, IsReport, IsSameReport, IsWordRange, Reported, message_of_report}
+use Rattle.grep_printer.specs.JsonLaws.{HasByteTexts, IsLineOf, IsReport, IsSameReport, IsWordRange, Reported}
+use Rattle.grep_printer.specs.JsonLaws.{message_of_report}
 use Rattle.grep_printer.specs.JsonMessages.{begin_json, json_line}
 use Rattle.grep_printer.specs.JsonTexts.{json_progress, json_rules, json_text, with_text}
 use Rattle.grep_printer.specs.SearchMessages.{AreReadBack, HasPrintedWords, HasWords, SearchesAreReadBack, SearchesTell}
-use Rattle.grep_printer.specs.SearchMessages.{messages_of, opens, report_in, reports_of}
+use Rattle.grep_printer.specs.ReplacerTexts.{TextAt}
+use Rattle.grep_printer.specs.SearchMessages.{CallTextAt, messages_of, opens, report_in, reports_of, texts_of}
 use Rattle.grep_printer.specs.declared.json_printer.JsonProgress.{JsonProgress}
 
 -- ---- the lines of some messages, one after another
@@ -77,24 +81,28 @@ lines-tell (a ∷ first) (b ∷ later) [] one two = absurd one
 lines-tell (a ∷ first) (b ∷ later) (line ∷ ls) one two =
     let head = line-tells a b line one.0 two.0 in let tail = lines-tell first later ls one.1 two.1 in cc
 
-module _ (always : Bool) (scene : Scene) where
+module _ {R : Type 0} (text_at : R → TextAt) (always : Bool) (replacer : R) (scene : Scene) where
+  -- what matches would be replaced by
+  abbrev texts : CallTextAt
+  texts = text_at replacer scene.settings
+
   -- ---- the text of a search
 
   -- one call with its parts, and those after it
   text-more : (progress : JsonProgress) (call : Call) (around : Surroundings) (parts : List (ℕ × ℕ))
       (later : List PrintedCall)
-      → flat_map json_line (messages_of always scene.path progress.is_begun
+      → flat_map json_line (messages_of always scene.path texts progress.is_begun
       (record { call = call; around = around; parts = parts } ∷ later))
-      ≡ json_text always scene progress call parts
-      ++ flat_map json_line (messages_of always scene.path (json_progress always scene progress call parts).is_begun
+      ≡ json_text always scene (texts around call) progress call parts
+      ++ flat_map json_line (messages_of always scene.path texts (json_progress always scene (texts around call) progress call parts).is_begun
       later)
   text-more progress begins around parts later = go always progress.is_begun
     where
       go : (due begun : Bool)
           → flat_map json_line ((if not begun && (due || list_any (λ p. opens always p.call) later)
-          then begin_json scene.path ∷ [] else []) ++ map message_of_report (reports_of scene.path later))
+          then begin_json scene.path ∷ [] else []) ++ map message_of_report (reports_of scene.path texts later))
           ≡ (if due && not begun then json_line (begin_json scene.path) else [])
-          ++ flat_map json_line (messages_of always scene.path
+          ++ flat_map json_line (messages_of always scene.path texts
           (if due && not begun
           then with_text progress (if due && not begun then json_line (begin_json scene.path) else [])
           else record progress { is_begun = begun }).is_begun later)
@@ -104,19 +112,21 @@ module _ (always : Bool) (scene : Scene) where
   text-more progress (matches number offset bytes) around parts later = go progress.is_begun
     where
       go : (begun : Bool)
-          → flat_map json_line (messages_of always scene.path begun
+          → flat_map json_line (messages_of always scene.path texts begun
           (record { call = matches number offset bytes; around = around; parts = parts } ∷ later))
-          ≡ json_text always scene (record progress { is_begun = begun }) (matches number offset bytes) parts
-          ++ flat_map json_line (messages_of always scene.path true later)
+          ≡ json_text always scene (texts around (matches number offset bytes))
+          (record progress { is_begun = begun }) (matches number offset bytes) parts
+          ++ flat_map json_line (messages_of always scene.path texts true later)
       go true = refl
       go false = sym (append_assoc (json_line (begin_json scene.path)) _ _)
   text-more progress (context kind number offset bytes) around parts later = go progress.is_begun
     where
       go : (begun : Bool)
-          → flat_map json_line (messages_of always scene.path begun
+          → flat_map json_line (messages_of always scene.path texts begun
           (record { call = context kind number offset bytes; around = around; parts = parts } ∷ later))
-          ≡ json_text always scene (record progress { is_begun = begun }) (context kind number offset bytes) parts
-          ++ flat_map json_line (messages_of always scene.path true later)
+          ≡ json_text always scene (texts around (context kind number offset bytes))
+          (record progress { is_begun = begun }) (context kind number offset bytes) parts
+          ++ flat_map json_line (messages_of always scene.path texts true later)
       go true = refl
       go false = sym (append_assoc (json_line (begin_json scene.path)) _ _)
   text-more progress breaks around parts later = refl
@@ -124,22 +134,25 @@ module _ (always : Bool) (scene : Scene) where
   text-more progress (finishes count binary) around parts later = refl
 
   -- no calls have no message
-  messages-none : (begun : Bool) → messages_of always scene.path begun [] ≡ []
+  messages-none : (begun : Bool) → messages_of always scene.path texts begun [] ≡ []
   messages-none true = refl
   messages-none false = refl
 
   -- all calls
   text-all : (calls : List PrintedCall) (progress : JsonProgress) (text : List ℕ)
-      → (fold (printed_with json_rules scene)
-      (record { format = record { always_begin_end = always; progress = progress }; text = text }) calls).text
-      ≡ text ++ flat_map json_line (messages_of always scene.path progress.is_begun calls)
+      → (fold (printed_with (json_rules text_at) scene)
+      (record {
+        format = record { always_begin_end = always; replacer = replacer; progress = progress };
+        text = text;
+      }) calls).text
+      ≡ text ++ flat_map json_line (messages_of always scene.path texts progress.is_begun calls)
   text-all [] progress text =
       sym (append-nil text)
       ∙ ap (λ ms. text ++ flat_map json_line ms) (sym (messages-none progress.is_begun))
   text-all (printed ∷ later) progress text =
-      let here = json_text always scene progress printed.call printed.parts in
-      let after = json_progress always scene progress printed.call printed.parts in
-      let rest = flat_map json_line (messages_of always scene.path after.is_begun later) in
+      let here = json_text always scene (texts printed.around printed.call) progress printed.call printed.parts in
+      let after = json_progress always scene (texts printed.around printed.call) progress printed.call printed.parts in
+      let rest = flat_map json_line (messages_of always scene.path texts after.is_begun later) in
       text-all later after (text ++ here)
       ∙ (append_assoc text here rest
       ∙ ap (λ t. text ++ t) (sym (text-more progress printed.call printed.around printed.parts later)))
@@ -147,61 +160,87 @@ module _ (always : Bool) (scene : Scene) where
 -- ---- its messages
 
 -- the report of a call
-call-words : (path : Option (Bor (List ℕ))) (call : Call) (parts : List (ℕ × ℕ)) → HasWords call
-    → All IsWordRange parts → All IsReport (report_in path call parts)
-call-words path begins parts has ranges = All-nil IsReport
-call-words path (matches number offset bytes) parts has ranges =
+call-words : (path : Option (Bor (List ℕ))) (text_at : CallTextAt) (around : Surroundings) (call : Call) (parts : List (ℕ × ℕ)) → HasWords call
+    → All IsWordRange parts → All IsReport (report_in path text_at around call parts)
+call-words path text_at around begins parts has ranges = All-nil IsReport
+call-words path text_at around (matches number offset bytes) parts has ranges =
     All-cons IsReport _ [] (record {
       bytes = has.bytes;
       number = has.number;
       offset = has.offset;
       ranges = ranges;
     }) (All-nil IsReport)
-call-words path (context kind number offset bytes) parts has ranges =
+call-words path text_at around (context kind number offset bytes) parts has ranges =
     All-cons IsReport _ [] (record {
       bytes = has.bytes;
       number = has.number;
       offset = has.offset;
       ranges = ranges;
     }) (All-nil IsReport)
-call-words path breaks parts has ranges = All-nil IsReport
-call-words path (binary_data offset) parts has ranges = All-nil IsReport
-call-words path (finishes count binary) parts has ranges = All-nil IsReport
+call-words path text_at around breaks parts has ranges = All-nil IsReport
+call-words path text_at around (binary_data offset) parts has ranges = All-nil IsReport
+call-words path text_at around (finishes count binary) parts has ranges = All-nil IsReport
 
-calls-words : (path : Option (Bor (List ℕ))) (calls : List PrintedCall) → All HasPrintedWords calls
-    → All IsReport (reports_of path calls)
-calls-words path [] has = All-nil IsReport
-calls-words path (printed ∷ later) has =
+calls-words : (path : Option (Bor (List ℕ))) (text_at : CallTextAt) (calls : List PrintedCall) → All HasPrintedWords calls
+    → All IsReport (reports_of path text_at calls)
+calls-words path text_at [] has = All-nil IsReport
+calls-words path text_at (printed ∷ later) has =
     let here = All-head HasPrintedWords printed later has in
-    All-append IsReport (report_in path printed.call printed.parts) (reports_of path later)
-    (call-words path printed.call printed.parts here.call here.ranges)
-    (calls-words path later (All-tail HasPrintedWords printed later has))
+    All-append IsReport (report_in path text_at printed.around printed.call printed.parts)
+    (reports_of path text_at later)
+    (call-words path text_at printed.around printed.call printed.parts here.call here.ranges)
+    (calls-words path text_at later (All-tail HasPrintedWords printed later has))
 
-messages-read : (always : Bool) (path : Option (Bor (List ℕ))) (begun : Bool) (calls : List PrintedCall)
-    → All HasPrintedWords calls → AreRead (messages_of always path begun calls)
-messages-read always path begun calls has =
+messages-read : (always : Bool) (path : Option (Bor (List ℕ))) (text_at : CallTextAt) (begun : Bool) (calls : List PrintedCall)
+    → All HasPrintedWords calls → AreRead (messages_of always path text_at begun calls)
+messages-read always path text_at begun calls has =
     All-append (λ m. IsLineOf m (json_line m)) _ _
     (opening (not begun && list_any (λ p. opens always p.call) calls))
-    (All-map (λ m. IsLineOf m (json_line m)) message_of_report (reports_of path calls)
+    (All-map (λ m. IsLineOf m (json_line m)) message_of_report (reports_of path text_at calls)
     (All-weaker IsReport (λ r. IsLineOf (message_of_report r) (json_line (message_of_report r))) messages-read-back.report
-    (reports_of path calls) (calls-words path calls has)))
+    (reports_of path text_at calls) (calls-words path text_at calls has)))
   where
     opening : (due : Bool) → AreRead (if due then begin_json path ∷ [] else [])
     opening true = All-cons (λ m. IsLineOf m (json_line m)) (begin_json path) []
         (messages-read-back.begin path) (All-nil (λ m. IsLineOf m (json_line m)))
     opening false = All-nil (λ m. IsLineOf m (json_line m))
 
+-- what their matches would be replaced by are bytes
+call-texts : (path : Option (Bor (List ℕ))) (text_at : CallTextAt) (around : Surroundings) (call : Call)
+    (parts : List (ℕ × ℕ)) → ((around : Surroundings) (call : Call) (position : ℕ)
+    → IfSome (text_at around call position) IsBytes) → All HasByteTexts (report_in path text_at around call parts)
+call-texts path text_at around begins parts are = All-nil HasByteTexts
+call-texts path text_at around (matches number offset bytes) parts are =
+    All-cons HasByteTexts _ [] (are around (matches number offset bytes)) (All-nil HasByteTexts)
+call-texts path text_at around (context kind number offset bytes) parts are =
+    All-cons HasByteTexts _ [] (are around (context kind number offset bytes)) (All-nil HasByteTexts)
+call-texts path text_at around breaks parts are = All-nil HasByteTexts
+call-texts path text_at around (binary_data offset) parts are = All-nil HasByteTexts
+call-texts path text_at around (finishes count binary) parts are = All-nil HasByteTexts
+
+calls-texts : (path : Option (Bor (List ℕ))) (text_at : CallTextAt) (calls : List PrintedCall)
+    → ((around : Surroundings) (call : Call) (position : ℕ) → IfSome (text_at around call position) IsBytes)
+    → All HasByteTexts (reports_of path text_at calls)
+calls-texts path text_at [] are = All-nil HasByteTexts
+calls-texts path text_at (printed ∷ later) are =
+    All-append HasByteTexts (report_in path text_at printed.around printed.call printed.parts)
+    (reports_of path text_at later) (call-texts path text_at printed.around printed.call printed.parts are)
+    (calls-texts path text_at later are)
+
 -- ---- what the messages tell
 
 reports-same : (first later : List Reported) → All IsReport first → All IsReport later
+    → All HasByteTexts first → All HasByteTexts later
     → map message_of_report first ≡ map message_of_report later → AllZip IsSameReport first later
-reports-same [] [] one two same = tt
-reports-same [] (b ∷ later) one two same = absurd cc
-reports-same (a ∷ first) [] one two same = absurd cc
-reports-same (a ∷ first) (b ∷ later) one two same =
+reports-same [] [] one two is also same = tt
+reports-same [] (b ∷ later) one two is also same = absurd cc
+reports-same (a ∷ first) [] one two is also same = absurd cc
+reports-same (a ∷ first) (b ∷ later) one two is also same =
     let head : message_of_report a ≡ message_of_report b = cc in let tail : map message_of_report first ≡ map message_of_report later = cc in (
-      messages-tell a b (All-head IsReport a first one) (All-head IsReport b later two) head,
-      reports-same first later (All-tail IsReport a first one) (All-tail IsReport b later two) tail,
+      messages-tell a b (All-head IsReport a first one) (All-head IsReport b later two)
+          (All-head HasByteTexts a first is) (All-head HasByteTexts b later also) head,
+      reports-same first later (All-tail IsReport a first one) (All-tail IsReport b later two)
+          (All-tail HasByteTexts a first is) (All-tail HasByteTexts b later also) tail,
     )
 
 -- `begin` is no report's
@@ -212,32 +251,38 @@ begin-alone path first (b ∷ later) same = let head : begin_json path ≡ messa
 
 messages-same : (due also : Bool) (path other : Option (Bor (List ℕ))) (first later : List Reported)
     → All IsReport first → All IsReport later
+    → All HasByteTexts first → All HasByteTexts later
     → (if due then begin_json path ∷ [] else []) ++ map message_of_report first
     ≡ (if also then begin_json other ∷ [] else []) ++ map message_of_report later → AllZip IsSameReport first later
-messages-same true true path other first later one two same =
-    let tail : map message_of_report first ≡ map message_of_report later = cc in reports-same first later one two tail
-messages-same true false path other first later one two same = absurd (begin-alone path first later same)
-messages-same false true path other first later one two same = absurd (begin-alone other later first (sym same))
-messages-same false false path other first later one two same = reports-same first later one two same
+messages-same true true path other first later one two is also same =
+    let tail : map message_of_report first ≡ map message_of_report later = cc in reports-same first later one two is also tail
+messages-same true false path other first later one two is also same = absurd (begin-alone path first later same)
+messages-same false true path other first later one two is also same = absurd (begin-alone other later first (sym same))
+messages-same false false path other first later one two is also same = reports-same first later one two is also same
 
-pub searches-read : SearchesAreReadBack
-searches-read format scene calls has =
-    lines-read (messages_of format.always_begin_end scene.path format.progress.is_begun calls)
-    (printed_by json_rules scene format calls).text
-    (text-all format.always_begin_end scene calls format.progress [])
-    (messages-read format.always_begin_end scene.path format.progress.is_begun calls has)
+pub searches-read : {R : Type 0} (text_at : R → TextAt) → SearchesAreReadBack text_at
+searches-read text_at format scene calls has =
+    let texts = texts_of text_at format scene in
+    lines-read (messages_of format.always_begin_end scene.path texts format.progress.is_begun calls)
+    (printed_by (json_rules text_at) scene format calls).text
+    (text-all text_at format.always_begin_end format.replacer scene calls format.progress [])
+    (messages-read format.always_begin_end scene.path texts format.progress.is_begun calls has)
 
-pub searches-tell : SearchesTell
-searches-tell format other scene another calls others has also same =
-    let one = searches-read format scene calls has in
-    let two = searches-read other another others also in
+pub searches-tell : {R : Type 0} (text_at : R → TextAt) → SearchesTell text_at
+searches-tell text_at format other scene another calls others has also are be same =
+    let first = texts_of text_at format scene in
+    let second = texts_of text_at other another in
+    let one = searches-read text_at format scene calls has in
+    let two = searches-read text_at other another others also in
     messages-same
     (not format.progress.is_begun && list_any (λ p. opens format.always_begin_end p.call) calls)
     (not other.progress.is_begun && list_any (λ p. opens other.always_begin_end p.call) others)
-    scene.path another.path (reports_of scene.path calls) (reports_of another.path others)
-    (calls-words scene.path calls has) (calls-words another.path others also)
-    (lines-tell (messages_of format.always_begin_end scene.path format.progress.is_begun calls)
-    (messages_of other.always_begin_end another.path other.progress.is_begun others)
-    (lines 10 (printed_by json_rules scene format calls).text) one.read
-    (subst (λ text. AllZip IsLineOf (messages_of other.always_begin_end another.path other.progress.is_begun others)
+    scene.path another.path (reports_of scene.path first calls) (reports_of another.path second others)
+    (calls-words scene.path first calls has) (calls-words another.path second others also)
+    (calls-texts scene.path first calls are) (calls-texts another.path second others be)
+    (lines-tell (messages_of format.always_begin_end scene.path first format.progress.is_begun calls)
+    (messages_of other.always_begin_end another.path second other.progress.is_begun others)
+    (lines 10 (printed_by (json_rules text_at) scene format calls).text) one.read
+    (subst (λ text. AllZip IsLineOf
+    (messages_of other.always_begin_end another.path second other.progress.is_begun others)
     (lines 10 text)) (sym same) two.read))

@@ -8,6 +8,7 @@ use Rattle.grep_printer.specs.CountedTexts.{counted_rules}
 use Rattle.grep_printer.specs.Formats.{PrintedCall, Rules, Scene}
 use Rattle.grep_printer.specs.JsonTexts.{json_rules}
 use Rattle.grep_printer.specs.ReplacedTexts.{replaced_call, replaced_rules}
+use Rattle.grep_printer.specs.ReplacerTexts.{TextAt}
 use Rattle.grep_printer.specs.StandardTexts.{standard_rules}
 use Rattle.grep_printer.specs.SummaryTexts.{summary_rules}
 use Rattle.grep_printer.specs.VimgrepTexts.{vimgrep_rules}
@@ -24,8 +25,8 @@ standard-ends format scene printed count binary is = rw is refl
 pub summary-ends : Ends summary_rules
 summary-ends format scene printed count binary is = rw is refl
 
-pub json-ends : Ends json_rules
-json-ends format scene printed count binary is = refl
+pub json-ends : {R : Type 0} (text_at : R → TextAt) → Ends (json_rules text_at)
+json-ends text_at format scene printed count binary is = refl
 
 pub vimgrep-ends : Ends vimgrep_rules
 vimgrep-ends format = standard-ends format.lines

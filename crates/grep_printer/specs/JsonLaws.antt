@@ -1,5 +1,5 @@
 -- What a reader of JSON makes of the messages of a printer.
-use Rattle.std.specs.Prelude.{◌≡◌, ◌≢◌, ℕ, ◌<◌, ◌^◌, All, List, [], ◌∷◌, ◌++◌, Option, None, Some}
+use Rattle.std.specs.Prelude.{◌≡◌, ◌≢◌, ℕ, ◌<◌, ◌^◌, All, List, [], ◌∷◌, ◌++◌, map, Option, None, Some}
 use Rattle.std.specs.Borrow.{Bor}
 use Rattle.std.specs.Option.{IfSome}
 use Rattle.base64.specs.GeneralPurpose.{IsBytes}
@@ -29,13 +29,15 @@ pub record AreWords (stats : Stats) : Type 0 where
 abbrev pub IsWordRange : ℕ × ℕ → Type 0
 IsWordRange range = (range.0 < 2 ^ 64) × (range.1 < 2 ^ 64)
 
--- a report, as its message has it
+-- a report, as its message has it, and what the match at a position would be replaced by, if it would
+-- be
 pub record Reported : Type 0 where
   pub type : List ℕ
   pub path : Option (Bor (List ℕ))
   pub bytes : List ℕ
   pub number : Option ℕ
   pub offset : ℕ
+  pub text_at : ℕ → Option (List ℕ)
   pub ranges : List (ℕ × ℕ)
 
 -- its numbers are ones of 64 bits
@@ -45,10 +47,15 @@ pub record IsReport (report : Reported) : Type 0 where
   pub offset : report.offset < 2 ^ 64
   pub ranges : All IsWordRange report.ranges
 
+-- what its matches would be replaced by are bytes
+abbrev pub HasByteTexts : Reported → Type 0
+HasByteTexts report = (position : ℕ) → IfSome (report.text_at position) IsBytes
+
 -- its message
 abbrev pub message_of_report : Reported → Json
 message_of_report report =
-    report_json report.type report.path report.bytes report.number report.offset report.ranges
+    report_json report.type report.path report.bytes report.number report.offset
+    report.text_at report.ranges
 
 -- the text of a path, if there is one
 abbrev pub path_text : Option (Bor (List ℕ)) → Option (List ℕ)
@@ -62,6 +69,7 @@ pub record IsSameReport (a b : Reported) : Type 0 where
   pub bytes : a.bytes ≡ b.bytes
   pub number : a.number ≡ b.number
   pub offset : a.offset ≡ b.offset
+  pub texts : map (λ range. a.text_at range.0) a.ranges ≡ map (λ range. b.text_at range.0) b.ranges
   pub ranges : a.ranges ≡ b.ranges
 
 -- the lines of messages are read back as these messages
@@ -79,8 +87,8 @@ pub record MessagesAreReadBack : Type 0 where
 -- a message tells all of its report: no other report has it
 abbrev pub MessagesTell : Type 0
 MessagesTell =
-    (a b : Reported) → IsReport a → IsReport b → message_of_report a ≡ message_of_report b
-    → IsSameReport a b
+    (a b : Reported) → IsReport a → IsReport b → HasByteTexts a → HasByteTexts b
+    → message_of_report a ≡ message_of_report b → IsSameReport a b
 
 -- the message that begins a search tells its path, and is that of no report
 pub record BeginsTell : Type 0 where

@@ -44,18 +44,23 @@ abbrev pub path_json : Option (Bor (List ℕ)) → Json
 path_json None = null
 path_json (Some path) = text_json path.now
 
--- a match in a report, with its positions there
-unfoldable pub submatch_json : List ℕ → ℕ × ℕ → Json
-submatch_json bytes range =
-    object (member (codes "match") (bytes_json (slice_range bytes range.0 range.1))
-    (member (codes "start") (number_json range.0)
-    (member (codes "end") (number_json range.1) no_members)))
+-- what a match would be replaced by, if it would be, as a member before others
+abbrev pub with_replacement : Option (List ℕ) → Members → Members
+with_replacement None later = later
+with_replacement (Some text) later = member (codes "replacement") (bytes_json text) later
 
--- the matches in a report
-abbrev pub submatch_items : List ℕ → List (ℕ × ℕ) → Items
-submatch_items bytes [] = no_items
-submatch_items bytes (range ∷ later) =
-    item (submatch_json bytes range) (submatch_items bytes later)
+-- a match in a report, with what it would be replaced by, if it would be, and its positions there
+unfoldable pub submatch_json : List ℕ → Option (List ℕ) → ℕ × ℕ → Json
+submatch_json bytes text range =
+    object (member (codes "match") (bytes_json (slice_range bytes range.0 range.1))
+    (with_replacement text (member (codes "start") (number_json range.0)
+    (member (codes "end") (number_json range.1) no_members))))
+
+-- the matches in a report, by what the one at a position would be replaced by
+abbrev pub submatch_items : List ℕ → (ℕ → Option (List ℕ)) → List (ℕ × ℕ) → Items
+submatch_items bytes text_at [] = no_items
+submatch_items bytes text_at (range ∷ later) =
+    item (submatch_json bytes (text_at range.0) range) (submatch_items bytes text_at later)
 
 -- a number in six digits at least, as `{:06}` writes it
 abbrev pub six_digits : ℕ → List ℕ
@@ -94,15 +99,16 @@ message_json type members =
 unfoldable pub begin_json : Option (Bor (List ℕ)) → Json
 begin_json path = message_json (codes "begin") (member (codes "path") (path_json path) no_members)
 
--- a report of a type: the bytes, the number of the first line, the offset, and the matches
+-- a report of a type: the bytes, the number of the first line, the offset, the matches, and what the
+-- one at a position would be replaced by
 unfoldable pub report_json : List ℕ → Option (Bor (List ℕ)) → List ℕ → Option ℕ → ℕ
-    → List (ℕ × ℕ) → Json
-report_json type path bytes line_number offset ranges =
+    → (ℕ → Option (List ℕ)) → List (ℕ × ℕ) → Json
+report_json type path bytes line_number offset text_at ranges =
     message_json type (member (codes "path") (path_json path)
     (member (codes "lines") (bytes_json bytes)
     (member (codes "line_number") (optional_json line_number)
     (member (codes "absolute_offset") (number_json offset)
-    (member (codes "submatches") (array (submatch_items bytes ranges)) no_members)))))
+    (member (codes "submatches") (array (submatch_items bytes text_at ranges)) no_members)))))
 
 -- a search ends
 unfoldable pub end_json : Option (Bor (List ℕ)) → Option ℕ → Stats → Json

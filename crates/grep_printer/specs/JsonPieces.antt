@@ -1,18 +1,18 @@
 -- The messages of a printer of JSON and their pieces, as the code has them.
-use Rattle.std.specs.Prelude.{ℕ, ◌≤◌, All, List, [], ◌∷◌, ◌++◌, codes, decimal, length, Option}
+use Rattle.std.specs.Prelude.{ℕ, List, [], ◌∷◌, ◌++◌, codes, decimal, Option, None, Some}
 use Rattle.std.specs.Borrow.{Bor}
 use Rattle.json.specs.Json.{Json}
 use Rattle.json.specs.Token.{Token}
 use Rattle.json.specs.Tree.{json_tokens}
-use Rattle.grep_printer.specs.JsonMessages.{begin_json, end_json, optional_json}
+use Rattle.grep_printer.specs.JsonMessages.{begin_json, bytes_json, end_json, optional_json}
 use Rattle.grep_printer.specs.JsonMessages.{path_json, report_json, summary_json}
 use Rattle.grep_printer.specs.JsonTexts.{with_match}
-use Rattle.grep_printer.specs.Reports.{type_of}
+use Rattle.grep_printer.specs.ReplacerTexts.{TextAt}
+use Rattle.grep_printer.specs.Reports.{call_of, surroundings_of, type_of}
 use Rattle.grep_printer.specs.declared.json_lines.Message.{Message}
-use Rattle.grep_printer.specs.declared.json_lines.Message.TheVariants.{Begin, Report as reports}
-use Rattle.grep_printer.specs.declared.json_lines.Message.TheVariants.{End}
-use Rattle.grep_printer.specs.declared.json_lines.Message.TheVariants.{Summary}
+use Rattle.grep_printer.specs.declared.json_lines.Message.TheVariants.{Begin, End, Summary}
 use Rattle.grep_printer.specs.declared.json_printer.JsonProgress.{JsonProgress}
+use Rattle.grep_printer.specs.declared.messages.Replacements.{Replacements}
 use Rattle.grep_printer.specs.declared.report.Report.{Report}
 use Rattle.grep_printer.specs.declared.report.ReportKind.{ReportKind}
 use Rattle.grep_printer.specs.declared.report.ReportKind.TheVariants.{Match, Context}
@@ -47,25 +47,30 @@ head_tokens type path =
 abbrev pub last_tokens : List Token
 last_tokens = Token.end_object ∷ Token.end_object ∷ []
 
--- the message of a report in a path, with the matches in it
-abbrev pub report_of : Option (Bor (List ℕ)) → Report → List (ℕ × ℕ) → Json
-report_of path report ranges =
-    report_json (type_of report.kind) path report.bytes.now report.number report.offset ranges
+-- what a match would be replaced by, if it would be
+abbrev pub replacement_tokens : Option (List ℕ) → List Token
+replacement_tokens None = []
+replacement_tokens (Some text) = Token.key (codes "replacement") ∷ json_tokens (bytes_json text)
+
+-- what the match at a position of a report would be replaced by, if it would be
+abbrev pub texts_in : {R A : Type 0} → (R → TextAt) → Replacements R A → Report → ℕ
+    → Option (List ℕ)
+texts_in text_at replacements report =
+    text_at replacements.replacer replacements.searcher.now.settings (surroundings_of report)
+    (call_of report)
+
+-- the message of a report in a path, with the matches in it, and what the one at a position would be
+-- replaced by
+abbrev pub report_of : Option (Bor (List ℕ)) → Report → (ℕ → Option (List ℕ)) → List (ℕ × ℕ) → Json
+report_of path report text_at ranges =
+    report_json (type_of report.kind) path report.bytes.now report.number report.offset text_at
+    ranges
 
 -- a message
 abbrev pub message_of : Message → Json
 message_of (Begin path) = begin_json path
-message_of (reports path report ranges) = report_of path report ranges.now
 message_of (End path binary stats) = end_json path binary stats
 message_of (Summary stats total) = summary_json stats total
-
--- the matches of a report are in its bytes
-abbrev pub AreWithin : Message → Type 0
-AreWithin (Begin path) = Unit {0}
-AreWithin (reports path report ranges) =
-    All (λ range. range.1 ≤ length report.bytes.now) ranges.now
-AreWithin (End path binary stats) = Unit {0}
-AreWithin (Summary stats total) = Unit {0}
 
 -- what was reported, with so many matches in a report of so many lines
 abbrev pub with_matches : ReportKind → JsonProgress → ℕ → ℕ → JsonProgress

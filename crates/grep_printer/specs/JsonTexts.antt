@@ -7,6 +7,7 @@ use Rattle.grep_searcher.specs.Lines.{lines}
 use Rattle.grep_searcher.specs.Plans.{Call, begins, matches, context, breaks, binary_data, finishes}
 use Rattle.grep_printer.specs.Formats.{Rules, Scene}
 use Rattle.grep_printer.specs.JsonMessages.{begin_json, end_json, json_line, report_json}
+use Rattle.grep_printer.specs.ReplacerTexts.{TextAt}
 use Rattle.grep_printer.specs.StatsSums.{capped_sum, no_stats}
 use Rattle.grep_printer.specs.declared.json_printer.JsonFormat.{JsonFormat}
 use Rattle.grep_printer.specs.declared.json_printer.JsonProgress.{JsonProgress}
@@ -24,17 +25,25 @@ new_json_progress = record {
   binary_offset = None;
 }
 
+-- the format before the first call of a search
+abbrev pub new_json_format : {R : Type 0} → Bool → R → JsonFormat R
+new_json_format always_begin_end replacer = record {
+  always_begin_end = always_begin_end;
+  replacer = replacer;
+  progress = new_json_progress;
+}
+
 -- the message before the first report of a search, by whether it was written
 abbrev pub opening_line : Option (Bor (List ℕ)) → Bool → List ℕ
 opening_line path is_begun = if is_begun then [] else json_line (begin_json path)
 
--- the text of a report of a type: its bytes, the number of its first line, its offset, and the
--- matches in it
+-- the text of a report of a type: its bytes, the number of its first line, its offset, the matches
+-- in it, and what the one at a position would be replaced by
 abbrev pub report_line : Option (Bor (List ℕ)) → JsonProgress → List ℕ → List ℕ → Option ℕ → ℕ
-    → List (ℕ × ℕ) → List ℕ
-report_line path progress type bytes number offset ranges =
+    → (ℕ → Option (List ℕ)) → List (ℕ × ℕ) → List ℕ
+report_line path progress type bytes number offset text_at ranges =
     opening_line path progress.is_begun
-    ++ json_line (report_json type path bytes number offset ranges)
+    ++ json_line (report_json type path bytes number offset text_at ranges)
 
 -- what was reported, with so many bytes more that are written
 abbrev pub with_size : JsonProgress → ℕ → JsonProgress
@@ -64,16 +73,19 @@ with_end progress count binary =
 abbrev pub is_opened : Bool → JsonProgress → Bool
 is_opened always_begin_end progress = always_begin_end && not progress.is_begun
 
--- Whether `begin` and `end` are written for every search.
-module _ (always_begin_end : Bool) (scene : Scene) where
+-- Whether `begin` and `end` are written for every search, and what the match at a position of the
+-- report would be replaced by, if it would be.
+module _ (always_begin_end : Bool) (scene : Scene) (text_at : ℕ → Option (List ℕ)) where
   -- the text of a call with the matches in its report, by what was reported before
   abbrev pub json_text : JsonProgress → Call → List (ℕ × ℕ) → List ℕ
   json_text progress begins ranges =
       if is_opened always_begin_end progress then json_line (begin_json scene.path) else []
   json_text progress (matches number offset bytes) ranges =
-      report_line scene.path progress (codes "match") bytes number offset ranges
+      report_line scene.path progress (codes "match") bytes number offset text_at
+      ranges
   json_text progress (context kind number offset bytes) ranges =
-      report_line scene.path progress (codes "context") bytes number offset ranges
+      report_line scene.path progress (codes "context") bytes number offset text_at
+      ranges
   json_text progress breaks ranges = []
   json_text progress (binary_data offset) ranges = []
   json_text progress (finishes count binary) ranges = []
@@ -94,17 +106,17 @@ module _ (always_begin_end : Bool) (scene : Scene) where
   json_progress progress (finishes count binary) ranges = with_end progress count binary
 
 -- the messages of a search: the text of each call, and what was reported
-abbrev pub json_rules : Rules JsonFormat
-json_rules = record {
-  begun = λ format follows.
-      record { always_begin_end = format.always_begin_end; progress = new_json_progress };
+abbrev pub json_rules : {R : Type 0} → (R → TextAt) → Rules (JsonFormat R)
+json_rules text_at = record {
+  begun = λ format follows. record format { progress = new_json_progress };
   asks = λ format call. true;
-  text = λ format scene printed.
-      json_text format.always_begin_end scene format.progress printed.call printed.parts;
-  next = λ format scene printed. record {
-    always_begin_end = format.always_begin_end;
-    progress = json_progress format.always_begin_end scene format.progress printed.call
-        printed.parts;
+  text = λ format scene printed. json_text format.always_begin_end scene
+      (text_at format.replacer scene.settings printed.around printed.call) format.progress
+      printed.call printed.parts;
+  next = λ format scene printed. record format {
+    progress = json_progress format.always_begin_end scene
+        (text_at format.replacer scene.settings printed.around printed.call) format.progress
+        printed.call printed.parts;
   };
   goes_on = λ format scene printed. true;
   has_match = λ format. format.progress.has_match;

@@ -18,6 +18,7 @@ pub mod PrintedSearches
 pub mod PrinterSteps
 pub mod Pushes
 pub mod ReplacedTexts
+pub mod ReplacerTexts
 pub mod Reports
 pub mod SearchMessages
 pub mod StandardTexts

@@ -8,7 +8,8 @@ use Rattle.grep_searcher.specs.Plans.{Call}
 use Rattle.grep_searcher.specs.Plans.{finishes, reported_bytes}
 use Rattle.grep_searcher.specs.SearchLaws.{is_match}
 use Rattle.grep_printer.specs.Formats.{PrintedCall, Scene, is_text, printed_by}
-use Rattle.grep_printer.specs.JsonTexts.{json_rules, new_json_progress}
+use Rattle.grep_printer.specs.JsonTexts.{json_rules, new_json_format}
+use Rattle.grep_printer.specs.ReplacerTexts.{TextAt}
 use Rattle.grep_printer.specs.StatsSums.{capped}
 use Rattle.grep_printer.specs.SummaryTexts.{counts_on, finish_text, is_left_out, no_counts}
 use Rattle.grep_printer.specs.SummaryTexts.{summary_rules}
@@ -45,17 +46,15 @@ json_counts terminator found text count binary = record {
 }
 
 -- what a printer of JSON counts in a search is that
-abbrev pub JsonCounts : Type 0
-JsonCounts =
-    (always_begin_end : Bool) (scene : Scene) (calls : List PrintedCall) (last : PrintedCall)
-    (count : ℕ) (binary : Option ℕ) → last.call ≡ finishes count binary
-    → (printed_by json_rules scene
-    (record { always_begin_end = always_begin_end; progress = new_json_progress })
-    (calls ++ last ∷ [])).format.progress
+abbrev pub JsonCounts : {R : Type 0} → (R → TextAt) → Type 0
+JsonCounts {R} text_at =
+    (always_begin_end : Bool) (replacer : R) (scene : Scene) (calls : List PrintedCall)
+    (last : PrintedCall) (count : ℕ) (binary : Option ℕ) → last.call ≡ finishes count binary
+    → (printed_by (json_rules text_at) scene
+    (new_json_format always_begin_end replacer) (calls ++ last ∷ [])).format.progress
     ≡ json_counts (byte_of scene.settings.line_terminator) (matched calls)
-    (printed_by json_rules scene
-    (record { always_begin_end = always_begin_end; progress = new_json_progress })
-    (calls ++ last ∷ [])).text
+    (printed_by (json_rules text_at) scene
+    (new_json_format always_begin_end replacer) (calls ++ last ∷ [])).text
     count binary
 
 -- what is counted of a search, by its matches

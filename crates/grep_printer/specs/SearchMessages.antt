@@ -15,37 +15,45 @@ use Rattle.grep_searcher.specs.SearchLaws.{calls_of, is_report}
 use Rattle.grep_searcher.specs.Searches.{BinaryPoint, plan_with}
 use Rattle.grep_searcher.specs.declared.BinaryDetection.{BinaryDetection}
 use Rattle.grep_printer.specs.CallParts.{Anything, HasParts}
-use Rattle.grep_printer.specs.Formats.{PrintedCall, Scene, printed_by}
+use Rattle.grep_printer.specs.Formats.{PrintedCall, Scene, Surroundings, printed_by}
 use Rattle.grep_printer.specs.JsonLaws.{IsLineOf, IsSameReport, IsWordRange, Reported}
 use Rattle.grep_printer.specs.JsonLaws.{message_of_report}
 use Rattle.grep_printer.specs.JsonMessages.{begin_json, json_line}
 use Rattle.grep_printer.specs.JsonTexts.{json_rules}
+use Rattle.grep_printer.specs.ReplacerTexts.{TextAt}
 use Rattle.grep_printer.specs.declared.json_printer.JsonFormat.{JsonFormat}
 
-module _ (path : Option (Bor (List ℕ))) where
+-- what the match at a position of a call's report would be replaced by, if it would be, by what was
+-- shown around the report
+abbrev pub CallTextAt : Type 0
+CallTextAt = Surroundings → Call → ℕ → Option (List ℕ)
+
+module _ (path : Option (Bor (List ℕ))) (text_at : CallTextAt) where
   -- the report of a call with its matches, if it reports lines
-  abbrev pub report_in : Call → List (ℕ × ℕ) → List Reported
-  report_in (matches number offset bytes) ranges = record {
+  abbrev pub report_in : Surroundings → Call → List (ℕ × ℕ) → List Reported
+  report_in around (matches number offset bytes) ranges = record {
     type = codes "match";
     path = path;
     bytes = bytes;
     number = number;
     offset = offset;
+    text_at = text_at around (matches number offset bytes);
     ranges = ranges;
   } ∷ []
-  report_in (context kind number offset bytes) ranges = record {
+  report_in around (context kind number offset bytes) ranges = record {
     type = codes "context";
     path = path;
     bytes = bytes;
     number = number;
     offset = offset;
+    text_at = text_at around (context kind number offset bytes);
     ranges = ranges;
   } ∷ []
-  report_in _ ranges = []
+  report_in around _ ranges = []
 
   -- the reports of some calls, in order
   abbrev pub reports_of : List PrintedCall → List Reported
-  reports_of calls = flat_map (λ printed. report_in printed.call printed.parts) calls
+  reports_of calls = flat_map (λ printed. report_in printed.around printed.call printed.parts) calls
 
 -- whether `begin` is due with a call
 abbrev pub opens : Bool → Call → Bool
@@ -54,12 +62,13 @@ opens always_begin_end call = is_report call
 
 -- the messages of some calls, in order: `begin`, if it is due with one of them and wasn't written
 -- before, and then that of each report
-abbrev pub messages_of : Bool → Option (Bor (List ℕ)) → Bool → List PrintedCall → List Json
-messages_of always_begin_end path is_begun calls =
+abbrev pub messages_of : Bool → Option (Bor (List ℕ)) → CallTextAt → Bool → List PrintedCall
+    → List Json
+messages_of always_begin_end path text_at is_begun calls =
     (if not is_begun && list_any (λ printed. opens always_begin_end printed.call) calls
     then begin_json path ∷ []
     else [])
-    ++ map message_of_report (reports_of path calls)
+    ++ map message_of_report (reports_of path text_at calls)
 
 -- the number, the offset and the length of what a call reports are numbers of 64 bits, and it
 -- reports bytes
@@ -97,19 +106,31 @@ PartsHaveWords =
     → HasParts Anything first_at settings meaning is_asked printed
     → HasWords printed.call → HasPrintedWords printed
 
--- the text of a search is read back as the messages of its calls
-abbrev pub SearchesAreReadBack : Type 0
-SearchesAreReadBack =
-    (format : JsonFormat) (scene : Scene) (calls : List PrintedCall) → All HasPrintedWords calls
-    → AreReadBack
-    (messages_of format.always_begin_end scene.path format.progress.is_begun calls)
-    (printed_by json_rules scene format calls).text
+module _ {R : Type 0} (text_at : R → TextAt) where
+  -- what matches would be replaced by in a search
+  abbrev pub texts_of : JsonFormat R → Scene → CallTextAt
+  texts_of format scene = text_at format.replacer scene.settings
 
--- the text of a search tells its reports: any search with this text has the same ones
-abbrev pub SearchesTell : Type 0
-SearchesTell =
-    (format other : JsonFormat) (scene another : Scene) (calls others : List PrintedCall)
-    → All HasPrintedWords calls → All HasPrintedWords others
-    → (printed_by json_rules scene format calls).text
-    ≡ (printed_by json_rules another other others).text
-    → AllZip IsSameReport (reports_of scene.path calls) (reports_of another.path others)
+  -- the text of a search is read back as the messages of its calls
+  abbrev pub SearchesAreReadBack : Type 0
+  SearchesAreReadBack =
+      (format : JsonFormat R) (scene : Scene) (calls : List PrintedCall) → All HasPrintedWords calls
+      → AreReadBack (messages_of format.always_begin_end scene.path (texts_of format scene)
+      format.progress.is_begun calls) (printed_by (json_rules text_at) scene format calls).text
+
+  -- what matches would be replaced by are bytes
+  abbrev pub HaveByteTexts : JsonFormat R → Scene → Type 0
+  HaveByteTexts format scene =
+      (around : Surroundings) (call : Call) (position : ℕ)
+      → IfSome (texts_of format scene around call position) IsBytes
+
+  -- the text of a search tells its reports: any search with this text has the same ones
+  abbrev pub SearchesTell : Type 0
+  SearchesTell =
+      (format other : JsonFormat R) (scene another : Scene) (calls others : List PrintedCall)
+      → All HasPrintedWords calls → All HasPrintedWords others
+      → HaveByteTexts format scene → HaveByteTexts other another
+      → (printed_by (json_rules text_at) scene format calls).text
+      ≡ (printed_by (json_rules text_at) another other others).text
+      → AllZip IsSameReport (reports_of scene.path (texts_of format scene) calls)
+      (reports_of another.path (texts_of other another) others)

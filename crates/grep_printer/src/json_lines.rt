@@ -2,24 +2,25 @@
 ghost use Rattle.std.specs.Prelude.{◌≤◌, All, length};
 ghost use Rattle.json.specs.Tree.{json_tokens};
 ghost use Rattle.grep_printer.specs.JsonMessages.{begin_json, end_json, json_line, summary_json};
-ghost use Rattle.grep_printer.specs.JsonPieces.{AreWithin, head_tokens, message_of, report_of};
+ghost use Rattle.grep_printer.specs.JsonPieces.{head_tokens, message_of, report_of, texts_in};
 ghost use Rattle.grep_output.specs.PendingTexts.{Adds};
 ghost use Rattle.grep_printer.specs.Pushes.{AddsTokens};
+ghost use Rattle.grep_printer.specs.Reports.{IsShown};
 
 use crate::json_text::{JsonText, Piece};
+use crate::messages::Replacements;
+use crate::replacers::Replacer;
 use crate::report::Report;
 use crate::stats::Stats;
 use grep_output::Pending;
 use grep_searcher::Match;
-use json::Writer;
+use std::alloc::Allocator;
 
 // A message.
 #[derive(Clone, Copy)]
 pub(crate) enum Message<'m> {
     // A search of a path begins.
     Begin(Option<&'m str>),
-    // A report in a path, with the matches in it.
-    Report(Option<&'m str>, Report<'m>, &'m [Match]),
     // A search of a path ends, in which a binary byte was found at an offset, if one was.
     End(Option<&'m str>, Option<u64>, Stats),
     // All searches, which took so many nanoseconds in all.
@@ -28,29 +29,40 @@ pub(crate) enum Message<'m> {
 
 // Adds a message in a line of its own.
 pub(crate) fn add_message(text: &mut Pending, message: Message<'_>)
-    requires { AreWithin message }
     ensures { Adds text.old text.new (json_line (message_of message.entry)) }
 {
     let start = text.len() - text.text_len();
-    let mut json = JsonText {
-        alloc: text.allocator(),
-        has_failed: text.has_failed(),
-        out: Writer::new(text.take_out()),
-    };
+    let mut json = JsonText::take_from(text);
     json.push_message(message);
-    text.put_back(json.out.into_inner(), start, json.has_failed);
-    text.push(b"\n")
+    json.put_line(text, start)
+}
+
+// Adds the message of a report in a path, with the matches in it, in a line of its own.
+pub(crate) fn add_report<R: Replacer, A: Allocator + Copy>(
+    text: &mut Pending,
+    path: Option<&str>,
+    report: &Report<'_>,
+    ranges: &[Match],
+    replacements: &Replacements<'_, R, A>,
+)
+    requires shown { IsShown report.now }
+    requires within { All (λ range. range.1 ≤ length report.now.bytes.now) ranges.now }
+    ensures { Adds text.old text.new (json_line (report_of path.entry report.now
+        (texts_in R.text_at replacements.now report.now) ranges.now)) }
+{
+    let start = text.len() - text.text_len();
+    let mut json = JsonText::take_from(text);
+    json.push_report(path, report, ranges, replacements);
+    json.put_line(text, start)
 }
 
 impl JsonText {
     // Pushes a message.
     fn push_message(&mut self, message: Message<'_>)
-        requires { AreWithin message }
         ensures { AddsTokens self.old self.new (json_tokens (message_of message.entry)) }
     {
         match message {
             Message::Begin(path) => self.push_begin(path),
-            Message::Report(path, report, ranges) => self.push_report(path, &report, ranges),
             Message::End(path, binary, stats) => self.push_end(path, binary, &stats),
             Message::Summary(stats, total) => self.push_summary(&stats, total),
         }
@@ -80,10 +92,17 @@ impl JsonText {
     }
 
     // Pushes a report.
-    fn push_report<'m>(&mut self, path: Option<&'m str>, report: &Report<'m>, ranges: &[Match])
-        requires { All (λ range. range.1 ≤ length report.now.bytes.now) ranges.now }
-        ensures { AddsTokens self.old self.new
-            (json_tokens (report_of path.entry report.now ranges.now)) }
+    fn push_report<R: Replacer, A: Allocator + Copy>(
+        &mut self,
+        path: Option<&str>,
+        report: &Report<'_>,
+        ranges: &[Match],
+        replacements: &Replacements<'_, R, A>,
+    )
+        requires shown { IsShown report.now }
+        requires within { All (λ range. range.1 ≤ length report.now.bytes.now) ranges.now }
+        ensures { AddsTokens self.old self.new (json_tokens (report_of path.entry report.now
+            (texts_in R.text_at replacements.now report.now) ranges.now)) }
     {
         self.push_head(report.kind.name(), path);
         self.push(Piece::Key("lines"));
@@ -95,7 +114,7 @@ impl JsonText {
             Piece::Key("submatches"),
             Piece::OpenArray,
         ]);
-        self.push_submatches(report.bytes, ranges)
+        self.push_submatches(report, ranges, replacements)
     }
 
     // Pushes the message `end` of a search.

@@ -1,21 +1,23 @@
 //! The printer of JSON.
 ghost use Rattle.std.specs.Prelude.{◌≡◌, MatchResult, [], false, length};
-ghost use Rattle.grep_searcher.specs.Lines.{lines};
+ghost use Rattle.grep_searcher.specs.Lines.{byte_of, lines};
 ghost use Rattle.grep_printer.specs.JsonEnds.{FailsToPutText, PutsText};
 ghost use Rattle.grep_printer.specs.JsonMessages.{json_line, summary_json};
-ghost use Rattle.grep_printer.specs.JsonPieces.{AreWithin, message_of, with_matches};
+ghost use Rattle.grep_printer.specs.JsonPieces.{message_of, with_matches};
 ghost use Rattle.grep_printer.specs.JsonTexts.{end_text, is_reported, new_json_progress};
 ghost use Rattle.grep_printer.specs.JsonTexts.{opening_line, report_line, stats_of, with_match};
 ghost use Rattle.grep_printer.specs.JsonTexts.{with_size, with_text};
 ghost use Rattle.grep_printer.specs.MatchedParts.{AreInOrder};
 ghost use Rattle.grep_printer.specs.PrinterSteps.{IsSameSink};
 ghost use Rattle.grep_output.specs.PendingTexts.{Adds, pending_bytes};
-ghost use Rattle.grep_printer.specs.Reports.{type_of};
+ghost use Rattle.grep_printer.specs.Reports.{IsShown, call_of, surroundings_of, type_of};
 ghost use Rattle.grep_printer.specs.StatsSums.{nanos_of};
 
 use crate::format::{Event, Format};
-use crate::json_lines::{Message, add_message};
+use crate::json_lines::{Message, add_message, add_report};
+use crate::messages::Replacements;
 use crate::printer::{Printer, PrinterSink};
+use crate::replacers::{NoReplacer, Replacer};
 use crate::report::{Report, ReportKind};
 use crate::stats::{Stats, nanoseconds};
 use grep_lines::line_count;
@@ -26,10 +28,10 @@ use std::time::Duration;
 
 /// A printer of JSON: it writes each report as a message in a line of its own. `sink` gives the
 /// sink of one search after another.
-pub type Json = Printer<JsonFormat>;
+pub type Json = Printer<JsonFormat<NoReplacer>>;
 
 /// The sink of one search, which writes a message for each report.
-pub type JsonSink<'s, M, W> = PrinterSink<'s, JsonFormat, M, W>;
+pub type JsonSink<'s, M, W> = PrinterSink<'s, JsonFormat<NoReplacer>, M, W>;
 
 /// How a printer of JSON writes messages. The setter returns the builder.
 #[derive(Debug, Drop)]
@@ -64,19 +66,33 @@ impl JsonBuilder {
         ensures has_written { result.has_written ≡ false }
         ensures has_failed { result.has_failed ≡ false }
     {
+        self.build_with(alloc, NoReplacer)
+    }
+
+    /// A printer with these settings, of which the messages of reports also have what each match
+    /// would be replaced by. It takes memory from `alloc` when it writes.
+    pub fn build_with<R>(&self, alloc: Global, replacer: R) -> Printer<JsonFormat<R>>
+        ensures pending { pending_bytes result.pending ≡ [] }
+        ensures always_begin_end { result.format.always_begin_end ≡ self.now.always_begin_end }
+        ensures replacer { result.format.replacer ≡ replacer }
+        ensures has_written { result.has_written ≡ false }
+        ensures has_failed { result.has_failed ≡ false }
+    {
         let format = JsonFormat {
             always_begin_end: self.always_begin_end,
+            replacer,
             progress: JsonProgress::new(),
         };
         Printer::new(alloc, format)
     }
 }
 
-/// The format of messages in JSON: whether `begin` and `end` are written for every search, and what
-/// was reported of a search.
+/// The format of messages in JSON: whether `begin` and `end` are written for every search, what
+/// matches would be replaced by, and what was reported of a search.
 #[derive(Clone, Copy)]
-pub struct JsonFormat {
+pub struct JsonFormat<R> {
     pub(crate) always_begin_end: bool,
+    pub(crate) replacer: R,
     pub(crate) progress: JsonProgress,
 }
 
@@ -154,7 +170,7 @@ impl JsonProgress {
     }
 }
 
-impl JsonFormat {
+impl<R> JsonFormat<R> {
     // Pushes the message `begin`, unless it was written.
     fn push_begin(&self, text: &mut Pending, path: Option<&str>)
         ensures { Adds text.old text.new (opening_line path.entry self.now.progress.is_begun) }
@@ -163,49 +179,61 @@ impl JsonFormat {
             add_message(text, Message::Begin(path));
         }
     }
+}
 
+impl<R: Replacer> JsonFormat<R> {
     // Pushes a report with the matches in it, after the message `begin` if that isn't written yet.
-    fn push_report(
+    fn push_report<A: Allocator + Copy>(
         &mut self,
         text: &mut Pending,
-        terminator: u8,
+        searcher: &Searcher<A>,
         path: Option<&str>,
         report: &Report<'_>,
         ranges: &[Match],
     )
         requires empty { text.old.text ≡ [] }
+        requires shown { IsShown report.now }
         requires ordered { AreInOrder 0 (length report.now.bytes.now) ranges.now }
         ensures always_begin_end { self.new.always_begin_end ≡ self.old.always_begin_end }
+        ensures replacer { self.new.replacer ≡ self.old.replacer }
         ensures text { Adds text.old text.new (report_line path.entry self.old.progress
             (type_of report.now.kind) report.now.bytes.now report.now.number report.now.offset
-            ranges.now) }
+            (R.text_at self.old.replacer searcher.now.settings (surroundings_of report.now)
+            (call_of report.now)) ranges.now) }
         ensures progress { text.new.has_failed ≡ false → self.new.progress
             ≡ with_matches report.now.kind (with_text self.old.progress (report_line path.entry
             self.old.progress (type_of report.now.kind) report.now.bytes.now report.now.number
-            report.now.offset ranges.now))
-            (length (lines terminator report.now.bytes.now)) (length ranges.now) }
+            report.now.offset (R.text_at self.old.replacer searcher.now.settings
+            (surroundings_of report.now) (call_of report.now)) ranges.now))
+            (length (lines (byte_of searcher.now.settings.line_terminator) report.now.bytes.now))
+            (length ranges.now) }
     {
         self.push_begin(text, path);
-        add_message(text, Message::Report(path, *report, ranges));
+        let replacements = Replacements {
+            replacer: self.replacer,
+            searcher,
+        };
+        add_report(text, path, report, ranges, &replacements);
         self.progress.add_size(text.text_len());
         if let ReportKind::Match = report.kind {
-            let lines = line_count(report.bytes, terminator);
+            let lines = line_count(report.bytes, searcher.line_terminator().as_byte());
             self.progress.add_match(lines, ranges.len());
         }
     }
 }
 
-impl Format for JsonFormat {
+impl<R: Replacer> Format for JsonFormat<R> {
     ghost use Rattle.grep_printer.specs.FormatEnds.{json-ends};
     ghost use Rattle.grep_printer.specs.JsonTexts.{json_rules};
 
-    ghost rules = { json_rules };
+    ghost rules = { json_rules R.text_at };
 
-    ghost ends = { json-ends };
+    ghost ends = { json-ends R.text_at };
 
-    fn begun(&self, _has_written: bool) -> JsonFormat {
+    fn begun(&self, _has_written: bool) -> JsonFormat<R> {
         JsonFormat {
             always_begin_end: self.always_begin_end,
+            replacer: self.replacer,
             progress: JsonProgress::new(),
         }
     }
@@ -237,10 +265,7 @@ impl Format for JsonFormat {
                     self.progress.add_size(text.text_len());
                 }
             }
-            Event::Report(report) => {
-                let terminator = searcher.line_terminator().as_byte();
-                self.push_report(text, terminator, path, report, parts)
-            }
+            Event::Report(report) => { self.push_report(text, searcher, path, report, parts) }
             Event::Break | Event::BinaryData(_) => {}
             Event::Finish(byte_count, binary) => {
                 self.progress.byte_count = Some(*byte_count);
@@ -251,7 +276,7 @@ impl Format for JsonFormat {
     }
 }
 
-impl Printer<JsonFormat> {
+impl<R> Printer<JsonFormat<R>> {
     /// Writes the message about all searches: what was searched, found and written in them, and
     /// how long they took together. An error is the writer's, or one of being out of memory.
     pub fn write_summary<W: Output>(
@@ -275,7 +300,6 @@ impl Printer<JsonFormat> {
         writer: &mut W,
         message: Message<'_>,
     ) -> Result<(), SearchError>
-        requires { AreWithin message }
         ensures { MatchResult result
             (λ _. PutsText W.step writer.old self.old (json_line (message_of message.entry))
             writer.new self.new)
@@ -295,7 +319,7 @@ impl Printer<JsonFormat> {
     }
 }
 
-impl<'s, M, W: Output> PrinterSink<'s, JsonFormat, M, W> {
+impl<'s, R, M, W: Output> PrinterSink<'s, JsonFormat<R>, M, W> {
     /// Writes the message `end` of the search, which took `elapsed`, if the search has ended and
     /// something was written of it; another call would write it again. It gives what was searched,
     /// found and written, each 0 if it writes nothing. An error is the writer's, or one of being

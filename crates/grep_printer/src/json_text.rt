@@ -1,9 +1,11 @@
 //! The text of a message in JSON, to which it is pushed piece by piece.
-ghost use Rattle.std.specs.Prelude.{◌≡◌, ◌∷◌, ◌++◌, [], OnOk, decimal};
+ghost use Rattle.std.specs.Prelude.{◌≡◌, ◌≤◌, ◌∷◌, ◌++◌, [], OnOk, decimal, drop, false, length, take};
+ghost use Rattle.json.specs.Print.{print};
 ghost use Rattle.json.specs.Token.{key, number};
 ghost use Rattle.grep_printer.specs.JsonPieces.{piece_tokens, pieces_tokens};
 ghost use Rattle.grep_printer.specs.Pushes.{AddsTokens};
 
+use grep_output::Pending;
 use json::Writer;
 use std::alloc::{AllocError, Global};
 
@@ -38,6 +40,31 @@ pub(crate) struct JsonText {
 }
 
 impl JsonText {
+    // A text of JSON, into which all that is pending is moved.
+    pub(crate) fn take_from(text: &mut Pending) -> JsonText
+        ensures before { result.out.before ≡ text.old.before ++ text.old.text }
+        ensures tokens { result.out.tokens ≡ [] }
+        ensures has_failed { result.has_failed ≡ text.old.has_failed }
+    {
+        JsonText {
+            alloc: text.allocator(),
+            has_failed: text.has_failed(),
+            out: Writer::new(text.take_out()),
+        }
+    }
+
+    // Moves it back as what is pending, of which the bytes from a position on are the text at hand,
+    // and ends the line.
+    pub(crate) fn put_line(self, text: &mut Pending, start: usize)
+        requires { start ≤ length self.out.before }
+        ensures before { text.new.before ≡ take start (self.out.before ++ print self.out.tokens) }
+        ensures text { text.new.has_failed ≡ false → (self.has_failed ≡ false) × (text.new.text
+            ≡ drop start (self.out.before ++ print self.out.tokens) ++ 10 ∷ []) }
+    {
+        text.put_back(self.out.into_inner(), start, self.has_failed);
+        text.push(b"\n")
+    }
+
     // Pushes pieces.
     pub(crate) fn push_all(&mut self, pieces: &[Piece<'_>])
         ensures { AddsTokens self.old self.new (pieces_tokens pieces.now) }

@@ -8,6 +8,7 @@ ghost use Rattle.grep_printer.specs.SearchMessages.{PartsHaveWords, PlansHaveWor
 ghost use Rattle.grep_printer.specs.SearchMessages.{SearchesAreReadBack, SearchesTell};
 
 use crate::format::Format;
+use crate::replacers::Replacer;
 use grep_output::Output;
 use grep_searcher::{FindAt, Matcher};
 
@@ -32,8 +33,8 @@ pub fn parts_are_successive<M: FindAt>()
 
 /// The line of a message is a text without a line feed, which any reader of JSON reads as this
 /// message, and a line feed. The message of a report tells its type, path, bytes, number and
-/// offset, and the matches in it: no other report has it. One that begins a search tells its path,
-/// and is that of no report.
+/// offset, the matches in it, and what they would be replaced by, if that is bytes: no other report
+/// has it. One that begins a search tells its path, and is that of no report.
 pub fn messages_are_read_back()
     ensures read { MessagesAreReadBack }
     ensures tell { MessagesTell }
@@ -46,17 +47,17 @@ pub fn messages_are_read_back()
 /// search that reports anything else has it. What the calls report are numbers of 64 bits, and
 /// bytes, as it is for the plan of a search of bytes, fewer than the greatest such number, under
 /// any binary detection; then the positions of the matches in it are such numbers too.
-pub fn searches_are_read_back()
-    ensures read { SearchesAreReadBack }
-    ensures tell { SearchesTell }
+pub fn searches_are_read_back<R: Replacer>()
+    ensures read { SearchesAreReadBack R.text_at }
+    ensures tell { SearchesTell R.text_at }
     ensures words { PlansHaveWords }
     ensures parts { PartsHaveWords }
 {}
 
 /// What a `Json` counts in a search, and a `Summary` that counts all matches of one, in terms of
 /// all its calls and their parts: the sums over the matches, up to the greatest number of 64 bits.
-pub fn matches_are_counted()
-    ensures json { JsonCounts }
+pub fn matches_are_counted<R: Replacer>()
+    ensures json { JsonCounts R.text_at }
     ensures summary { SummariesCount }
 {}
 

@@ -9,15 +9,25 @@ ghost use Rattle.grep_printer.specs.JsonMessages.{base64_json, bytes_json, path_
 ghost use Rattle.grep_printer.specs.JsonMessages.{seconds_text, stats_json};
 ghost use Rattle.grep_printer.specs.JsonMessages.{submatch_items, submatch_json, time_json};
 ghost use Rattle.grep_printer.specs.JsonMessages.{wrapped_json};
-ghost use Rattle.grep_printer.specs.JsonPieces.{last_tokens};
+ghost use Rattle.grep_printer.specs.JsonPieces.{last_tokens, replacement_tokens, texts_in};
 ghost use Rattle.grep_printer.specs.Pushes.{AddsTokens};
+ghost use Rattle.grep_printer.specs.Reports.{IsShown};
 
 use crate::json_text::{JsonText, Piece};
+use crate::replacers::Replacer;
+use crate::report::Report;
 use crate::stats::{Stats, microseconds};
 use base64::engine::general_purpose::STANDARD;
-use grep_searcher::Match;
+use grep_searcher::{Match, Searcher};
 use simdutf8::basic::from_utf8;
-use std::alloc::{AllocError, Global};
+use std::alloc::{AllocError, Allocator, Global};
+
+// What the matches in the reports of a search would be replaced by.
+#[derive(Clone, Copy)]
+pub(crate) struct Replacements<'s, R, A: Allocator + Copy> {
+    pub(crate) replacer: R,
+    pub(crate) searcher: &'s Searcher<A>,
+}
 
 impl JsonText {
     // Pushes a path, if there is one.
@@ -64,29 +74,65 @@ impl JsonText {
     }
 
     // Pushes the matches in a report, and ends the message.
-    pub(crate) fn push_submatches(&mut self, bytes: &[u8], ranges: &[Match])
-        requires { All (λ range. range.1 ≤ length bytes.now) ranges.now }
-        ensures { AddsTokens self.old self.new
-            (items_tokens (submatch_items bytes.now ranges.now) ++ last_tokens) }
+    pub(crate) fn push_submatches<R: Replacer, A: Allocator + Copy>(
+        &mut self,
+        report: &Report<'_>,
+        ranges: &[Match],
+        replacements: &Replacements<'_, R, A>,
+    )
+        requires shown { IsShown report.now }
+        requires within { All (λ range. range.1 ≤ length report.now.bytes.now) ranges.now }
+        ensures { AddsTokens self.old self.new (items_tokens (submatch_items report.now.bytes.now
+            (texts_in R.text_at replacements.now report.now) ranges.now) ++ last_tokens) }
     {
         for range in ranges {
-            self.push_submatch(bytes, range);
+            self.push_submatch(report, range, replacements);
         }
         self.push_all(&[Piece::CloseArray, Piece::Close, Piece::Close])
     }
 
     // Pushes a match in a report.
-    fn push_submatch(&mut self, bytes: &[u8], range: &Match)
-        requires { range.now.1 ≤ length bytes.now }
-        ensures { AddsTokens self.old self.new (json_tokens (submatch_json bytes.now range.now)) }
+    fn push_submatch<R: Replacer, A: Allocator + Copy>(
+        &mut self,
+        report: &Report<'_>,
+        range: &Match,
+        replacements: &Replacements<'_, R, A>,
+    )
+        requires shown { IsShown report.now }
+        requires within { range.now.1 ≤ length report.now.bytes.now }
+        ensures { AddsTokens self.old self.new (json_tokens (submatch_json report.now.bytes.now
+            (texts_in R.text_at replacements.now report.now range.now.0) range.now)) }
     {
         self.push_all(&[Piece::Open, Piece::Key("match")]);
-        self.push_bytes(&bytes[range.start()..range.end()]);
+        self.push_bytes(&report.bytes[range.start()..range.end()]);
+        self.push_replacement(report, range.start(), replacements);
         self.push_all(&[
             Piece::Count("start", range.start() as u64),
             Piece::Count("end", range.end() as u64),
             Piece::Close,
         ])
+    }
+
+    // Pushes what the match at a position of a report would be replaced by, if it would be.
+    fn push_replacement<R: Replacer, A: Allocator + Copy>(
+        &mut self,
+        report: &Report<'_>,
+        position: usize,
+        replacements: &Replacements<'_, R, A>,
+    )
+        requires { IsShown report.now }
+        ensures { AddsTokens self.old self.new
+            (replacement_tokens (texts_in R.text_at replacements.now report.now position)) }
+    {
+        let Replacements { replacer, searcher } = replacements;
+        match replacer.replacement(self.alloc, searcher, report, position) {
+            Ok(Some(text)) => {
+                self.push(Piece::Key("replacement"));
+                self.push_bytes(&text)
+            }
+            Ok(None) => {}
+            Err(_) => self.has_failed = true,
+        }
     }
 
     // Pushes a time in nanoseconds.

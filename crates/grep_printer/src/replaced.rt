@@ -2,11 +2,16 @@
 ghost use Rattle.std.specs.Prelude.{◌≡◌, ◌≤◌, ◌+◌, ◌++◌, ◌∷◌, [], length, IfOk, OnOk};
 ghost use Rattle.grep_replace.specs.Groups.{LieWithin};
 ghost use Rattle.grep_printer.specs.MatchedParts.{AreInOrder};
-ghost use Rattle.grep_printer.specs.ReplacedTexts.{ended, replaced_bytes, replaced_parts, replacement_at};
+ghost use Rattle.grep_printer.specs.CallParts.{asked_bytes, asked_start};
+ghost use Rattle.grep_printer.specs.ReplacedTexts.{end_of_line, ended, replaced_bytes};
+ghost use Rattle.grep_printer.specs.ReplacedTexts.{replaced_parts, replacement_at};
+ghost use Rattle.grep_printer.specs.Reports.{IsShown, call_of, surroundings_of};
 
+use crate::report::Report;
+use grep_lines::without_terminator;
 use grep_replace::{CapturesAt, Template};
-use grep_searcher::Match;
-use std::alloc::{AllocError, Global};
+use grep_searcher::{Match, Searcher};
+use std::alloc::{AllocError, Allocator, Global};
 
 // What a part is replaced by: a template, for the groups that a matcher finds in some bytes, in
 // which those of a report begin at a position; and the byte that ends a line that is emptied, if
@@ -28,6 +33,42 @@ pub struct Replaced {
 }
 
 impl<'t, 'r, M: CapturesAt + Copy> Replacement<'t, 'r, M> {
+    // What each part of a report is replaced by: the groups are found in the bytes about which the
+    // matcher was asked. By line one that is emptied is ended.
+    pub(crate) fn of_report<A: Allocator + Copy>(
+        template: &'t Template,
+        matcher: M,
+        searcher: &Searcher<A>,
+        report: &Report<'r>,
+    ) -> Replacement<'t, 'r, M>
+        requires { IsShown report.now }
+        ensures template { result.template.now ≡ template.now }
+        ensures matcher { result.matcher ≡ matcher }
+        ensures asked { result.asked.now ≡ asked_bytes searcher.now.settings
+            (M.facts matcher).meaning (surroundings_of report.now) (call_of report.now) }
+        ensures start { result.start ≡ asked_start searcher.now.settings
+            (M.facts matcher).meaning (surroundings_of report.now) (call_of report.now) }
+        ensures end { result.end ≡ end_of_line searcher.now.settings (M.facts matcher).meaning }
+    {
+        if searcher.multi_line_with_matcher(&matcher) {
+            return Replacement {
+                template,
+                matcher,
+                asked: report.shown,
+                start: report.start,
+                end: None,
+            };
+        }
+        let terminator = searcher.line_terminator();
+        Replacement {
+            template,
+            matcher,
+            asked: without_terminator(report.bytes, terminator),
+            start: 0,
+            end: Some(terminator.as_byte()),
+        }
+    }
+
     // The bytes of a report in which each part is replaced, or their end alone if none are left.
     pub(crate) fn replace(
         &self,
@@ -79,15 +120,22 @@ impl<'t, 'r, M: CapturesAt + Copy> Replacement<'t, 'r, M> {
         ensures parts { OnOk result (replaced.new.parts.items ≡ replaced.old.parts.items
             ++ (length replaced.old.bytes.items, length replaced.new.bytes.items) ∷ []) }
     {
-        let mut groups = Vec::new(*replaced.parts.allocator());
-        self.find_groups(&mut groups, position)?;
         let start = replaced.bytes.len();
-        self.template
-            .push_to(&mut replaced.bytes, self.asked, &groups)?;
+        self.push_text(&mut replaced.bytes, position)?;
         replaced
             .parts
             .push(Match::new(start, replaced.bytes.len()))?;
         Ok(())
+    }
+
+    // Pushes what the template makes of the groups of the match at a position.
+    pub(crate) fn push_text(&self, text: &mut Vec<u8>, position: usize) -> Result<(), AllocError>
+        ensures { OnOk result (text.new.items
+            ≡ text.old.items ++ replacement_at M.groups_at self.now position) }
+    {
+        let mut groups = Vec::new(*text.allocator());
+        self.find_groups(&mut groups, position)?;
+        self.template.push_to(text, self.asked, &groups)
     }
 
     // The groups of the match at a position.

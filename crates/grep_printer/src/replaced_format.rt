@@ -1,16 +1,14 @@
 //! A format of which each part that matches is replaced.
 ghost use Rattle.std.specs.Prelude.{◌≡◌, ◌+◌, ◌<◌, ◌^◌, [], false, true, length};
 ghost use Rattle.grep_output.specs.PendingTexts.{Adds, pending_bytes};
-ghost use Rattle.grep_printer.specs.CallParts.{asked_bytes, asked_start};
 ghost use Rattle.grep_printer.specs.MatchedParts.{AreInOrder};
-ghost use Rattle.grep_printer.specs.ReplacedTexts.{end_of_line, replaced_report};
+ghost use Rattle.grep_printer.specs.ReplacedTexts.{replaced_report};
 ghost use Rattle.grep_printer.specs.Reports.{IsShown, call_of, surroundings_of};
 
 use crate::format::{Event, Format};
 use crate::printer::Printer;
 use crate::replaced::Replacement;
 use crate::report::Report;
-use grep_lines::without_terminator;
 use grep_output::Pending;
 use grep_replace::{CapturesAt, Template};
 use grep_searcher::{Match, Searcher};
@@ -63,44 +61,6 @@ impl<F> Printer<F> {
             },
             has_written,
             has_failed,
-        }
-    }
-}
-
-impl<'t, F, M: CapturesAt + Copy> ReplacedFormat<'t, F, M> {
-    // What each part of a report is replaced by: the groups are found in the bytes about which the
-    // matcher was asked. By line one that is emptied is ended.
-    fn replacement<'r, A: Allocator + Copy>(
-        &self,
-        searcher: &Searcher<A>,
-        report: &Report<'r>,
-    ) -> Replacement<'t, 'r, M>
-        requires { IsShown report.now }
-        ensures template { result.template.now ≡ self.now.template.now }
-        ensures matcher { result.matcher ≡ self.now.matcher }
-        ensures asked { result.asked.now ≡ asked_bytes searcher.now.settings
-            (M.facts self.now.matcher).meaning (surroundings_of report.now) (call_of report.now) }
-        ensures start { result.start ≡ asked_start searcher.now.settings
-            (M.facts self.now.matcher).meaning (surroundings_of report.now) (call_of report.now) }
-        ensures end { result.end ≡ end_of_line searcher.now.settings
-            (M.facts self.now.matcher).meaning }
-    {
-        if searcher.multi_line_with_matcher(&self.matcher) {
-            return Replacement {
-                template: self.template,
-                matcher: self.matcher,
-                asked: report.shown,
-                start: report.start,
-                end: None,
-            };
-        }
-        let terminator = searcher.line_terminator();
-        Replacement {
-            template: self.template,
-            matcher: self.matcher,
-            asked: without_terminator(report.bytes, terminator),
-            start: 0,
-            end: Some(terminator.as_byte()),
         }
     }
 }
@@ -183,7 +143,7 @@ impl<'t, F: Format, M: CapturesAt + Copy> ReplacedFormat<'t, F, M> {
             searcher.now.settings (M.facts self.old.matcher).meaning
             (surroundings_of report.now) (call_of report.now) parts.now) }
     {
-        let replacement = self.replacement(searcher, report);
+        let replacement = Replacement::of_report(self.template, self.matcher, searcher, report);
         let replaced = match replacement.replace(text.allocator(), report.bytes, parts) {
             Ok(replaced) if fits(report.offset, &replaced.bytes) => replaced,
             _ => {

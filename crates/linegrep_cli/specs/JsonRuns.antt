@@ -10,6 +10,7 @@ use Rattle.grep_searcher.specs.declared.SearchError.{SearchError}
 use Rattle.grep_printer.specs.JsonEnds.{FailsToPutText, PutsText}
 use Rattle.grep_printer.specs.JsonMessages.{json_line, summary_json}
 use Rattle.grep_printer.specs.JsonTexts.{end_text, json_rules, stats_of}
+use Rattle.grep_printer.specs.ReplacerTexts.{TextAt}
 use Rattle.grep_printer.specs.StatsSums.{stats_sum}
 use Rattle.grep_printer.specs.declared.json_printer.JsonFormat.{JsonFormat}
 use Rattle.grep_printer.specs.declared.printer.Printer.{Printer}
@@ -28,9 +29,9 @@ AreCounted totals (Err e) result new = (result ≡ Err e) × (new ≡ totals)
 module _ {W : Type 0} (write_step : W → OutputCall → W → Type 0) where
   -- after a search that ended in `Ok` comes the message about its end, if it reported something,
   -- with how long it took; and it gives what it counts
-  abbrev pub IsEndPut : {M : Type 0} → PrinterSink JsonFormat M W
+  abbrev pub IsEndPut : {T M : Type 0} → PrinterSink (JsonFormat T) M W
       → Result (Unit {0}) (SearchError Global) → ℕ → Result Stats (SearchError Global) → W
-      → Printer JsonFormat → Type 0
+      → Printer (JsonFormat T) → Type 0
   IsEndPut sink (Ok u) elapsed counts writer new = MatchResult counts
       (λ stats. (stats ≡ stats_of sink.format.progress elapsed)
       × PutsText write_step sink.writer.now sink.printer.now
@@ -41,29 +42,29 @@ module _ {W : Type 0} (write_step : W → OutputCall → W → Type 0) where
       (counts ≡ Err e) × (writer ≡ sink.writer.now) × (new ≡ sink.printer.now)
 
   -- the message about all searches comes, or fails to
-  abbrev pub AreTotalsPut : W → Printer JsonFormat → Stats → ℕ
-      → Result (Unit {0}) (SearchError Global) → W → Printer JsonFormat → Type 0
+  abbrev pub AreTotalsPut : {T : Type 0} → W → Printer (JsonFormat T) → Stats → ℕ
+      → Result (Unit {0}) (SearchError Global) → W → Printer (JsonFormat T) → Type 0
   AreTotalsPut writer old totals elapsed result writer' new = MatchResult result
       (λ _. PutsText write_step writer old (json_line (summary_json totals elapsed)) writer' new)
       (λ e. FailsToPutText write_step writer old (json_line (summary_json totals elapsed)) e
       writer' new)
 
-module _ {M W E : Type 0} (output : E → Option (List ℕ)) (facts : M → MatcherFacts E)
+module _ {T M W E : Type 0} (text_at : T → TextAt) (output : E → Option (List ℕ)) (facts : M → MatcherFacts E)
     (first_at : M → List ℕ → ℕ → Option (ℕ × ℕ)) (write_step : W → OutputCall → W → Type 0)
     {R : Type 0} (remaining : R → Option (List ℕ)) (read_step : R → ReadResult → R → Type 0)
     (state : SearcherState) (matcher : M) (path : Option (Bor (List ℕ))) where
-  -- a search is written as messages
-  pub record IsJsonWritten (reader : R) (writer : W) (old : JsonRun) (searched : Searched)
-      (reader' : R) (writer' : W) (new : JsonRun) : Type 0 where
-    pub begun : PrinterSink JsonFormat M W
-    pub ended : PrinterSink JsonFormat M W
+  -- a search is written as messages, with what matches would be replaced by
+  pub record IsJsonWritten (reader : R) (writer : W) (old : JsonRun T) (searched : Searched)
+      (reader' : R) (writer' : W) (new : JsonRun T) : Type 0 where
+    pub begun : PrinterSink (JsonFormat T) M W
+    pub ended : PrinterSink (JsonFormat T) M W
     pub result : Result (Unit {0}) (SearchError Global)
     pub elapsed : ℕ
     pub counts : Result Stats (SearchError Global)
-    pub begins : IsSinkFor json_rules old.printer writer matcher path begun
-    pub searches : IsSearchPrinted json_rules output facts first_at write_step remaining read_step
-        state reader begun result reader' ended
-    pub has_match : searched.has_match ≡ json_rules.has_match ended.format
+    pub begins : IsSinkFor (json_rules text_at) old.printer writer matcher path begun
+    pub searches : IsSearchPrinted (json_rules text_at) output facts first_at write_step remaining
+        read_step state reader begun result reader' ended
+    pub has_match : searched.has_match ≡ (json_rules text_at).has_match ended.format
     pub ends : IsEndPut write_step ended result elapsed counts writer' new.printer
     pub totals : AreCounted old.stats counts searched.result new.stats
     pub start : new.start ≡ old.start

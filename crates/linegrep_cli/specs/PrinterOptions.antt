@@ -13,6 +13,7 @@ use Rattle.grep_printer.specs.declared.config.SearchSeparator.{SearchSeparator}
 use Rattle.grep_printer.specs.declared.config.SearchSeparator.TheVariants.{Blank, Groups, Nothing}
 use Rattle.grep_printer.specs.declared.printer.Printer.{Printer as Writer}
 use Rattle.grep_printer.specs.declared.replaced_format.ReplacedFormat.{ReplacedFormat}
+use Rattle.grep_printer.specs.declared.replacers.TemplateReplacer.{TemplateReplacer}
 use Rattle.grep_printer.specs.declared.separators.Separators.{Separators}
 use Rattle.grep_printer.specs.declared.summary_builder.SummaryConfig.{SummaryConfig}
 use Rattle.grep_printer.specs.declared.summary_builder.SummaryKind.{SummaryKind}
@@ -183,6 +184,13 @@ IsReplacing matcher None format = ⊥
 IsReplacing matcher (Some template) format =
     (format.matcher ≡ matcher) × (format.template.now ≡ template.now)
 
+-- so does a replacer, if there is a template
+abbrev pub IsReplacer : {M : Type 0} → M → Option (Bor Template) → Option (TemplateReplacer M) → Type 0
+IsReplacer matcher None None = Unit {0}
+IsReplacer matcher (Some template) (Some replacer) =
+    (replacer.matcher ≡ matcher) × (replacer.template.now ≡ template.now)
+IsReplacer matcher template replacer = ⊥
+
 -- the printer is the one that options ask for, by line or across lines, with some separators, if
 -- there is a template with each match replaced, and with some colors
 abbrev pub IsPrinterFor : {M : Type 0} → Options → Bool → Option (Bor Separators) → M
@@ -215,7 +223,8 @@ IsPrinterFor options is_across separators matcher template colors (Summary run) 
     × IsNewRun options run
 IsPrinterFor options is_across separators matcher template colors (Messages run) =
     (summary_kind options is_across ≡ None) × (has options Json ≡ true)
-    × (run.printer.format.always_begin_end ≡ false) × IsNew options run.printer
+    × (run.printer.format.always_begin_end ≡ false)
+    × IsReplacer matcher template run.printer.format.replacer × IsNew options run.printer
 
 -- so with the colors that they ask for
 abbrev pub IsPrinterOf : {M : Type 0} → Options → Bool → Option (Bor Separators)

@@ -11,6 +11,7 @@ use Rattle.grep_searcher.specs.Source.{ReadResult}
 use Rattle.grep_searcher.specs.declared.SearchError.{SearchError}
 use Rattle.grep_searcher.specs.declared.SearchError.TheVariants.{Io}
 use Rattle.grep_printer.specs.ReplacedTexts.{replaced_rules}
+use Rattle.grep_printer.specs.ReplacerTexts.{optional_text_at, template_text_at}
 use Rattle.grep_printer.specs.StandardTexts.{standard_rules}
 use Rattle.grep_printer.specs.SummaryTexts.{summary_rules}
 use Rattle.grep_printer.specs.VimgrepTexts.{vimgrep_rules}
@@ -44,8 +45,8 @@ module _ {M W E : Type 0} (output : E → Option (List ℕ)) (facts : M → Matc
       IsCountedSearch summary_rules output facts first_at write_step remaining read_step state
       matcher path reader writer old searched reader' writer' new
   IsSearchWritten reader writer (Json old) searched reader' writer' (Json new) =
-      IsJsonWritten output facts first_at write_step remaining read_step state matcher path reader
-      writer old searched reader' writer' new
+      IsJsonWritten (optional_text_at (template_text_at groups_at (λ m. (facts m).meaning))) output facts
+      first_at write_step remaining read_step state matcher path reader writer old searched reader' writer' new
   IsSearchWritten reader writer old searched reader' writer' new = ⊥
 
 module _ {M W : Type 0} (write_step : W → OutputCall → W → Type 0) where

@@ -13,7 +13,6 @@ use Rattle.linegrep_cli.specs.OptionUses.{has}
 use Rattle.linegrep_cli.specs.PathSeparators.{refuses_path_separator}
 use Rattle.linegrep_cli.specs.PatternOptions.{pattern_options, pattern_texts}
 use Rattle.linegrep_cli.specs.SearcherOptions.{refuses_label}
-use Rattle.linegrep_cli.specs.TemplateOptions.{may_refuse_template}
 use Rattle.linegrep_cli.specs.WholeRuns.{IsRefused}
 use Rattle.linegrep_cli.specs.declared.option_id.OptionId.TheVariants.{Sort, Sortr}
 use Rattle.linegrep_cli.specs.declared.options.Options.{Options}
@@ -29,9 +28,8 @@ sorts_by_time options = names_time (if has options Sort then options.sort
     else if has options Sortr then options.sortr else None)
 
 -- why a run is refused: a label of an encoding that isn't known, patterns that aren't well formed
--- or too large, all as one or each by itself, a template that isn't used so, a separator that isn't
--- one byte, colors that aren't well formed, an order that the system may not have, or what is said
--- of files
+-- or too large, all as one or each by itself, a separator that isn't one byte, colors that aren't
+-- well formed, an order that the system may not have, or what is said of files
 pub data IsCause (options : Options) (patterns : List (String Global)) : Type 0 where
   of_label : refuses_label options ≡ true → IsCause options patterns
   of_pattern : (error : PatternError) → error ≢ Memory
@@ -40,7 +38,6 @@ pub data IsCause (options : Options) (patterns : List (String Global)) : Type 0 
   of_single_pattern : (error : PatternError) → error ≢ Memory
       → IsRefusal (pattern_options options patterns) (map string_bytes patterns) error
       → IsCause options patterns
-  of_template : may_refuse_template options ≡ true → IsCause options patterns
   of_path_separator : refuses_path_separator options ≡ true → IsCause options patterns
   of_colors : refuses_colors options ≡ true → IsCause options patterns
   of_order : sorts_by_time options ≡ true → IsCause options patterns

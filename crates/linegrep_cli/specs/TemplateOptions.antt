@@ -1,5 +1,5 @@
 -- The template that options ask for.
-use Rattle.std.specs.Prelude.{◌≡◌, ℕ, Bool, ◌&&◌, is_some, List, Option, None, Some}
+use Rattle.std.specs.Prelude.{◌≡◌, ℕ, List, Option, None, Some}
 use Rattle.std.specs.Borrow.{Bor}
 use Rattle.std.specs.Option.{option_copied}
 use Rattle.grep_regex.specs.Groups.{group_names}
@@ -7,8 +7,6 @@ use Rattle.grep_regex.specs.Views.{regex_options, regex_patterns}
 use Rattle.grep_regex.specs.declared.regex.Regex.{Regex}
 use Rattle.grep_replace.specs.Templates.{AreReadFrom}
 use Rattle.grep_replace.specs.declared.template.Template.{Template}
-use Rattle.linegrep_cli.specs.OptionUses.{has}
-use Rattle.linegrep_cli.specs.declared.option_id.OptionId.TheVariants.{Json}
 use Rattle.linegrep_cli.specs.declared.options.Options.{Options}
 
 -- the text that is read as a template, if there is one
@@ -25,7 +23,3 @@ IsTemplate options regex (Some template) =
 -- so is a template that is lent
 abbrev pub IsTemplateLent : Options → Regex → Option (Bor Template) → Type 0
 IsTemplateLent options regex lent = IsTemplate options regex (option_copied lent)
-
--- matches aren't replaced in JSON
-abbrev pub may_refuse_template : Options → Bool
-may_refuse_template options = is_some options.replace && has options Json

@@ -5,23 +5,23 @@ ghost use Rattle.linegrep_cli.specs.WriterFlushes.{IsWriterFlushed};
 
 use crate::clock::elapsed;
 use grep_output::Output;
-use grep_printer::{Json, JsonSink, Searched, Stats, search};
+use grep_printer::{JsonFormat, Printer, PrinterSink, Replacer, Searched, Stats, search};
 use grep_searcher::{FindAt, SearchError, Searcher, Source};
 use std::io;
 use std::time::Instant;
 
-/// A printer of JSON, with the totals of the searches so far, and when the run began. Where the
+/// A printer of JSON, with what matches would be replaced by, the totals of the searches so far, and when the run began. Where the
 /// clock fails a time is 0.
 #[derive(Drop)]
-pub struct JsonRun {
-    printer: Json,
+pub struct JsonRun<R> {
+    printer: Printer<JsonFormat<R>>,
     stats: Stats,
     start: Option<Instant>,
 }
 
-impl JsonRun {
+impl<R> JsonRun<R> {
     /// A run that begins now.
-    pub fn new(rt: &HostRuntime, printer: Json) -> JsonRun
+    pub fn new(rt: &HostRuntime, printer: Printer<JsonFormat<R>>) -> JsonRun<R>
         ensures { result.printer ≡ printer }
     {
         JsonRun {
@@ -29,29 +29,6 @@ impl JsonRun {
             stats: Stats::new(),
             start: Instant::now(rt).ok(),
         }
-    }
-
-    /// Searches a haystack, which messages name by a path.
-    pub fn search<M: FindAt + Copy, H: Source, W: Output>(
-        &mut self,
-        rt: &HostRuntime,
-        searcher: &mut Searcher,
-        matcher: M,
-        haystack: &mut H,
-        writer: &mut W,
-        path: Option<&str>,
-    ) -> Searched
-        ensures settings { searcher.new.settings ≡ searcher.old.settings }
-        ensures written { IsJsonWritten M.Error.output M.facts M.first_at W.step H.remaining H.step
-            searcher.old matcher path.entry haystack.old writer.old self.old result haystack.new
-            writer.new self.new }
-    {
-        let start = Instant::now(rt).ok();
-        let mut sink = self.printer.sink(writer, matcher, path);
-        let result = search(searcher, matcher, haystack, &mut sink);
-        let ended = write_end(rt, &mut sink, start, result);
-        let has_match = sink.end();
-        self.keep(has_match, ended)
     }
 
     /// Writes the totals of all searches. An error is the writer's, or one of being out of memory.
@@ -102,10 +79,35 @@ impl JsonRun {
     }
 }
 
+impl<R: Replacer> JsonRun<R> {
+    /// Searches a haystack, which messages name by a path.
+    pub fn search<M: FindAt + Copy, H: Source, W: Output>(
+        &mut self,
+        rt: &HostRuntime,
+        searcher: &mut Searcher,
+        matcher: M,
+        haystack: &mut H,
+        writer: &mut W,
+        path: Option<&str>,
+    ) -> Searched
+        ensures settings { searcher.new.settings ≡ searcher.old.settings }
+        ensures written { IsJsonWritten R.text_at M.Error.output M.facts M.first_at W.step H.remaining
+            H.step searcher.old matcher path.entry haystack.old writer.old self.old result haystack.new
+            writer.new self.new }
+    {
+        let start = Instant::now(rt).ok();
+        let mut sink = self.printer.sink(writer, matcher, path);
+        let result = search(searcher, matcher, haystack, &mut sink);
+        let ended = write_end(rt, &mut sink, start, result);
+        let has_match = sink.end();
+        self.keep(has_match, ended)
+    }
+}
+
 // Writes that a search has ended, unless it failed, and gives its counts.
-fn write_end<M: FindAt, W: Output>(
+fn write_end<R, M: FindAt, W: Output>(
     rt: &HostRuntime,
-    sink: &mut JsonSink<'_, M, W>,
+    sink: &mut PrinterSink<'_, JsonFormat<R>, M, W>,
     start: Option<Instant>,
     searched: Result<(), SearchError>,
 ) -> Result<Stats, SearchError>

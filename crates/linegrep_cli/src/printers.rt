@@ -6,7 +6,9 @@ ghost use Rattle.linegrep_cli.specs.PrinterSearches.{HasTotals, IsFinished, IsFl
 use crate::counted_run::CountedRun;
 use crate::json_run::JsonRun;
 use grep_output::Output;
-use grep_printer::{ReplacedFormat, Searched, StandardFormat, SummaryFormat, VimgrepFormat};
+use grep_printer::{
+    ReplacedFormat, Searched, StandardFormat, SummaryFormat, TemplateReplacer, VimgrepFormat,
+};
 use grep_replace::CapturesAt;
 use grep_searcher::{SearchError, Searcher, Source};
 use std::io;
@@ -24,8 +26,8 @@ pub enum Printer<'c, M> {
     ReplacedParts(CountedRun<ReplacedFormat<'c, VimgrepFormat<'c>, M>>),
     /// Writes a count or a path for each file, or nothing.
     Summary(CountedRun<SummaryFormat<'c>>),
-    /// Writes messages in JSON.
-    Json(JsonRun),
+    /// Writes messages in JSON, with what each match would be replaced by if there is a template.
+    Json(JsonRun<Option<TemplateReplacer<'c, M>>>),
 }
 
 impl<'c, M: CapturesAt + Copy> Printer<'c, M> {

@@ -100,7 +100,7 @@ fn prepare<'r, S: System>(
     };
     let template = match template(rt.alloc(), options, &regex) {
         Ok(template) => template,
-        Err(failure) => return Err(failure),
+        Err(_) => return Err(Failure::out_of_memory()),
     };
     let path_separator = match path_separator(rt.alloc(), options) {
         Ok(path_separator) => path_separator,

@@ -4,7 +4,7 @@ ghost use Rattle.grep_output.specs.PendingTexts.{pending_bytes};
 ghost use Rattle.linegrep_cli.specs.OptionMeanings.{after_lines, before_lines, shows_columns};
 ghost use Rattle.linegrep_cli.specs.OptionMeanings.{shows_numbers};
 ghost use Rattle.linegrep_cli.specs.OptionUses.{has};
-ghost use Rattle.linegrep_cli.specs.PrinterOptions.{IsNewRun, IsPrinterOf, column_limit};
+ghost use Rattle.linegrep_cli.specs.PrinterOptions.{IsNewRun, IsPrinterOf, IsReplacer, column_limit};
 ghost use Rattle.linegrep_cli.specs.PrinterOptions.{line_settings};
 ghost use Rattle.linegrep_cli.specs.PrinterOptions.{path_terminator_of, separator_of, shows_headings};
 ghost use Rattle.linegrep_cli.specs.PrinterOptions.{summary_settings};
@@ -25,7 +25,7 @@ use crate::printers::Printer;
 use grep_output::Output;
 use grep_printer::{
     ColorSpecs, ColorTexts, JsonBuilder, SearchSeparator, Separators, StandardBuilder,
-    SummaryBuilder, SummaryKind,
+    SummaryBuilder, SummaryKind, TemplateReplacer,
 };
 use grep_replace::Template;
 use grep_searcher::{ConfigError, Encoding, Searcher, SearcherBuilder};
@@ -148,7 +148,7 @@ pub fn build_printer<'c, M: Copy>(
         let printer = summary(options, kind, colors).build(rt.alloc());
         Printer::Summary(run_of(rt, options, printer))
     } else if options.has(OptionId::Json) {
-        let printer = JsonBuilder::new().build(rt.alloc());
+        let printer = JsonBuilder::new().build_with(rt.alloc(), replacer(matcher, template));
         Printer::Json(JsonRun::new(rt, buffered(options.is_line_buffered(), printer)))
     } else if options.is_vimgrep() {
         let printer = lines(options, colors, separators).build_vimgrep(rt.alloc());
@@ -166,6 +166,19 @@ pub fn build_printer<'c, M: Copy>(
                 Printer::ReplacedLines(run_of(rt, options, printer.replacing(matcher, template)))
             }
         }
+    }
+}
+
+// What each match is replaced by, if there is a template.
+fn replacer<'t, M: Copy>(
+    matcher: M,
+    template: Option<&'t Template>,
+) -> Option<TemplateReplacer<'t, M>>
+    ensures { IsReplacer matcher template.entry result }
+{
+    match template {
+        None => None,
+        Some(template) => Some(TemplateReplacer::new(matcher, template)),
     }
 }
 

@@ -1,5 +1,5 @@
 use Rattle.linegrep_cli.specs.Refusals.{of_colors, of_files, of_path_separator, of_pattern}
-use Rattle.linegrep_cli.specs.Refusals.{of_single_pattern, of_template}
+use Rattle.linegrep_cli.specs.Refusals.{of_single_pattern}
 use Rattle.std.proofs.Common.{inl, inr}
 use Rattle.linegrep_cli.proofs.search.prepare.Goals as goal
 
@@ -13,9 +13,6 @@ returns-in-Err-clause-refused g c = λ caused.
 pub returns-in-Err-read-clause-refused : goal.returns-in-Err-read-clause-refused
 returns-in-Err-read-clause-refused g c = λ caused.
     of_files c.file_options.result c.file_options.ensures (c.in-Err-read.ensures.err caused)
-
-pub returns-in-Err-template-clause-refused : goal.returns-in-Err-template-clause-refused
-returns-in-Err-template-clause-refused g c = λ caused. of_template (c.in-Err-template.ensures.refused caused)
 
 pub returns-in-Err-path_separator-clause-refused : goal.returns-in-Err-path_separator-clause-refused
 returns-in-Err-path_separator-clause-refused g c = λ caused. of_path_separator

@@ -5,7 +5,7 @@ use Rattle.grep_printer.proofs.json_text.JsonText.push_report.Goals as goal
 
 pub returns : goal.returns
 unfolding report_json
-returns c =
+returns g c =
     let end = c.push_submatches.new.self in
     simp append_assoc (simp (c.name.ensures, append_assoc) at (tokens-two c.args.self.now c.push_head.new.self end _ _ c.push_head.ensures
     (tokens-two c.push_head.new.self c.push.new.self end _ _ c.push.ensures

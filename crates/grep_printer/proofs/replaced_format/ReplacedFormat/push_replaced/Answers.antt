@@ -7,12 +7,12 @@ use Rattle.grep_printer.proofs.replaced_format.ReplacedFormat.push_replaced.Goal
 pub returns-clause-text : goal.returns-clause-text
 returns-clause-text g c =
     let scene : Scene = record { path = c.args.path; settings = c.args.searcher.now.settings } in
-    let made = replaced-is g.M.CapturesAt.groups_at c.replacement-replacement.result c.args.self.now.template.now
+    let made = replaced-is g.M.CapturesAt.groups_at c.of_report-replacement.result c.args.self.now.template.now
     c.args.self.now.matcher scene.settings (g.M.Matcher.facts c.args.self.now.matcher).meaning c.args.report.now
     c.with_bytes.result c.args.parts.now c.deref-3.result.now c.deref-2.result.now
-    c.replacement-replacement.ensures.template c.replacement-replacement.ensures.matcher
-    c.replacement-replacement.ensures.asked c.replacement-replacement.ensures.start
-    c.replacement-replacement.ensures.end c.with_bytes.ensures.call
+    c.of_report-replacement.ensures.template c.of_report-replacement.ensures.matcher
+    c.of_report-replacement.ensures.asked c.of_report-replacement.ensures.start
+    c.of_report-replacement.ensures.end c.with_bytes.ensures.call
     c.with_bytes.ensures.surroundings (c.deref-2.ensures.value ∙ c.in-Ok.ensures.bytes)
     (c.deref-3.ensures.value ∙ c.in-Ok.ensures.parts) in
     subst (λ printed. Adds c.args.text.now c.push.new.text
@@ -21,12 +21,12 @@ returns-clause-text g c =
 pub returns-clause-next : goal.returns-clause-next
 returns-clause-next g c ok =
     let scene : Scene = record { path = c.args.path; settings = c.args.searcher.now.settings } in
-    let made = replaced-is g.M.CapturesAt.groups_at c.replacement-replacement.result c.args.self.now.template.now
+    let made = replaced-is g.M.CapturesAt.groups_at c.of_report-replacement.result c.args.self.now.template.now
     c.args.self.now.matcher scene.settings (g.M.Matcher.facts c.args.self.now.matcher).meaning c.args.report.now
     c.with_bytes.result c.args.parts.now c.deref-3.result.now c.deref-2.result.now
-    c.replacement-replacement.ensures.template c.replacement-replacement.ensures.matcher
-    c.replacement-replacement.ensures.asked c.replacement-replacement.ensures.start
-    c.replacement-replacement.ensures.end c.with_bytes.ensures.call
+    c.of_report-replacement.ensures.template c.of_report-replacement.ensures.matcher
+    c.of_report-replacement.ensures.asked c.of_report-replacement.ensures.start
+    c.of_report-replacement.ensures.end c.with_bytes.ensures.call
     c.with_bytes.ensures.surroundings (c.deref-2.ensures.value ∙ c.in-Ok.ensures.bytes)
     (c.deref-3.ensures.value ∙ c.in-Ok.ensures.parts) in
     ap (λ f. record { format = f; matcher = c.args.self.now.matcher; template = c.args.self.now.template })
@@ -36,12 +36,12 @@ returns-clause-next g c ok =
 pub returns-clause-goes_on : goal.returns-clause-goes_on
 returns-clause-goes_on g c ok =
     let scene : Scene = record { path = c.args.path; settings = c.args.searcher.now.settings } in
-    let made = replaced-is g.M.CapturesAt.groups_at c.replacement-replacement.result c.args.self.now.template.now
+    let made = replaced-is g.M.CapturesAt.groups_at c.of_report-replacement.result c.args.self.now.template.now
     c.args.self.now.matcher scene.settings (g.M.Matcher.facts c.args.self.now.matcher).meaning c.args.report.now
     c.with_bytes.result c.args.parts.now c.deref-3.result.now c.deref-2.result.now
-    c.replacement-replacement.ensures.template c.replacement-replacement.ensures.matcher
-    c.replacement-replacement.ensures.asked c.replacement-replacement.ensures.start
-    c.replacement-replacement.ensures.end c.with_bytes.ensures.call
+    c.of_report-replacement.ensures.template c.of_report-replacement.ensures.matcher
+    c.of_report-replacement.ensures.asked c.of_report-replacement.ensures.start
+    c.of_report-replacement.ensures.end c.with_bytes.ensures.call
     c.with_bytes.ensures.surroundings (c.deref-2.ensures.value ∙ c.in-Ok.ensures.bytes)
     (c.deref-3.ensures.value ∙ c.in-Ok.ensures.parts) in
     subst (λ printed. c.push.result ≡ g.F.Format.rules.goes_on c.args.self.now.format scene printed) made

@@ -1,5 +1,5 @@
 use Rattle.std.proofs.Common.{◌≡◌, ◌∙◌, ap, rules, subst}
-use Rattle.grep_printer.specs.declared.json_printer.JsonFormat.{JsonFormat}
+use Rattle.grep_printer.specs.JsonTexts.{json_rules}
 use Rattle.linegrep_cli.specs.JsonRuns.{IsEndPut}
 use Rattle.linegrep_cli.proofs.json_run.JsonRun.search.Goals as goal
 
@@ -19,7 +19,7 @@ returns-clause-written g c = record {
   };
   searches = c.search-result.ensures.printed;
   has_match = c.keep.ensures.has_match ∙ (c.end-has_match.ensures.has_match
-      ∙ ap (λ (format : JsonFormat). format.progress.has_match) c.write_end-ended.ensures.format);
+      ∙ ap (λ format. (json_rules g.R.Replacer.text_at).has_match format) c.write_end-ended.ensures.format);
   ends =
       let printer : c.keep.new.self.printer ≡ c.write_end-ended.new.sink.printer.now = search rules in
       subst (λ w. IsEndPut g.W.Output.step c.search-result.new.sink c.search-result.result
