@@ -14,7 +14,7 @@ use Rattle.grep_report.specs.SinkReports.{MatchReport, match_bytes}
 use Rattle.grep_searcher.specs.MatchedLines.{calls_of_match}
 use Rattle.grep_searcher.specs.SinkArguments.{match_call}
 use Rattle.grep_searcher.specs.MatchedLines.{calls_of_lines}
-use Rattle.grep_printer.specs.ColoredTexts.{is_matched, matched_color, painted}
+use Rattle.grep_printer.specs.ColoredTexts.{is_matched, matched_color, painted, reset}
 use Rattle.grep_printer.specs.Formats.{AreTexts, Scene}
 use Rattle.grep_printer.specs.LineTexts.{counted_parts, end_byte, fields, indentation, is_long, line_text}
 use Rattle.grep_printer.specs.LineTexts.{lines_text, long_text, missing_end, more_notice, next_number, notice}
@@ -65,10 +65,10 @@ lines-alone t (b ∷ bytes) = ⊎_elim
 
 -- without parts nothing is colored
 painted-plain : (color : Option (List ℕ)) (end start : ℕ) (line : List ℕ)
-    → painted color [] end start line ≡ line
+    → painted color None [] end start line ≡ line
 painted-plain None end start line = refl
 painted-plain (Some color) end start line =
-    painted-none color (is_matched [] end) false start line (λ k low. refl)
+    painted-none color reset (is_matched [] end) false start line (λ k low. refl)
 
 -- with a number that is so much greater, if there is one
 abbrev number_at : Option ℕ → ℕ → Option ℕ
@@ -89,10 +89,10 @@ module _ (layout : Layout) where
   none-counted : (start : ℕ) (line : List ℕ) → counted_parts layout [] start line ≡ 0
   none-counted start line = grind arith
 
-  painted-anywhere : (start : ℕ) (line : List ℕ) → painted_line layout [] start line ≡ line
+  painted-anywhere : (start : ℕ) (line : List ℕ) → painted_line layout None [] start line ≡ line
   painted-anywhere start line = painted-plain (matched_color layout.config.color_specs) _ start line
 
-  preview-anywhere : (start : ℕ) (line : List ℕ) → preview_text layout [] start line
+  preview-anywhere : (start : ℕ) (line : List ℕ) → preview_text layout None [] start line
       ≡ previewed layout line ++ more_notice 0 0
   unfolding preview_text
   preview-anywhere start line =

@@ -1,6 +1,6 @@
 -- Texts that are put together line after line.
 use Rattle.std.proofs.Common.{◌≡◌, ℕ, ◌+◌, ◌<◌, ◌≤◌, ◌^◌, List, [], ◌∷◌, ◌++◌, length, refl, sym, ap, ◌∙◌, arith}
-use Rattle.std.proofs.Common.{ap₂, append_assoc, subst}
+use Rattle.std.proofs.Common.{ap₂, append_assoc, subst, None, Option}
 use Rattle.std.proofs.lemmas.List.{length-append}
 use Rattle.std.proofs.lemmas.Bool.{and_parts}
 use Rattle.std.proofs.lemmas.List.Sums.{sum_by-cons}
@@ -10,15 +10,16 @@ use Rattle.std.specs.Prelude.{Bool, cond, true, false, ◌&&◌, if◌then◌els
 use Rattle.grep_matcher.proofs.LineLemmas.{lines-joined}
 use Rattle.grep_searcher.specs.Lines.{lines, strip}
 use Rattle.grep_matcher.specs.Lines.{byte_of}
-use Rattle.grep_printer.proofs.ColorLemmas.{painted-after}
+use Rattle.grep_printer.proofs.ColorLemmas.{painted-after, reaches-after}
 use Rattle.grep_printer.proofs.PartTextLemmas.{ordered-after}
-use Rattle.grep_printer.specs.ColoredTexts.{matched_color}
-use Rattle.grep_printer.specs.LineTexts.{begins_after, end_byte, fields, indentation, is_long, is_touching}
+use Rattle.grep_printer.specs.ColoredTexts.{highlight_color, matched_color}
+use Rattle.grep_printer.specs.LineTexts.{begins_after, end_byte, fields, highlight_of, indentation, is_long, is_touching}
 use Rattle.grep_printer.specs.LineTexts.{line_text, lines_text, long_text, missing_end, more_notice, notice}
 use Rattle.grep_printer.specs.LineTexts.{painted_line, place_after, preview_text, previewed, shown_line, trimmed}
 use Rattle.grep_printer.specs.MatchedParts.{AreInOrder, parts_after}
 use Rattle.grep_printer.specs.declared.fields.Layout.{Layout}
 use Rattle.grep_printer.specs.declared.fields.LineKind.{LineKind}
+use Rattle.grep_printer.specs.declared.fields.LineKind.TheVariants.{Context, Match}
 use Rattle.grep_printer.specs.declared.fields.Place.{Place}
 
 abbrev one_if : Bool → ℕ
@@ -58,33 +59,45 @@ beginning-later position start end less =
 
 module _ (layout : Layout) (kind : LineKind) where
   -- the parts that end by a position don't show in a line from there on
-  painted-later : (position start : ℕ) (parts : List (ℕ × ℕ)) (line : List ℕ) → position ≤ start
-      → painted_line layout (parts_after position parts) start line ≡ painted_line layout parts start line
-  painted-later position start parts line less = painted-after (matched_color layout.config.color_specs) position
+  painted-later : (highlight : Option (List ℕ)) (position start : ℕ) (parts : List (ℕ × ℕ)) (line : List ℕ) → position ≤ start
+      → painted_line layout highlight (parts_after position parts) start line ≡ painted_line layout highlight parts start line
+  painted-later highlight position start parts line less = painted-after (matched_color layout.config.color_specs) highlight position
       (start + length (strip layout.terminator line)) start parts line less
 
-  preview-later : (position start : ℕ) (parts : List (ℕ × ℕ)) (line : List ℕ) → position ≤ start
-      → preview_text layout (parts_after position parts) start line ≡ preview_text layout parts start line
+  preview-later : (highlight : Option (List ℕ)) (position start : ℕ) (parts : List (ℕ × ℕ)) (line : List ℕ) → position ≤ start
+      → preview_text layout highlight (parts_after position parts) start line ≡ preview_text layout highlight parts start line
   unfolding preview_text
-  preview-later position start parts line less =
+  preview-later highlight position start parts line less =
       let first = previewed layout line in
       let end = start + length line in
       let next = start + length first in
       ap (λ (t : List ℕ). t ++ more_notice (count_by (is_touching start end) (parts_after position parts))
       (count_by (begins_after next end) (parts_after position parts)))
-      (painted-later position start parts first less)
-      ∙ ap₂ (λ all later. painted_line layout parts start first ++ more_notice all later)
+      (painted-later highlight position start parts first less)
+      ∙ ap₂ (λ all later. painted_line layout highlight parts start first ++ more_notice all later)
       (counted-after position (is_touching start end) parts (touching-later position start end less))
       (counted-after position (begins_after next end) parts
       (beginning-later position next end (omega (arith, less))))
+
+  -- nor in its highlight
+  highlight-later : (k : LineKind) (place : Place) (position : ℕ) (parts : List (ℕ × ℕ)) → position ≤ place.start
+      → highlight_of layout k place (parts_after position parts) ≡ highlight_of layout k place parts
+  highlight-later Match place position parts less =
+      ap (λ b. if b then highlight_color layout.config.color_specs else None)
+      (reaches-after position place.start parts less)
+  highlight-later Context place position parts less = refl
 
   long-later : (place : Place) (position : ℕ) (parts : List (ℕ × ℕ)) (line : List ℕ) → position ≤ place.start
       → long_text layout kind place (parts_after position parts) line ≡ long_text layout kind place parts line
   unfolding long_text
   long-later place position parts line less =
+      let after = parts_after position parts in
+      let start = place.start + indentation layout line in
       ap₂ (λ (t : List ℕ) n. if layout.config.max_columns_preview then t
       else notice kind (if layout.config.only_matching then 0 else n))
-      (preview-later position (place.start + indentation layout line) parts (trimmed layout line)
+      (ap (λ highlight. preview_text layout highlight after start (trimmed layout line))
+      (highlight-later kind place position parts less)
+      ∙ preview-later (highlight_of layout kind place parts) position start parts (trimmed layout line)
       (omega (arith, less)))
       (counted-after position (is_touching place.start (place.start + length line)) parts
       (touching-later position place.start (place.start + length line) less))
@@ -94,11 +107,14 @@ module _ (layout : Layout) (kind : LineKind) where
   unfolding shown_line
   line-after place position parts line less =
       let shown = trimmed layout line in
+      let after = parts_after position parts in
+      let start = place.start + indentation layout line in
       ap₂ (λ (long t : List ℕ). fields layout kind place
       ++ (if is_long layout.config.max_columns shown then long ++ end_byte layout ∷ []
       else t ++ missing_end (end_byte layout) shown))
       (long-later place position parts line less)
-      (painted-later position (place.start + indentation layout line) parts shown (omega (arith, less)))
+      (ap (λ highlight. painted_line layout highlight after start shown) (highlight-later kind place position parts less)
+      ∙ painted-later (highlight_of layout kind place parts) position start parts shown (omega (arith, less)))
 
   -- nor in the lines from there on
   lines-after : (place : Place) (position : ℕ) (parts : List (ℕ × ℕ)) (left : List (List ℕ)) → position ≤ place.start

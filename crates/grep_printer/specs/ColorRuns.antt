@@ -3,10 +3,10 @@ use Rattle.std.specs.Prelude.{ℕ, Bool, List, [], ◌∷◌, ◌++◌}
 use Rattle.grep_printer.specs.ColoredTexts.{switch_text}
 
 -- some bytes, and before them what comes between them and the byte before, if there are any
-abbrev pub run_text : List ℕ → Bool → Bool → List ℕ → List ℕ
-run_text color before is_colored [] = []
-run_text color before is_colored (byte ∷ later) =
-    switch_text color before is_colored ++ byte ∷ later
+abbrev pub run_text : List ℕ → List ℕ → Bool → Bool → List ℕ → List ℕ
+run_text color back before is_colored [] = []
+run_text color back before is_colored (byte ∷ later) =
+    switch_text color back before is_colored ++ byte ∷ later
 
 -- whether the last byte is colored then
 abbrev pub after_run : Bool → Bool → List ℕ → Bool

@@ -1,7 +1,7 @@
 -- Texts in colors: the escapes before and after them, and lines of which the parts that match are
 -- colored.
-use Rattle.std.specs.Prelude.{ℕ, ◌+◌, ◌&&◌, Bool, true, false, nat_le, nat_lt, List, [], ◌∷◌}
-use Rattle.std.specs.Prelude.{◌++◌, codes, Option, Some, None, String}
+use Rattle.std.specs.Prelude.{ℕ, ◌+◌, ◌-◌, ◌&&◌, ◌||◌, Bool, true, false, nat_le, nat_lt, List, []}
+use Rattle.std.specs.Prelude.{◌∷◌, ◌++◌, codes, drop, take, Option, Some, None, String}
 use Rattle.std.specs.Borrow.{Bor}
 use Rattle.std.specs.Global.{Global}
 use Rattle.std.specs.List.{list_any}
@@ -42,6 +42,12 @@ matched_color Plain = None
 matched_color Default = Some (reset ++ (27 ∷ codes "[1m" ++ 27 ∷ codes "[31m"))
 matched_color (Chosen texts) = chosen_color texts.now.matched
 
+-- the escape before a line that matches, if it has one
+abbrev pub highlight_color : ColorSpecs → Option (List ℕ)
+highlight_color Plain = None
+highlight_color Default = None
+highlight_color (Chosen texts) = chosen_color texts.now.highlight
+
 -- the bytes of an escape
 abbrev pub color_of : Option (Bor (List ℕ)) → Option (List ℕ)
 color_of None = None
@@ -57,25 +63,38 @@ abbrev pub is_matched : List (ℕ × ℕ) → ℕ → ℕ → Bool
 is_matched parts end at =
     list_any (λ part. nat_le part.0 at && nat_lt at part.1) parts && nat_lt at end
 
+-- whether a part has bytes from a position on, or begins there or later
+abbrev pub reaches : ℕ → ℕ × ℕ → Bool
+reaches start part = nat_le start part.0 || nat_lt start part.1
+
 -- what is written between two bytes, by whether the one before is colored, and the one after: a
--- color where it begins, and a reset where it ends
-abbrev pub switch_text : List ℕ → Bool → Bool → List ℕ
-switch_text color false true = color
-switch_text color true false = reset
-switch_text color true true = []
-switch_text color false false = []
+-- color where it begins, and another escape where it ends
+abbrev pub switch_text : List ℕ → List ℕ → Bool → Bool → List ℕ
+switch_text color back false true = color
+switch_text color back true false = back
+switch_text color back true true = []
+switch_text color back false false = []
 
 -- some bytes, the first of them at a position, of which those that a test chooses are colored; by
 -- whether the byte before them is
-abbrev pub painted_from : List ℕ → (ℕ → Bool) → Bool → ℕ → List ℕ → List ℕ
-painted_from color is_chosen before at [] = switch_text color before false
-painted_from color is_chosen before at (byte ∷ later) =
-    switch_text color before (is_chosen at)
-    ++ byte ∷ painted_from color is_chosen (is_chosen at) (at + 1) later
+abbrev pub painted_from : List ℕ → List ℕ → (ℕ → Bool) → Bool → ℕ → List ℕ → List ℕ
+painted_from color back is_chosen before at [] = switch_text color back before false
+painted_from color back is_chosen before at (byte ∷ later) =
+    switch_text color back before (is_chosen at)
+    ++ byte ∷ painted_from color back is_chosen (is_chosen at) (at + 1) later
+
+-- some bytes, of which those that a test chooses are colored; if there is a highlight, so many of
+-- them have it before them, again after what is colored, and a reset at their end
+abbrev pub painted_in : Option (List ℕ) → List ℕ → (ℕ → Bool) → ℕ → ℕ → List ℕ → List ℕ
+painted_in None color is_chosen start size bytes =
+    painted_from color reset is_chosen false start bytes
+painted_in (Some highlight) color is_chosen start size bytes =
+    highlight ++ (painted_from color highlight is_chosen false start (take size bytes)
+    ++ (reset ++ drop size bytes))
 
 -- some bytes of a report from a position on, with those in some parts colored that come before an
--- end, if there is a color
-abbrev pub painted : Option (List ℕ) → List (ℕ × ℕ) → ℕ → ℕ → List ℕ → List ℕ
-painted None parts end start bytes = bytes
-painted (Some color) parts end start bytes =
-    painted_from color (is_matched parts end) false start bytes
+-- end, if there is a color, and highlighted up to the end, if there is a highlight
+abbrev pub painted : Option (List ℕ) → Option (List ℕ) → List (ℕ × ℕ) → ℕ → ℕ → List ℕ → List ℕ
+painted None highlight parts end start bytes = bytes
+painted (Some color) highlight parts end start bytes =
+    painted_in highlight color (is_matched parts end) start (end - start) bytes

@@ -7,13 +7,13 @@ use Rattle.std.specs.Prelude.{drop, take, Vec}
 use Rattle.std.specs.Prelude.{Option, Some, None, slice_range}
 use Rattle.std.specs.Borrow.{Bor}
 use Rattle.std.specs.Global.{Global}
-use Rattle.std.specs.List.{count_by, ends_with, prefix_len}
+use Rattle.std.specs.List.{count_by, ends_with, list_any, prefix_len}
 use Rattle.std.specs.Option.{is_none, unwrap_or}
 use Rattle.bstr.specs.Unicode.{Span, grapheme_spans}
 use Rattle.grep_matcher.specs.Lines.{byte_of}
 use Rattle.grep_searcher.specs.Lines.{strip}
-use Rattle.grep_printer.specs.ColoredTexts.{colored, column_color, line_color, matched_color}
-use Rattle.grep_printer.specs.ColoredTexts.{painted, path_color}
+use Rattle.grep_printer.specs.ColoredTexts.{colored, column_color, highlight_color, line_color}
+use Rattle.grep_printer.specs.ColoredTexts.{matched_color, painted, path_color, reaches}
 use Rattle.grep_printer.specs.declared.config.Config.{Config}
 use Rattle.grep_printer.specs.declared.config.SearchSeparator.{SearchSeparator}
 use Rattle.grep_printer.specs.declared.config.SearchSeparator.TheVariants.{Nothing, Blank, Groups}
@@ -181,11 +181,17 @@ module _ (layout : Layout) where
       ++ number_field (column_color layout.config.color_specs) mark
       (if layout.config.byte_offset then Some place.offset else None)))
 
-  -- a line that begins at a position of its report, with the bytes in some parts colored, but for
-  -- the terminator
-  abbrev pub painted_line : List (ℕ × ℕ) → ℕ → List ℕ → List ℕ
-  painted_line parts start line =
-      painted (matched_color layout.config.color_specs) parts
+  -- the highlight of a line: of one of a match, if a part reaches into it or comes after its start
+  abbrev pub highlight_of : LineKind → Place → List (ℕ × ℕ) → Option (List ℕ)
+  highlight_of Match place parts =
+      if list_any (reaches place.start) parts then highlight_color layout.config.color_specs else None
+  highlight_of Context place parts = None
+
+  -- a line that begins at a position of its report, with the bytes in some parts colored, and with a
+  -- highlight, if there is one, but for the terminator
+  abbrev pub painted_line : Option (List ℕ) → List (ℕ × ℕ) → ℕ → List ℕ → List ℕ
+  painted_line highlight parts start line =
+      painted (matched_color layout.config.color_specs) highlight parts
       (start + length (strip layout.terminator line)) start line
 
   -- how many parts are in a line that begins at a position of its report; where parts are written
@@ -211,9 +217,9 @@ module _ (layout : Layout) where
       take (preview_len (unwrap_or layout.config.max_columns 0) (strip layout.terminator line)) line
 
   -- those, and after them a notice, of a line that begins at a position of its report
-  unfoldable pub preview_text : List (ℕ × ℕ) → ℕ → List ℕ → List ℕ
-  preview_text parts start line =
-      painted_line parts start (previewed line)
+  unfoldable pub preview_text : Option (List ℕ) → List (ℕ × ℕ) → ℕ → List ℕ → List ℕ
+  preview_text highlight parts start line =
+      painted_line highlight parts start (previewed line)
       ++ more_notice (count_by (is_touching start (start + length line)) parts)
       (count_by (begins_after (start + length (previewed line)) (start + length line)) parts)
 
@@ -221,7 +227,8 @@ module _ (layout : Layout) where
   unfoldable pub long_text : LineKind → Place → List (ℕ × ℕ) → List ℕ → List ℕ
   long_text kind place parts line =
       if layout.config.max_columns_preview
-      then preview_text parts (place.start + indentation line) (trimmed line)
+      then preview_text (highlight_of kind place parts) parts (place.start + indentation line)
+      (trimmed line)
       else notice kind (counted_parts parts place.start line)
 
   -- what is shown of a line, less if that is too long, with the terminator at its end
@@ -229,7 +236,8 @@ module _ (layout : Layout) where
   shown_line kind place parts line =
       if is_long layout.config.max_columns (trimmed line)
       then long_text kind place parts line ++ end_byte layout ∷ []
-      else painted_line parts (place.start + indentation line) (trimmed line)
+      else painted_line (highlight_of kind place parts) parts (place.start + indentation line)
+      (trimmed line)
       ++ missing_end (end_byte layout) (trimmed line)
 
   -- a line after its fields

@@ -1,7 +1,8 @@
 //! Colors.
-ghost use Rattle.std.specs.Prelude.{◌≡◌, ◌+◌, ◌<◌, ◌≤◌, ◌^◌, ◌++◌, false, length};
+ghost use Rattle.std.specs.Prelude.{◌≡◌, ◌+◌, ◌-◌, ◌<◌, ◌≤◌, ◌^◌, ◌++◌, false, length};
 ghost use Rattle.grep_printer.specs.ColorRuns.{after_run, run_text};
-ghost use Rattle.grep_printer.specs.ColoredTexts.{color_of, colored, column_color, is_matched};
+ghost use Rattle.grep_printer.specs.ColoredTexts.{color_of, colored, column_color};
+ghost use Rattle.grep_printer.specs.ColoredTexts.{highlight_color, is_matched, painted_in};
 ghost use Rattle.grep_printer.specs.ColoredTexts.{line_color, matched_color, painted_from};
 ghost use Rattle.grep_printer.specs.ColoredTexts.{path_color, switch_text};
 ghost use Rattle.grep_printer.specs.MatchedParts.{AreInOrder};
@@ -11,7 +12,7 @@ use grep_output::Pending;
 use grep_searcher::Match;
 
 // The escape after which a terminal shows a text without colors.
-const RESET: &[u8] = b"\x1b[0m";
+const RESET: &str = "\x1b[0m";
 
 /// The escapes before what a printer writes, in place of those of ripgrep.
 #[derive(Debug, Drop)]
@@ -24,10 +25,12 @@ pub struct ColorTexts {
     pub column: String,
     /// Before what matches, if that has a color.
     pub matched: Option<String>,
+    /// Before a line that matches, and again after what matches in it, if it has a color.
+    pub highlight: Option<String>,
 }
 
 /// The colors of what a printer writes: the escape before it, if it has one. After it comes the
-/// escape that ends all of them.
+/// escape that ends all of them. Lines have a color only if what matches has one.
 #[derive(Clone, Copy, Debug)]
 pub enum ColorSpecs<'c> {
     /// No colors.
@@ -86,6 +89,19 @@ impl<'c> ColorSpecs<'c> {
             },
         }
     }
+
+    /// The escape before a line that matches.
+    pub fn highlight(&self) -> Option<&'c str>
+        ensures { color_of result ≡ highlight_color self.now }
+    {
+        match self {
+            ColorSpecs::Plain | ColorSpecs::Default => None,
+            ColorSpecs::Chosen(texts) => match &texts.highlight {
+                Some(text) => Some(text.as_str()),
+                None => None,
+            },
+        }
+    }
 }
 
 // Pushes a text, in a color if there is one.
@@ -96,16 +112,17 @@ pub(crate) fn push_colored(text: &mut Pending, color: Option<&str>, bytes: &[u8]
         Some(color) => {
             text.push(color.as_bytes());
             text.push(bytes);
-            text.push(RESET)
+            text.push(RESET.as_bytes())
         }
         None => text.push(bytes),
     }
 }
 
 // Pushes a line, the first byte of which is at a position of its report, with the bytes in some
-// parts colored that come before an end.
-pub(crate) fn push_painted(
+// parts colored that come before an end. If it is highlighted, those up to the end are.
+pub(crate) fn push_in_colors(
     text: &mut Pending,
+    highlight: Option<&str>,
     color: &str,
     parts: &[Match],
     range: &Match,
@@ -114,7 +131,34 @@ pub(crate) fn push_painted(
     requires fits { range.now.0 + length line.now < 2 ^ 64 }
     requires within { range.now.1 ≤ range.now.0 + length line.now }
     requires ordered { AreInOrder 0 (2 ^ 64) parts.now }
-    ensures { Adds text.old text.new (painted_from color.now
+    ensures { Adds text.old text.new (painted_in (color_of highlight.entry) color.now
+        (is_matched parts.now range.now.1) range.now.0 (range.now.1 - range.now.0) line.now) }
+{
+    let Some(highlight) = highlight else {
+        push_painted(text, color, RESET, parts, range, line);
+        return;
+    };
+    let (shown, rest) = line.split_at(range.end() - range.start());
+    text.push(highlight.as_bytes());
+    push_painted(text, color, highlight, parts, range, shown);
+    text.push(RESET.as_bytes());
+    text.push(rest)
+}
+
+// Pushes a line, the first byte of which is at a position of its report, with the bytes in some
+// parts colored that come before an end. After them comes the escape with which others are shown.
+fn push_painted(
+    text: &mut Pending,
+    color: &str,
+    back: &str,
+    parts: &[Match],
+    range: &Match,
+    line: &[u8],
+)
+    requires fits { range.now.0 + length line.now < 2 ^ 64 }
+    requires within { range.now.1 ≤ range.now.0 + length line.now }
+    requires ordered { AreInOrder 0 (2 ^ 64) parts.now }
+    ensures { Adds text.old text.new (painted_from color.now back.now
         (is_matched parts.now range.now.1) false range.now.0 line.now) }
 {
     let end = range.end();
@@ -130,43 +174,50 @@ pub(crate) fn push_painted(
         let (gap, after) = left.split_at(start - position);
         position = part.end().min(end).max(start);
         let (found, after) = after.split_at(position - start);
-        is_colored = push_run(text, color, is_colored, false, gap);
-        is_colored = push_run(text, color, is_colored, true, found);
+        is_colored = push_run(text, color, back, is_colored, false, gap);
+        is_colored = push_run(text, color, back, is_colored, true, found);
         left = after;
         rest = later;
     }
-    push_rest(text, color, is_colored, left)
+    push_rest(text, color, back, is_colored, left)
 }
 
 // Pushes the bytes after the last part of a line, by whether the byte before them is colored.
-fn push_rest(text: &mut Pending, color: &str, before: bool, bytes: &[u8])
-    ensures { Adds text.old text.new (switch_text color.now before false ++ bytes.now) }
+fn push_rest(text: &mut Pending, color: &str, back: &str, before: bool, bytes: &[u8])
+    ensures { Adds text.old text.new (switch_text color.now back.now before false ++ bytes.now) }
 {
-    push_switch(text, color, before, false);
+    push_switch(text, color, back, before, false);
     text.push(bytes)
 }
 
 // Pushes bytes that are all colored, or none of which is, and returns whether the last byte that
 // was pushed is.
-fn push_run(text: &mut Pending, color: &str, before: bool, is_colored: bool, bytes: &[u8]) -> bool
+fn push_run(
+    text: &mut Pending,
+    color: &str,
+    back: &str,
+    before: bool,
+    is_colored: bool,
+    bytes: &[u8],
+) -> bool
     ensures after { result ≡ after_run before is_colored bytes.now }
-    ensures text { Adds text.old text.new (run_text color.now before is_colored bytes.now) }
+    ensures text { Adds text.old text.new (run_text color.now back.now before is_colored bytes.now) }
 {
     if bytes.is_empty() {
         return before;
     }
-    push_switch(text, color, before, is_colored);
+    push_switch(text, color, back, before, is_colored);
     text.push(bytes);
     is_colored
 }
 
 // Pushes what comes between two bytes, by whether the one before is colored, and the one after.
-fn push_switch(text: &mut Pending, color: &str, before: bool, after: bool)
-    ensures { Adds text.old text.new (switch_text color.now before after) }
+fn push_switch(text: &mut Pending, color: &str, back: &str, before: bool, after: bool)
+    ensures { Adds text.old text.new (switch_text color.now back.now before after) }
 {
     match (before, after) {
         (false, true) => text.push(color.as_bytes()),
-        (true, false) => text.push(RESET),
+        (true, false) => text.push(back.as_bytes()),
         _ => {},
     }
 }

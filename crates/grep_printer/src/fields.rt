@@ -1,15 +1,15 @@
 //! Lines, and the fields before them.
 ghost use Rattle.std.specs.Prelude.{◌≡◌, ◌+◌, ◌<◌, ◌≤◌, ◌^◌, ◌∷◌, ◌++◌, [], decimal, length};
 ghost use Rattle.std.specs.Prelude.{take};
-ghost use Rattle.std.specs.List.{count_by, prefix_len};
+ghost use Rattle.std.specs.List.{count_by, list_any, prefix_len};
 ghost use Rattle.std.specs.Option.{unwrap_or};
 ghost use Rattle.grep_matcher.specs.Lines.{byte_of};
 ghost use Rattle.grep_searcher.specs.Lines.{lines};
-ghost use Rattle.grep_printer.specs.ColoredTexts.{color_of, colored, path_color};
+ghost use Rattle.grep_printer.specs.ColoredTexts.{color_of, colored, path_color, reaches};
 ghost use Rattle.grep_printer.specs.LineTexts.{begins_after, break_text, context_line};
 ghost use Rattle.grep_printer.specs.LineTexts.{counted_notice, long_text, more_notice};
 ghost use Rattle.grep_printer.specs.LineTexts.{preview_len, preview_text, previewed};
-ghost use Rattle.grep_printer.specs.LineTexts.{counted_parts, fields};
+ghost use Rattle.grep_printer.specs.LineTexts.{counted_parts, fields, highlight_of};
 ghost use Rattle.grep_printer.specs.LineTexts.{indentation, is_long, is_space, is_touching};
 ghost use Rattle.grep_printer.specs.LineTexts.{line_text};
 ghost use Rattle.grep_printer.specs.LineTexts.{lines_text, mark_after, mark_of, missing_end, notice};
@@ -19,7 +19,7 @@ ghost use Rattle.grep_printer.specs.LineTexts.{separator_text};
 ghost use Rattle.grep_printer.specs.MatchedParts.{AreInOrder};
 ghost use Rattle.grep_output.specs.PendingTexts.{Adds};
 
-use crate::colors::{push_colored, push_painted};
+use crate::colors::{push_colored, push_in_colors};
 use crate::config::{Config, SearchSeparator};
 use crate::parts::parts_after;
 use crate::separators::Separators;
@@ -134,7 +134,8 @@ impl<'c, 'p> Layout<'c, 'p> {
             text.push(&[self.terminator.as_byte()]);
             return;
         }
-        self.push_bytes(text, place.start + indentation, parts, shown);
+        let highlight = self.highlight(kind, place, parts);
+        self.push_bytes(text, highlight, place.start + indentation, parts, shown);
         push_missing_end(text, self.terminator.as_byte(), shown)
     }
 
@@ -157,18 +158,28 @@ impl<'c, 'p> Layout<'c, 'p> {
             return;
         }
         let indentation = self.indentation(line);
-        self.push_preview(text, place.start + indentation, parts, &line[indentation..])
+        let highlight = self.highlight(kind, place, parts);
+        let start = place.start + indentation;
+        self.push_preview(text, highlight, start, parts, &line[indentation..])
     }
 
     // Pushes the first bytes of a line that begins at a position of its report, and a notice.
     #[tactic(auto, unfolding(crate::specs::LineTexts::preview_text))]
-    fn push_preview(&self, text: &mut Pending, start: usize, parts: &[Match], line: &[u8])
+    fn push_preview(
+        &self,
+        text: &mut Pending,
+        highlight: Option<&str>,
+        start: usize,
+        parts: &[Match],
+        line: &[u8],
+    )
         requires fits { start + length line.now < 2 ^ 64 }
         requires ordered { AreInOrder 0 (2 ^ 64) parts.now }
-        ensures { Adds text.old text.new (preview_text self.now parts.now start line.now) }
+        ensures { Adds text.old text.new
+            (preview_text self.now (color_of highlight.entry) parts.now start line.now) }
     {
         let shown = self.previewed(line);
-        self.push_bytes(text, start, parts, shown);
+        self.push_bytes(text, highlight, start, parts, shown);
         let end = start + line.len();
         let all = count_touching(parts, start, end);
         let later = count_beginning(parts, start + shown.len(), end);
@@ -208,16 +219,41 @@ impl<'c, 'p> Layout<'c, 'p> {
         count_touching(parts, start, start + line.len())
     }
 
-    // Pushes the bytes of a line, the first of which is at a position of the report.
-    fn push_bytes(&self, text: &mut Pending, start: usize, parts: &[Match], line: &[u8])
+    // The highlight of a line: of one of a match, if a part reaches into it or comes after its start.
+    fn highlight(&self, kind: LineKind, place: &Place, parts: &[Match]) -> Option<&'c str>
+        ensures { color_of result ≡ highlight_of self.now kind place.now parts.now }
+    {
+        match (self.config.color_specs.highlight(), kind) {
+            (Some(highlight), LineKind::Match) => {
+                if any_reaches(parts, place.start) {
+                    Some(highlight)
+                } else {
+                    None
+                }
+            }
+            _ => None,
+        }
+    }
+
+    // Pushes the bytes of a line, the first of which is at a position of the report, with a highlight,
+    // if there is one.
+    fn push_bytes(
+        &self,
+        text: &mut Pending,
+        highlight: Option<&str>,
+        start: usize,
+        parts: &[Match],
+        line: &[u8],
+    )
         requires fits { start + length line.now < 2 ^ 64 }
         requires ordered { AreInOrder 0 (2 ^ 64) parts.now }
-        ensures { Adds text.old text.new (painted_line self.now parts.now start line.now) }
+        ensures { Adds text.old text.new
+            (painted_line self.now (color_of highlight.entry) parts.now start line.now) }
     {
         match self.config.color_specs.matched() {
             Some(color) => {
                 let end = start + without_terminator(line, self.terminator).len();
-                push_painted(text, color, parts, &Match::new(start, end), line)
+                push_in_colors(text, highlight, color, parts, &Match::new(start, end), line)
             }
             None => text.push(line),
         }
@@ -354,6 +390,20 @@ fn is_touching(part: &Match, start: usize, end: usize) -> bool
     ensures { result ≡ is_touching start end part.now }
 {
     part.start() < end && (start < part.end() || start <= part.start())
+}
+
+// Whether a part has bytes from a position on, or begins there or later.
+fn any_reaches(parts: &[Match], start: usize) -> bool
+    ensures { result ≡ list_any (reaches start) parts.now }
+{
+    parts.iter().any(|part| reaches(part, start))
+}
+
+// Whether it does.
+fn reaches(part: &Match, start: usize) -> bool
+    ensures { result ≡ reaches start part.now }
+{
+    start <= part.start() || start < part.end()
 }
 
 // How many parts are in a line from a position to another.

@@ -139,6 +139,8 @@ looks_by part change looks =
     then option_map (λ look. record looks { column = look }) (look_with change looks.column)
     else if bytes_eq part (codes "match")
     then option_map (λ look. record looks { matched = look }) (look_with change looks.matched)
+    else if bytes_eq part (codes "highlight")
+    then option_map (λ look. record looks { highlight = look }) (look_with change looks.highlight)
     else None
 
 -- with what a text says: a name, a colon and a change
@@ -147,13 +149,14 @@ looks_with text looks = if has_mark 58 text
     then looks_by (before_first (is_mark 58) text) (after_first (is_mark 58) text) looks
     else None
 
--- paths are magenta, line numbers green, and matches bold red
+-- paths are magenta, line numbers green, matches bold red, and their lines as other text
 abbrev pub first_looks : Looks
 first_looks = record {
   path = record plain_look { letters = Some (Named 5) };
   line = record plain_look { letters = Some (Named 2) };
   column = plain_look;
   matched = record plain_look { letters = Some (Named 1); is_bold = true };
+  highlight = plain_look;
 }
 
 -- the escape of a color, for a layer of a terminal: the letters, or what is behind them
@@ -182,14 +185,15 @@ look_text look = reset ++ (escape_if look.is_bold (27 ∷ codes "[1m")
     ++ (tint_text (codes "3") look.is_intense look.letters
     ++ tint_text (codes "4") look.is_intense look.behind))))
 
--- the escape before what matches, if that doesn't look as other text
-abbrev pub IsMatchedText : Look → Option (String Global) → Type 0
-IsMatchedText look None = is_plain look ≡ true
-IsMatchedText look (Some text) = (is_plain look ≡ false) × (string_bytes text ≡ look_text look)
+-- the escape before what looks so, if it doesn't look as other text
+abbrev pub IsTextIfAny : Look → Option (String Global) → Type 0
+IsTextIfAny look None = is_plain look ≡ true
+IsTextIfAny look (Some text) = (is_plain look ≡ false) × (string_bytes text ≡ look_text look)
 
 -- the escapes before what looks so
 pub record AreTextsOf (looks : Looks) (texts : ColorTexts) : Type 0 where
   pub path : string_bytes texts.path ≡ look_text looks.path
   pub line : string_bytes texts.line ≡ look_text looks.line
   pub column : string_bytes texts.column ≡ look_text looks.column
-  pub matched : IsMatchedText looks.matched texts.matched
+  pub matched : IsTextIfAny looks.matched texts.matched
+  pub highlight : IsTextIfAny looks.highlight texts.highlight

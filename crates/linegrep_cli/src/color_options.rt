@@ -10,8 +10,8 @@ use crate::options::Options;
 use grep_printer::ColorTexts;
 use std::alloc::{AllocError, Global};
 
-const MALFORMED: &str = "--colors: each is path, line, column or match with :none, :fg:COLOR, \
-    :bg:COLOR or :style:STYLE";
+const MALFORMED: &str = "--colors: each is path, line, column, match or highlight with :none, \
+    :fg:COLOR, :bg:COLOR or :style:STYLE";
 
 /// The escapes for the colors that the options choose, if they choose any. An error is that of one
 /// that isn't well formed, or of being out of memory.

@@ -130,7 +130,7 @@ Output:
   -0, --null                 Write a NUL after each path
       --color WHEN           Write colors: always, never, or auto, for a terminal
       --colors CHANGE        Change them, as path:none, line:bg:255, column:fg:0,128,255
-                             or match:style:nobold
+                             match:style:nobold or highlight:bg:red
   -p, --pretty               As --color always --heading -n
       --line-buffered        Write each line at once, as for a terminal
       --block-buffered       Write many lines together

@@ -3,7 +3,7 @@ ghost use Rattle.std.specs.Prelude.{◌≡◌, ◌<◌, ◌≤◌, false, true, 
 ghost use Rattle.std.specs.List.{after_first, before_first};
 ghost use Rattle.std.specs.String.{string_bytes};
 ghost use Rattle.linegrep_cli.specs.ColorLooks.{AreTextsOf, after_mark, byte_in, byte_value};
-ghost use Rattle.linegrep_cli.specs.ColorLooks.{first_looks};
+ghost use Rattle.linegrep_cli.specs.ColorLooks.{IsTextIfAny, first_looks};
 ghost use Rattle.linegrep_cli.specs.ColorLooks.{has_mark, is_mark, is_plain, look_text};
 ghost use Rattle.linegrep_cli.specs.ColorLooks.{look_by, look_with, looks_by, looks_with};
 ghost use Rattle.linegrep_cli.specs.ColorLooks.{plain_look, style_with, tint_of, tint_of_numbers};
@@ -36,13 +36,14 @@ pub struct Look {
     is_italic: bool,
 }
 
-/// How paths, line numbers, columns and matches look.
+/// How paths, line numbers, columns, matches and the lines of matches look.
 #[derive(Clone, Copy)]
 pub struct Looks {
     path: Look,
     line: Look,
     column: Look,
     matched: Look,
+    highlight: Look,
 }
 
 impl Looks {
@@ -66,6 +67,7 @@ impl Looks {
                 is_bold: true,
                 ..plain
             },
+            highlight: plain,
         }
     }
 
@@ -101,31 +103,25 @@ impl Looks {
                 Some(matched) => Some(Looks { matched, ..*self }),
                 None => None,
             },
+            "highlight" => match self.highlight.with(change) {
+                Some(highlight) => Some(Looks { highlight, ..*self }),
+                None => None,
+            },
             _ => None,
         }
     }
 
-    /// The escapes before what looks so. What matches has none if it looks as other text.
+    /// The escapes before what looks so. Matches and their lines have none if they look as other
+    /// text.
     pub fn texts(&self, alloc: Global) -> Result<ColorTexts, AllocError>
         ensures { IfOk result (AreTextsOf self.now) }
     {
-        let path = self.path.text(alloc)?;
-        let line = self.line.text(alloc)?;
-        let column = self.column.text(alloc)?;
-        if self.matched.is_plain() {
-            return Ok(ColorTexts {
-                path,
-                line,
-                column,
-                matched: None,
-            });
-        }
-        let matched = self.matched.text(alloc)?;
         Ok(ColorTexts {
-            path,
-            line,
-            column,
-            matched: Some(matched),
+            path: self.path.text(alloc)?,
+            line: self.line.text(alloc)?,
+            column: self.column.text(alloc)?,
+            matched: self.matched.text_if_any(alloc)?,
+            highlight: self.highlight.text_if_any(alloc)?,
         })
     }
 }
@@ -213,6 +209,19 @@ impl Look {
             _ => return None,
         }
         Some(look)
+    }
+
+    // The escape before a text that looks so, unless that is as other text.
+    fn text_if_any(&self, alloc: Global) -> Result<Option<String>, AllocError>
+        ensures { IfOk result (IsTextIfAny self.now) }
+    {
+        if self.is_plain() {
+            return Ok(None);
+        }
+        match self.text(alloc) {
+            Ok(text) => Ok(Some(text)),
+            Err(error) => Err(error),
+        }
     }
 
     // The escape before a text that looks so.
