@@ -147,6 +147,11 @@ impl<'c, A: Allocator + Copy, T: Configured> Search<'c, A, T> {
                 further = questions;
                 continue;
             }
+            if let Some(end) = self.config.passed_line(start, &ahead, walk) {
+                *walk = self.config.after_line(walk, &window[start..end], false);
+                start = end;
+                continue;
+            }
             further = Questions::OneLine;
             let Some(end) = ahead.line_end(window, start, terminator) else {
                 return Ok(true);

@@ -1,5 +1,6 @@
 //! How often a byte occurs in some bytes, and how many lines they have.
 ghost use Rattle.std.specs.Prelude.{◌≡◌, ◌≤◌, ◌<◌, ◌+◌, ◌==◌, ℕ, length, drop, count_by};
+ghost use Rattle.std.specs.Prelude.{slice_range};
 ghost use lib.Lanes.{Each1, sum_l};
 ghost use Rattle.grep_matcher.specs.Lines.{lines};
 
@@ -33,10 +34,39 @@ pub fn count(bytes: &[u8], terminator: u8) -> u64
 pub fn line_count(bytes: &[u8], terminator: u8) -> u64
     ensures { result ≡ length (lines terminator bytes.now) }
 {
+    count_ended(bytes, terminator, count(bytes, terminator))
+}
+
+/// How many lines there are from one position up to another, as if there were no other bytes. The
+/// caller ensures that the positions are in order and within the bytes. Of few bytes that come after
+/// others it is found by one comparison of vectors.
+#[inline(always)]
+pub fn line_count_in(bytes: &[u8], start: usize, end: usize, terminator: u8) -> u64
+    requires ordered { start ≤ end }
+    requires within { end ≤ length bytes.now }
+    ensures { result ≡ length (lines terminator (slice_range bytes.now start end)) }
+{
+    let part = &bytes[start..end];
+    if part.is_empty() || part.len() > WIDE || end < WIDE {
+        return line_count(part, terminator);
+    }
+    let last = &bytes[end - WIDE..end];
+    count_ended(
+        part,
+        terminator,
+        count_wide(last, terminator, WIDE - part.len()),
+    )
+}
+
+// How many lines the bytes have, by how many of them are `terminator`.
+#[inline(always)]
+fn count_ended(bytes: &[u8], terminator: u8, terminators: u64) -> u64
+    requires { terminators ≡ count_by (λ b. b == terminator) bytes.now }
+    ensures { result ≡ length (lines terminator bytes.now) }
+{
     if bytes.is_empty() {
         return 0;
     }
-    let terminators = count(bytes, terminator);
     if bytes[bytes.len() - 1] == terminator {
         terminators
     } else {

@@ -14,7 +14,7 @@ mod replace;
 mod strip;
 mod whole_lines;
 
-pub use counts::{count, line_count};
+pub use counts::{count, line_count, line_count_in};
 pub use line_iter::LineIter;
 pub use line_step::LineStep;
 pub use preceding_lines::{preceding, preceding_by_pos};

@@ -15,6 +15,7 @@ const LONGEST: usize = 32;
 
 /// The position of the first occurrence of the literal that a finder has from `start` on. The caller
 /// ensures that `start` is in the haystack, or at its end.
+#[inline(always)]
 pub(crate) fn find_from(finder: &Finder<'_>, haystack: &[u8], start: usize) -> Option<usize>
     requires { start ≤ length haystack.now }
     ensures { FindsNeedle haystack.now finder.now start result }

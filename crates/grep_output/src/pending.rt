@@ -1,6 +1,6 @@
 //! Texts that are kept before they are written.
 ghost use Rattle.std.specs.Prelude.{◌≡◌, ◌++◌, ◌+◌, ◌-◌, ◌<◌, ◌≤◌, ◌∷◌, [], decimal, drop, false};
-ghost use Rattle.std.specs.Prelude.{MatchBool, length, take, true, vec_capacity};
+ghost use Rattle.std.specs.Prelude.{length, take, true};
 ghost use Rattle.grep_output.specs.Outputs.{Writes};
 ghost use Rattle.grep_output.specs.PendingTexts.{Adds, pending_bytes};
 
@@ -14,8 +14,10 @@ use std::{io, mem};
 /// memory is out it has failed, and takes nothing more, while those before it stay.
 #[derive(Drop)]
 pub struct Pending {
-    // The texts, the last of which begins at `start`.
+    // The texts are the first `len` bytes, the last of them begins at `start`, and the other bytes
+    // are room for more.
     bytes: Vec<u8>,
+    len: usize,
     start: usize,
     has_failed: bool,
     numeral: Numeral,
@@ -31,11 +33,11 @@ impl Model for Pending {
 
     ghost view = { λ p. record {
       before = take p.start p.bytes.items;
-      text = drop p.start p.bytes.items;
+      text = drop p.start (take p.len p.bytes.items);
       has_failed = p.has_failed;
     } };
 
-    ghost invariant = { λ p. p.start ≤ length p.bytes.items };
+    ghost invariant = { λ p. (p.start ≤ p.len) × (p.len ≤ length p.bytes.items) };
 }
 
 impl Pending {
@@ -45,6 +47,7 @@ impl Pending {
     {
         Pending {
             bytes: Vec::new(alloc),
+            len: 0,
             start: 0,
             has_failed: false,
             numeral: Numeral::new(),
@@ -64,7 +67,7 @@ impl Pending {
         ensures text { self.new.text ≡ [] }
         ensures has_failed { self.new.has_failed ≡ false }
     {
-        self.start = self.bytes.len();
+        self.start = self.len;
         self.has_failed = false;
     }
 
@@ -74,7 +77,7 @@ impl Pending {
         ensures text { self.new.text ≡ [] }
         ensures has_failed { self.new.has_failed ≡ false }
     {
-        self.bytes.truncate(self.start);
+        self.len = self.start;
         self.has_failed = false;
     }
 
@@ -87,7 +90,7 @@ impl Pending {
         ensures text { self.new.text ≡ drop (length self.old.before - len) self.old.before }
         ensures has_failed { self.new.has_failed ≡ has_failed }
     {
-        self.bytes.truncate(self.start);
+        self.len = self.start;
         self.start -= len;
         self.has_failed = has_failed;
     }
@@ -105,9 +108,42 @@ impl Pending {
     pub fn push(&mut self, bytes: &[u8])
         ensures { Adds self.old self.new bytes.now }
     {
-        if !self.has_failed {
-            self.has_failed = !appends(&mut self.bytes, bytes);
+        if self.has_failed {
+            return;
         }
+        if bytes.len() > self.bytes.len() - self.len {
+            self.push_in_more_room(bytes);
+            return;
+        }
+        put_at(&mut self.bytes, self.len, bytes);
+        self.len += bytes.len();
+    }
+
+    /// Pushes a byte.
+    #[inline(always)]
+    pub fn push_byte(&mut self, byte: u8)
+        ensures { Adds self.old self.new (byte ∷ []) }
+    {
+        if self.has_failed {
+            return;
+        }
+        if self.len == self.bytes.len() {
+            self.push_in_more_room(&[byte]);
+            return;
+        }
+        put_byte(&mut self.bytes, self.len, byte);
+        self.len += 1;
+    }
+
+    // Pushes some bytes for which there is no room yet.
+    #[inline(never)]
+    fn push_in_more_room(&mut self, bytes: &[u8])
+        requires { self.old.has_failed ≡ false }
+        ensures { Adds self.old self.new bytes.now }
+    {
+        self.bytes.truncate(self.len);
+        self.has_failed = self.bytes.extend_from_slice(bytes).is_err();
+        self.len = self.bytes.len();
     }
 
     /// Pushes a number in decimal, and a mark.
@@ -125,7 +161,7 @@ impl Pending {
     pub fn text_len(&self) -> usize
         ensures { result ≡ length self.now.text }
     {
-        self.bytes.len() - self.start
+        self.len - self.start
     }
 
     /// How many bytes all texts have.
@@ -133,7 +169,7 @@ impl Pending {
     pub fn len(&self) -> usize
         ensures { result ≡ length (pending_bytes self.now) }
     {
-        self.bytes.len()
+        self.len
     }
 
     /// Whether memory was out for the text that is being made.
@@ -150,8 +186,8 @@ impl Pending {
         ensures written { Writes W.step writer.old (pending_bytes self.old) result writer.new }
         ensures emptied { pending_bytes self.new ≡ [] }
     {
-        let written = write_all(writer, &self.bytes);
-        self.bytes.clear();
+        let written = write_all(writer, &self.bytes[..self.len]);
+        self.len = 0;
         self.start = 0;
         written
     }
@@ -161,12 +197,14 @@ impl Pending {
         ensures { result.items ≡ pending_bytes self }
     {
         let Pending {
-            bytes,
+            mut bytes,
+            len,
             start: _,
             has_failed: _,
             numeral: _,
             alloc: _,
         } = self;
+        bytes.truncate(len);
         bytes
     }
 
@@ -174,6 +212,8 @@ impl Pending {
     pub fn take_out(&mut self) -> Vec<u8>
         ensures { result.items ≡ pending_bytes self.old }
     {
+        self.bytes.truncate(self.len);
+        self.len = 0;
         self.start = 0;
         mem::replace(&mut self.bytes, Vec::new(self.alloc))
     }
@@ -186,19 +226,29 @@ impl Pending {
         ensures text { self.new.text ≡ drop start bytes.items }
         ensures has_failed { self.new.has_failed ≡ has_failed }
     {
+        self.len = bytes.len();
         self.bytes = bytes;
         self.start = start;
         self.has_failed = has_failed;
     }
 }
 
-// Appends bytes, and returns whether it did. It fails only where there is no room for them, so that
-// memory was asked for: then nothing is appended.
+// Puts some bytes at a position in place of those there.
 #[inline(always)]
-fn appends(bytes: &mut Vec<u8>, more: &[u8]) -> bool
-    ensures { MatchBool result (bytes.new.items ≡ bytes.old.items ++ more.now)
-        ((bytes.new.items ≡ bytes.old.items)
-        × (vec_capacity bytes.old < length bytes.old.items + length more.now)) }
+fn put_at(bytes: &mut [u8], at: usize, more: &[u8])
+    requires { at + length more.now ≤ length bytes.old }
+    ensures same { length bytes.new ≡ length bytes.old }
+    ensures put { take (at + length more.now) bytes.new ≡ take at bytes.old ++ more.now }
 {
-    bytes.extend_from_slice(more).is_ok()
+    bytes[at..at + more.len()].copy_from_slice(more);
+}
+
+// Puts a byte at a position in place of the one there.
+#[inline(always)]
+fn put_byte(bytes: &mut [u8], at: usize, byte: u8)
+    requires { at < length bytes.old }
+    ensures same { length bytes.new ≡ length bytes.old }
+    ensures put { take (at + 1) bytes.new ≡ take at bytes.old ++ byte ∷ [] }
+{
+    bytes[at] = byte;
 }

@@ -12,6 +12,7 @@ pub mod JsonPieces
 pub mod JsonTexts
 pub mod LineTexts
 pub mod MatchedParts
+pub mod PartErrors
 pub mod PartTexts
 pub mod PlanCounts
 pub mod PrintedSearches

@@ -346,7 +346,7 @@ pub(crate) fn push_missing_end(text: &mut Pending, terminator: u8, line: &[u8])
     if line.ends_with(&[terminator]) {
         return;
     }
-    text.push(&[terminator])
+    text.push_byte(terminator)
 }
 
 // How many bytes of white space come first.

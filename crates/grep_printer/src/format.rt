@@ -114,7 +114,7 @@ pub trait Format: Copy {
     /// Pushes the texts of the lines of a match, each of which is a match, as one text after those
     /// that are kept, and returns whether it did: only if no parts of them are asked for or the
     /// search is inverted, and if it goes on after each of them. If it didn't, nothing has changed.
-    /// If memory is out, the text has failed.
+    /// If memory is out, the text has failed, and the format is as it was.
     ///
     /// The default doesn't.
     fn push_lines<A: Allocator + Copy>(
@@ -133,6 +133,7 @@ pub trait Format: Copy {
         ensures texts { result ≡ true → text.new.has_failed ≡ false → AreTexts rules
             (record { path = path.entry; settings = searcher.now.settings }) self.old
             (calls_of_match lines.now) text.new.text self.new }
+        ensures failed { text.new.has_failed ≡ true → result ≡ true → self.new ≡ self.old }
         ensures same { result ≡ false → (self.new ≡ self.old) × (text.new ≡ text.old) }
     {
         false

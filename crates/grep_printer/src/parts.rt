@@ -7,12 +7,34 @@ ghost use Rattle.grep_printer.specs.CallParts.{asked_bytes, parts_of_call};
 ghost use Rattle.grep_printer.specs.MatchedParts.{AreInOrder, IsMatcherError, LiesFrom, below};
 ghost use Rattle.grep_printer.specs.MatchedParts.{first_from, found_from, is_passed, parts_after};
 ghost use Rattle.grep_printer.specs.MatchedParts.{parts_in, position_after};
+ghost use Rattle.grep_printer.specs.PartErrors.{EachErrorIs, IsErrorOf};
 ghost use Rattle.grep_printer.specs.Reports.{IsShown, call_of, surroundings_of};
 
 use crate::report::Report;
 use grep_lines::without_terminator;
 use grep_searcher::{FindAt, Match, SearchError, Searcher, SinkError};
 use std::alloc::{AllocError, Allocator, Global};
+use std::fmt::Display;
+
+// Why the parts of a report aren't found: memory is out for them, or the matcher failed. It has no
+// more room than the matcher's error needs.
+pub(crate) enum PartsError<E> {
+    // Memory is out.
+    Memory,
+    // The matcher's error.
+    Matcher(E),
+}
+
+// The error of a search that can't find the parts of a report.
+#[inline(never)]
+pub(crate) fn search_error<E: Display + Drop>(alloc: Global, error: PartsError<E>) -> SearchError
+    ensures { IsErrorOf E.output error result }
+{
+    match error {
+        PartsError::Memory => SearchError::from(AllocError),
+        PartsError::Matcher(error) => SearchError::error_message(alloc, error),
+    }
+}
 
 // Finds the parts of a report that match, in order. By line its line is searched without the
 // terminator, and across lines all that is shown with it.
@@ -21,17 +43,17 @@ pub(crate) fn find_report_parts<M: FindAt, A: Allocator + Copy>(
     searcher: &Searcher<A>,
     matcher: &M,
     report: &Report<'_>,
-) -> Result<(), SearchError>
+) -> Result<(), PartsError<M::Error>>
     requires { IsShown report.now }
     ensures parts { OnOk result (parts.new.items ≡ parts_of_call searcher.now.settings
         (M.facts matcher.now).meaning (surroundings_of report.now) (call_of report.now)
         (M.first_at matcher.now)) }
     ensures ordered { OnOk result
         (AreInOrder 0 (length report.now.bytes.now) parts.new.items) }
-    ensures error { IfErr result (λ e. IsOutOfMemory e
+    ensures error { IfErr result (EachErrorIs M.Error.output (λ e. IsOutOfMemory e
         ⊎ IsMatcherError M.Error.output (M.facts matcher.now).fails
         (asked_bytes searcher.now.settings (M.facts matcher.now).meaning
-        (surroundings_of report.now) (call_of report.now)) e) }
+        (surroundings_of report.now) (call_of report.now)) e)) }
 {
     let limit = report.bytes.len();
     if searcher.multi_line_with_matcher(matcher) {
@@ -49,29 +71,29 @@ fn find_parts<M: FindAt>(
     bytes: &[u8],
     start: usize,
     limit: usize,
-) -> Result<(), SearchError>
+) -> Result<(), PartsError<M::Error>>
     requires { start ≤ length bytes.now }
     ensures parts { OnOk result (parts.new.items
         ≡ parts_in (first_from (M.first_at matcher.now bytes.now) start)
         (length bytes.now - start) limit) }
     ensures ordered { OnOk result (AreInOrder 0 limit parts.new.items) }
-    ensures error { IfErr result (λ e. IsOutOfMemory e
-        ⊎ IsMatcherError M.Error.output (M.facts matcher.now).fails bytes.now e) }
+    ensures error { IfErr result (EachErrorIs M.Error.output (λ e. IsOutOfMemory e
+        ⊎ IsMatcherError M.Error.output (M.facts matcher.now).fails bytes.now e)) }
 {
     parts.clear();
     let mut position = 0;
     let mut end = None;
     loop {
-        match find_from(*parts.allocator(), matcher, bytes, start, limit, position) {
+        match find_from(matcher, bytes, start, limit, position) {
             Ok(Some(found)) => {
-                if let Err(error) = push_part(parts, end, found) {
-                    return Err(SearchError::from(error));
+                if let Err(_) = push_part(parts, end, found) {
+                    return Err(PartsError::Memory);
                 }
                 end = Some(found.end());
                 position = position_after(&found);
             }
             Ok(None) => return Ok(()),
-            Err(error) => return Err(error),
+            Err(error) => return Err(PartsError::Matcher(error)),
         }
     }
 }
@@ -95,20 +117,18 @@ fn push_part(parts: &mut Vec<Match>, end: Option<usize>, found: Match) -> Result
 // The first match from a position on that starts before a limit and ends by it, all counted from a
 // start in the bytes.
 fn find_from<M: FindAt>(
-    alloc: Global,
     matcher: &M,
     bytes: &[u8],
     start: usize,
     limit: usize,
     position: usize,
-) -> Result<Option<Match>, SearchError>
+) -> Result<Option<Match>, M::Error>
     requires { start ≤ length bytes.now }
     ensures value { IfOk result (λ m. m
         ≡ found_from (first_from (M.first_at matcher.now bytes.now) start)
         (length bytes.now - start) limit position) }
     ensures lies { IfOk result (LiesFrom position (length bytes.now - start) limit) }
-    ensures error { IfErr result
-        (IsMatcherError M.Error.output (M.facts matcher.now).fails bytes.now) }
+    ensures error { IfErr result ((M.facts matcher.now).fails bytes.now) }
 {
     if position > bytes.len() - start {
         return Ok(None);
@@ -116,7 +136,7 @@ fn find_from<M: FindAt>(
     match matcher.find_at(bytes, start + position) {
         Ok(Some(found)) => Ok(part_below(&found, start, limit)),
         Ok(None) => Ok(None),
-        Err(error) => Err(SearchError::error_message(alloc, error)),
+        Err(error) => Err(error),
     }
 }
 

@@ -11,7 +11,7 @@ ghost use Rattle.grep_output.specs.PendingTexts.{Adds};
 use crate::config::Config;
 use crate::fields::{next_number, push_missing_end, push_number};
 use crate::report::{Report, ReportKind};
-use grep_lines::without_terminator;
+use grep_lines::{LineStep, without_terminator};
 use grep_output::Pending;
 use grep_searcher::{LineIter, LineTerminator, Match};
 
@@ -131,9 +131,8 @@ fn ends_after(part: &Match, position: usize) -> bool
 fn is_one_line(terminator: u8, bytes: &[u8]) -> bool
     ensures { result ≡ true → lines terminator bytes.now ≡ bytes.now ∷ [] }
 {
-    let mut lines = LineIter::new(terminator, bytes);
-    match lines.next() {
-        Some(_) => lines.next().is_none(),
+    match LineStep::new(terminator, 0, bytes.len()).next(bytes) {
+        Some((_, end)) => end == bytes.len(),
         None => false,
     }
 }

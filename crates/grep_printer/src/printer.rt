@@ -12,13 +12,14 @@ ghost use Rattle.grep_printer.specs.BareTexts.{bare_text};
 ghost use Rattle.grep_printer.specs.CallParts.{FailsAtParts, around_match, has_match};
 ghost use Rattle.grep_printer.specs.Formats.{is_text};
 ghost use Rattle.grep_printer.specs.MatchedParts.{AreInOrder};
+ghost use Rattle.grep_printer.specs.PartErrors.{EachErrorIs};
 ghost use Rattle.grep_printer.specs.PrinterSteps.{HasFound, IsAsBefore, IsPreparing, Prints};
 ghost use Rattle.grep_printer.specs.PrinterSteps.{PrintsCall, PrintsShown};
 ghost use Rattle.grep_printer.specs.Reports.{FitsEvent, IsAround, IsShownEvent, event_call, event_surroundings};
 
 use crate::bare::write_call;
 use crate::format::{Event, Format};
-use crate::parts::find_report_parts;
+use crate::parts::{PartsError, find_report_parts, search_error};
 use crate::report::{Report, finish_of};
 use grep_output::{Output, Pending};
 use grep_searcher::{
@@ -312,7 +313,7 @@ impl<'s, F: Format, M: FindAt, W: Output> PrinterSink<'s, F, M, W> {
         &mut self,
         searcher: &Searcher<A>,
         event: &Event<'_>,
-    ) -> Result<(), SearchError>
+    ) -> Result<(), PartsError<M::Error>>
         requires shown { IsShownEvent event.now }
         requires asked { (has_match searcher.now.settings (event_call event.now)
             && F.rules.asks self.old.format (event_call event.now)) ≡ true }
@@ -322,9 +323,9 @@ impl<'s, F: Format, M: FindAt, W: Output> PrinterSink<'s, F, M, W> {
             (record { call = event_call event.now; around = event_surroundings event.now; parts = self.new.printer.now.parts.items })) }
         ensures ordered { OnOk result (AreInOrder 0 (length (reported_bytes (event_call event.now)))
             self.new.printer.now.parts.items) }
-        ensures error { IfErr result (λ e. IsOutOfMemory e
+        ensures error { IfErr result (EachErrorIs M.Error.output (λ e. IsOutOfMemory e
             ⊎ FailsAtParts (IsAround event.now) M.Error.output (M.facts self.old.matcher)
-            searcher.now.settings (event_call event.now) e) }
+            searcher.now.settings (event_call event.now) e)) }
     {
         let parts = &mut self.printer.parts;
         match event {
@@ -371,10 +372,10 @@ impl<'s, F: Format, M: FindAt, W: Output> PrinterSink<'s, F, M, W> {
             return self.print_with_parts(searcher, event);
         }
         self.clear_parts(searcher, event);
-        match self.keep_call(searcher, event) {
-            Some(goes_on) => Ok(goes_on),
-            None => self.print_call(searcher, event),
+        if let Some(goes_on) = self.keep_call(searcher, event) {
+            return Ok(goes_on);
         }
+        self.print_call(searcher, event)
     }
 
     // Prints a call of whose report the parts are asked for.
@@ -392,14 +393,13 @@ impl<'s, F: Format, M: FindAt, W: Output> PrinterSink<'s, F, M, W> {
             (IsAround event.now) self.old searcher.now.settings (event_call event.now) result
             self.new }
     {
-        match self.find_parts(searcher, event) {
-            Ok(()) => {}
-            Err(error) => return Err(error),
+        if let Err(error) = self.find_parts(searcher, event) {
+            return Err(search_error(*self.printer.parts.allocator(), error));
         }
-        match self.keep_call(searcher, event) {
-            Some(goes_on) => Ok(goes_on),
-            None => self.print_call(searcher, event),
+        if let Some(goes_on) = self.keep_call(searcher, event) {
+            return Ok(goes_on);
         }
+        self.print_call(searcher, event)
     }
 
     // Keeps the text of a call whose parts are at hand, if there is memory and room for it, and
@@ -520,7 +520,6 @@ impl<'s, F: Format, M: FindAt, W: Output> Sink for PrinterSink<'s, F, M, W> {
         if lines.bytes().is_empty() || self.printer.is_full() {
             return Ok(false);
         }
-        let before = self.format;
         let printer = &mut *self.printer;
         let text = &mut printer.pending;
         let (len, has_failed) = (text.text_len(), text.has_failed());
@@ -529,7 +528,6 @@ impl<'s, F: Format, M: FindAt, W: Output> Sink for PrinterSink<'s, F, M, W> {
         }
         if printer.pending.has_failed() {
             printer.pending.reopen(len, has_failed);
-            self.format = before;
             return Ok(false);
         }
         printer.has_written = printer.has_written || printer.pending.text_len() > 0;

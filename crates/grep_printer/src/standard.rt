@@ -211,6 +211,7 @@ impl<'c> Format for StandardFormat<'c> {
         true
     }
 
+    #[inline(always)]
     fn push_lines<A: Allocator + Copy>(
         &mut self,
         text: &mut Pending,
@@ -223,6 +224,11 @@ impl<'c> Format for StandardFormat<'c> {
             return false;
         }
         text.begin();
-        self.push_report(text, searcher, path, &Report::of_match(lines), &[])
+        let report = Report::of_match(lines);
+        self.push_shown(text, searcher, path, &report, &[]);
+        if !text.has_failed() {
+            self.progress.add(&report);
+        }
+        true
     }
 }

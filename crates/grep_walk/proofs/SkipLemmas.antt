@@ -14,7 +14,8 @@ use Rattle.grep_report.specs.ErrorMakers.{ErrorMakers}
 use Rattle.grep_walk.specs.WalkFaults.{IsWalkFault}
 use Rattle.grep_walk.specs.declared.look_ahead.Ahead.{Ahead}
 use Rattle.grep_walk.specs.declared.walk.Walk.{Walk}
-use Rattle.grep_walk.specs.LookAheads.{IsKnown, MayAskAhead, can_skip, known_at, skips}
+use Rattle.grep_walk.specs.LookAheads.{IsKnown, MayAskAhead, can_skip, known_at, passes_unchosen}
+use Rattle.grep_walk.specs.LookAheads.{skips}
 use Rattle.grep_walk.specs.Walks.{IsDecided, is_over, line_calls, after_line, skip_lines}
 use Rattle.grep_walk.specs.Windows.{HasWalked}
 use Rattle.grep_lines.proofs.LineRangeLemmas.{lines-between, comes-before, comes-from, end-start}
@@ -22,6 +23,15 @@ use Rattle.grep_lines.proofs.LineRangeLemmas.{line-from, start-same, starts-unti
 use Rattle.grep_walk.proofs.WalkLemmas.{Bare}
 use Rattle.grep_walk.proofs.WindowSearchLemmas.{asked-ahead, failed-matcher, line-comes}
 use Rattle.grep_walk.specs.Origins.{Origin}
+
+-- what a walk that passes lines which aren't chosen has
+pub record IsPassing (k : Settings) (w : Walk) : Type 0 where
+  pub selects : k.passthru ≡ false
+  pub none_left : w.after_context_left ≡ 0
+  pub unstopped : stops_next k (nat_lt 0 w.match_count) ≡ false
+
+pub is_passing : (k : Settings) (w : Walk) → passes_unchosen k w ≡ true → IsPassing k w
+is_passing k w passes = grind arith
 
 -- what a walk that may skip lines has
 record IsSkipping (k : Settings) (w : Walk) : Type 0 where

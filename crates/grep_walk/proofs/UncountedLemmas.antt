@@ -1,14 +1,15 @@
 -- A walk that may have skipped lines uncounted, against the calls that are defined for the input:
 -- where lines aren't counted, no call depends on their count.
 use Rattle.std.proofs.Common.{◌≡◌, ℕ, ◌+◌, ◌-◌, ◌<◌, ◌≤◌, min, Bool, true, false, if◌then◌else◌}
-use Rattle.std.proofs.Common.{List, [], ◌++◌, length, drop, Option, refl, sym, ◌∙◌, ap, ap₂, subst}
-use Rattle.std.proofs.Common.{arith, ⊎_elim}
+use Rattle.std.proofs.Common.{List, [], ◌++◌, length, drop, None, Option, refl, sym, ◌∙◌, ap, ap₂}
+use Rattle.std.proofs.Common.{arith, subst, ⊎_elim}
 use Rattle.std.proofs.lemmas.Bool.Decides.{nat_tests}
 use Rattle.std.proofs.lemmas.Bool.{cases_lt}
-use Rattle.std.specs.Prelude.{IfSome, slice_range}
+use Rattle.std.specs.Prelude.{IfSome, nat_lt, slice_range}
 use Rattle.grep_lines.specs.Positions.{IsLine, IsLineStart}
 use Rattle.grep_matcher.specs.Lines.{lines, strip, byte_of}
-use Rattle.grep_definitions.specs.Plans.{joined_from, Settings, Steps, Outcome, AreMade}
+use Rattle.grep_definitions.specs.Plans.{joined_from, Settings, Steps, Outcome, AreMade, all_true}
+use Rattle.grep_definitions.specs.Plans.{has_room}
 use Rattle.grep_definitions.specs.LineCalls.{listed_calls, selected_calls, matches_line}
 use Rattle.grep_definitions.specs.LineCalls.{pending_calls}
 use Rattle.grep_report.specs.ErrorMakers.{ErrorMakers}
@@ -16,7 +17,8 @@ use Rattle.grep_matcher.specs.Meanings.{Meaning, MatcherFacts}
 use Rattle.grep_walk.specs.WalkFaults.{IsWalkFault}
 use Rattle.grep_walk.specs.declared.look_ahead.Ahead.{Ahead}
 use Rattle.grep_walk.specs.declared.walk.Walk.{Walk}
-use Rattle.grep_walk.specs.LookAheads.{IsBounded, IsExact, IsKnown, MayAskAhead, known_at, skips}
+use Rattle.grep_walk.specs.LookAheads.{IsBounded, IsExact, IsKnown, MayAskAhead, PassesLine}
+use Rattle.grep_walk.specs.LookAheads.{known_at, skips}
 use Rattle.grep_walk.specs.Walks.{AreCounts, IsDecided, can_hit, counts_lines, is_over, line_end}
 use Rattle.grep_walk.specs.Walks.{line_calls, after_line, with_counts, reports_line, skip_unmatched}
 use Rattle.grep_walk.specs.Windows.{HasSearched, HasWalked, IsInWindow}
@@ -250,3 +252,52 @@ module _ {S E : Type 0} {step : Steps S E} {k : Settings} {meaning : Meaning}
             (known-line k meaning window a _ r q (known-later k meaning window p r a low known)
             (line _ here.walked.inside.line.begins));
       }
+
+  -- a line that matches is passed under inversion
+  pub passed-on : {q : ℕ} → PassesLine k a w p q
+      → HasSearched step k meaning gone window input first q
+      (after_line k w (slice_range window p q) false) now
+  passed-on {q} passes = (line-comes bare call within decided all_true now silent).1 goes_on
+    where
+      here : List ℕ
+      here = slice_range window p q
+
+      within : q ≤ length window
+      within = omega (arith, passes.last, bounded.within)
+
+      exact : (i : ℕ) → IsLineStart (byte_of k.line_terminator) window p i
+          → IsLine (byte_of k.line_terminator) window i p q
+      exact i start = rw (passes.first, passes.last) (known.exact
+          (omega (arith, passes.first, passes.last, passes.some)) i (rw passes.first at start))
+
+      call : HasLine step k meaning gone window input first p q w now None
+      call = record { here = so_far; line = exact; agrees = tt }
+
+      matches : matches_line k meaning here ≡ true
+      matches = known.hit _ p q (exact _ so_far.walked.inside.line.begins)
+          (omega (arith, passes.first)) (omega (arith, passes.last, passes.some))
+
+      skipping : skips.IsPassing k w
+      skipping = skips.is_passing k w passes.unchosen
+
+      decided : IsDecided k meaning w here false false
+      decided = record {
+        chosen_is = grind (arith, matches, passes.inverted);
+        trailing_is = λ some. grind (arith, matches, passes.inverted);
+      }
+
+      none_left : nat_lt 0 w.after_context_left ≡ false
+      none_left = grind (arith, nat_tests, skipping.none_left)
+
+      silent : AreMade step k now (line_calls k input w here false false) all_true now
+      silent = rw (none_left, skipping.selects) (refl, refl)
+
+      room : has_room k w.match_count ≡ true
+      room = grind (
+        arith,
+        so_far.walked.reported.walk.opened.filled skipping.selects,
+        skipping.none_left,
+      )
+
+      goes_on : is_over k (after_line k w here false) false ≡ false
+      goes_on = grind (arith, nat_tests, skipping.unstopped, room)

@@ -67,11 +67,25 @@ pub record MayAskAhead (settings : Settings) (meaning : Meaning) (w : Walk) : Ty
   pub room : has_room settings w.match_count ≡ true
   pub unstopped : stops_next settings (nat_lt 0 w.match_count) ≡ false
 
--- whether a walk may skip lines that don't match: none is reported, and none ends the search
-abbrev pub can_skip : Settings → Walk → Bool
-can_skip settings w =
-    not (hits_if settings false) && not settings.passthru && w.after_context_left == 0
+-- whether a line that isn't chosen is neither reported nor ends the search
+abbrev pub passes_unchosen : Settings → Walk → Bool
+passes_unchosen settings w =
+    not settings.passthru && w.after_context_left == 0
     && not (stops_next settings (nat_lt 0 w.match_count))
+
+-- whether a walk may skip lines that don't match: none is chosen, and it passes them
+abbrev pub can_skip : Settings → Walk → Bool
+can_skip settings w = not (hits_if settings false) && passes_unchosen settings w
+
+-- a walk passes the line from `start` up to `end`: it is known to match, and isn't chosen under
+-- inversion
+pub record PassesLine (settings : Settings) (ahead : Ahead) (w : Walk) (start end : ℕ)
+    : Type 0 where
+  pub first : start ≡ ahead.candidate
+  pub last : end ≡ ahead.match_end
+  pub some : start < end
+  pub inverted : hits_if settings true ≡ false
+  pub unchosen : passes_unchosen settings w ≡ true
 
 -- whether it skips the lines from `start` up to another position
 abbrev pub skips : Settings → Walk → ℕ → ℕ → Bool

@@ -12,7 +12,7 @@ ghost use Rattle.grep_walk.specs.Walks.{IsOrdered};
 use crate::config::Config;
 use crate::look_ahead::{Ahead, Questions};
 use crate::walk::Walk;
-use grep_lines::{line_count, line_of};
+use grep_lines::{line_count_in, line_of};
 use grep_matcher::Matcher;
 
 // How many bytes of lines are chosen at once, at most, unless it is one line: what a sink makes of
@@ -82,6 +82,7 @@ impl Config {
     }
 
     // The lines from `start` on that are known not to match.
+    #[inline(always)]
     fn lines_up_to_candidate(
         &self,
         window: &[u8],
@@ -107,7 +108,7 @@ impl Config {
         }
         Some(ChosenLines {
             end,
-            count: line_count(&window[start..end], self.line_terminator.as_byte()),
+            count: line_count_in(window, start, end, self.line_terminator.as_byte()),
             ahead: *ahead,
         })
     }

@@ -49,8 +49,8 @@ impl<A: Allocator + Copy, S: Sink> SinkCalls<Searcher<A>> for SearcherCalls<S> {
         found: &SinkMatch<'_>,
     ) -> Result<bool, S::Error> {
         match sink.matched(search.searcher, found) {
-            Ok(goes_on) => Ok(goes_on),
-            Err(error) => Err(error),
+            Ok(goes_on) => return Ok(goes_on),
+            Err(error) => return Err(error),
         }
     }
 
@@ -71,8 +71,8 @@ impl<A: Allocator + Copy, S: Sink> SinkCalls<Searcher<A>> for SearcherCalls<S> {
         line: &SinkContext<'_>,
     ) -> Result<bool, S::Error> {
         match sink.context(search.searcher, line) {
-            Ok(goes_on) => Ok(goes_on),
-            Err(error) => Err(error),
+            Ok(goes_on) => return Ok(goes_on),
+            Err(error) => return Err(error),
         }
     }
 

@@ -5,6 +5,7 @@ use Rattle.grep_searcher.specs.Lines.{strip}
 use Rattle.grep_searcher.specs.SearchErrors.{IsOutOfMemory}
 use Rattle.grep_printer.proofs.CallPartLemmas.{across-asked, across-parts, line-asked, line-parts}
 use Rattle.grep_printer.specs.MatchedParts.{IsMatcherError, first_from, parts_in}
+use Rattle.grep_printer.specs.PartErrors.{EachErrorIs}
 use Rattle.grep_printer.proofs.parts.find_report_parts.Goals as goal
 
 pub returns-then-multi_line_with_matcher-clause-parts :
@@ -24,7 +25,8 @@ returns-then-multi_line_with_matcher-clause-error g c =
     let facts = g.M.Matcher.facts c.args.matcher.now in
     let across = sym c.multi_line_with_matcher.ensures ∙ c.if-multi_line_with_matcher.true in
     subst (λ (bytes : List ℕ). IfErr c.find_parts.result
-    (λ e. IsOutOfMemory e ⊎ IsMatcherError g.M.Error.Display.output facts.fails bytes e))
+    (EachErrorIs g.M.Error.Display.output
+    (λ e. IsOutOfMemory e ⊎ IsMatcherError g.M.Error.Display.output facts.fails bytes e)))
     (sym (across-asked report.number report.offset report.bytes.now report.shown.now report.start
     c.args.searcher.now.settings facts.meaning (g.M.FindAt.first_at c.args.matcher.now) report.kind c.requires across))
     c.find_parts.ensures.error
@@ -52,7 +54,8 @@ returns-clause-error g c =
     let line_is : c.without_terminator-line.result.now ≡ strip settings.line_terminator report.bytes.now =
     c.without_terminator-line.ensures ∙ ap (λ t. strip t report.bytes.now) c.line_terminator.ensures in
     subst (λ (bytes : List ℕ). IfErr c.find_parts-2.result
-    (λ e. IsOutOfMemory e ⊎ IsMatcherError g.M.Error.Display.output facts.fails bytes e))
+    (EachErrorIs g.M.Error.Display.output
+    (λ e. IsOutOfMemory e ⊎ IsMatcherError g.M.Error.Display.output facts.fails bytes e)))
     (line_is ∙ sym (line-asked report.number report.offset report.bytes.now report.shown.now report.start settings
     facts.meaning (g.M.FindAt.first_at c.args.matcher.now) report.kind c.requires by_line))
     c.find_parts-2.ensures.error

@@ -1,4 +1,4 @@
-use Rattle.std.proofs.Common.{rules, ◌≡◌, ◌∙◌, ℕ, length, refl, ap, sym, subst, arith, true, false}
+use Rattle.std.proofs.Common.{rules, ◌≡◌, ◌≤◌, ◌∙◌, ℕ, length, refl, ap, sym, subst, arith, true, false}
 use Rattle.std.proofs.Common.{length-take, length-drop, ◌-◌, drop, ◌+◌, List}
 use Rattle.std.proofs.lemmas.Bool.{false≢true}
 use Rattle.std.proofs.lemmas.Result.{err_from_is_err_and}
@@ -193,14 +193,14 @@ pub returns-then-is_over-clause-ends : goal.returns-then-is_over-clause-ends
 returns-then-is_over-clause-ends g c = λ lawful ends.
     let decided = c.in-Ok-judge.ensures.decided in
     let chosen = c.is_chosen-chosen.ensures in
-    let next = c.after_line.ensures
+    let next = c.after_line-in-lines.ensures
     ∙ ap (after_line c.args.self.now.config c.skip_unmatched-start.new.walk
     (slice_range c.args.window.now c.skip_unmatched-start.result c.in-Some-line_end.end)) chosen in
     let over_is = c.is_over.ensures in
     let goes : c.in_ok-sink_line.field-0 ≡ true = search rules in
     let reported = rw goes at c.in_ok-sink_line.ensures.reported in
     let over = ap (λ p. is_over c.args.self.now.config p (chooses c.in-Ok-judge.verdict)) (sym next)
-    ∙ (ap (is_over c.args.self.now.config c.after_line.result) (sym chosen)
+    ∙ (ap (is_over c.args.self.now.config c.after_line-in-lines.result) (sym chosen)
     ∙ rw over_is at c.if-is_over.true) in
     rw next (
       all_true,
@@ -217,7 +217,7 @@ lines-preserved g c =
     let learns = c.in-Ok.ensures.known in
     let decided = c.in-Ok-judge.ensures.decided in
     let chosen = c.is_chosen-chosen.ensures in
-    let next = c.after_line.ensures
+    let next = c.after_line-in-lines.ensures
     ∙ ap (after_line c.args.self.now.config c.skip_unmatched-start.new.walk
     (slice_range c.args.window.now c.skip_unmatched-start.result c.in-Some-line_end.end)) chosen in
     let over_is = c.is_over.ensures in
@@ -225,7 +225,7 @@ lines-preserved g c =
     let reported = rw goes at c.in_ok-sink_line.ensures.reported in
     let here = rw goes at c.in_ok-sink_line.ensures.called in
     let on = ap (λ p. is_over c.args.self.now.config p (chooses c.in-Ok-judge.verdict)) (sym next)
-    ∙ (ap (is_over c.args.self.now.config c.after_line.result) (sym chosen)
+    ∙ (ap (is_over c.args.self.now.config c.after_line-in-lines.result) (sym chosen)
     ∙ rw over_is at c.if-is_over.false) in
     let size = length-take (c.in-Some-line_end.end - c.skip_unmatched-start.result)
     (drop c.skip_unmatched-start.result c.args.window.now) in
@@ -364,3 +364,45 @@ lines-preserved-in-Some g c =
           (called-matches _ _ _ _ _ _ _ _ _ some.1);
       may_call = c.in_ok-lines.ensures.may_call;
     }
+
+pub lines-preserved-in-Some-passed_line : goal.lines-preserved-in-Some-passed_line
+lines-preserved-in-Some-passed_line g c =
+    let passes = c.in-Some-passed_line.ensures in
+    let at = (goal.at.lines-preserved-in-Some-passed_line g c).After-sink_chosen_lines in
+    let bounded = c.in-Ok.ensures.bounded in
+    let within : c.in-Some-passed_line.end ≤ length c.args.window.now =
+    omega (arith, passes.last, bounded.within) in
+    let untaken : c.sink_chosen_lines.new.sink ≡ c.lines.sink = search rules in
+    let size = length-take (c.in-Some-passed_line.end - c.skip_unmatched-start.result)
+    (drop c.skip_unmatched-start.result c.args.window.now) in
+    rw (c.after_line.ensures, untaken) (record {
+      within = within;
+      same = omega (
+        arith,
+        size,
+        length-drop c.skip_unmatched-start.result c.args.window.now,
+        within,
+        passes.some,
+        c.skip_unmatched-start.ensures.moved,
+        c.lines.invariant.same,
+      );
+      ahead = omega (
+        arith,
+        c.lines.invariant.ahead,
+        c.skip_unmatched-start.ensures.low,
+        passes.some,
+      );
+      ordered = ordered-next c.args.self.now.config _ c.skip_unmatched-start.result
+          c.in-Some-passed_line.end c.args.window.now false passes.some within
+          c.skip_unmatched-start.ensures.ordered;
+      bounded = bounded;
+      further = c.lines.invariant.further;
+      known = λ lawful gone input first so_far.
+          let now = here g at lawful gone input first so_far in
+          skips.known-later _ _ _ _ _ _ (omega (arith, passes.some)) now.1;
+      searched = λ lawful gone input first so_far.
+          let now = here g at lawful gone input first so_far in
+          uncounted.passed-on c.args.self.now.bare now.0 bounded now.1 passes;
+      called = c.lines.invariant.called;
+      may_call = c.lines.invariant.may_call;
+    })

@@ -10,6 +10,6 @@ returns-in-Trailing-clause-called g c = λ stop.
     (slice_range c.args.window.now c.args.start c.args.end) _ _ _
     (c.sink_matched.ensures.reported stop)
 
-pub returns-in_default-clause-called : goal.returns-in_default-clause-called
-returns-in_default-clause-called g c = λ stop. called-one _ _ _ stop _ _ _
+pub returns-clause-called : goal.returns-clause-called
+returns-clause-called g c = λ stop. called-one _ _ _ stop _ _ _
     c.sink_context.ensures.step refl refl

@@ -7,8 +7,8 @@ use Rattle.grep_printer.specs.StandardTexts.{progress_after}
 use Rattle.grep_printer.proofs.TakenLineLemmas.{match-texts}
 use Rattle.grep_printer.proofs.standard.StandardFormatFormat.push_lines.Goals as goal
 
-pub returns-clause-texts : goal.returns-clause-texts
-returns-clause-texts g c = λ taken there.
+pub returns-then-not-has_failed-clause-texts : goal.returns-then-not-has_failed-clause-texts
+returns-then-not-has_failed-clause-texts g c = λ taken there.
     let scene : Scene =
     record { path = c.args.path; settings = c.args.searcher.now.settings } in
     let old = c.args.self.now in
@@ -16,10 +16,9 @@ returns-clause-texts g c = λ taken there.
     search rules in
     let bare : (c.args.searcher.now.settings.invert_match || not (asks_for_parts old.config)) ≡ true =
     search rules in
-    let text : c.push_report.new.text.text
+    let text : c.push_shown.new.text.text
     ≡ call_text old.config old.progress scene (match_call c.args.lines.now) [] = search rules in
-    let after = c.push_report.ensures.progress
-    ∙ ap (λ (call : Call). progress_after old.progress call) c.of_match.ensures.call in
-    rw c.push_report.ensures.config
-    (match-texts old.config scene old.progress _ c.args.lines.now _ shown bare c.requires.split
-    c.requires.some c.requires.numbers text after)
+    let after = c.add.ensures
+    ∙ ap (λ (call : Call). progress_after old.progress call) c.of_match-report.ensures.call in
+    match-texts old.config scene old.progress _ c.args.lines.now _ shown bare c.requires.split
+    c.requires.some c.requires.numbers text after

@@ -1,4 +1,4 @@
-use Rattle.std.proofs.Common.{◌-◌, ◌∙◌, ap, arith, drop, length, length-drop, length-take, refl}
+use Rattle.std.proofs.Common.{◌-◌, ◌∙◌, ap, arith, drop, length, length-take, refl}
 use Rattle.std.specs.Prelude.{slice_range}
 use Rattle.grep_definitions.specs.Plans.{Settings}
 use Rattle.grep_lines.proofs.LineStepLemmas.{lines-at-most}
@@ -11,7 +11,7 @@ returns-clause-counted c =
     let passed = slice_range c.args.window.now c.args.start c.last_start_in_room-end.result in
     omega (
       arith,
-      c.line_count.ensures,
+      c.line_count_in.ensures,
       lines-at-most c.as_byte.result passed,
       length-take (c.last_start_in_room-end.result - c.args.start) (drop c.args.start c.args.window.now),
     )
@@ -25,5 +25,5 @@ returns-clause-hits c = λ meaning i here known.
     unmatched-hit c.args.self.now meaning c.args.window.now c.args.start i there.0 c.args.ahead.now _
     c.requires.inverted known refl (omega (arith, last.low, c.if-end-start.false)) last.high
     (omega (arith, last.high, c.requires.bounded.ordered, c.requires.bounded.within)) here there.1
-    (c.line_count.ensures ∙ ap (λ t. length (lines t (slice_range c.args.window.now c.args.start
+    (c.line_count_in.ensures ∙ ap (λ t. length (lines t (slice_range c.args.window.now c.args.start
     c.last_start_in_room-end.result))) terminator)

@@ -1,0 +1,19 @@
+-- Why the parts of a report aren't found, and the errors of a search for that.
+use Rattle.std.specs.Prelude.{List, Option, ℕ}
+use Rattle.std.specs.Global.{Global}
+use Rattle.grep_searcher.specs.SearchErrors.{IsMessageOf, IsOutOfMemory}
+use Rattle.grep_searcher.specs.declared.SearchError.{SearchError}
+use Rattle.grep_printer.specs.declared.parts.PartsError.{PartsError}
+use Rattle.grep_printer.specs.declared.parts.PartsError.TheVariants.{Matcher, Memory}
+
+-- the error is one of being out of memory, or the matcher's error as a message, by what its
+-- `Display` writes
+abbrev pub IsErrorOf : {F : Type 0} → (F → Option (List ℕ)) → PartsError F → SearchError Global
+    → Type 0
+IsErrorOf output Memory e = IsOutOfMemory e
+IsErrorOf output (Matcher error) e = IsMessageOf (output error) e
+
+-- each error of a search for this one is so
+abbrev pub EachErrorIs : {F : Type 0} → (F → Option (List ℕ)) → (SearchError Global → Type 0)
+    → PartsError F → Type 0
+EachErrorIs output IsSo error = (e : SearchError Global) → IsErrorOf output error e → IsSo e
