@@ -197,7 +197,8 @@ fn escaped(text: &[u8]) -> Option<(u8, &[u8])>
     }
 }
 
-/// Adds the bytes of a range, and their letters in the other case if that makes no difference.
+/// Adds the bytes of a range to a set, and their letters in the other case if `ignores_case` is set.
+/// Its first byte is always one of them.
 pub fn add_range(set: &mut ByteSet, first: u8, last: u8, ignores_case: bool)
     ensures { (byte : ℕ) → holds set.new byte
         ≡ (holds set.old byte || is_either ignores_case (is_in_range (first, last)) byte) }

@@ -12,6 +12,7 @@ mod rules;
 mod tests;
 mod wildcards;
 
+pub use class::add_range;
 pub use glob::{GlobError, Step, read_piece};
 pub use layers::{Layer, Layers, Origin};
 pub use line::{RuleText, split_rule};

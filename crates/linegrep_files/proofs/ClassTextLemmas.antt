@@ -38,9 +38,9 @@ range-part first last other = rw (ne_eqb last 93 other) refl
 -- a member that is a range, or one byte
 pub member-range : {E : Type 0} (result : Result Member E) (text after rest : List ℕ) (first last : ℕ)
     → text ≡ first ∷ after → after ≡ 45 ∷ last ∷ drop 2 after → last ≢ 93 → rest ≡ drop 1 (drop 1 after)
-    → IfOk result (λ member. member.rest.now ≡ rest)
+    → IfOk result (λ member. (member.first ≡ first) × (member.last ≡ last) × (first ≤ last) × (member.rest.now ≡ rest))
     → IfOk result (λ member. AreMembersBefore text member.rest.now)
-member-range (Ok member) text after rest first last is ranges other same goes = (
+member-range (Ok member) text after rest first last is ranges other same (begins, ends, ordered, goes) = (
   first ∷ 45 ∷ last ∷ [],
   is ∙ ap (λ l. first ∷ l) ranges
       ∙ ap (λ l. first ∷ 45 ∷ last ∷ l) (sym (goes ∙ same ∙ ap (λ l. drop 1 (drop 1 l)) ranges)),
@@ -49,9 +49,11 @@ member-range (Ok member) text after rest first last is ranges other same goes = 
 member-range (Err e) text after rest first last is ranges other same goes = tt
 
 pub member-byte : {E : Type 0} (result : Result Member E) (text after : List ℕ) (first : ℕ)
-    → text ≡ first ∷ after → IfOk result (λ member. member.rest.now ≡ after)
+    → text ≡ first ∷ after
+    → IfOk result (λ member. (member.first ≡ first) × (member.last ≡ first) × (first ≤ first)
+    × (member.rest.now ≡ after))
     → IfOk result (λ member. AreMembersBefore text member.rest.now)
-member-byte (Ok member) text after first is goes =
+member-byte (Ok member) text after first is (begins, ends, ordered, goes) =
     (first ∷ [], is ∙ ap (λ l. first ∷ l) (sym goes), refl)
 member-byte (Err e) text after first is goes = tt
 

@@ -10,6 +10,7 @@ pub mod IgnoreFileLemmas
 pub mod ParentLemmas
 pub mod PartLemmas
 pub mod PieceLemmas
+pub mod ClassSetLemmas
 pub mod ClassTextLemmas
 pub mod SizeLemmas
 pub mod TreeLemmas

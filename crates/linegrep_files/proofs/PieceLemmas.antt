@@ -34,7 +34,7 @@ texts-more ignores begins text (first ∷ later) middle mid piece next rest (m, 
 -- what is left after the text of a piece is shorter
 pub piece-shorter : (ignores begins : Bool) (text : List ℕ) (piece : Piece) (next : Bool) (rest : List ℕ)
     → IsPieceText ignores begins text piece next rest → length rest < length text
-piece-shorter ignores begins text piece next rest (of_class set class r is closes) =
+piece-shorter ignores begins text piece next rest (of_class set class r is closes of) =
     rw is (omega (arith, length-append class (93 ∷ r)))
 piece-shorter ignores begins text piece next rest (of_stars set r stars is bytes) = rw is (omega arith)
 piece-shorter ignores begins text piece next rest (of_other class stars other) =
@@ -60,7 +60,7 @@ ignore-front ignores begins text Folders next rest class (more, stars, after, ot
 
 piece-front : (ignores begins : Bool) (text : List ℕ) (piece : Piece) (next : Bool) (rest : List ℕ)
     → IsPieceText ignores begins text piece next rest → (front : List ℕ) × (text ≡ front ++ rest)
-piece-front ignores begins text piece next rest (of_class set class r is closes) =
+piece-front ignores begins text piece next rest (of_class set class r is closes of) =
     (91 ∷ (class ++ 93 ∷ []), is ∙ ap (λ l. 91 ∷ l) (sym (append_assoc class (93 ∷ []) r)))
 piece-front ignores begins text piece next rest (of_stars set r stars is bytes) = (42 ∷ [], is)
 piece-front ignores begins text piece next rest (of_other class stars other) =

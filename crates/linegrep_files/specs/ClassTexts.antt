@@ -1,7 +1,9 @@
--- Where a class of a glob ends, a text in brackets.
-use Rattle.std.specs.Prelude.{◌≡◌, ℕ, Bool, true, false, not, ◌==◌, List, [], ◌∷◌, ◌++◌}
+-- A class of a glob, a text in brackets: where it ends, and which bytes it stands for.
+use Rattle.std.specs.Prelude.{◌≡◌, ◌≢◌, ◌⊎◌, ℕ, ◌<◌, ◌≤◌, Bool, true, false, not, ◌&&◌, ◌==◌}
+use Rattle.std.specs.Prelude.{if◌then◌else◌, List, [], ◌∷◌, ◌++◌, length, nat_lt}
 use Rattle.std.specs.List.{list_any}
-use Rattle.grep_ignore.specs.Classes.{members_of}
+use Rattle.grep_ignore.specs.Classes.{IsSet, begins_range, begins_with, is_either, is_in_range}
+use Rattle.grep_ignore.specs.Classes.{is_negated, members_of}
 
 -- some members of a class: at least one byte, and a closing bracket is a member only as the first
 abbrev pub are_members : List ℕ → Bool
@@ -19,3 +21,36 @@ IsClassBefore text rest = (class : List ℕ) × (text ≡ class ++ 93 ∷ rest) 
 -- so are its members
 abbrev pub AreMembersBefore : List ℕ → List ℕ → Type 0
 AreMembersBefore text rest = (members : List ℕ) × (text ≡ members ++ rest) × (are_members members ≡ true)
+
+-- a member is a byte, or a range from it to one after a dash, which another dash may move
+pub data IsRange : ℕ × ℕ → List ℕ → List ℕ → Type 0 where
+  of_byte : (byte : ℕ) (rest : List ℕ) → IsRange (byte, byte) (byte ∷ rest) rest
+  of_end : {text : List ℕ} (first middle last : ℕ) (rest : List ℕ)
+      → IsRange (first, middle) text (45 ∷ last ∷ rest) → last ≢ 93 → first ≤ last
+      → IsRange (first, last) text rest
+
+-- some members, the last one first, each as long as it can be; only the first may begin with a
+-- closing bracket
+abbrev pub AreRanges : List (ℕ × ℕ) → List ℕ → List ℕ → Type 0
+AreRanges [] text rest = text ≡ rest
+AreRanges (range ∷ before) text rest = (mid : List ℕ) × AreRanges before text mid
+    × ((before ≡ []) ⊎ (begins_with 93 mid ≡ false)) × IsRange range mid rest
+    × (begins_range rest ≡ false)
+
+-- a set has the bytes of the members before a rest
+abbrev pub HasRanges : Bool → List Bool → List ℕ → List ℕ → Type 0
+HasRanges ignores_case set text rest = (ranges : List (ℕ × ℕ)) × (0 < length ranges)
+    × AreRanges ranges text rest
+    × IsSet set (is_either ignores_case (λ b. list_any (λ range. is_in_range range b) ranges))
+
+-- a byte that a class stands for, by its members; a mark at its start means all others
+abbrev pub is_of_class : Bool → Bool → List (ℕ × ℕ) → ℕ → Bool
+is_of_class ignores_case negates ranges byte =
+    let is_member = is_either ignores_case (λ b. list_any (λ range. is_in_range range b) ranges) byte in
+    if negates then nat_lt byte 256 && not is_member else is_member
+
+-- a class, after its opening bracket: the set of the bytes that it stands for, before a rest
+abbrev pub IsClassOf : Bool → List Bool → List ℕ → List ℕ → Type 0
+IsClassOf ignores_case set text rest = (ranges : List (ℕ × ℕ)) × (0 < length ranges)
+    × AreRanges ranges (members_of text) (93 ∷ rest)
+    × IsSet set (is_of_class ignores_case (is_negated text) ranges)

@@ -14,7 +14,7 @@ use Rattle.grep_ignore.specs.Matches.{Matches}
 use Rattle.grep_ignore.specs.declared.wildcards.Piece.{Piece}
 use Rattle.grep_ignore.specs.declared.wildcards.Piece.TheVariants.{Folders, One, Many}
 use Rattle.linegrep_files.specs.Braces.{AreTextsOf, has_braces}
-use Rattle.linegrep_files.specs.ClassTexts.{is_class}
+use Rattle.linegrep_files.specs.ClassTexts.{IsClassOf, is_class}
 use Rattle.linegrep_files.specs.declared.glob.Glob.{Glob}
 use Rattle.linegrep_files.specs.declared.globs.Choice.{Choice}
 use Rattle.linegrep_files.specs.declared.globs.Choice.TheVariants.{Chosen, LeftOut, Unmatched}
@@ -86,7 +86,8 @@ has_stars text = begins_with 42 text && begins_with 42 (drop 1 text) && begins_w
 -- the rest does.
 pub data IsPieceText (ignores_case begins : Bool) (text : List ℕ) : Piece → Bool → List ℕ → Type 0 where
   of_class : (set : List Bool) (class rest : List ℕ) → text ≡ 91 ∷ (class ++ 93 ∷ rest)
-      → is_class class ≡ true → IsPieceText ignores_case begins text (One set) false rest
+      → is_class class ≡ true → IsClassOf ignores_case set (class ++ 93 ∷ rest) rest
+      → IsPieceText ignores_case begins text (One set) false rest
   of_stars : (set : List Bool) (rest : List ℕ) → has_stars text ≡ true → text ≡ 42 ∷ rest
       → IsSet set is_name_byte → IsPieceText ignores_case begins text (Many set) false rest
   of_other : {piece : Piece} {next : Bool} {rest : List ℕ} → begins_with 91 text ≡ false

@@ -1,10 +1,14 @@
 //! A class of a glob, which is in brackets: the bytes that it stands for.
-ghost use Rattle.std.specs.Prelude.{◌≡◌, ◌≢◌, ◌∷◌, drop, false, IfOk, MatchOption};
+ghost use Rattle.std.specs.Prelude.{◌≡◌, ◌≢◌, ◌≤◌, ◌∷◌, ◌&&◌, ◌||◌, ◌==◌, ℕ, drop, false, not};
+ghost use Rattle.std.specs.Prelude.{nat_lt, IfOk, MatchOption};
 ghost use Rattle.grep_ignore.specs.Classes.{begins_range, begins_with, is_empty, is_negated};
 ghost use Rattle.std.specs.Str.{bytes_eq};
 ghost use Rattle.grep_ignore.specs.Lines.{ends_with};
-ghost use Rattle.linegrep_files.specs.ClassTexts.{AreMembersBefore, IsClassBefore};
+ghost use Rattle.grep_matcher.specs.ByteSets.{holds};
+ghost use Rattle.linegrep_files.specs.ClassTexts.{AreMembersBefore, HasRanges, IsClassBefore};
+ghost use Rattle.linegrep_files.specs.ClassTexts.{IsClassOf, IsRange};
 
+use grep_ignore::add_range;
 use grep_matcher::ByteSet;
 
 /// A class of a glob.
@@ -33,7 +37,8 @@ const REVERSED: &str = "a range ends before it begins";
 /// moves its end. If `ignores_case` is set, letters of ASCII stand for both cases. An error is that
 /// it isn't closed, or that a range ends before it begins.
 pub fn read_class(text: &[u8], ignores_case: bool) -> Result<Class<'_>, &'static str>
-    ensures { IfOk result (λ class. IsClassBefore text.now class.rest.now) }
+    ensures text { IfOk result (λ class. IsClassBefore text.now class.rest.now) }
+    ensures set { IfOk result (λ class. IsClassOf ignores_case class.set text.now class.rest.now) }
 {
     if is_negated(text) {
         let class = read_members(tail(text), ignores_case)?;
@@ -53,7 +58,9 @@ fn is_negated(text: &[u8]) -> bool
 
 // Reads the members of a class, and its closing bracket.
 fn read_members(text: &[u8], ignores_case: bool) -> Result<Class<'_>, &'static str>
-    ensures { IfOk result (λ class. AreMembersBefore text.now (93 ∷ class.rest.now)) }
+    ensures text { IfOk result (λ class. AreMembersBefore text.now (93 ∷ class.rest.now)) }
+    ensures set { IfOk result (λ class. HasRanges ignores_case class.set text.now
+        (93 ∷ class.rest.now)) }
 {
     let mut set = ByteSet::empty();
     let mut member = read_member(text)?;
@@ -83,7 +90,9 @@ fn read_members(text: &[u8], ignores_case: bool) -> Result<Class<'_>, &'static s
 // The member that some members of a class begin with: a byte, or two with a dash between them,
 // which make a range.
 fn read_member(text: &[u8]) -> Result<Member<'_>, &'static str>
-    ensures { IfOk result (λ member. AreMembersBefore text.now member.rest.now) }
+    ensures text { IfOk result (λ member. AreMembersBefore text.now member.rest.now) }
+    ensures range { IfOk result (λ member. IsRange (member.first, member.last) text.now
+        member.rest.now) }
 {
     match text {
         [] => Err(UNCLOSED),
@@ -113,7 +122,8 @@ fn range_end(after: &[u8]) -> Option<u8>
 }
 
 fn range(first: u8, last: u8, rest: &[u8]) -> Result<Member<'_>, &'static str>
-    ensures { IfOk result (λ member. member.rest.now ≡ rest.now) }
+    ensures { IfOk result (λ member. (member.first ≡ first) × (member.last ≡ last)
+        × (first ≤ last) × (member.rest.now ≡ rest.now)) }
 {
     if first > last {
         Err(REVERSED)
@@ -122,37 +132,26 @@ fn range(first: u8, last: u8, rest: &[u8]) -> Result<Member<'_>, &'static str>
     }
 }
 
-fn add_range(set: &mut ByteSet, first: u8, last: u8, ignores_case: bool) {
-    for number in 0..256u16 {
-        let byte = number as u8;
-        if first <= byte && byte <= last {
-            set.add(byte);
-            if ignores_case {
-                set.add(other_case(byte));
-            }
-        }
-    }
-}
-
-// The letter of ASCII that a letter is in the other case; any other byte is itself.
-fn other_case(byte: u8) -> u8 {
-    if byte.is_ascii_uppercase() {
-        byte.to_ascii_lowercase()
-    } else {
-        byte.to_ascii_uppercase()
-    }
-}
-
 // The bytes that aren't in a set.
-fn others(set: &ByteSet) -> ByteSet {
-    let mut others = ByteSet::full();
+fn others(set: &ByteSet) -> ByteSet
+    ensures { (byte : ℕ) → holds result byte ≡ (nat_lt byte 256 && not (holds set.now byte)) }
+{
+    let mut others = ByteSet::empty();
     for number in 0..256u16 {
         let byte = number as u8;
-        if set.contains(byte) {
-            others.remove(byte);
-        }
+        add_if(&mut others, byte, !set.contains(byte));
     }
     others
+}
+
+// Adds a byte to a set if it is chosen.
+fn add_if(set: &mut ByteSet, byte: u8, is_chosen: bool)
+    ensures { (other : ℕ) → holds set.new other
+        ≡ (((other == byte) && is_chosen) || holds set.old other) }
+{
+    if is_chosen {
+        set.add(byte);
+    }
 }
 
 /// All of a text but its first byte.

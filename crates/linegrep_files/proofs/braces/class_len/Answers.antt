@@ -5,4 +5,4 @@ use Rattle.linegrep_files.proofs.braces.class_len.Goals as goal
 
 pub returns-in-Ok : goal.returns-in-Ok
 returns-in-Ok c = λ is_choice. class-part is_choice c.args.glob.now c.in-Ok.class.rest.now c.requires
-    (subst (λ t. IsClassBefore t c.in-Ok.class.rest.now) c.tail.ensures c.in-Ok.ensures)
+    (subst (λ t. IsClassBefore t c.in-Ok.class.rest.now) c.tail.ensures c.in-Ok.ensures.text)

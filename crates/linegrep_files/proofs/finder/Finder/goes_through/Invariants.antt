@@ -1,5 +1,4 @@
 use Rattle.std.proofs.Common.{◌≡◌, ◌<◌, ℕ, false, get_or, take}
-use Rattle.std.specs.Prelude.{string_bytes}
 use Rattle.linegrep_files.specs.Folders.{HasId}
 use Rattle.linegrep_files.proofs.finder.Finder.goes_through.Given as goal
 
