@@ -6,7 +6,7 @@ use Rattle.std.proofs.lemmas.List.{append-nil, length-append}
 use Rattle.std.proofs.lemmas.List.Elements.{All-head, All-tail}
 use Rattle.std.proofs.lemmas.List.Sums.{sum_by-cons}
 use Rattle.std.specs.List.{fold, sum_by}
-use Rattle.std.specs.Prelude.{All, not, ◌==◌, if◌then◌else◌}
+use Rattle.std.specs.Prelude.{All, max, not, ◌==◌, if◌then◌else◌}
 use Rattle.grep_matcher.specs.Lines.{byte_of}
 use Rattle.grep_searcher.specs.Plans.{Call, begins, matches, context, breaks, binary_data, finishes}
 use Rattle.grep_searcher.specs.SearchLaws.{is_match}
@@ -19,7 +19,7 @@ use Rattle.grep_printer.specs.JsonMessages.{begin_json, json_line}
 use Rattle.grep_printer.specs.JsonTexts.{is_opened, json_progress, json_rules, json_text, new_json_format, new_json_progress}
 use Rattle.grep_printer.specs.JsonTexts.{opening_line, with_end, with_match, with_text}
 use Rattle.grep_printer.specs.PlanCounts.{JsonCounts, SummariesCount, is_inner, json_counts, line_count_of, matched, part_count_of}
-use Rattle.grep_printer.specs.PlanCounts.{summary_counts}
+use Rattle.grep_printer.specs.PlanCounts.{summary_counts, times_counted}
 use Rattle.grep_printer.specs.StatsSums.{capped, capped_sum}
 use Rattle.grep_printer.specs.SummaryTexts.{counts_after, summary_rules, summary_text}
 use Rattle.grep_printer.specs.ReplacerTexts.{TextAt}
@@ -271,7 +271,7 @@ module _ (config : SummaryConfig) (scene : Scene) where
   -- a call writes nothing, and the match in it counts
   summed-all : (calls : List PrintedCall) (found parts : ℕ) → All (λ printed. is_inner printed.call ≡ true) calls
       → fold (printed_with summary_rules scene) (so_many config found parts []) calls
-      ≡ so_many config (found + length (matched calls)) (parts + sum_by part_count_of (matched calls)) []
+      ≡ so_many config (found + length (matched calls)) (parts + sum_by times_counted (matched calls)) []
   summed-all [] found parts inner =
       let one : found ≡ found + 0 = omega arith in
       let two : parts ≡ parts + 0 = omega arith in
@@ -282,20 +282,20 @@ module _ (config : SummaryConfig) (scene : Scene) where
     where
       go : (call : Call) (ranges : List (ℕ × ℕ)) → is_inner call ≡ true
           → ((found parts : ℕ) → fold (printed_with summary_rules scene) (so_many config found parts []) later
-          ≡ so_many config (found + length (matched later)) (parts + sum_by part_count_of (matched later)) [])
+          ≡ so_many config (found + length (matched later)) (parts + sum_by times_counted (matched later)) [])
           → fold (printed_with summary_rules scene) (so_many config found parts [])
           (record { call = call; around = printed.around; parts = ranges } ∷ later)
           ≡ so_many config (found + length (matched (record { call = call; around = printed.around; parts = ranges } ∷ later)))
-          (parts + sum_by part_count_of (matched (record { call = call; around = printed.around; parts = ranges } ∷ later))) []
+          (parts + sum_by times_counted (matched (record { call = call; around = printed.around; parts = ranges } ∷ later))) []
       go begins ranges here others = others found parts
       go (matches number offset bytes) ranges here others =
-          let count = length ranges in
+          let count = max 1 (length ranges) in
           let one_call : PrintedCall =
           record { call = matches number offset bytes; around = printed.around; parts = ranges } in
-          let first = sum_by-cons part_count_of one_call (matched later) in
+          let first = sum_by-cons times_counted one_call (matched later) in
           let one : found + 1 + length (matched later) ≡ found + length (one_call ∷ matched later) = omega arith in
-          let two : parts + count + sum_by part_count_of (matched later)
-          ≡ parts + sum_by part_count_of (one_call ∷ matched later) = omega (arith, first) in
+          let two : parts + count + sum_by times_counted (matched later)
+          ≡ parts + sum_by times_counted (one_call ∷ matched later) = omega (arith, first) in
           let counts : Counts → Printed SummaryFormat =
           λ counts. record { format = record { config = config; counts = counts }; text = [] } in
           ap (λ n. fold (printed_with summary_rules scene)
@@ -304,7 +304,7 @@ module _ (config : SummaryConfig) (scene : Scene) where
           ∙ (ap (λ n. fold (printed_with summary_rules scene)
           (counts (record { match_count = capped (found + 1); part_count = n })) later) (capped-more parts count)
           ∙ (others (found + 1) (parts + count)
-          ∙ (ap (λ n. so_many config n (parts + count + sum_by part_count_of (matched later)) []) one
+          ∙ (ap (λ n. so_many config n (parts + count + sum_by times_counted (matched later)) []) one
           ∙ ap (λ n. so_many config (found + length (one_call ∷ matched later)) n []) two)))
       go (context kind number offset bytes) ranges here others = others found parts
       go breaks ranges here others = others found parts
@@ -318,15 +318,15 @@ summaries-count config scene calls last count binary counted inner ends =
     let found = matched calls in
     let all : fold (printed_with summary_rules scene) start (calls ++ last ∷ [])
     ≡ printed_with summary_rules scene
-    (so_many config (0 + length found) (0 + sum_by part_count_of found) []) last =
+    (so_many config (0 + length found) (0 + sum_by times_counted found) []) last =
     fold-push (printed_with summary_rules scene) calls last start
     ∙ ap (λ made. printed_with summary_rules scene made last) (summed-all config scene calls 0 0 inner) in
     let none : 0 + length found ≡ length found = omega arith in
-    let no_parts : 0 + sum_by part_count_of found ≡ sum_by part_count_of found = omega arith in
+    let no_parts : 0 + sum_by times_counted found ≡ sum_by times_counted found = omega arith in
     let whole : fold (printed_with summary_rules scene) start (calls ++ last ∷ [])
-    ≡ printed_with summary_rules scene (so_many config (length found) (sum_by part_count_of found) []) last =
+    ≡ printed_with summary_rules scene (so_many config (length found) (sum_by times_counted found) []) last =
     all ∙ (ap (λ n. printed_with summary_rules scene
-    (so_many config n (0 + sum_by part_count_of found) []) last) none
+    (so_many config n (0 + sum_by times_counted found) []) last) none
     ∙ ap (λ n. printed_with summary_rules scene (so_many config (length found) n []) last) no_parts) in
     record {
       counts = ap (λ made. made.format.counts) whole

@@ -258,7 +258,7 @@ pub lines-counted : (scene : Scene) (config : SummaryConfig) (number : Option �
     → (scene.settings.invert_match || not (counts_parts config.kind)) ≡ true
     → AreTexts summary_rules scene (record { config = config; counts = counts })
     (calls_of_lines number index offset (line ∷ later)) []
-    (record { config = config; counts = with_matches counts (length (line ∷ later)) 0 })
+    (record { config = config; counts = with_matches counts (length (line ∷ later)) (length (line ∷ later)) })
 lines-counted scene config number index offset line [] counts on bare =
     ([], refl, ap (λ b. b || config.counts_all) on, grind arith, (refl, refl))
 lines-counted scene config number index offset line (next ∷ later) counts on bare = (
@@ -267,17 +267,17 @@ lines-counted scene config number index offset line (next ∷ later) counts on b
   ap (λ b. b || config.counts_all) on,
   grind arith,
   subst (λ after. AreTexts summary_rules scene
-      (record { config = config; counts = with_matches counts 1 0 })
+      (record { config = config; counts = with_matches counts 1 1 })
       (calls_of_lines number (suc index) (offset + length line) (next ∷ later)) []
       (record { config = config; counts = after })) (grind arith)
       (lines-counted scene config number (suc index) (offset + length line) next later
-      (with_matches counts 1 0) on bare),
+      (with_matches counts 1 1) on bare),
 )
 
 pub match-counted : (scene : Scene) (config : SummaryConfig) (m : MatchReport) (counts new : Counts)
     (count : ℕ) (text : List ℕ) → 0 < length (match_bytes m) → counts_on config.kind ≡ true
     → (scene.settings.invert_match || not (counts_parts config.kind)) ≡ true
-    → text ≡ [] → new ≡ with_matches counts count 0
+    → text ≡ [] → new ≡ with_matches counts count count
     → count ≡ length (lines m.terminator (match_bytes m))
     → AreTexts summary_rules scene (record { config = config; counts = counts })
     (calls_of_match m) text (record { config = config; counts = new })

@@ -1,6 +1,6 @@
 -- What the counts of a printer come to for a whole search, in terms of all its calls.
 use Rattle.std.specs.Prelude.{◌≡◌, ℕ, not, Bool, true, false, ◌==◌, if◌then◌else◌}
-use Rattle.std.specs.Prelude.{All, List, [], ◌∷◌, ◌++◌, length, Option, Some}
+use Rattle.std.specs.Prelude.{All, List, [], ◌∷◌, ◌++◌, length, max, Option, Some}
 use Rattle.std.specs.List.{filter, sum_by}
 use Rattle.grep_matcher.specs.Lines.{byte_of}
 use Rattle.grep_searcher.specs.Lines.{lines}
@@ -57,11 +57,15 @@ JsonCounts {R} text_at =
     (new_json_format always_begin_end replacer) (calls ++ last ∷ [])).text
     count binary
 
+-- how often a match counts: for each part, and once at least
+abbrev pub times_counted : PrintedCall → ℕ
+times_counted printed = max 1 (length printed.parts)
+
 -- what is counted of a search, by its matches
 abbrev pub summary_counts : List PrintedCall → Counts
 summary_counts found = record {
   match_count = capped (length found);
-  part_count = capped (sum_by part_count_of found);
+  part_count = capped (sum_by times_counted found);
 }
 
 -- in a search of which all matches count they are counted, and the text is that for their counts

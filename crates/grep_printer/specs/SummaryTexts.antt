@@ -1,6 +1,6 @@
 -- The text that a printer of summaries writes for a search.
 use Rattle.std.specs.Prelude.{ℕ, nat_lt, Bool, true, false, ◌==◌, if◌then◌else◌, List, [], ◌∷◌}
-use Rattle.std.specs.Prelude.{◌++◌, decimal, length, Option, None, is_some, not, ◌&&◌, ◌||◌}
+use Rattle.std.specs.Prelude.{◌++◌, decimal, length, max, Option, None, is_some, not, ◌&&◌, ◌||◌}
 use Rattle.std.specs.Borrow.{Bor}
 use Rattle.std.specs.Option.{unwrap_or}
 use Rattle.grep_matcher.specs.Lines.{byte_of}
@@ -133,10 +133,12 @@ sums_on counts_all kind (finishes count binary) = true
 abbrev pub asks_to_count : SummaryKind → Call → Bool
 asks_to_count kind call = counts_parts kind && is_match call
 
--- what was reported, with a call of so many parts; nothing of it counts once the search is left out
+-- what was reported, with a call of so many parts, of which a match has one at least; nothing of it
+-- counts once the search is left out
 abbrev pub counts_after : Counts → BinaryDetection → Call → ℕ → Counts
 counts_after counts detection begins parts = counts
-counts_after counts detection (matches number offset bytes) parts = with_matches counts 1 parts
+counts_after counts detection (matches number offset bytes) parts =
+    with_matches counts 1 (max 1 parts)
 counts_after counts detection (context which number offset line) parts = counts
 counts_after counts detection breaks parts = counts
 counts_after counts detection (binary_data offset) parts = counts

@@ -31,7 +31,8 @@ pub struct SummaryFormat<'c> {
     pub(crate) counts: Counts,
 }
 
-// How many matches were reported, and how many parts they have that match, if those are counted.
+// How many matches were reported, and how many parts they have that match, if those are counted, one
+// each at least.
 #[derive(Clone, Copy)]
 pub struct Counts {
     pub(crate) match_count: u64,
@@ -116,7 +117,7 @@ impl<'c> Format for SummaryFormat<'c> {
         match event {
             Event::Report(report) => match report.kind {
                 ReportKind::Match => {
-                    self.counts.add(1, parts.len() as u64);
+                    self.counts.add(1, parts.len().max(1) as u64);
                     return self.config.kind.counts_on() || self.config.counts_all;
                 }
                 ReportKind::Context(_) => {}
@@ -146,7 +147,7 @@ impl<'c> Format for SummaryFormat<'c> {
         }
         text.begin();
         let count = line_count(lines.bytes(), searcher.line_terminator().as_byte());
-        self.counts.add(count, 0);
+        self.counts.add(count, count);
         true
     }
 }

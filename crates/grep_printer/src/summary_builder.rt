@@ -16,7 +16,8 @@ pub enum SummaryKind {
     /// How many matches were reported, after the path, if any was or a count of zero is written.
     Count,
     /// How many parts of the reported matches match, as `StandardBuilder::only_matching` has them,
-    /// after the path, if any match was reported or a count of zero is written.
+    /// but one of each match at least, after the path, if any match was reported or a count of zero
+    /// is written.
     CountMatches,
     /// The path, if a match was reported.
     PathWithMatch,
