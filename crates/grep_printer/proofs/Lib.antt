@@ -9,6 +9,7 @@ pub mod JsonLineLemmas
 pub mod FoundPartLemmas
 pub mod LineFeedLemmas
 pub mod PartTextLemmas
+pub mod PassedLineLemmas
 pub mod PlainLineLemmas
 pub mod PlanCountLemmas
 pub mod PlanWordLemmas

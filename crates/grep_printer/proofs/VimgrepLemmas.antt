@@ -1,12 +1,11 @@
 -- The lines in which the parts of a report start, pushed one after another.
-use Rattle.std.proofs.Common.{◌≡◌, ℕ, ◌+◌, ◌-◌, ◌≤◌, List, [], ◌∷◌, ◌++◌, length, arith, ap, sym, ◌∙◌, subst, take, drop, Option}
-use Rattle.std.proofs.lemmas.List.{drop-take, take-take}
-use Rattle.std.proofs.lemmas.List.Sums.{sum_by-take-drop}
-use Rattle.std.specs.Prelude.{◌<◌, ◌==◌, cond, count_by, false, slice_range}
+use Rattle.std.proofs.Common.{◌≡◌, ℕ, ◌+◌, List, [], ◌∷◌, ◌++◌, length, arith, ap, subst, Option}
+use Rattle.std.specs.Prelude.{◌<◌, ◌==◌, count_by, false, slice_range}
 use Rattle.grep_lines.specs.Blocks.{lines_before}
 use Rattle.grep_output.specs.PendingTexts.{Adds, PendingText}
 use Rattle.grep_printer.proofs.FoundPartLemmas.{ordered-from}
 use Rattle.grep_printer.proofs.PartTextLemmas.{IsWriting, writing-more}
+use Rattle.grep_printer.proofs.PassedLineLemmas.{lines-passed}
 use Rattle.grep_printer.proofs.PushLemmas.{adds-two}
 use Rattle.grep_printer.specs.Formats.{Scene}
 use Rattle.grep_printer.specs.LineTexts.{end_byte}
@@ -20,16 +19,6 @@ use Rattle.grep_printer.specs.declared.report.Report.{Report}
 use Rattle.grep_printer.specs.declared.report.ReportKind.{ReportKind}
 use Rattle.grep_printer.specs.declared.report.ReportKind.TheVariants.{Match, Context}
 use Rattle.grep_printer.specs.declared.standard.Progress.{Progress}
-
--- the lines before a position, and those between it and a later one
-pub lines-passed : (t : ℕ) (bytes : List ℕ) (from to : ℕ) → from ≤ to
-    → lines_before t bytes from + count_by (λ b. b == t) (slice_range bytes from to) ≡ lines_before t bytes to
-lines-passed t bytes from to less =
-    let sum : from + (to - from) ≡ to = omega (arith, less) in
-    let count : List ℕ → ℕ = λ xs. count_by (λ b. b == t) xs in
-    let first = ap count (take-take from to bytes less) in
-    let later = ap count (ap (λ n. drop from (take n bytes)) (sym sum) ∙ drop-take from (to - from) bytes) in
-    omega (arith, first, later, sum_by-take-drop (λ b. cond (b == t) 1 0) (take to bytes) from)
 
 module _ (layout : Layout) (report : Report) (start : List ℕ) (all : List (ℕ × ℕ)) where
   -- the line of a part of the report, before which there are so many
