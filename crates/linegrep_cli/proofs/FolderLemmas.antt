@@ -6,7 +6,6 @@ use Rattle.std.proofs.lemmas.Bool.{true≢false}
 use Rattle.linegrep_files.specs.Choices.{AreAlike, AreTakenUp}
 use Rattle.linegrep_files.specs.Folders.{name_of}
 use Rattle.linegrep_files.specs.FolderFacts.{FolderFacts}
-use Rattle.linegrep_files.specs.Orders.{is_by_time}
 use Rattle.linegrep_files.specs.Trees.{AreAllOf, AreFirstOf, IsPassed, IsWalked, are_none, no_visit}
 use Rattle.linegrep_files.specs.Walks.{IsBegun, IsPopped, of_dated, of_end, of_memory, of_pending}
 use Rattle.linegrep_files.specs.declared.choices.Choices.{Choices}
@@ -23,7 +22,7 @@ module _ {S : Type 0} (facts : S → FolderFacts) (system : Bor S) (route : Rout
   pub record IsAlong (visited : List Entry) (walk : Walk S) (inside : Choices) : Type 0 where
     pub starts : walk.is_out_of_memory ≡ false → IsBegun system route folder begun
     pub walked : walk.is_out_of_memory ≡ false → IsWalked facts begun choices visited walk inside
-    pub are_first : is_by_time route.order ≡ false → (first : Choices)
+    pub are_first : (first : Choices)
         → AreTakenUp (facts system.now) (name_of folder) first choices → AreFirstOf (facts system.now) route first folder visited
 
   pub along-none : (begun.is_out_of_memory ≡ false → IsBegun system route folder begun)
@@ -31,7 +30,7 @@ module _ {S : Type 0} (facts : S → FolderFacts) (system : Bor S) (route : Rout
   along-none starts = record {
     starts = starts;
     walked = λ memory. no_visit;
-    are_first = λ by_path first taken. are_none;
+    are_first = λ first taken. are_none;
   }
 
   -- memory was left if an entry was popped
@@ -48,19 +47,19 @@ module _ {S : Type 0} (facts : S → FolderFacts) (system : Bor S) (route : Rout
         starts = λ still. along.starts memory;
         walked = λ still. walked-next facts begun choices visited walk inside entry popped new within
             (along.walked memory) is passed still;
-        are_first = λ by_path first taken. walks-begin facts system route folder begun walk popped first choices
-            inside visited entry by_path taken (along.starts memory) (along.walked memory) is;
+        are_first = λ first taken. walks-begin facts system route folder begun walk popped first choices
+            inside visited entry taken (along.starts memory) (along.walked memory) is;
       }
 
   -- at its end all is visited, if memory is left
   pub along-end : (visited : List Entry) (walk end : Walk S) (inside first : Choices)
       → IsAlong visited walk inside → IsPopped walk None end → end.is_out_of_memory ≡ false
-      → is_by_time route.order ≡ false → AreTakenUp (facts system.now) (name_of folder) first choices
+      → AreTakenUp (facts system.now) (name_of folder) first choices
       → AreAllOf (facts system.now) route first folder visited
-  along-end visited walk end inside first along (of_end memory pending dated still) left by_path taken =
-      walks-end facts system route folder begun walk end first choices inside visited by_path taken
+  along-end visited walk end inside first along (of_end memory pending dated still) left taken =
+      walks-end facts system route folder begun walk end first choices inside visited taken
       (along.starts memory) (along.walked memory) memory (of_end memory pending dated still)
-  along-end visited walk end inside first along (of_memory out still) left by_path taken =
+  along-end visited walk end inside first along (of_memory out still) left taken =
       absurd (true≢false (sym still ∙ left))
 
   pub along-alike : (visited : List Entry) (walk end : Walk S) (inside first : Choices)

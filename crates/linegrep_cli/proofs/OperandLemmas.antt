@@ -16,7 +16,7 @@ use Rattle.linegrep_cli.specs.declared.visit.Visit.{Visit}
 use Rattle.linegrep_files.specs.Choices.{AreAlike}
 use Rattle.linegrep_files.specs.FolderFacts.{FolderFacts}
 use Rattle.linegrep_files.specs.Folders.{name_of}
-use Rattle.linegrep_files.specs.Trees.{AreAllOf, AreFirstOf, are_first, are_none}
+use Rattle.linegrep_files.specs.Trees.{AreAllOf, AreFirstOf, are_first, are_none, are_of_late}
 use Rattle.linegrep_files.specs.declared.choices.Choices.{Choices}
 use Rattle.linegrep_files.specs.declared.entry.Entry.{Entry}
 use Rattle.linegrep_files.specs.declared.file_id.FileId.{FileId}
@@ -50,6 +50,8 @@ first-of : (folders : FolderFacts) (route : Route) (old choices : Choices) (fold
 first-of folders route old choices folder _ alike are_none = are_none
 first-of folders route old choices folder visited alike (are_first begun path root are is root_is first) =
     are_first begun path root (taken-by folders (name_of folder) old choices begun alike are) is root_is first
+first-of folders route old choices folder _ alike (are_of_late begun path root are is root_is former late) =
+    are_of_late begun path root (taken-by folders (name_of folder) old choices begun alike are) is root_is former late
 
 all-of : (folders : FolderFacts) (route : Route) (old choices : Choices) (folder : List ℕ)
     (visited : List Entry) → AreAlike old choices → AreAllOf folders route choices folder visited
@@ -62,7 +64,12 @@ all-of folders route old choices folder visited alike are = record {
   root = are.root;
   is_root = are.is_root;
   after = are.after;
+  former = are.former;
+  late = are.late;
+  waiting = are.waiting;
   are_visited = are.are_visited;
+  are_late = are.are_late;
+  are = are.are;
 }
 
 module _ {E F : Type 0} (folders : FolderFacts) (finds : List ℕ → Result Bool Error → Type 0)
@@ -72,7 +79,7 @@ module _ {E F : Type 0} (folders : FolderFacts) (finds : List ℕ → Result Boo
   walked-to : (folder : List ℕ) (visited : List Entry) (visit : Visit)
       → IsWalkedTo folders scope choices folder visited visit
       → IsWalkedTo folders scope first folder visited visit
-  walked-to folder visited visit walked by_path = elim (walked by_path) [
+  walked-to folder visited visit walked = elim walked [
     | inl all ↦ inl (all-of folders scope.route first choices folder visited alike all)
     | inr part ↦ inr (part.0, first-of folders scope.route first choices folder visited alike part.1)
   ]

@@ -19,7 +19,6 @@ use Rattle.linegrep_cli.specs.declared.visit.Visit.{Visit}
 use Rattle.grep_printer.specs.declared.printed_search.Searched.{Searched}
 use Rattle.linegrep_files.specs.FileIds.{is_same_file}
 use Rattle.linegrep_files.specs.FolderFacts.{FolderFacts}
-use Rattle.linegrep_files.specs.Orders.{is_by_time}
 use Rattle.linegrep_files.specs.Trees.{AreAllOf, AreFirstOf}
 use Rattle.linegrep_files.specs.declared.choices.Choices.{Choices}
 use Rattle.linegrep_files.specs.declared.entry.Entry.{Entry}
@@ -67,11 +66,11 @@ abbrev pub is_over : Scope → Visit → Bool
 is_over scope total = is_some total.failure
     || (scope.is_quiet && (total.has_match && not scope.counts_all))
 
--- what was visited of a folder is what choices say, unless files are sorted by a time: all of it, or
--- if that ended the run some first of it
+-- what was visited of a folder is what choices say: all of it, or if that ended the run some first of
+-- it
 abbrev pub IsWalkedTo : FolderFacts → Scope → Choices → List ℕ → List Entry → Visit → Type 0
-IsWalkedTo folders scope choices folder visited visit = is_by_time scope.route.order ≡ false
-    → AreAllOf folders scope.route choices folder visited
+IsWalkedTo folders scope choices folder visited visit =
+    AreAllOf folders scope.route choices folder visited
     ⊎ ((is_over scope visit ≡ true) × AreFirstOf folders scope.route choices folder visited)
 
 -- the status if all was written

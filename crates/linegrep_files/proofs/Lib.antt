@@ -3,6 +3,7 @@ pub mod BaseLemmas
 pub mod BraceLemmas
 pub mod ChoiceLemmas
 pub mod GitFileLemmas
+pub mod GlobExamples
 pub mod GlobRuleLemmas
 pub mod GlobTextLemmas
 pub mod FoundLemmas

@@ -1,36 +1,43 @@
 -- What a walk visits: a folder's files, and of each folder in it the files, in the order of names.
-use Rattle.std.specs.Prelude.{◌≡◌, ℕ, true, false, ◌++◌, ◌∷◌, [], List, None, Some, reverse}
-use Rattle.std.specs.Prelude.{Ok, Err, String, Vec, filter, not, string_bytes}
+use Rattle.std.specs.Prelude.{◌≡◌, ℕ, Bool, true, false, ◌++◌, ◌∷◌, [], List, None, Some, reverse}
+use Rattle.std.specs.Prelude.{Ok, Err, String, Vec, filter, map, not, string_bytes}
 use Rattle.std.specs.Borrow.{Bor}
 use Rattle.std.specs.Global.{Global}
+use Rattle.std.specs.List.{All}
 use Rattle.std.specs.List.Sorted.{IsPermutation, IsSortedBy}
 use Rattle.std.specs.declared.io.Error.{Error}
 use Rattle.linegrep_files.specs.Choices.{AreTakenUp, IsWithin, SaysTheSame}
 use Rattle.linegrep_files.specs.FolderFacts.{FolderFacts}
 use Rattle.linegrep_files.specs.Folders.{AreFound, below_of, depth_of, is_folder, listed_path}
-use Rattle.linegrep_files.specs.Folders.{name_of, names_of}
+use Rattle.linegrep_files.specs.Folders.{name_of, names_of, path_of}
 use Rattle.linegrep_files.specs.Limits.{allows_depth}
-use Rattle.linegrep_files.specs.Orders.{is_by_time}
 use Rattle.linegrep_files.specs.Paths.{IsRoot}
 use Rattle.linegrep_files.specs.Walks.{GoesOn, IsBegun, IsEntered, IsPopped, comes_before, waits}
 use Rattle.linegrep_files.specs.declared.choices.Choices.{Choices}
 use Rattle.linegrep_files.specs.declared.entry.Entry.{Entry}
-use Rattle.linegrep_files.specs.declared.entry.Entry.TheVariants.{Folder, Unread}
+use Rattle.linegrep_files.specs.declared.entry.Entry.TheVariants.{File, Folder, Unread}
 use Rattle.linegrep_files.specs.declared.walk.Route.{Route}
 use Rattle.linegrep_files.specs.declared.walk.Walk.{Walk}
+
+-- what is found is a file
+abbrev pub is_file : Entry → Bool
+is_file (File path) = true
+is_file (Folder path) = false
+is_file (Unread path error) = false
 
 -- By what a system may say of folders and files; of a walk by a route, below a folder that the system
 -- knows by a name, the path of which has so many bytes without the slashes at its end.
 module _ (folders : FolderFacts) (route : Route) (top : List ℕ) (root : ℕ) where
   -- what is in a folder, in order: what is found of its names and doesn't wait, by what is chosen
-  -- there; nothing if it is too deep; or that it can't be read
-  pub data IsFolderOf (choices : Choices) (folder : List ℕ) : List Entry → Choices → Type 0 where
+  -- there, and the paths of what waits; nothing if it is too deep; or that it can't be read
+  pub data IsFolderOf (choices : Choices) (folder : List ℕ) :
+      List Entry → List (List ℕ) → Choices → Type 0 where
     is_deep : {inside : Choices} → allows_depth choices.limits (depth_of root folder) ≡ false
-        → SaysTheSame choices inside → IsFolderOf choices folder [] inside
+        → SaysTheSame choices inside → IsFolderOf choices folder [] [] inside
     is_unread : {inside : Choices} (path : String Global) (error : Error)
         → allows_depth choices.limits (depth_of root folder) ≡ true
         → folders.lists (listed_path folder) (Err error) → string_bytes path ≡ name_of folder
-        → SaysTheSame choices inside → IsFolderOf choices folder (Unread path error ∷ []) inside
+        → SaysTheSame choices inside → IsFolderOf choices folder (Unread path error ∷ []) [] inside
     is_names : {inside : Choices} (names : Vec ℕ Global) (within : Choices) (found next : List Entry)
         → allows_depth choices.limits (depth_of root folder) ≡ true
         → folders.lists (listed_path folder) (Ok names)
@@ -39,19 +46,24 @@ module _ (folders : FolderFacts) (route : Route) (top : List ℕ) (root : ℕ) w
         (names_of names.items) found
         → IsPermutation (filter (λ entry. not (waits route.order entry)) found) next
         → IsSortedBy (λ one other. comes_before route.order other one) next
-        → SaysTheSame within inside → IsFolderOf choices folder (reverse next) inside
+        → SaysTheSame within inside
+        → IsFolderOf choices folder (reverse next) (map path_of (filter (waits route.order) found))
+        inside
 
   -- what is visited of some entries, in their order: each one itself, and right after a folder what
-  -- is visited of what is in it
-  pub data AreVisited : Choices → List Entry → List Entry → Choices → Type 0 where
-    no_entry : (choices : Choices) → AreVisited choices [] [] choices
-    next_entry : {choices after : Choices} {later visited : List Entry} (entry : Entry)
-        → is_folder entry ≡ false → AreVisited choices later visited after
-        → AreVisited choices (entry ∷ later) (entry ∷ visited) after
+  -- is visited of what is in it; and what waits
+  pub data AreVisited :
+      Choices → List Entry → List Entry → List (List ℕ) → Choices → Type 0 where
+    no_entry : (choices : Choices) → AreVisited choices [] [] [] choices
+    next_entry : {choices after : Choices} {later visited : List Entry} {waiting : List (List ℕ)}
+        (entry : Entry) → is_folder entry ≡ false → AreVisited choices later visited waiting after
+        → AreVisited choices (entry ∷ later) (entry ∷ visited) waiting after
     next_folder : {choices inside mid after : Choices} {later inner below visited : List Entry}
-        (path : String Global) → IsFolderOf choices (string_bytes path) inner inside
-        → AreVisited inside inner below mid → AreVisited mid later visited after
-        → AreVisited choices (Folder path ∷ later) (Folder path ∷ (below ++ visited)) after
+        {own under waiting : List (List ℕ)} (path : String Global)
+        → IsFolderOf choices (string_bytes path) inner own inside
+        → AreVisited inside inner below under mid → AreVisited mid later visited waiting after
+        → AreVisited choices (Folder path ∷ later) (Folder path ∷ (below ++ visited))
+        (own ++ (under ++ waiting)) after
 
   -- some first of what is visited of some entries: up to one of them, or to one of what is in one
   pub data AreFirst : Choices → List Entry → List Entry → Type 0 where
@@ -61,17 +73,25 @@ module _ (folders : FolderFacts) (route : Route) (top : List ℕ) (root : ℕ) w
         → AreFirst choices (entry ∷ later) (entry ∷ visited)
     first_folder : (choices : Choices) (later : List Entry) (path : String Global)
         → AreFirst choices (Folder path ∷ later) (Folder path ∷ [])
-    in_folder : {choices inside : Choices} {later inner below : List Entry} (path : String Global)
-        → IsFolderOf choices (string_bytes path) inner inside → AreFirst inside inner below
+    in_folder : {choices inside : Choices} {later inner below : List Entry} {own : List (List ℕ)}
+        (path : String Global) → IsFolderOf choices (string_bytes path) inner own inside
+        → AreFirst inside inner below
         → AreFirst choices (Folder path ∷ later) (Folder path ∷ below)
     after_folder : {choices inside mid : Choices} {later inner below visited : List Entry}
-        (path : String Global) → IsFolderOf choices (string_bytes path) inner inside
-        → AreVisited inside inner below mid → AreFirst mid later visited
+        {own under : List (List ℕ)} (path : String Global)
+        → IsFolderOf choices (string_bytes path) inner own inside
+        → AreVisited inside inner below under mid → AreFirst mid later visited
         → AreFirst choices (Folder path ∷ later) (Folder path ∷ (below ++ visited))
+
+-- what waits is visited once nothing else is: files, each once, but for some that are left
+pub record AreLater (waiting : List (List ℕ)) (late : List Entry) (left : List (List ℕ)) : Type 0 where
+  pub same : IsPermutation waiting (map path_of late ++ left)
+  pub files : All (λ entry. is_file entry ≡ true) late
 
 -- By what a system may say of folders and files.
 module _ (folders : FolderFacts) (route : Route) (choices : Choices) (folder : List ℕ) where
-  -- all that is visited of a folder, by choices for it: the folder itself, and what is in it
+  -- all that is visited of a folder, by choices for it: the folder itself, and what is in it, in
+  -- order, but for files that are sorted by a time, which come last
   pub record AreAllOf (visited : List Entry) : Type 0 where
     pub begun : Choices
     pub are_begun : AreTakenUp folders (name_of folder) choices begun
@@ -80,8 +100,13 @@ module _ (folders : FolderFacts) (route : Route) (choices : Choices) (folder : L
     pub root : ℕ
     pub is_root : IsRoot folder root
     pub after : Choices
-    pub are_visited : AreVisited folders route (name_of folder) root begun (Folder path ∷ []) visited
-        after
+    pub former : List Entry
+    pub late : List Entry
+    pub waiting : List (List ℕ)
+    pub are_visited : AreVisited folders route (name_of folder) root begun (Folder path ∷ []) former
+        waiting after
+    pub are_late : AreLater waiting late []
+    pub are : visited ≡ former ++ late
 
   -- some first of it
   pub data AreFirstOf : List Entry → Type 0 where
@@ -91,6 +116,12 @@ module _ (folders : FolderFacts) (route : Route) (choices : Choices) (folder : L
         → IsRoot folder root
         → AreFirst folders route (name_of folder) root begun (Folder path ∷ []) visited
         → AreFirstOf visited
+    are_of_late : {former late : List Entry} {waiting left : List (List ℕ)} {after : Choices}
+        (begun : Choices) (path : String Global) (root : ℕ)
+        → AreTakenUp folders (name_of folder) choices begun → string_bytes path ≡ folder
+        → IsRoot folder root
+        → AreVisited folders route (name_of folder) root begun (Folder path ∷ []) former waiting after
+        → AreLater waiting late left → AreFirstOf (former ++ late)
 
 -- By what a system may say of folders and files.
 module _ {S : Type 0} (facts : S → FolderFacts) where
@@ -118,7 +149,7 @@ module _ {S : Type 0} (facts : S → FolderFacts) where
   -- what a walk visited that ended with memory left is all that is visited of its folder
   abbrev pub WalksEnd : Type 0
   WalksEnd = (system : Bor S) (route : Route) (folder : List ℕ) (begun walk end : Walk S)
-      (first choices inside : Choices) (visited : List Entry) → is_by_time route.order ≡ false
+      (first choices inside : Choices) (visited : List Entry)
       → AreTakenUp (facts system.now) (name_of folder) first choices
       → IsBegun system route folder begun
       → IsWalked begun choices visited walk inside → walk.is_out_of_memory ≡ false
@@ -129,7 +160,6 @@ module _ {S : Type 0} (facts : S → FolderFacts) where
   abbrev pub WalksBegin : Type 0
   WalksBegin = (system : Bor S) (route : Route) (folder : List ℕ) (begun walk new : Walk S)
       (first choices inside : Choices) (visited : List Entry) (entry : Entry)
-      → is_by_time route.order ≡ false
       → AreTakenUp (facts system.now) (name_of folder) first choices → IsBegun system route folder begun → IsWalked begun choices visited walk inside
       → IsPopped walk (Some entry) new
       → AreFirstOf (facts system.now) route first folder (visited ++ entry ∷ [])

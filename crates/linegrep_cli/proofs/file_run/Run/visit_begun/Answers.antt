@@ -16,6 +16,6 @@ returns-in-Err-clause-visited g c = record {
   visited = [];
   total = no_visit;
   entries = no_entry;
-  walked = λ by_path. inr (rw c.failed.ensures refl, are_none);
+  walked = inr (rw c.failed.ensures refl, are_none);
   visit_is = inr (c.from.result, search rules, c.failed.ensures);
 }

@@ -18,8 +18,8 @@ returns-then-not-is_out_of_memory-clause-visited g c = λ first taken. record {
   visited = c.loop.invariant.0;
   total = c.loop.total;
   entries = c.loop.invariant.1;
-  walked = λ by_path. inl (along-end _ _ _ _ _ _ _ _ c.pop.new.self _ first c.loop.invariant.3
-      (rw c.in_default.is at c.pop.ensures) (search rules) by_path taken);
+  walked = inl (along-end _ _ _ _ _ _ _ _ c.pop.new.self _ first c.loop.invariant.3
+      (rw c.in_default.is at c.pop.ensures) (search rules) taken);
   visit_is = inl refl;
 }
 
@@ -36,10 +36,10 @@ returns-then-is_over-clause-visited g c = λ first taken.
       total = c.add.new.self;
       entries = rw c.add.ensures (next_entry _ _ _ _ c.loop.invariant.1 c.loop.invariant.2
           c.visit_entry.ensures.visited);
-      walked = λ by_path. inr (
+      walked = inr (
         over,
         (along-next _ _ _ _ _ _ _ _ _ _ _ _ _ c.loop.invariant.3
-            (rw c.in-Some.is at c.pop.ensures) c.visit_entry.ensures.passed).are_first by_path first taken,
+            (rw c.in-Some.is at c.pop.ensures) c.visit_entry.ensures.passed).are_first first taken,
       );
       visit_is = inl refl;
     }
