@@ -1,6 +1,6 @@
 //! Texts that are kept before they are written.
 ghost use Rattle.std.specs.Prelude.{◌≡◌, ◌++◌, ◌+◌, ◌-◌, ◌<◌, ◌≤◌, ◌∷◌, [], decimal, drop, false};
-ghost use Rattle.std.specs.Prelude.{length, take, true};
+ghost use Rattle.std.specs.Prelude.{length, slice_range, take, true, ℕ};
 ghost use Rattle.grep_output.specs.Outputs.{Writes};
 ghost use Rattle.grep_output.specs.PendingTexts.{Adds, pending_bytes};
 
@@ -9,6 +9,9 @@ use crate::output::{Output, write_all};
 use std::alloc::Global;
 use std::marker::Model;
 use std::{io, mem};
+
+// How many bytes are copied where there are fewer.
+const SHORT: usize = 128;
 
 /// Texts that are to be written, one after another. The last of them is made piece by piece: if
 /// memory is out it has failed, and takes nothing more, while those before it stay.
@@ -117,6 +120,30 @@ impl Pending {
         }
         put_at(&mut self.bytes, self.len, bytes);
         self.len += bytes.len();
+    }
+
+    /// Pushes the bytes from one position up to another. The caller ensures that they are in order
+    /// and within the bytes. Where there are enough other bytes after few ones, and room for them,
+    /// those are copied too, which is faster than as many as there are.
+    #[inline(always)]
+    pub fn push_range(&mut self, bytes: &[u8], start: usize, end: usize)
+        requires ordered { start ≤ end }
+        requires within { end ≤ length bytes.now }
+        ensures { Adds self.old self.new (slice_range bytes.now start end) }
+    {
+        if self.has_failed {
+            return;
+        }
+        if end - start > SHORT || bytes.len() - start < SHORT {
+            self.push(&bytes[start..end]);
+            return;
+        }
+        if self.bytes.len() - self.len < SHORT {
+            self.push(&bytes[start..end]);
+            return;
+        }
+        put_short(&mut self.bytes, self.len, &bytes[start..start + SHORT]);
+        self.len += end - start;
     }
 
     /// Pushes a byte.
@@ -241,6 +268,18 @@ fn put_at(bytes: &mut [u8], at: usize, more: &[u8])
     ensures put { take (at + length more.now) bytes.new ≡ take at bytes.old ++ more.now }
 {
     bytes[at..at + more.len()].copy_from_slice(more);
+}
+
+// Puts as many bytes as few are at a position in place of those there.
+#[inline(always)]
+fn put_short(bytes: &mut [u8], at: usize, more: &[u8])
+    requires room { at + SHORT ≤ length bytes.old }
+    requires few { length more.now ≡ SHORT }
+    ensures same { length bytes.new ≡ length bytes.old }
+    ensures put { (len : ℕ) → len ≤ SHORT
+        → take (at + len) bytes.new ≡ take at bytes.old ++ take len more.now }
+{
+    bytes[at..at + SHORT].copy_from_slice(more);
 }
 
 // Puts a byte at a position in place of the one there.

@@ -1,10 +1,11 @@
 //! Reports of which the lines are written as they are, each after its number alone.
-ghost use Rattle.std.specs.Prelude.{◌≡◌, ◌<◌, ◌∷◌, [], MatchBool, length, true};
+ghost use Rattle.std.specs.Prelude.{◌≡◌, ◌≤◌, ◌<◌, ◌∷◌, ◌++◌, [], MatchBool, length, slice_range, true};
 ghost use Rattle.std.specs.List.{count_by, flat_map};
 ghost use Rattle.grep_matcher.specs.Lines.{byte_of, lines};
-ghost use Rattle.grep_printer.specs.LineTexts.{is_plain, plain_line, plain_lines, plain_part};
+ghost use Rattle.grep_printer.specs.LineTexts.{is_plain, missing_end, plain_line, plain_lines};
+ghost use Rattle.grep_printer.specs.LineTexts.{plain_part};
 ghost use Rattle.grep_printer.specs.MatchedParts.{AreInOrder, ends_after};
-ghost use Rattle.grep_printer.specs.Reports.{HasPlainParts, call_of};
+ghost use Rattle.grep_printer.specs.Reports.{HasPlainParts, IsShown, call_of};
 ghost use Rattle.grep_printer.specs.StandardTexts.{report_text};
 ghost use Rattle.grep_output.specs.PendingTexts.{Adds};
 
@@ -27,7 +28,8 @@ impl<'c> Config<'c> {
         report: &Report<'_>,
         parts: &[Match],
     ) -> bool
-        requires { AreInOrder 0 (length report.now.bytes.now) parts.now }
+        requires shown { IsShown report.now }
+        requires ordered { AreInOrder 0 (length report.now.bytes.now) parts.now }
         ensures { MatchBool result
             (Adds text.old text.new (report_text
             (record { config = self.now; path = path.entry; terminator = terminator })
@@ -43,7 +45,10 @@ impl<'c> Config<'c> {
         }
         let terminator = terminator.as_byte();
         match report.kind {
-            ReportKind::Match => push_lines(text, b':', number, terminator, bytes),
+            ReportKind::Match => {
+                let end = report.start + bytes.len();
+                push_lines(text, number, terminator, report.shown, report.start, end)
+            }
             ReportKind::Context(_) => push_line(text, b'-', number, terminator, bytes),
         }
         true
@@ -157,18 +162,39 @@ fn push_parts(
     }
 }
 
-// Pushes lines as they are, each after its number and a mark, if they are numbered; if not, they
-// aren't looked for. The caller ensures that there is a byte.
+// Pushes the lines of a match that some bytes show from one position up to another as they are, each
+// after its number, if they are numbered; if not, they aren't looked for. The caller ensures that
+// there is a byte.
 #[inline(always)]
-fn push_lines(text: &mut Pending, mark: u8, number: Option<u64>, terminator: u8, bytes: &[u8])
-    requires { 0 < length bytes.now }
+fn push_lines(
+    text: &mut Pending,
+    number: Option<u64>,
+    terminator: u8,
+    shown: &[u8],
+    start: usize,
+    end: usize,
+)
+    requires some { start < end }
+    requires within { end ≤ length shown.now }
     ensures { Adds text.old text.new
-        (plain_lines terminator mark number (lines terminator bytes.now)) }
+        (plain_lines terminator 58 number (lines terminator (slice_range shown.now start end))) }
 {
     match number {
-        Some(_) => push_each_line(text, mark, number, terminator, bytes),
-        None => push_line(text, mark, number, terminator, bytes),
+        Some(_) => push_each_line(text, b':', number, terminator, &shown[start..end]),
+        None => push_range(text, terminator, shown, start, end),
     }
+}
+
+// Pushes the bytes that some bytes show from one position up to another as one line.
+#[inline(always)]
+fn push_range(text: &mut Pending, terminator: u8, shown: &[u8], start: usize, end: usize)
+    requires ordered { start ≤ end }
+    requires within { end ≤ length shown.now }
+    ensures { Adds text.old text.new (slice_range shown.now start end
+        ++ missing_end terminator (slice_range shown.now start end)) }
+{
+    text.push_range(shown, start, end);
+    push_missing_end(text, terminator, &shown[start..end])
 }
 
 // Pushes lines one after another.

@@ -7,7 +7,7 @@ ghost use Rattle.grep_output.specs.PendingTexts.{Flushes, Puts, pending_bytes};
 ghost use Rattle.grep_report.specs.SinkReports.{match_bytes};
 ghost use Rattle.grep_searcher.specs.Plans.{reported_bytes};
 ghost use Rattle.grep_searcher.specs.SearchErrors.{IsOutOfMemory};
-ghost use Rattle.grep_searcher.specs.SinkArguments.{match_call};
+ghost use Rattle.grep_searcher.specs.SinkArguments.{context_call, match_call};
 ghost use Rattle.grep_printer.specs.BareTexts.{bare_text};
 ghost use Rattle.grep_printer.specs.CallParts.{FailsAtParts, around_match, has_match};
 ghost use Rattle.grep_printer.specs.Formats.{is_text};
@@ -352,6 +352,42 @@ impl<'s, F: Format, M: FindAt, W: Output> PrinterSink<'s, F, M, W> {
         self.printer.parts.clear();
     }
 
+    // Keeps the text of a call of whose report no parts are asked for, if there is memory and room for
+    // it, and returns whether the search goes on. If there isn't, nothing has changed but the parts.
+    #[inline(always)]
+    fn keep<A: Allocator + Copy>(
+        &mut self,
+        searcher: &Searcher<A>,
+        event: &Event<'_>,
+    ) -> Option<bool>
+        requires fits { FitsEvent event.now }
+        requires shown { IsShownEvent event.now }
+        ensures kept { IfSome result (λ goes_on. Prints F.rules M.Error.output M.facts M.first_at
+            W.step (IsAround event.now) self.old searcher.now.settings (event_call event.now)
+            goes_on self.new) }
+        ensures unkept { IfNone result (IsAsBefore self.old self.new) }
+    {
+        if self.asks(searcher, event) {
+            return None;
+        }
+        self.clear_parts(searcher, event);
+        self.keep_call(searcher, event)
+    }
+
+    // Prints a context line. It isn't inlined, so that no event is made for one whose text is kept.
+    #[inline(never)]
+    fn print_context<A: Allocator + Copy>(
+        &mut self,
+        searcher: &Searcher<A>,
+        line: &SinkContext<'_>,
+    ) -> Result<bool, SearchError>
+        requires { line.now.offset + length line.now.bytes < 2 ^ 64 }
+        ensures { PrintsCall F.rules M.Error.output M.facts M.first_at W.step self.old
+            searcher.now.settings (context_call line.now) result self.new }
+    {
+        self.print(searcher, &Event::Report(Report::of_context(line)))
+    }
+
     // Prints a call, and returns whether the search goes on. It is inlined, so that each method
     // knows which call it prints; room for an error is made only where one may come.
     #[inline(always)]
@@ -539,7 +575,11 @@ impl<'s, F: Format, M: FindAt, W: Output> Sink for PrinterSink<'s, F, M, W> {
         searcher: &Searcher<A>,
         line: &SinkContext<'_>,
     ) -> Result<bool, SearchError> {
-        self.print(searcher, &Event::Report(Report::of_context(line)))
+        let event = Event::Report(Report::of_context(line));
+        if let Some(goes_on) = self.keep(searcher, &event) {
+            return Ok(goes_on);
+        }
+        self.print_context(searcher, line)
     }
 
     fn context_break<A: Allocator + Copy>(

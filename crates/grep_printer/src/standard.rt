@@ -3,7 +3,7 @@ ghost use Rattle.std.specs.Prelude.{◌≡◌, ◌+◌, ◌<◌, ◌^◌, ◌&&�
 ghost use Rattle.std.specs.Prelude.{if◌then◌else◌, not};
 ghost use Rattle.grep_printer.specs.MatchedParts.{AreInOrder};
 ghost use Rattle.grep_output.specs.PendingTexts.{Adds};
-ghost use Rattle.grep_printer.specs.Reports.{call_of};
+ghost use Rattle.grep_printer.specs.Reports.{IsShown, call_of};
 ghost use Rattle.grep_printer.specs.StandardTexts.{call_text, is_hidden, layout_of, new_progress};
 ghost use Rattle.grep_printer.specs.StandardTexts.{progress_after, report_text, text_before};
 
@@ -111,6 +111,7 @@ impl<'c> StandardFormat<'c> {
         parts: &[Match],
     )
         requires fits { report.now.offset + length report.now.bytes.now < 2 ^ 64 }
+        requires shown { IsShown report.now }
         requires ordered { AreInOrder 0 (length report.now.bytes.now) parts.now }
         ensures { Adds text.old text.new
             (text_before (layout_of self.now.config
@@ -139,6 +140,7 @@ impl<'c> StandardFormat<'c> {
         parts: &[Match],
     ) -> bool
         requires fits { report.now.offset + length report.now.bytes.now < 2 ^ 64 }
+        requires shown { IsShown report.now }
         requires ordered { AreInOrder 0 (length report.now.bytes.now) parts.now }
         ensures text { Adds text.old text.new (call_text self.old.config self.old.progress
             (record { path = path.entry; settings = searcher.now.settings }) (call_of report.now)

@@ -1,10 +1,20 @@
-use Rattle.std.proofs.Common.{subst, sym}
+use Rattle.std.proofs.Common.{◌-◌, ◌<◌, arith, drop, length, length-drop, length-take, subst, sym}
+use Rattle.std.specs.Prelude.{slice_range}
 use Rattle.grep_output.specs.PendingTexts.{Adds}
 use Rattle.grep_printer.proofs.PlainLineLemmas.{lines-as-one}
 use Rattle.grep_printer.proofs.plain.push_lines.Goals as goal
 
 pub returns-in-None : goal.returns-in-None
 returns-in-None c =
-    rw c.in-None.is (subst (Adds c.args.text.now c.push_line.new.text)
-    (sym (lines-as-one c.args.terminator c.args.mark c.args.bytes.now c.requires))
-    (rw c.in-None.is at c.push_line.ensures))
+    let start = c.args.start in
+    let shown = c.args.shown.now in
+    let bytes = slice_range shown start c.args.end in
+    let some : 0 < length bytes = omega (
+      arith,
+      length-take (c.args.end - start) (drop start shown),
+      length-drop start shown,
+      c.requires.some,
+      c.requires.within,
+    ) in
+    rw c.in-None.is (subst (Adds c.args.text.now c.push_range.new.text)
+    (sym (lines-as-one c.args.terminator 58 bytes some)) c.push_range.ensures)
