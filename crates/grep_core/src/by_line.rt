@@ -147,9 +147,13 @@ impl<'c, A: Allocator + Copy, T: Configured> Search<'c, A, T> {
                 further = questions;
                 continue;
             }
-            if let Some(end) = self.config.passed_line(start, &ahead, walk) {
-                *walk = self.config.after_line(walk, &window[start..end], false);
-                start = end;
+            if let Some(lines) = self
+                .config
+                .passed_lines(matcher, questions, window, start, walk, &ahead)
+            {
+                *walk = walk.after_passed(start, &lines);
+                start = lines.end;
+                ahead = lines.ahead;
                 continue;
             }
             further = Questions::OneLine;

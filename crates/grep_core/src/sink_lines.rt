@@ -9,7 +9,7 @@ ghost use Rattle.grep_definitions.specs.SearchLaws.{number_of};
 ghost use Rattle.grep_definitions.specs.LineCalls.{before_calls, pending_calls, selected_calls};
 ghost use Rattle.grep_definitions.specs.SinkRuns.{outcome_of};
 ghost use Rattle.grep_walk.specs.ChosenLines.{AreChosen, chosen_calls};
-ghost use Rattle.grep_walk.specs.declared.chosen_lines.ChosenLines.{ChosenLines};
+ghost use Rattle.grep_walk.specs.declared.line_run.LineRun.{LineRun};
 ghost use Rattle.grep_walk.specs.LookAheads.{AreAllowed, IsBounded};
 ghost use Rattle.grep_walk.specs.Walks.{IsOrdered, chooses, counts_lines, line_calls, line_end};
 ghost use Rattle.grep_walk.specs.Walks.{trails};
@@ -19,7 +19,7 @@ use crate::search::{Configured, Search};
 use crate::sink_calls::SinkCalls;
 use grep_matcher::Matcher;
 use grep_report::{SinkContext, SinkContextKind, SinkMatch};
-use grep_walk::{Ahead, ChosenLines, Questions, Verdict, Walk};
+use grep_walk::{Ahead, LineRun, Questions, Verdict, Walk};
 use std::alloc::Allocator;
 
 // What each line goes through is inlined into the loops: called, it made a search that reports
@@ -282,7 +282,7 @@ impl<'c, A: Allocator + Copy, T: Configured> Search<'c, A, T> {
         walk: &Walk,
         ahead: &Ahead,
         sink: &mut C::Sink,
-    ) -> Result<Option<ChosenLines>, C::Error>
+    ) -> Result<Option<LineRun>, C::Error>
         requires allowed { AreAllowed self.now.config (M.facts matcher.now).meaning questions }
         requires bounded { IsBounded window.now ahead.now }
         requires inside { start ≤ length window.now }
@@ -296,7 +296,7 @@ impl<'c, A: Allocator + Copy, T: Configured> Search<'c, A, T> {
             × AreMade C.step self.now.config sink.old
             (chosen_calls self.now.config window.now start lines.end walk.now) all_true
             sink.new)) }
-        ensures error { IfErr result (λ e. (lines : ChosenLines)
+        ensures error { IfErr result (λ e. (lines : LineRun)
             × AreChosen self.now.config (M.facts matcher.now) window.now start ahead.now walk.now
             lines
             × AreMade C.step self.now.config sink.old

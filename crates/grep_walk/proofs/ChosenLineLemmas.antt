@@ -1,6 +1,6 @@
 -- A walk over lines one after another that are chosen, against the calls that are defined for the
 -- input.
-use Rattle.std.proofs.Common.{◌≡◌, ℕ, zero, suc, ◌+◌, ◌-◌, ◌<◌, ◌≤◌, true, false, List, [], ◌∷◌}
+use Rattle.std.proofs.Common.{◌≡◌, ℕ, zero, suc, ◌+◌, ◌-◌, ◌<◌, ◌≤◌, Bool, true, false, List, [], ◌∷◌}
 use Rattle.std.proofs.Common.{length, drop, refl, sym, ◌∙◌, ap, ap₂, subst, arith, inl, inr, None}
 use Rattle.std.proofs.Common.{⊎_elim, ◌⊎◌}
 use Rattle.std.proofs.Common.{length-take, length-drop, take, Ok, Err, ◌++◌}
@@ -20,10 +20,10 @@ use Rattle.grep_definitions.specs.LineCalls.{breaks_near, broken_calls, listed_c
 use Rattle.grep_definitions.specs.LineCalls.{pending_calls}
 use Rattle.grep_definitions.specs.MatchedLines.{calls_of_lines}
 use Rattle.grep_definitions.specs.SearchLaws.{number_of}
-use Rattle.grep_walk.specs.declared.chosen_lines.ChosenLines.{ChosenLines}
+use Rattle.grep_walk.specs.declared.line_run.LineRun.{LineRun}
 use Rattle.grep_walk.specs.declared.walk.Walk.{Walk}
-use Rattle.grep_walk.specs.ChosenLines.{AllHit, AreHits, after_chosen, chooses_alone}
-use Rattle.grep_walk.specs.ChosenLines.{chosen_calls}
+use Rattle.grep_walk.specs.ChosenLines.{after_chosen, chooses_alone, chosen_calls}
+use Rattle.grep_walk.specs.LineRuns.{AreAlike}
 use Rattle.grep_walk.specs.Origins.{AreMadeFrom, IsMadeToFrom, Origin}
 use Rattle.grep_walk.specs.Walks.{IsDecided, after_line, is_over, line_calls, line_end}
 use Rattle.grep_walk.specs.Windows.{HasSearched}
@@ -78,6 +78,11 @@ module _ {S E : Type 0} (step : Steps S E) (k : Settings) (meaning : Meaning)
   LinesCome On (failed e) new =
       AreMadeFrom step k first (line_plan k meaning input).calls (failed e) new
 
+  -- the lines from one position up to another hit
+  abbrev AllHit : ℕ → ℕ → Type 0
+  AllHit p q = (j a b : ℕ) → IsLine t window j a b → p ≤ a → a < q
+      → hits_if k (matches_line k meaning (slice_range window a b)) ≡ true
+
   -- the call of a chosen line
   abbrev match_of_line : Walk → List ℕ → Planned
   match_of_line w here = planned (matches (number_of k w.line) w.offset here) (line_end w here)
@@ -131,7 +136,7 @@ module _ {S E : Type 0} (step : Steps S E) (k : Settings) (meaning : Meaning)
   lines-come : (n : ℕ) (w : Walk) (p q i from index : ℕ) (now : S) → Searched p w now
       → IsAlone k w → IsAfterMatch w ⊎ (0 < n) → w.line ≡ from + index
       → IsLineStart t window p i
-      → IsLineStart t window q (i + n) → q ≤ length window → AllHit k meaning window p q
+      → IsLineStart t window q (i + n) → q ≤ length window → AllHit p q
       → (outcome : Outcome E) (new : S) → AreMade step k now
       (calls_of_lines (number_of k from) index w.offset (lines t (slice_range window p q))) outcome new
       → LinesCome (Searched q (after_chosen k w (q - p) n)) outcome new
@@ -232,12 +237,15 @@ module _ {S E : Type 0} (step : Steps S E) (k : Settings) (meaning : Meaning)
           ))))
 
   -- the lines that are chosen at once
-  pub chosen-come : (w : Walk) (p i : ℕ) (found : ChosenLines) (now : S) → Searched p w now
-      → IsLineStart t window p i → AreHits k meaning window p i found → p < found.end
-      → found.end ≤ length window → chooses_alone k w ≡ true → (outcome : Outcome E) (new : S)
-      → AreMade step k now (chosen_calls k window p found.end w) outcome new
-      → LinesCome (Searched found.end (after_chosen k w (found.end - p) found.count)) outcome new
-  chosen-come w p i found now so_far begins hits some within is outcome new made =
-      let before = comes-before hits.at i (omega (arith, begins.begins, some)) in
-      lines-come found.count w p found.end i w.line 0 now so_far (is_alone k w is)
-      (inr (omega (arith, before))) (omega arith) begins hits.at within hits.all outcome new made
+  pub chosen-come : (w : Walk) (p i : ℕ) (b : Bool) (run : LineRun) (now : S)
+      → Searched p w now → IsLineStart t window p i → AreAlike k meaning window p i b run
+      → hits_if k b ≡ true → p < run.end → run.end ≤ length window
+      → chooses_alone k w ≡ true → (outcome : Outcome E) (new : S)
+      → AreMade step k now (chosen_calls k window p run.end w) outcome new
+      → LinesCome (Searched run.end (after_chosen k w (run.end - p) run.count)) outcome new
+  chosen-come w p i b run now so_far begins alike hits some within is outcome new made =
+      let before = comes-before alike.at i (omega (arith, begins.begins, some)) in
+      lines-come run.count w p run.end i w.line 0 now so_far (is_alone k w is)
+      (inr (omega (arith, before))) (omega arith) begins alike.at within
+      (λ j a b line after early. ap (hits_if k) (alike.all j a b line after early) ∙ hits)
+      outcome new made

@@ -6,7 +6,7 @@ pub mod BeforeContextLemmas
 pub mod ChosenLineLemmas
 pub mod FinishLemmas
 pub mod FoundMatchLemmas
-pub mod HitLemmas
+pub mod LineRunLemmas
 pub mod LookAheadLemmas
 pub mod OriginLemmas
 pub mod QuestionLemmas

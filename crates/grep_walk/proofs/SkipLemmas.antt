@@ -1,4 +1,5 @@
--- A walk that skips lines which don't match.
+-- A walk that passes lines which aren't chosen: it skips those that don't match, or under inversion
+-- passes those that do.
 use Rattle.std.proofs.Common.{◌≡◌, ℕ, zero, suc, ◌+◌, ◌-◌, ◌<◌, ◌≤◌, true, false, ◌||◌}
 use Rattle.std.proofs.Common.{List, length, drop, refl, sym, ◌∙◌, ap}
 use Rattle.std.proofs.Common.{subst, arith, length-take, length-drop}
@@ -12,10 +13,11 @@ use Rattle.grep_definitions.specs.Plans.{hits_if}
 use Rattle.grep_definitions.specs.LineCalls.{matches_line}
 use Rattle.grep_report.specs.ErrorMakers.{ErrorMakers}
 use Rattle.grep_walk.specs.WalkFaults.{IsWalkFault}
+use Rattle.grep_walk.specs.declared.line_run.LineRun.{LineRun}
 use Rattle.grep_walk.specs.declared.look_ahead.Ahead.{Ahead}
 use Rattle.grep_walk.specs.declared.walk.Walk.{Walk}
-use Rattle.grep_walk.specs.LookAheads.{IsKnown, MayAskAhead, can_skip, known_at, passes_unchosen}
-use Rattle.grep_walk.specs.LookAheads.{skips}
+use Rattle.grep_walk.specs.LineRuns.{AreAlike, after_passed}
+use Rattle.grep_walk.specs.LookAheads.{IsKnown, MayAskAhead, known_at, passes_unchosen, skips}
 use Rattle.grep_walk.specs.Walks.{IsDecided, is_over, line_calls, after_line, skip_lines}
 use Rattle.grep_walk.specs.Windows.{HasWalked}
 use Rattle.grep_lines.proofs.LineRangeLemmas.{lines-between, comes-before, comes-from, end-start}
@@ -32,16 +34,6 @@ pub record IsPassing (k : Settings) (w : Walk) : Type 0 where
 
 pub is_passing : (k : Settings) (w : Walk) → passes_unchosen k w ≡ true → IsPassing k w
 is_passing k w passes = grind arith
-
--- what a walk that may skip lines has
-record IsSkipping (k : Settings) (w : Walk) : Type 0 where
-  plain : hits_if k false ≡ false
-  selects : k.passthru ≡ false
-  none_left : w.after_context_left ≡ 0
-  unstopped : stops_next k (nat_lt 0 w.match_count) ≡ false
-
-is_skipping : (k : Settings) (w : Walk) → can_skip k w ≡ true → IsSkipping k w
-is_skipping k w can = grind arith
 
 module _ (k : Settings) (meaning : Meaning) (window : List ℕ) where
   -- at first nothing is known
@@ -67,13 +59,10 @@ module _ {S E : Type 0} (step : Steps S E) (k : Settings) (meaning : Meaning)
   abbrev Walked : ℕ → Walk → Type 0
   Walked p w = HasWalked step k meaning gone window input first p w now
 
-  -- the lines from one position up to another don't match
-  abbrev Misses : ℕ → ℕ → Type 0
-  Misses p q = (i a b : ℕ) → IsLine t window i a b → p ≤ a → a < q
-      → matches_line k meaning (slice_range window a b) ≡ false
-
-  abbrev moved : Walk → ℕ → ℕ → Walk
-  moved w bytes count = record w { offset = w.offset + bytes; line = w.line + count }
+  -- the lines from one position up to another don't hit
+  abbrev AllMiss : ℕ → ℕ → Type 0
+  AllMiss p q = (i a b : ℕ) → IsLine t window i a b → p ≤ a → a < q
+      → hits_if k (matches_line k meaning (slice_range window a b)) ≡ false
 
   -- the line that a walk is at
   line-there : (w : Walk) (p : ℕ) → Walked p w → p < length window
@@ -91,10 +80,10 @@ module _ {S E : Type 0} (step : Steps S E) (k : Settings) (meaning : Meaning)
             (start-same from start) line,
       )
 
-  -- one line is skipped
-  walked-one : (w : Walk) (p q i : ℕ) → Walked p w → IsSkipping k w → IsLine t window i p q
-      → matches_line k meaning (slice_range window p q) ≡ false → Walked q (moved w (q - p) 1)
-  walked-one w p q i so_far skipping line missed = subst (Walked q) same
+  -- one line is passed
+  walked-one : (w : Walk) (p q i : ℕ) → Walked p w → IsPassing k w → IsLine t window i p q
+      → hits_if k (matches_line k meaning (slice_range window p q)) ≡ false → Walked q (after_passed w (q - p) 1)
+  walked-one w p q i so_far passing line missed = subst (Walked q) same
       ((line-comes so_far line.within there bare value all_true now silent).1 goes_on)
     where
       here : List ℕ
@@ -106,23 +95,23 @@ module _ {S E : Type 0} (step : Steps S E) (k : Settings) (meaning : Meaning)
 
       value : IsDecided k meaning w here false false
       value = record {
-        chosen_is = grind (arith, missed, skipping.plain);
-        trailing_is = λ some. grind (arith, missed, skipping.plain);
+        chosen_is = grind (arith, missed);
+        trailing_is = λ some. grind (arith, missed);
       }
 
       none_left : nat_lt 0 w.after_context_left ≡ false
-      none_left = grind (arith, nat_tests, skipping.none_left)
+      none_left = grind (arith, nat_tests, passing.none_left)
 
       silent : AreMade step k now (line_calls k input w here false false) all_true now
-      silent = rw (none_left, skipping.selects) (refl, refl)
+      silent = rw (none_left, passing.selects) (refl, refl)
 
       room : has_room k w.match_count ≡ true
-      room = grind (arith, so_far.reported.walk.opened.filled skipping.selects, skipping.none_left)
+      room = grind (arith, so_far.reported.walk.opened.filled passing.selects, passing.none_left)
 
       goes_on : is_over k (after_line k w here false) false ≡ false
-      goes_on = grind (arith, nat_tests, skipping.unstopped, room)
+      goes_on = grind (arith, nat_tests, passing.unstopped, room)
 
-      same : after_line k w here false ≡ moved w (q - p) 1
+      same : after_line k w here false ≡ after_passed w (q - p) 1
       same = grind (
         arith,
         length-take (q - p) (drop p window),
@@ -130,32 +119,31 @@ module _ {S E : Type 0} (step : Steps S E) (k : Settings) (meaning : Meaning)
         line.above,
         line.within,
         none_left,
-        skipping.none_left,
-        skipping.selects,
+        passing.none_left,
+        passing.selects,
       )
 
-  -- many lines are skipped
-  walked-lines : (n : ℕ) (w : Walk) (p q i : ℕ) → Walked p w → IsSkipping k w
+  -- many lines are passed
+  walked-lines : (n : ℕ) (w : Walk) (p q i : ℕ) → Walked p w → IsPassing k w
       → IsLineStart t window p i
-      → IsLineStart t window q (i + n) → Misses p q → Walked q (moved w (q - p) n)
-  walked-lines zero w p q i so_far skipping from to misses =
+      → IsLineStart t window q (i + n) → AllMiss p q → Walked q (after_passed w (q - p) n)
+  walked-lines zero w p q i so_far passing from to misses =
       let plain : i ≡ i + zero = omega arith in
       let same : p ≡ q = sym from.begins ∙ (ap (line_start t window) plain ∙ to.begins) in
-      subst (λ r. Walked r (moved w (q - p) zero)) same
+      subst (λ r. Walked r (after_passed w (q - p) zero)) same
       (subst (Walked p) (grind (arith, same)) so_far)
-  walked-lines (suc n) w p q i so_far skipping from to misses =
+  walked-lines (suc n) w p q i so_far passing from to misses =
       let end = line_start t window (i + 1) in
       let line = line-from from (record { listed = omega arith; begins = refl }) in
       let within : end ≤ q = starts-until to (i + 1) (omega arith) in
-      let one = walked-one w p end i so_far skipping line
+      let one = walked-one w p end i so_far passing line
       (misses i p end line (omega arith) (omega arith)) in
       let sum : (i + 1) + n ≡ i + suc n = omega arith in
-      let later = walked-lines n (moved w (end - p) 1) end q (i + 1) one
+      let later = walked-lines n (after_passed w (end - p) 1) end q (i + 1) one
       (record {
-        plain = skipping.plain;
-        selects = skipping.selects;
-        none_left = skipping.none_left;
-        unstopped = skipping.unstopped;
+        selects = passing.selects;
+        none_left = passing.none_left;
+        unstopped = passing.unstopped;
       }) (record { listed = omega arith; begins = refl })
       (subst (IsLineStart t window q) (sym sum) to)
       (λ j a b line low high. misses j a b line (omega arith) high) in
@@ -167,6 +155,7 @@ module _ {S E : Type 0} (step : Steps S E) (k : Settings) (meaning : Meaning)
       → Walked a.candidate (skip_lines k w (slice_range window p a.candidate))
   walked-past w p a so_far within known is =
       let less : p < a.candidate = grind (arith, nat_tests, is) in
+      let plain : hits_if k false ≡ false = grind (arith, is) in
       let i = w.line - length (lines t gone) in
       let from = so_far.inside.line.begins in
       let ordered = comes-from from known.index (omega arith) in
@@ -181,8 +170,19 @@ module _ {S E : Type 0} (step : Steps S E) (k : Settings) (meaning : Meaning)
         many,
         within,
       ))
-      (walked-lines (known.index - i) w p a.candidate i so_far (is_skipping k w (grind (arith, is)))
-      from (subst (IsLineStart t window a.candidate) (sym sum) known.at) known.miss)
+      (walked-lines (known.index - i) w p a.candidate i so_far (is_passing k w (grind (arith, is)))
+      from (subst (IsLineStart t window a.candidate) (sym sum) known.at)
+      (λ j x y line after early. ap (hits_if k) (known.miss j x y line after early) ∙ plain))
+
+  -- the lines that match are passed under inversion
+  pub walked-over : (w : Walk) (p : ℕ) (run : LineRun) → Walked p w → passes_unchosen k w ≡ true
+      → hits_if k true ≡ false
+      → AreAlike k meaning window p (w.line - length (lines t gone)) true run
+      → Walked run.end (after_passed w (run.end - p) run.count)
+  walked-over w p run so_far passes inverted alike = walked-lines run.count w p run.end
+      (w.line - length (lines t gone)) so_far (is_passing k w passes) so_far.inside.line.begins
+      alike.at
+      (λ j x y line after early. ap (hits_if k) (alike.all j x y line after early) ∙ inverted)
 
 -- the matcher's error for the lines from where a walk is on
 pub failed-ahead : {S E F : Type 0} {step : Steps S E} {k : Settings} {gone window input : List ℕ}

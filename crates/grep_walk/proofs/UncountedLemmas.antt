@@ -9,15 +9,17 @@ use Rattle.std.specs.Prelude.{IfSome, nat_lt, slice_range}
 use Rattle.grep_lines.specs.Positions.{IsLine, IsLineStart}
 use Rattle.grep_matcher.specs.Lines.{lines, strip, byte_of}
 use Rattle.grep_definitions.specs.Plans.{joined_from, Settings, Steps, Outcome, AreMade, all_true}
-use Rattle.grep_definitions.specs.Plans.{has_room}
+use Rattle.grep_definitions.specs.Plans.{IsLawful}
 use Rattle.grep_definitions.specs.LineCalls.{listed_calls, selected_calls, matches_line}
 use Rattle.grep_definitions.specs.LineCalls.{pending_calls}
 use Rattle.grep_report.specs.ErrorMakers.{ErrorMakers}
 use Rattle.grep_matcher.specs.Meanings.{Meaning, MatcherFacts}
 use Rattle.grep_walk.specs.WalkFaults.{IsWalkFault}
+use Rattle.grep_walk.specs.declared.line_run.LineRun.{LineRun}
 use Rattle.grep_walk.specs.declared.look_ahead.Ahead.{Ahead}
 use Rattle.grep_walk.specs.declared.walk.Walk.{Walk}
-use Rattle.grep_walk.specs.LookAheads.{IsBounded, IsExact, IsKnown, MayAskAhead, PassesLine}
+use Rattle.grep_walk.specs.LineRuns.{ArePassed, after_passed}
+use Rattle.grep_walk.specs.LookAheads.{IsBounded, IsExact, IsKnown, MayAskAhead}
 use Rattle.grep_walk.specs.LookAheads.{known_at, skips}
 use Rattle.grep_walk.specs.Walks.{AreCounts, IsDecided, can_hit, counts_lines, is_over, line_end}
 use Rattle.grep_walk.specs.Walks.{line_calls, after_line, with_counts, reports_line, skip_unmatched}
@@ -253,51 +255,23 @@ module _ {S E : Type 0} {step : Steps S E} {k : Settings} {meaning : Meaning}
             (line _ here.walked.inside.line.begins));
       }
 
-  -- a line that matches is passed under inversion
-  pub passed-on : {q : ℕ} → PassesLine k a w p q
-      → HasSearched step k meaning gone window input first q
-      (after_line k w (slice_range window p q) false) now
-  passed-on {q} passes = (line-comes bare call within decided all_true now silent).1 goes_on
-    where
-      here : List ℕ
-      here = slice_range window p q
-
-      within : q ≤ length window
-      within = omega (arith, passes.last, bounded.within)
-
-      exact : (i : ℕ) → IsLineStart (byte_of k.line_terminator) window p i
-          → IsLine (byte_of k.line_terminator) window i p q
-      exact i start = rw (passes.first, passes.last) (known.exact
-          (omega (arith, passes.first, passes.last, passes.some)) i (rw passes.first at start))
-
-      call : HasLine step k meaning gone window input first p q w now None
-      call = record { here = so_far; line = exact; agrees = tt }
-
-      matches : matches_line k meaning here ≡ true
-      matches = known.hit _ p q (exact _ so_far.walked.inside.line.begins)
-          (omega (arith, passes.first)) (omega (arith, passes.last, passes.some))
-
-      skipping : skips.IsPassing k w
-      skipping = skips.is_passing k w passes.unchosen
-
-      decided : IsDecided k meaning w here false false
-      decided = record {
-        chosen_is = grind (arith, matches, passes.inverted);
-        trailing_is = λ some. grind (arith, matches, passes.inverted);
-      }
-
-      none_left : nat_lt 0 w.after_context_left ≡ false
-      none_left = grind (arith, nat_tests, skipping.none_left)
-
-      silent : AreMade step k now (line_calls k input w here false false) all_true now
-      silent = rw (none_left, skipping.selects) (refl, refl)
-
-      room : has_room k w.match_count ≡ true
-      room = grind (
-        arith,
-        so_far.walked.reported.walk.opened.filled skipping.selects,
-        skipping.none_left,
-      )
-
-      goes_on : is_over k (after_line k w here false) false ≡ false
-      goes_on = grind (arith, nat_tests, skipping.unstopped, room)
+-- lines that match are passed under inversion
+pub passed-on : {S E F : Type 0} {step : Steps S E} {k : Settings} {facts : MatcherFacts F}
+    {gone window input : List ℕ} {first : Origin S} {p : ℕ} {w : Walk} {now : S} {a : Ahead}
+    {run : LineRun} → Bare k facts.meaning input
+    → HasSearched step k facts.meaning gone window input first p w now
+    → IsLawful facts k → IsKnown k facts.meaning window p a
+    → ArePassed k facts window p a w run
+    → HasSearched step k facts.meaning gone window input first run.end
+    (after_passed w (run.end - p) run.count) now
+passed-on {step = step} {k = k} {facts = facts} {gone = gone} {window = window} {input = input}
+    {first = first} {p = p} {w = w} {now = now} {run = run} bare so_far lawful known passed =
+    let counted = with_counts w so_far.line so_far.next_unreported in
+    record {
+      line = so_far.line + run.count;
+      next_unreported = so_far.next_unreported;
+      counts = λ is. (ap (λ n. n + run.count) (so_far.counts is).0, (so_far.counts is).1);
+      walked = skips.walked-over step k facts.meaning gone window input first now bare counted p run
+          so_far.walked passed.unchosen passed.inverted
+          (passed.run.alike lawful _ so_far.walked.inside.line.begins known);
+    }

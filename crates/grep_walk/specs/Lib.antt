@@ -1,5 +1,6 @@
 pub mod AcrossWalks
 pub mod ChosenLines
+pub mod LineRuns
 pub mod LookAheads
 pub mod Origins
 pub mod TouchedUnits

@@ -77,16 +77,6 @@ passes_unchosen settings w =
 abbrev pub can_skip : Settings → Walk → Bool
 can_skip settings w = not (hits_if settings false) && passes_unchosen settings w
 
--- a walk passes the line from `start` up to `end`: it is known to match, and isn't chosen under
--- inversion
-pub record PassesLine (settings : Settings) (ahead : Ahead) (w : Walk) (start end : ℕ)
-    : Type 0 where
-  pub first : start ≡ ahead.candidate
-  pub last : end ≡ ahead.match_end
-  pub some : start < end
-  pub inverted : hits_if settings true ≡ false
-  pub unchosen : passes_unchosen settings w ≡ true
-
 -- whether it skips the lines from `start` up to another position
 abbrev pub skips : Settings → Walk → ℕ → ℕ → Bool
 skips settings w start end = nat_lt start end && can_skip settings w

@@ -11,12 +11,14 @@ mod before_context;
 mod blocks;
 mod chosen_lines;
 mod config;
+mod line_run;
 mod look_ahead;
+mod passed_lines;
 mod units;
 mod walk;
 
 pub use blocks::Blocks;
-pub use chosen_lines::ChosenLines;
 pub use config::Config;
+pub use line_run::LineRun;
 pub use look_ahead::{Ahead, NOTHING_AHEAD, Questions};
 pub use walk::{Verdict, WALK_START, Walk};

@@ -9,7 +9,6 @@ ghost use Rattle.grep_matcher.specs.Meanings.{Meaning};
 ghost use Rattle.grep_definitions.specs.Plans.{IsLawful};
 ghost use Rattle.grep_walk.specs.LookAheads.{known_at, AreQuestions, IsBounded, IsExact, IsKnown};
 ghost use Rattle.grep_walk.specs.LookAheads.{can_skip, passes_unchosen, skips, MayAskAhead};
-ghost use Rattle.grep_walk.specs.LookAheads.{PassesLine};
 ghost use Rattle.grep_walk.specs.Walks.{skip_unmatched, IsOrdered};
 
 use crate::config::Config;
@@ -211,22 +210,6 @@ impl Config {
         ahead.candidate
     }
 
-    /// Where the line ends that begins at `start`, if the walk passes it: it is known to match, which
-    /// under inversion isn't reported, and the search goes on after it.
-    #[inline(always)]
-    pub fn passed_line(&self, start: usize, ahead: &Ahead, walk: &Walk) -> Option<usize>
-        ensures { IfSome result (PassesLine self.now ahead.now walk.now start) }
-    {
-        if self.hits_if(true) || start != ahead.candidate || start >= ahead.match_end {
-            return None;
-        }
-        if self.passes_unchosen(walk) {
-            Some(ahead.match_end)
-        } else {
-            None
-        }
-    }
-
     // Whether a walk may skip lines that don't match.
     fn can_skip(&self, walk: &Walk) -> bool
         ensures { result ≡ can_skip self.now walk.now }
@@ -235,7 +218,7 @@ impl Config {
     }
 
     // Whether a line that isn't chosen is neither reported nor ends the search.
-    fn passes_unchosen(&self, walk: &Walk) -> bool
+    pub(crate) fn passes_unchosen(&self, walk: &Walk) -> bool
         ensures { result ≡ passes_unchosen self.now walk.now }
     {
         !self.passthru && walk.after_context_left == 0 && !self.stops_next(walk)

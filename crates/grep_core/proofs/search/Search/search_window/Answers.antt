@@ -16,7 +16,7 @@ use Rattle.grep_walk.proofs.WindowSearchLemmas.{ordered-next}
 use Rattle.grep_walk.proofs.UncountedLemmas as uncounted
 use Rattle.grep_walk.specs.WalkFaults.{at_call}
 use Rattle.grep_walk.specs.LookAheads.{IsKnown}
-use Rattle.grep_walk.specs.declared.chosen_lines.ChosenLines.{ChosenLines}
+use Rattle.grep_walk.specs.declared.line_run.LineRun.{LineRun}
 use Rattle.grep_walk.specs.declared.walk.Walk.{Walk}
 use Rattle.grep_walk.specs.ChosenLines.{AreChosen, after_chosen, chosen_calls}
 use Rattle.grep_walk.proofs.ChosenLineLemmas.{LinesCome, chosen-come}
@@ -92,7 +92,7 @@ chosen : (g : Over) (c : After-sink_chosen_lines g)
     → HasSearched g.C.SinkCalls.step c.args.self.now.config
     (g.M.Matcher.facts c.args.matcher.now).meaning gone c.args.window.now input
     first c.args.start c.args.walk.now c.args.sink.now
-    → (lines : ChosenLines) → AreChosen c.args.self.now.config
+    → (lines : LineRun) → AreChosen c.args.self.now.config
     (g.M.Matcher.facts c.args.matcher.now) c.args.window.now c.skip_unmatched-start.result
     c.in-Ok.ahead c.skip_unmatched-start.new.walk lines
     → (outcome : Outcome g.row.C-Error.Denot) (new : g.row.C-Sink.Denot)
@@ -109,8 +109,9 @@ chosen g c lawful gone input first so_far lines are outcome new made =
     let at = here g c lawful gone input first so_far in
     let begins = at.0.walked.inside.line.begins in
     chosen-come _ _ _ gone _ input first c.args.self.now.bare
-    c.skip_unmatched-start.new.walk c.skip_unmatched-start.result _ lines c.lines.sink at.0 begins
-    (are.hits lawful _ begins at.1) are.some are.within are.alone outcome new made
+    c.skip_unmatched-start.new.walk c.skip_unmatched-start.result _ are.matches lines c.lines.sink
+    at.0 begins (are.run.alike lawful _ begins at.1) are.hits are.run.some are.run.within are.alone
+    outcome new made
 
 pub lines-init : goal.lines-init
 lines-init g c = record {
@@ -193,14 +194,14 @@ pub returns-then-is_over-clause-ends : goal.returns-then-is_over-clause-ends
 returns-then-is_over-clause-ends g c = λ lawful ends.
     let decided = c.in-Ok-judge.ensures.decided in
     let chosen = c.is_chosen-chosen.ensures in
-    let next = c.after_line-in-lines.ensures
+    let next = c.after_line.ensures
     ∙ ap (after_line c.args.self.now.config c.skip_unmatched-start.new.walk
     (slice_range c.args.window.now c.skip_unmatched-start.result c.in-Some-line_end.end)) chosen in
     let over_is = c.is_over.ensures in
     let goes : c.in_ok-sink_line.field-0 ≡ true = search rules in
     let reported = rw goes at c.in_ok-sink_line.ensures.reported in
     let over = ap (λ p. is_over c.args.self.now.config p (chooses c.in-Ok-judge.verdict)) (sym next)
-    ∙ (ap (is_over c.args.self.now.config c.after_line-in-lines.result) (sym chosen)
+    ∙ (ap (is_over c.args.self.now.config c.after_line.result) (sym chosen)
     ∙ rw over_is at c.if-is_over.true) in
     rw next (
       all_true,
@@ -217,7 +218,7 @@ lines-preserved g c =
     let learns = c.in-Ok.ensures.known in
     let decided = c.in-Ok-judge.ensures.decided in
     let chosen = c.is_chosen-chosen.ensures in
-    let next = c.after_line-in-lines.ensures
+    let next = c.after_line.ensures
     ∙ ap (after_line c.args.self.now.config c.skip_unmatched-start.new.walk
     (slice_range c.args.window.now c.skip_unmatched-start.result c.in-Some-line_end.end)) chosen in
     let over_is = c.is_over.ensures in
@@ -225,7 +226,7 @@ lines-preserved g c =
     let reported = rw goes at c.in_ok-sink_line.ensures.reported in
     let here = rw goes at c.in_ok-sink_line.ensures.called in
     let on = ap (λ p. is_over c.args.self.now.config p (chooses c.in-Ok-judge.verdict)) (sym next)
-    ∙ (ap (is_over c.args.self.now.config c.after_line-in-lines.result) (sym chosen)
+    ∙ (ap (is_over c.args.self.now.config c.after_line.result) (sym chosen)
     ∙ rw over_is at c.if-is_over.false) in
     let size = length-take (c.in-Some-line_end.end - c.skip_unmatched-start.result)
     (drop c.skip_unmatched-start.result c.args.window.now) in
@@ -332,13 +333,13 @@ lines-preserved-in-Some g c =
     (drop c.skip_unmatched-start.result c.args.window.now) in
     let at = (goal.at.lines-preserved-in-Some g c).After-sink_chosen_lines in
     record {
-      within = some.0.within;
+      within = some.0.run.within;
       same = omega (
         arith,
         size,
         length-drop c.skip_unmatched-start.result c.args.window.now,
-        some.0.some,
-        some.0.within,
+        some.0.run.some,
+        some.0.run.within,
         c.skip_unmatched-start.ensures.moved,
         c.lines.invariant.same,
         ap (λ (w : Walk). w.offset) c.after_chosen.ensures.walk,
@@ -347,14 +348,14 @@ lines-preserved-in-Some g c =
         arith,
         c.lines.invariant.ahead,
         c.skip_unmatched-start.ensures.low,
-        some.0.some,
+        some.0.run.some,
       );
       ordered = c.after_chosen.ensures.ordered;
-      bounded = some.0.bounded;
+      bounded = some.0.run.bounded;
       further = are-allowed _ _ _ c.requires.questions;
       known = λ lawful gone input first so_far.
           let now = here g at lawful gone input first so_far in
-          (some.0.hits lawful _ now.0.walked.inside.line.begins now.1).known;
+          (some.0.run.alike lawful _ now.0.walked.inside.line.begins now.1).known;
       searched = λ lawful gone input first so_far. subst (λ w. HasSearched g.C.SinkCalls.step
           c.args.self.now.config (g.M.Matcher.facts c.args.matcher.now).meaning gone
           c.args.window.now input first c.in-Some.lines.end w c.sink_chosen_lines.new.sink)
@@ -365,44 +366,39 @@ lines-preserved-in-Some g c =
       may_call = c.in_ok-lines.ensures.may_call;
     }
 
-pub lines-preserved-in-Some-passed_line : goal.lines-preserved-in-Some-passed_line
-lines-preserved-in-Some-passed_line g c =
-    let passes = c.in-Some-passed_line.ensures in
-    let at = (goal.at.lines-preserved-in-Some-passed_line g c).After-sink_chosen_lines in
-    let bounded = c.in-Ok.ensures.bounded in
-    let within : c.in-Some-passed_line.end ≤ length c.args.window.now =
-    omega (arith, passes.last, bounded.within) in
+pub lines-preserved-in-Some-passed_lines : goal.lines-preserved-in-Some-passed_lines
+lines-preserved-in-Some-passed_lines g c =
+    let passed = c.in-Some-passed_lines.ensures in
+    let at = (goal.at.lines-preserved-in-Some-passed_lines g c).After-sink_chosen_lines in
     let untaken : c.sink_chosen_lines.new.sink ≡ c.lines.sink = search rules in
-    let size = length-take (c.in-Some-passed_line.end - c.skip_unmatched-start.result)
-    (drop c.skip_unmatched-start.result c.args.window.now) in
-    rw (c.after_line.ensures, untaken) (record {
-      within = within;
+    rw untaken (record {
+      within = passed.run.within;
       same = omega (
         arith,
-        size,
-        length-drop c.skip_unmatched-start.result c.args.window.now,
-        within,
-        passes.some,
+        passed.run.some,
+        passed.run.within,
         c.skip_unmatched-start.ensures.moved,
         c.lines.invariant.same,
+        ap (λ (w : Walk). w.offset) c.after_passed.ensures.walk,
       );
       ahead = omega (
         arith,
         c.lines.invariant.ahead,
         c.skip_unmatched-start.ensures.low,
-        passes.some,
+        passed.run.some,
       );
-      ordered = ordered-next c.args.self.now.config _ c.skip_unmatched-start.result
-          c.in-Some-passed_line.end c.args.window.now false passes.some within
-          c.skip_unmatched-start.ensures.ordered;
-      bounded = bounded;
+      ordered = c.after_passed.ensures.ordered;
+      bounded = passed.run.bounded;
       further = c.lines.invariant.further;
       known = λ lawful gone input first so_far.
           let now = here g at lawful gone input first so_far in
-          skips.known-later _ _ _ _ _ _ (omega (arith, passes.some)) now.1;
+          (passed.run.alike lawful _ now.0.walked.inside.line.begins now.1).known;
       searched = λ lawful gone input first so_far.
           let now = here g at lawful gone input first so_far in
-          uncounted.passed-on c.args.self.now.bare now.0 bounded now.1 passes;
+          subst (λ w. HasSearched g.C.SinkCalls.step c.args.self.now.config
+          (g.M.Matcher.facts c.args.matcher.now).meaning gone c.args.window.now input first
+          c.in-Some-passed_lines.lines.end w c.lines.sink) (sym c.after_passed.ensures.walk)
+          (uncounted.passed-on c.args.self.now.bare now.0 lawful now.1 passed);
       called = c.lines.invariant.called;
       may_call = c.lines.invariant.may_call;
     })

@@ -1,7 +1,7 @@
 use Rattle.std.proofs.Common.{◌≡◌, rules, None, Option, Some, arith, false, inl, inr, refl, true}
 use Rattle.std.specs.Prelude.{IfSome}
 use Rattle.grep_walk.specs.LookAheads.{known_at}
-use Rattle.grep_walk.proofs.HitLemmas.{first-hits, is_matched}
+use Rattle.grep_walk.proofs.LineRunLemmas.{first-matches, is_matched}
 use Rattle.grep_walk.proofs.config.Config.chosen_lines.Goals as goal
 
 -- what is so of each
@@ -15,27 +15,34 @@ pub returns-then-not-matches : goal.returns-then-not-matches
 returns-then-not-matches g c =
     let found = c.lines_up_to_candidate.ensures in
     each c.lines_up_to_candidate.result found.some found.within found.few found.counted
-    found.bounded found.hits (λ lines some within few counted bounded hits. record {
-      some = some;
-      within = within;
+    found.bounded found.alike (λ lines some within few counted bounded alike. record {
+      matches = false;
+      hits = search rules;
+      run = record {
+        some = some;
+        within = within;
+        counted = counted;
+        bounded = bounded;
+        alike = λ lawful. alike (g.M.Matcher.facts c.args.matcher.now).meaning;
+      };
       few = inl few;
-      counted = counted;
-      bounded = bounded;
       alone = search rules;
-      hits = λ lawful i here known. hits (g.M.Matcher.facts c.args.matcher.now).meaning i here known;
     })
 
 pub returns-in-OneLine : goal.returns-in-OneLine
 returns-in-OneLine g c =
     let matches : known_at c.args.ahead.now c.args.start ≡ Some true = search rules in
-    let plain : c.args.self.now.invert_match ≡ false = search rules in
     let first = is_matched c.args.ahead.now c.args.start matches in record {
-      some = first.high;
-      within = c.requires.bounded.within;
+      matches = true;
+      hits = search rules;
+      run = record {
+        some = first.high;
+        within = c.requires.bounded.within;
+        counted = omega (arith, first.high);
+        bounded = c.requires.bounded;
+        alike = λ lawful i here known. first-matches c.args.self.now _ _ c.args.start i
+            c.args.ahead.now matches known here;
+      };
       few = inr refl;
-      counted = omega (arith, first.high);
-      bounded = c.requires.bounded;
       alone = search rules;
-      hits = λ lawful i here known. first-hits c.args.self.now _ _ plain c.args.start i
-          c.args.ahead.now matches known here;
     }

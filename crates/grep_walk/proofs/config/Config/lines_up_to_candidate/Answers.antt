@@ -3,7 +3,7 @@ use Rattle.std.specs.Prelude.{slice_range}
 use Rattle.grep_definitions.specs.Plans.{Settings}
 use Rattle.grep_lines.proofs.LineStepLemmas.{lines-at-most}
 use Rattle.grep_matcher.specs.Lines.{byte_of, lines}
-use Rattle.grep_walk.proofs.HitLemmas.{unmatched-hit}
+use Rattle.grep_walk.proofs.LineRunLemmas.{unmatched-alike}
 use Rattle.grep_walk.proofs.config.Config.lines_up_to_candidate.Goals as goal
 
 pub returns-clause-counted : goal.returns-clause-counted
@@ -16,14 +16,14 @@ returns-clause-counted c =
       length-take (c.last_start_in_room-end.result - c.args.start) (drop c.args.start c.args.window.now),
     )
 
-pub returns-clause-hits : goal.returns-clause-hits
-returns-clause-hits c = λ meaning i here known.
+pub returns-clause-alike : goal.returns-clause-alike
+returns-clause-alike c = λ meaning i here known.
     let last = c.last_start_in_room-end.ensures in
     let there = last.line i known.index here known.at in
     let terminator = c.as_byte.ensures
     ∙ ap (λ (s : Settings). byte_of s.line_terminator) c.self.view_is in
-    unmatched-hit c.args.self.now meaning c.args.window.now c.args.start i there.0 c.args.ahead.now _
-    c.requires.inverted known refl (omega (arith, last.low, c.if-end-start.false)) last.high
+    unmatched-alike c.args.self.now meaning c.args.window.now c.args.start i there.0 c.args.ahead.now _
+    known refl (omega (arith, last.low, c.if-end-start.false)) last.high
     (omega (arith, last.high, c.requires.bounded.ordered, c.requires.bounded.within)) here there.1
     (c.line_count_in.ensures ∙ ap (λ t. length (lines t (slice_range c.args.window.now c.args.start
     c.last_start_in_room-end.result))) terminator)
