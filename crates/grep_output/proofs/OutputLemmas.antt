@@ -9,7 +9,7 @@ use Rattle.std.specs.declared.io.Error.{Error}
 use Rattle.std.specs.declared.io.ErrorKind.TheVariants.{Interrupted}
 use Rattle.std.proofs.lemmas.List.{append-nil, length-append, length-take-le, take-append-drop}
 use Rattle.std.proofs.lemmas.List.Elements.{All-append, All-cons, All-nil}
-use Rattle.grep_output.specs.Outputs.{OutputCall, writes, write_call, taken_by, taken_by_all, IsInterrupted, GoesOn}
+use Rattle.grep_output.specs.Outputs.{OutputCall, writes, taken_by, taken_by_all, IsInterrupted, GoesOn}
 use Rattle.grep_output.specs.Outputs.{EndsIn, AreCalled}
 use Rattle.grep_output.specs.Outputs.{WritesAll, Writes, Repeats}
 
@@ -119,13 +119,13 @@ module _ {W : Type 0} (write_step : W → OutputCall → W → Type 0) where
 
   -- a write took some of them
   pub writing-more : (old mid new : W) (buffer left : List ℕ) (count : ℕ) → IsWriting old mid buffer left
-      → count ≢ 0 → count ≤ length left → Repeats write_step mid (writes (Ok (take count left))) new
+      → count ≢ 0 → count ≤ length left → Repeats write_step mid (writes left (Ok count)) new
       → IsWriting old new buffer (drop count left)
   writing-more old mid new buffer left count writing some within repeats = record {
     bytes = writing.bytes ++ take count left;
     split = writing.split ∙ (ap (λ xs. writing.bytes ++ xs) (sym (take-append-drop count left))
         ∙ sym (append_assoc writing.bytes (take count left) (drop count left)));
-    written = all-next old repeats.mid new writing.bytes (writes (Ok (take count left)))
+    written = all-next old repeats.mid new writing.bytes (writes left (Ok count))
         (tried old mid repeats.mid writing.bytes writing.written repeats.tries)
         (subst (λ n. 0 < n) (sym (length-take-le count left within)) (omega arith)) repeats.last;
   }
@@ -158,14 +158,14 @@ module _ {W : Type 0} (write_step : W → OutputCall → W → Type 0) where
 
   -- a write was interrupted, and is made again
   pub trying-more : (count : ℕ) (old now new : W) (written : Result ℕ Error) (buffer : List ℕ) (call : OutputCall)
-      → IsErrAnd written (λ e. error_kind e ≡ Interrupted) → IsTrying count old (write_call written buffer) now
+      → IsErrAnd written (λ e. error_kind e ≡ Interrupted) → IsTrying count old (writes buffer written) now
       → write_step now call new → IsTrying (count + 1) old call new
   trying-more count old now new (Ok n) buffer call never trying step = absurd never
   trying-more count old now new (Err e) buffer call interrupted trying step = record {
     mid = now;
-    tries = all-next old trying.mid now [] (writes (Err e)) trying.tries interrupted trying.last;
+    tries = all-next old trying.mid now [] (writes buffer (Err e)) trying.tries interrupted trying.last;
     last = step;
-    counted = subst (λ n. count + 1 ≤ n) (sym (length-append trying.tries.calls (writes (Err e) ∷ [])))
+    counted = subst (λ n. count + 1 ≤ n) (sym (length-append trying.tries.calls (writes buffer (Err e) ∷ [])))
         (let counted = trying.counted in omega arith);
   }
 

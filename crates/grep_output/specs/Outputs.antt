@@ -6,20 +6,15 @@ use Rattle.std.specs.List.{All}
 use Rattle.std.specs.declared.io.Error.{Error}
 use Rattle.std.specs.declared.io.ErrorKind.TheVariants.{Interrupted, WriteZero}
 
--- a call, with the bytes that it took or the error
+-- a call: a write of some bytes, which returned how many of the first it took, or a flush
 pub data OutputCall : Type 0 where
-  writes : Result (List ℕ) Error → OutputCall
+  writes : List ℕ → Result ℕ Error → OutputCall
   flushes : Result (Unit {0}) Error → OutputCall
-
--- the call that returned how many bytes it took of the front of a buffer
-abbrev pub write_call : Result ℕ Error → List ℕ → OutputCall
-write_call (Ok n) buffer = writes (Ok (take n buffer))
-write_call (Err e) buffer = writes (Err e)
 
 -- the bytes that a call took
 abbrev pub taken_by : OutputCall → List ℕ
-taken_by (writes (Ok bytes)) = bytes
-taken_by (writes (Err e)) = []
+taken_by (writes bytes (Ok n)) = take n bytes
+taken_by (writes bytes (Err e)) = []
 taken_by (flushes result) = []
 
 -- those that some calls took, in order
@@ -29,20 +24,21 @@ taken_by_all (call ∷ later) = taken_by call ++ taken_by_all later
 
 -- the call is a write that was interrupted
 abbrev pub IsInterrupted : OutputCall → Type 0
-IsInterrupted (writes (Ok bytes)) = ⊥
-IsInterrupted (writes (Err e)) = error_kind e ≡ Interrupted
+IsInterrupted (writes bytes (Ok n)) = ⊥
+IsInterrupted (writes bytes (Err e)) = error_kind e ≡ Interrupted
 IsInterrupted (flushes result) = ⊥
 
 -- another write may follow: the call is a write that took some bytes, or was interrupted
 abbrev pub GoesOn : OutputCall → Type 0
-GoesOn (writes (Ok bytes)) = 0 < length bytes
-GoesOn (writes (Err e)) = IsInterrupted (writes (Err e))
+GoesOn (writes bytes (Ok n)) = 0 < length (take n bytes)
+GoesOn (writes bytes (Err e)) = IsInterrupted (writes bytes (Err e))
 GoesOn (flushes result) = ⊥
 
--- the call is a write that ends in this error: it returned the error, or took no bytes
+-- the call is a write that ends in this error: it returned the error, or took none of some bytes
 abbrev pub EndsIn : Error → OutputCall → Type 0
-EndsIn error (writes (Ok bytes)) = (bytes ≡ []) × (error_kind error ≡ WriteZero)
-EndsIn error (writes (Err e)) = e ≡ error
+EndsIn error (writes bytes (Ok n)) =
+    (0 < length bytes) × (n ≡ 0) × (error_kind error ≡ WriteZero)
+EndsIn error (writes bytes (Err e)) = e ≡ error
 EndsIn error (flushes result) = ⊥
 
 -- some first bytes of a text

@@ -5,15 +5,15 @@ ghost use Rattle.std.specs.Io.KnownBytes.{Appends};
 ghost use Rattle.std.specs.IoError.{error_kind};
 ghost use Rattle.std.specs.Result.{IsErrAnd};
 ghost use Rattle.std.specs.declared.io.ErrorKind.TheVariants.{Interrupted};
-ghost use Rattle.grep_output.specs.Outputs.{OutputCall, flushes, taken_by, write_call};
+ghost use Rattle.grep_output.specs.Outputs.{OutputCall, flushes, taken_by, writes};
 ghost use Rattle.grep_output.specs.Outputs.{Repeats, Writes};
 
 use std::io;
 
 /// An output of bytes.
 ///
-/// It is given by its steps: the state before a call, the call with what it took and returned, and
-/// the state after. It may also say which bytes it holds. A write then adds what it took to those,
+/// It is given by its steps: the state before a call, the call with what it was given and returned,
+/// and the state after. It may also say which bytes it holds. A write then adds what it took to those,
 /// and no other call changes them.
 pub trait Output {
     /// The bytes that it holds, if the output says which.
@@ -26,7 +26,7 @@ pub trait Output {
     /// a call that fails takes none.
     fn write(&mut self, buffer: &[u8]) -> io::Result<usize>
         ensures bound { WritesAtMost result buffer.now }
-        ensures step { step self.old (write_call result buffer.now) self.new };
+        ensures step { step self.old (writes buffer.now result) self.new };
 
     /// Hands on what was taken. An error is the output's own.
     fn flush(&mut self) -> io::Result<()>
@@ -78,7 +78,7 @@ pub fn write_all<W: Output>(writer: &mut W, buffer: &[u8]) -> io::Result<()>
 // again.
 fn write_some<W: Output>(writer: &mut W, buffer: &[u8]) -> io::Result<usize>
     ensures bound { WritesAtMost result buffer.now }
-    ensures calls { Repeats W.step writer.old (write_call result buffer.now) writer.new }
+    ensures calls { Repeats W.step writer.old (writes buffer.now result) writer.new }
 {
     let mut written = writer.write(buffer);
     for _ in 0..u64::MAX {

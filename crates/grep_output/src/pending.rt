@@ -44,9 +44,10 @@ impl Model for Pending {
 }
 
 impl Pending {
-    /// No text. They are kept in memory from `alloc`.
+    /// No text yet. Texts are kept in memory from `alloc`.
     pub fn new(alloc: Global) -> Pending
-        ensures { pending_bytes result ≡ [] }
+        ensures empty { pending_bytes result ≡ [] }
+        ensures has_failed { result.has_failed ≡ false }
     {
         Pending {
             bytes: Vec::new(alloc),
@@ -98,10 +99,9 @@ impl Pending {
         self.has_failed = has_failed;
     }
 
-    /// Has the text that is being made fail, as where memory is out for what it is made of.
+    /// Makes the text that is being made a failed one: memory is out for what it is made of.
     pub fn fail(&mut self)
-        ensures before { self.new.before ≡ self.old.before }
-        ensures has_failed { self.new.has_failed ≡ true }
+        ensures { self.new ≡ record self.old { has_failed = true } }
     {
         self.has_failed = true;
     }
@@ -212,6 +212,7 @@ impl Pending {
     pub fn write_to<W: Output>(&mut self, writer: &mut W) -> io::Result<()>
         ensures written { Writes W.step writer.old (pending_bytes self.old) result writer.new }
         ensures emptied { pending_bytes self.new ≡ [] }
+        ensures has_failed { self.new.has_failed ≡ self.old.has_failed }
     {
         let written = write_all(writer, &self.bytes[..self.len]);
         self.len = 0;
@@ -237,7 +238,9 @@ impl Pending {
 
     /// Takes all bytes out, for what appends to a vector. `put_back` takes them back.
     pub fn take_out(&mut self) -> Vec<u8>
-        ensures { result.items ≡ pending_bytes self.old }
+        ensures taken { result.items ≡ pending_bytes self.old }
+        ensures emptied { pending_bytes self.new ≡ [] }
+        ensures has_failed { self.new.has_failed ≡ self.old.has_failed }
     {
         self.bytes.truncate(self.len);
         self.len = 0;

@@ -149,7 +149,7 @@ module _ {F M W E : Type 0} (rules : Rules F) (output : E → Option (List ℕ))
       printer = refl;
       writer = refl;
       format = refl;
-      room = refl;
+      buffer_size = refl;
       matcher = refl;
       path = refl;
     })

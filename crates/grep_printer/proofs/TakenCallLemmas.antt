@@ -65,9 +65,10 @@ module _ {F M W E : Type 0} (rules : Rules F) (output : E → Option (List ℕ))
       (without_parts (match_of number index offset line)))
       (rules.next old.format (scene_of old settings)
       (without_parts (match_of number index offset line))) new
+      → 0 < old.printer.now.buffer_size
       → Prints rules output facts first_at write_step Anything old settings
       (match_of number index offset line).call true new
-  one-kept old new number index offset line goes none kept = record {
+  one-kept old new number index offset line goes none kept buffered = record {
     same = kept.same;
     printed = without_parts (match_of number index offset line);
     is_call = refl;
@@ -82,6 +83,7 @@ module _ {F M W E : Type 0} (rules : Rules F) (output : E → Option (List ℕ))
     format = kept.format;
     has_written = kept.has_written;
     has_failed = kept.has_failed;
+    at_once = λ unbuffered. absurd (omega arith);
   }
 
   -- calls of which the texts are kept
@@ -89,10 +91,10 @@ module _ {F M W E : Type 0} (rules : Rules F) (output : E → Option (List ℕ))
       (line : List ℕ) (later : List (List ℕ)) (text : List ℕ) (format : F)
       → AreTexts rules (scene_of old settings) old.format
       (calls_of_lines number index offset (line ∷ later)) text format
-      → HasKept old text format new
+      → HasKept old text format new → 0 < old.printer.now.buffer_size
       → AreMade (PrintsCall rules output facts first_at write_step) settings old
       (calls_of_lines number index offset (line ∷ later)) all_true new
-  lines-kept old new number index offset line [] text format texts kept = inl (
+  lines-kept old new number index offset line [] text format texts kept buffered = inl (
     new,
     one-kept old new number index offset line texts.2 texts.3 (record {
       same = kept.same;
@@ -101,7 +103,7 @@ module _ {F M W E : Type 0} (rules : Rules F) (output : E → Option (List ℕ))
       format = kept.format ∙ texts.4.1;
       has_written = kept.has_written ∙ ap (λ t. old.printer.now.has_written || is_text t) whole;
       has_failed = kept.has_failed;
-    }),
+    }) buffered,
     (refl, refl),
   )
     where
@@ -111,23 +113,23 @@ module _ {F M W E : Type 0} (rules : Rules F) (output : E → Option (List ℕ))
           (without_parts (match_of number index offset line)) ++ t) texts.4.0
           ∙ append-nil (rules.text old.format (scene_of old settings)
           (without_parts (match_of number index offset line))))
-  lines-kept old new number index offset line (next ∷ later) text format texts kept = inl (
+  lines-kept old new number index offset line (next ∷ later) text format texts kept buffered = inl (
     mid,
     one-kept old mid number index offset line texts.2 texts.3 (record {
-      same = record { printer = refl; writer = refl; format = refl; room = refl; matcher = refl; path = refl };
+      same = record { printer = refl; writer = refl; format = refl; buffer_size = refl; matcher = refl; path = refl };
       writer = refl;
       pending = append-nil (pending_bytes old.printer.now.pending ++ first);
       format = refl;
       has_written = refl;
       has_failed = refl;
-    }),
+    }) buffered,
     lines-kept mid new number (suc index) (offset + length line) next later texts.0 format texts.4
         (record {
           same = record {
             printer = kept.same.printer;
             writer = kept.same.writer;
             format = kept.same.format;
-            room = kept.same.room;
+            buffer_size = kept.same.buffer_size;
             matcher = kept.same.matcher;
             path = kept.same.path;
           };
@@ -142,7 +144,7 @@ module _ {F M W E : Type 0} (rules : Rules F) (output : E → Option (List ℕ))
               ∙ (ap (λ b. old.printer.now.has_written || b) (is_text-both first texts.0)
               ∙ sym (or_assoc old.printer.now.has_written (is_text first) (is_text texts.0))));
           has_failed = kept.has_failed;
-        }),
+        }) buffered,
   )
     where
       first : List ℕ
@@ -168,13 +170,13 @@ module _ {F M W E : Type 0} (rules : Rules F) (output : E → Option (List ℕ))
   pub match-kept : (old new : PrinterSink F M W) (m : MatchReport) (text : List ℕ) (format : F)
       → 0 < length (match_bytes m)
       → AreTexts rules (scene_of old settings) old.format (calls_of_match m) text format
-      → HasKept old text format new
+      → HasKept old text format new → 0 < old.printer.now.buffer_size
       → AreMade (PrintsCall rules output facts first_at write_step) settings old
       (calls_of_match m) all_true new
-  match-kept old new m text format some texts kept =
+  match-kept old new m text format some texts kept buffered =
       let found = some-lines m.terminator (match_bytes m) some in
       subst (λ ls. AreMade (PrintsCall rules output facts first_at write_step) settings old
       (calls_of_lines m.line_number 0 m.offset ls) all_true new) (sym found.2)
       (lines-kept old new m.line_number 0 m.offset found.0 found.1 text format
       (subst (λ ls. AreTexts rules (scene_of old settings) old.format
-      (calls_of_lines m.line_number 0 m.offset ls) text format) found.2 texts) kept)
+      (calls_of_lines m.line_number 0 m.offset ls) text format) found.2 texts) kept buffered)

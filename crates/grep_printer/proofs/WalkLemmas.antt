@@ -26,7 +26,7 @@ same-more old mid new first later = record {
   printer = later.printer ∙ first.printer;
   writer = later.writer ∙ first.writer;
   format = later.format ∙ first.format;
-  room = later.room ∙ first.room;
+  buffer_size = later.buffer_size ∙ first.buffer_size;
   matcher = later.matcher ∙ first.matcher;
   path = later.path ∙ first.path;
 }
@@ -71,6 +71,8 @@ module _ {F M W E : Type 0} (rules : Rules F) (output : E → Option (List ℕ))
     format : now.format ≡ made.format
     has_written : now.printer.now.has_written ≡ (start.printer.now.has_written || is_text made.text)
     has_failed : now.printer.now.has_failed ≡ start.printer.now.has_failed
+    at_once : start.printer.now.buffer_size ≡ 0 → pending_bytes start.printer.now.pending ≡ []
+        → pending_bytes now.printer.now.pending ≡ []
 
   -- the texts of its calls depend on the same
   scene-same : (made : Printed F) (now : PrinterSink F M W) → HasPrinted made now → scene_of now settings ≡ scene
@@ -124,17 +126,19 @@ module _ {F M W E : Type 0} (rules : Rules F) (output : E → Option (List ℕ))
               ∙ (ap (λ t. (start.printer.now.has_written || is_text made.text) || is_text t) here
               ∙ text-more start.printer.now.has_written made.text (rules.text made.format scene printed)));
           has_failed = step.has_failed ∙ has.has_failed;
+          at_once = λ none empty. step.at_once (has.same.buffer_size ∙ none);
         };
       }
 
   -- nothing is printed yet
   printed-none : HasPrinted (record { format = start.format; text = [] }) start
   printed-none = record {
-    same = record { printer = refl; writer = refl; format = refl; room = refl; matcher = refl; path = refl };
+    same = record { printer = refl; writer = refl; format = refl; buffer_size = refl; matcher = refl; path = refl };
     put = Puts-none write_step start.writer.now (pending_bytes start.printer.now.pending);
     format = refl;
     has_written = text-none start.printer.now.has_written;
     has_failed = refl;
+    at_once = λ none empty. empty;
   }
 
   -- calls that all returned true
@@ -375,6 +379,7 @@ module _ {F M W E : Type 0} (rules : Rules F) (output : E → Option (List ℕ))
     format = has.format;
     has_written = has.has_written;
     has_failed = has.has_failed;
+    at_once = has.at_once;
   }
 
   -- calls that all returned true

@@ -12,15 +12,18 @@ use Rattle.grep_printer.specs.Formats.{is_text}
 use Rattle.grep_printer.specs.declared.printer.Printer.{Printer}
 
 module _ {F W : Type 0} (write_step : W → OutputCall → W → Type 0) where
-  -- a text comes after what is pending, and nothing else
+  -- a text comes after what is pending, and nothing else. With a buffer of no bytes nothing is
+  -- pending after it if nothing was before
   pub record PutsText (writer : W) (old : Printer F) (text : List ℕ) (writer' : W)
       (new : Printer F) : Type 0 where
     pub put : PutsAll write_step writer (pending_bytes old.pending) text writer'
         (pending_bytes new.pending)
     pub format : new.format ≡ old.format
-    pub room : new.room ≡ old.room
+    pub buffer_size : new.buffer_size ≡ old.buffer_size
     pub has_written : new.has_written ≡ (old.has_written || is_text text)
     pub has_failed : new.has_failed ≡ old.has_failed
+    pub at_once : old.buffer_size ≡ 0 → pending_bytes old.pending ≡ []
+        → pending_bytes new.pending ≡ []
 
   -- the writer failed after some first bytes of what was pending and of a text
   pub record FailsAtText (writer : W) (old : Printer F) (text : List ℕ) (e : SearchError Global)
@@ -43,7 +46,7 @@ module _ {F W : Type 0} (write_step : W → OutputCall → W → Type 0) where
   pub record FailsToPutText (writer : W) (old : Printer F) (text : List ℕ) (e : SearchError Global)
       (writer' : W) (new : Printer F) : Type 0 where
     pub format : new.format ≡ old.format
-    pub room : new.room ≡ old.room
+    pub buffer_size : new.buffer_size ≡ old.buffer_size
     pub has_written : new.has_written ≡ old.has_written
     pub cause : FailsAtText writer old text e writer' new
         ⊎ LacksMemoryForText writer old e writer' new

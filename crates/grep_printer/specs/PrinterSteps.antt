@@ -22,7 +22,7 @@ pub record IsSameSink {F M W : Type 0} (old new : PrinterSink F M W) : Type 0 wh
   pub printer : new.printer.ghost_name ≡ old.printer.ghost_name
   pub writer : new.writer.ghost_name ≡ old.writer.ghost_name
   pub format : new.printer.now.format ≡ old.printer.now.format
-  pub room : new.printer.now.room ≡ old.printer.now.room
+  pub buffer_size : new.printer.now.buffer_size ≡ old.printer.now.buffer_size
   pub matcher : new.matcher ≡ old.matcher
   pub path : new.path ≡ old.path
 
@@ -63,7 +63,8 @@ module _ {F M W : Type 0} (rules : Rules F) where
 module _ {F M W E : Type 0} (rules : Rules F) (output : E → Option (List ℕ))
     (facts : M → MatcherFacts E) (first_at : M → List ℕ → ℕ → Option (ℕ × ℕ))
     (write_step : W → OutputCall → W → Type 0) (Shown : Surroundings → Type 0) where
-  -- a call succeeds: its text comes after what is pending, and nothing else is written
+  -- a call succeeds: its text comes after what is pending, and nothing else is written. With a
+  -- buffer of no bytes nothing is pending after it
   pub record Prints (old : PrinterSink F M W) (settings : Settings) (call : Call) (goes : Bool)
       (new : PrinterSink F M W) : Type 0 where
     pub same : IsSameSink old new
@@ -77,6 +78,7 @@ module _ {F M W E : Type 0} (rules : Rules F) (output : E → Option (List ℕ))
     pub has_written : new.printer.now.has_written
         ≡ (old.printer.now.has_written || is_text (text_of rules old settings printed))
     pub has_failed : new.printer.now.has_failed ≡ old.printer.now.has_failed
+    pub at_once : old.printer.now.buffer_size ≡ 0 → pending_bytes new.printer.now.pending ≡ []
 
   -- the writer failed after some first bytes of what was pending and of the text of a call
   pub record FailsToWriteCall (old : PrinterSink F M W) (settings : Settings) (call : Call)
@@ -127,7 +129,8 @@ module _ {F M W E : Type 0} (rules : Rules F) (output : E → Option (List ℕ))
       → PrinterSink F M W → Type 0
   PrintsCall = PrintsShown rules output facts first_at write_step Anything
 
-  -- the texts of some calls come after what is pending
+  -- the texts of some calls come after what is pending. With a buffer of no bytes nothing is pending
+  -- after them if nothing was before
   pub record PrintsAll (old : PrinterSink F M W) (settings : Settings) (calls : List PrintedCall)
       (new : PrinterSink F M W) : Type 0 where
     pub same : IsSameSink old new
@@ -140,6 +143,8 @@ module _ {F M W E : Type 0} (rules : Rules F) (output : E → Option (List ℕ))
         ≡ (old.printer.now.has_written
         || is_text (printed_by rules (scene_of old settings) old.format calls).text)
     pub has_failed : new.printer.now.has_failed ≡ old.printer.now.has_failed
+    pub at_once : old.printer.now.buffer_size ≡ 0 → pending_bytes old.printer.now.pending ≡ []
+        → pending_bytes new.printer.now.pending ≡ []
 
   -- calls that were made and all returned true, as those before reading failed, have written their
   -- texts

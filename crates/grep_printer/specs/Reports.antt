@@ -6,7 +6,7 @@ use Rattle.grep_matcher.specs.declared.line_terminator.LineTerminator.{LineTermi
 use Rattle.grep_searcher.specs.Lines.{lines, strip}
 use Rattle.grep_searcher.specs.Plans.{Call, begins, matches, context, breaks}
 use Rattle.grep_searcher.specs.Plans.{binary_data, finishes}
-use Rattle.grep_printer.specs.Formats.{Surroundings, nothing_around}
+use Rattle.grep_printer.specs.Formats.{PrintedCall, Surroundings, nothing_around}
 use Rattle.grep_printer.specs.LineTexts.{end_byte, line_text, lines_text}
 use Rattle.grep_printer.specs.MatchedParts.{AreInOrder}
 use Rattle.grep_printer.specs.PartTexts.{column_of}
@@ -55,6 +55,14 @@ surroundings_of report = record {
 abbrev pub event_surroundings : Event → Surroundings
 event_surroundings (report_event report) = surroundings_of report
 event_surroundings event = nothing_around
+
+-- a call with these parts of its report
+abbrev pub printed_event : Event → List (ℕ × ℕ) → PrintedCall
+printed_event event parts = record {
+  call = event_call event;
+  around = event_surroundings event;
+  parts = parts;
+}
 
 -- such are around a call's report
 abbrev pub IsAround : Event → Surroundings → Type 0

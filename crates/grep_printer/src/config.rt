@@ -89,6 +89,7 @@ impl<'c> StandardBuilder<'c> {
     /// when it writes.
     pub fn build(&self, alloc: Global) -> Standard<'c>
         ensures pending { pending_bytes result.pending ≡ [] }
+        ensures buffer_size { result.buffer_size ≡ 65536 }
         ensures config { result.format.config ≡ self.now }
         ensures has_written { result.has_written ≡ false }
         ensures has_failed { result.has_failed ≡ false }
@@ -143,7 +144,7 @@ impl<'c> StandardBuilder<'c> {
 
     /// How many bytes a line has at most that is written, with the terminator at its end if it has
     /// one; by default there is no limit. A notice is written in place of a longer line, or of a
-    /// longer part of one: it says how many parts of the report match, if they are found and aren't
+    /// longer part of one: it says how many parts of the line match, if they are found and aren't
     /// written themselves.
     pub fn max_columns(&mut self, most: Option<u64>) -> &mut StandardBuilder<'c>
         ensures reference { result.ghost_name ≡ self.entry.ghost_name }

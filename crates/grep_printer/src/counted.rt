@@ -36,13 +36,13 @@ impl<F> Printer<F> {
           is_counting = is_counting;
           stats = no_stats;
         } }
-        ensures room { result.room ≡ self.room }
+        ensures buffer_size { result.buffer_size ≡ self.buffer_size }
         ensures has_written { result.has_written ≡ self.has_written }
         ensures has_failed { result.has_failed ≡ self.has_failed }
     {
         let Printer {
             pending,
-            room,
+            buffer_size,
             parts,
             format,
             has_written,
@@ -50,7 +50,7 @@ impl<F> Printer<F> {
         } = self;
         Printer {
             pending,
-            room,
+            buffer_size,
             parts,
             format: CountedFormat {
                 format,

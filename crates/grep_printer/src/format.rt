@@ -10,7 +10,8 @@ ghost use Rattle.grep_printer.specs.BareTexts.{bare_text};
 ghost use Rattle.grep_printer.specs.Formats.{AreTexts, PrintedCall, Rules, Scene};
 ghost use Rattle.grep_printer.specs.MatchedParts.{AreInOrder};
 ghost use Rattle.grep_output.specs.PendingTexts.{Adds, pending_bytes};
-ghost use Rattle.grep_printer.specs.Reports.{FitsEvent, IsShownEvent, event_call, event_has_match, event_surroundings};
+ghost use Rattle.grep_printer.specs.Reports.{FitsEvent, IsShownEvent, event_call, event_has_match};
+ghost use Rattle.grep_printer.specs.Reports.{printed_event};
 
 use crate::report::Report;
 use grep_output::Pending;
@@ -99,17 +100,17 @@ pub trait Format: Copy {
         requires ordered { AreInOrder 0 (length (reported_bytes (event_call event.now))) parts.now }
         ensures text { Adds text.old text.new (rules.text self.old
             (record { path = path.entry; settings = searcher.now.settings })
-            (record { call = event_call event.now; around = event_surroundings event.now; parts = parts.now })) }
+            (printed_event event.now parts.now)) }
         ensures next { (not text.new.has_failed || rules.is_bare self.old
             (record { path = path.entry; settings = searcher.now.settings })) ≡ true
             → self.new ≡ rules.next self.old
             (record { path = path.entry; settings = searcher.now.settings })
-            (record { call = event_call event.now; around = event_surroundings event.now; parts = parts.now }) }
+            (printed_event event.now parts.now) }
         ensures goes_on { (not text.new.has_failed || rules.is_bare self.old
             (record { path = path.entry; settings = searcher.now.settings })) ≡ true
             → result ≡ rules.goes_on self.old
             (record { path = path.entry; settings = searcher.now.settings })
-            (record { call = event_call event.now; around = event_surroundings event.now; parts = parts.now }) };
+            (printed_event event.now parts.now) };
 
     /// Pushes the texts of the lines of a match, each of which is a match, as one text after those
     /// that are kept, and returns whether it did: only if no parts of them are asked for or the

@@ -62,6 +62,7 @@ impl JsonBuilder {
     /// A printer with these settings. It takes memory from `alloc` when it writes.
     pub fn build(&self, alloc: Global) -> Json
         ensures pending { pending_bytes result.pending ≡ [] }
+        ensures buffer_size { result.buffer_size ≡ 65536 }
         ensures always_begin_end { result.format.always_begin_end ≡ self.now.always_begin_end }
         ensures has_written { result.has_written ≡ false }
         ensures has_failed { result.has_failed ≡ false }
@@ -73,6 +74,7 @@ impl JsonBuilder {
     /// would be replaced by. It takes memory from `alloc` when it writes.
     pub fn build_with<R>(&self, alloc: Global, replacer: R) -> Printer<JsonFormat<R>>
         ensures pending { pending_bytes result.pending ≡ [] }
+        ensures buffer_size { result.buffer_size ≡ 65536 }
         ensures always_begin_end { result.format.always_begin_end ≡ self.now.always_begin_end }
         ensures replacer { result.format.replacer ≡ replacer }
         ensures has_written { result.has_written ≡ false }

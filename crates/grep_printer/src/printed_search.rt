@@ -1,5 +1,5 @@
 //! Searches of which a printer writes the reports.
-ghost use Rattle.std.specs.Prelude.{◌≡◌};
+ghost use Rattle.std.specs.Prelude.{◌≡◌, true};
 ghost use Rattle.grep_printer.specs.PrintedSearches.{IsPrintedBy, IsSearchPrinted};
 
 use crate::format::Format;
@@ -20,6 +20,7 @@ pub fn search<F: Format, M: FindAt + Copy, H: Source, W: Output>(
 ) -> Result<(), SearchError>
     requires { sink.old.matcher ≡ matcher }
     ensures settings { searcher.new.settings ≡ searcher.old.settings }
+    ensures buffers { searcher.old.has_buffers ≡ true → searcher.new.has_buffers ≡ true }
     ensures printer { sink.new.printer.ghost_name ≡ sink.old.printer.ghost_name }
     ensures writer { sink.new.writer.ghost_name ≡ sink.old.writer.ghost_name }
     ensures printed { IsSearchPrinted F.rules M.Error.output M.facts M.first_at W.step H.remaining
@@ -50,6 +51,7 @@ impl<F: Format> Printer<F> {
         writer: &mut W,
     ) -> Searched
         ensures settings { searcher.new.settings ≡ searcher.old.settings }
+        ensures buffers { searcher.old.has_buffers ≡ true → searcher.new.has_buffers ≡ true }
         ensures printed { IsPrintedBy F.rules M.Error.output M.facts M.first_at W.step H.remaining
             H.step searcher.old matcher path.entry haystack.old writer.old self.old result
             haystack.new writer.new self.new }

@@ -15,7 +15,8 @@ ghost use Rattle.grep_printer.specs.MatchedParts.{AreInOrder};
 ghost use Rattle.grep_printer.specs.PartErrors.{EachErrorIs};
 ghost use Rattle.grep_printer.specs.PrinterSteps.{HasFound, IsAsBefore, IsPreparing, Prints};
 ghost use Rattle.grep_printer.specs.PrinterSteps.{PrintsCall, PrintsShown};
-ghost use Rattle.grep_printer.specs.Reports.{FitsEvent, IsAround, IsShownEvent, event_call, event_surroundings};
+ghost use Rattle.grep_printer.specs.Reports.{FitsEvent, IsAround, IsShownEvent, event_call};
+ghost use Rattle.grep_printer.specs.Reports.{printed_event};
 
 use crate::bare::write_call;
 use crate::format::{Event, Format};
@@ -29,7 +30,7 @@ use std::alloc::{AllocError, Allocator, Global};
 use std::io;
 
 // How many bytes of text a printer keeps before it writes them, unless it is told otherwise.
-const ROOM: usize = 64 * 1024;
+const BUFFER_SIZE: usize = 64 * 1024;
 
 /// A printer: it writes what its format makes of the calls of a search. `sink` gives the sink of
 /// one search after another, each with the writer that is lent to it.
@@ -41,7 +42,7 @@ const ROOM: usize = 64 * 1024;
 pub struct Printer<F> {
     // The texts of calls that aren't written yet, and how many bytes of them are kept.
     pub(crate) pending: Pending,
-    pub(crate) room: usize,
+    pub(crate) buffer_size: usize,
     // The parts that match of the report at hand.
     pub(crate) parts: Vec<Match>,
     // The format as each search has it to begin with.
@@ -54,13 +55,14 @@ impl<F> Printer<F> {
     // A printer that has written nothing yet.
     pub(crate) fn new(alloc: Global, format: F) -> Printer<F>
         ensures pending { pending_bytes result.pending ≡ [] }
+        ensures buffer_size { result.buffer_size ≡ 65536 }
         ensures format { result.format ≡ format }
         ensures has_written { result.has_written ≡ false }
         ensures has_failed { result.has_failed ≡ false }
     {
         Printer {
             pending: Pending::new(alloc),
-            room: ROOM,
+            buffer_size: BUFFER_SIZE,
             parts: Vec::new(alloc),
             format,
             has_written: false,
@@ -69,11 +71,11 @@ impl<F> Printer<F> {
     }
 
     /// Sets how many bytes of text are kept before they are written: 64 KiB if it isn't called.
-    /// With 0 the text of each call is written at once.
+    /// With 0 the text of each call is written at once, together with what is kept already.
     pub fn set_buffer_size(&mut self, size: usize)
-        ensures { self.new ≡ record self.old { room = size } }
+        ensures { self.new ≡ record self.old { buffer_size = size } }
     {
-        self.room = size;
+        self.buffer_size = size;
     }
 
     /// Whether there was any text. That of a call at which the writer failed doesn't count:
@@ -128,7 +130,7 @@ impl<F> Printer<F> {
             writer.new }
         ensures emptied { pending_bytes self.new.pending ≡ [] }
         ensures format { self.new.format ≡ self.old.format }
-        ensures room { self.new.room ≡ self.old.room }
+        ensures buffer_size { self.new.buffer_size ≡ self.old.buffer_size }
         ensures has_written { self.new.has_written ≡ self.old.has_written }
         ensures has_failed { self.new.has_failed
             ≡ (if is_ok result then self.old.has_failed else true) }
@@ -146,7 +148,7 @@ impl<F> Printer<F> {
             writer.new }
         ensures emptied { pending_bytes self.new.pending ≡ [] }
         ensures format { self.new.format ≡ self.old.format }
-        ensures room { self.new.room ≡ self.old.room }
+        ensures buffer_size { self.new.buffer_size ≡ self.old.buffer_size }
         ensures has_written { self.new.has_written ≡ self.old.has_written }
         ensures has_failed { self.new.has_failed
             ≡ (if is_ok result then self.old.has_failed else true) }
@@ -164,7 +166,7 @@ impl<F> Printer<F> {
             writer.new }
         ensures emptied { pending_bytes self.new.pending ≡ [] }
         ensures format { self.new.format ≡ self.old.format }
-        ensures room { self.new.room ≡ self.old.room }
+        ensures buffer_size { self.new.buffer_size ≡ self.old.buffer_size }
         ensures has_written { self.new.has_written ≡ self.old.has_written }
         ensures has_failed { self.new.has_failed ≡ self.old.has_failed }
     {
@@ -173,8 +175,10 @@ impl<F> Printer<F> {
     }
 
     // Whether as much text is kept as is written at once.
-    fn is_full(&self) -> bool {
-        self.pending.len() >= self.room
+    fn is_full(&self) -> bool
+        ensures { result ≡ false → 0 < self.now.buffer_size }
+    {
+        self.pending.len() >= self.buffer_size
     }
 
     // Ends the text at hand, and returns whether it is kept: if there are more bytes than are kept,
@@ -183,13 +187,15 @@ impl<F> Printer<F> {
     fn keeps_text(&mut self) -> bool
         ensures pending { self.new.pending ≡ self.old.pending }
         ensures format { self.new.format ≡ self.old.format }
-        ensures room { self.new.room ≡ self.old.room }
+        ensures buffer_size { self.new.buffer_size ≡ self.old.buffer_size }
         ensures has_written { result ≡ true → self.new.has_written
             ≡ (self.old.has_written || is_text self.old.pending.text) }
         ensures has_failed { self.new.has_failed ≡ self.old.has_failed }
+        ensures at_once { result ≡ true → self.old.buffer_size ≡ 0
+            → pending_bytes self.old.pending ≡ [] }
         ensures full { result ≡ false → self.new ≡ self.old }
     {
-        if self.pending.len() > self.room {
+        if self.pending.len() > self.buffer_size {
             return false;
         }
         self.has_written = self.has_written || self.pending.text_len() > 0;
@@ -208,7 +214,7 @@ impl<F> Printer<F> {
             ++ bare_text terminator (event_call event.now)) result writer.new }
         ensures emptied { pending_bytes self.new.pending ≡ [] }
         ensures format { self.new.format ≡ self.old.format }
-        ensures room { self.new.room ≡ self.old.room }
+        ensures buffer_size { self.new.buffer_size ≡ self.old.buffer_size }
         ensures has_written { self.new.has_written ≡ (self.old.has_written
             || (is_ok result && is_text (bare_text terminator (event_call event.now)))) }
         ensures has_failed { self.new.has_failed
@@ -241,7 +247,7 @@ impl<F> Printer<F> {
             ++ bare_text terminator (event_call event.now)) (Err error) writer.new) }
         ensures emptied { pending_bytes self.new.pending ≡ [] }
         ensures format { self.new.format ≡ self.old.format }
-        ensures room { self.new.room ≡ self.old.room }
+        ensures buffer_size { self.new.buffer_size ≡ self.old.buffer_size }
         ensures has_written { self.new.has_written ≡ self.old.has_written }
         ensures has_failed { self.new.has_failed ≡ self.old.has_failed }
     {
@@ -254,8 +260,9 @@ impl<F> Printer<F> {
         ensures put { Puts W.step writer.old self.old.pending.before self.old.pending.text
             result writer.new (pending_bytes self.new.pending) }
         ensures emptied { OnErr result (pending_bytes self.new.pending ≡ []) }
+        ensures at_once { self.old.buffer_size ≡ 0 → pending_bytes self.new.pending ≡ [] }
         ensures format { self.new.format ≡ self.old.format }
-        ensures room { self.new.room ≡ self.old.room }
+        ensures buffer_size { self.new.buffer_size ≡ self.old.buffer_size }
         ensures has_written { self.new.has_written
             ≡ (self.old.has_written || (is_ok result && is_text self.old.pending.text)) }
         ensures has_failed { self.new.has_failed
@@ -320,7 +327,7 @@ impl<'s, F: Format, M: FindAt, W: Output> PrinterSink<'s, F, M, W> {
         ensures same { IsPreparing self.old self.new }
         ensures parts { OnOk result (HasFound F.rules (IsAround event.now) M.facts M.first_at
             self.old searcher.now.settings self.old.format
-            (record { call = event_call event.now; around = event_surroundings event.now; parts = self.new.printer.now.parts.items })) }
+            (printed_event event.now self.new.printer.now.parts.items)) }
         ensures ordered { OnOk result (AreInOrder 0 (length (reported_bytes (event_call event.now)))
             self.new.printer.now.parts.items) }
         ensures error { IfErr result (EachErrorIs M.Error.output (λ e. IsOutOfMemory e
@@ -345,7 +352,7 @@ impl<'s, F: Format, M: FindAt, W: Output> PrinterSink<'s, F, M, W> {
         ensures same { IsPreparing self.old self.new }
         ensures parts { HasFound F.rules (IsAround event.now) M.facts M.first_at
             self.old searcher.now.settings self.old.format
-            (record { call = event_call event.now; around = event_surroundings event.now; parts = self.new.printer.now.parts.items }) }
+            (printed_event event.now self.new.printer.now.parts.items) }
         ensures ordered { AreInOrder 0 (length (reported_bytes (event_call event.now)))
             self.new.printer.now.parts.items }
     {
@@ -450,7 +457,7 @@ impl<'s, F: Format, M: FindAt, W: Output> PrinterSink<'s, F, M, W> {
         requires shown { IsShownEvent event.now }
         requires found { HasFound F.rules (IsAround event.now) M.facts M.first_at
             self.old searcher.now.settings self.old.format
-            (record { call = event_call event.now; around = event_surroundings event.now; parts = self.old.printer.now.parts.items }) }
+            (printed_event event.now self.old.printer.now.parts.items) }
         requires ordered { AreInOrder 0 (length (reported_bytes (event_call event.now)))
             self.old.printer.now.parts.items }
         ensures kept { IfSome result (λ goes_on. Prints F.rules M.Error.output M.facts M.first_at
@@ -485,7 +492,7 @@ impl<'s, F: Format, M: FindAt, W: Output> PrinterSink<'s, F, M, W> {
         requires shown { IsShownEvent event.now }
         requires found { HasFound F.rules (IsAround event.now) M.facts M.first_at
             self.old searcher.now.settings self.old.format
-            (record { call = event_call event.now; around = event_surroundings event.now; parts = self.old.printer.now.parts.items }) }
+            (printed_event event.now self.old.printer.now.parts.items) }
         requires ordered { AreInOrder 0 (length (reported_bytes (event_call event.now)))
             self.old.printer.now.parts.items }
         ensures { PrintsShown F.rules M.Error.output M.facts M.first_at W.step

@@ -38,13 +38,13 @@ impl<F> Printer<F> {
         ensures format { result.format.format ≡ self.format }
         ensures matcher { result.format.matcher ≡ matcher }
         ensures template { result.format.template.now ≡ template.now }
-        ensures room { result.room ≡ self.room }
+        ensures buffer_size { result.buffer_size ≡ self.buffer_size }
         ensures has_written { result.has_written ≡ self.has_written }
         ensures has_failed { result.has_failed ≡ self.has_failed }
     {
         let Printer {
             pending,
-            room,
+            buffer_size,
             parts,
             format,
             has_written,
@@ -52,7 +52,7 @@ impl<F> Printer<F> {
         } = self;
         Printer {
             pending,
-            room,
+            buffer_size,
             parts,
             format: ReplacedFormat {
                 format,

@@ -106,6 +106,7 @@ impl<'c> SummaryBuilder<'c> {
     /// counts the parts of a match.
     pub fn build(&self, alloc: Global) -> Summary<'c>
         ensures pending { pending_bytes result.pending ≡ [] }
+        ensures buffer_size { result.buffer_size ≡ 65536 }
         ensures config { result.format.config ≡ self.now }
         ensures has_written { result.has_written ≡ false }
         ensures has_failed { result.has_failed ≡ false }

@@ -36,6 +36,7 @@ impl<'c> StandardBuilder<'c> {
     /// `byte_offset` is. The settings `heading` and `only_matching` don't count.
     pub fn build_vimgrep(&self, alloc: Global) -> Vimgrep<'c>
         ensures pending { pending_bytes result.pending ≡ [] }
+        ensures buffer_size { result.buffer_size ≡ 65536 }
         ensures config { result.format.lines.config ≡ vimgrep_config self.now }
         ensures has_written { result.has_written ≡ false }
         ensures has_failed { result.has_failed ≡ false }

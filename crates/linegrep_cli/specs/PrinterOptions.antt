@@ -1,5 +1,5 @@
 -- The printer that options ask for, and its settings.
-use Rattle.std.specs.Prelude.{◌≡◌, ℕ, Bool, true, false, not, ◌&&◌, ◌||◌, ◌==◌, if◌then◌else◌}
+use Rattle.std.specs.Prelude.{◌≡◌, ◌⊎◌, ℕ, Bool, true, false, not, ◌&&◌, ◌||◌, ◌==◌, if◌then◌else◌}
 use Rattle.std.specs.Prelude.{List, [], codes, nat_lt, Option, None, Some, IfSome}
 use Rattle.std.specs.Borrow.{Bor}
 use Rattle.std.specs.Option.{option_map}
@@ -135,6 +135,13 @@ known_colors chosen (Some choice) is_terminal =
     else if bytes_eq choice (codes "never") then Some Plain
     else open_colors is_terminal
 
+-- there are such colors for a choice of the options: those that are known by it, and where it is
+-- open none or those that are chosen
+pub record AreColorsFor (chosen : Option (Bor ColorTexts)) (choice : Option (List ℕ))
+    (is_terminal : Bool) (colors : ColorSpecs) : Type 0 where
+  pub known : IfSome (known_colors chosen choice is_terminal) (λ known. colors ≡ known)
+  pub either : (colors ≡ Plain) ⊎ (colors ≡ colors_of chosen)
+
 -- the settings of the printer of lines, with some colors and separators
 abbrev pub line_settings : Options → ColorSpecs → Option (Bor Separators) → Config
 line_settings options colors separators = record {
@@ -165,12 +172,13 @@ summary_settings options kind colors = record {
   color_specs = colors;
 }
 
--- the printer has written nothing yet, and writes at once if options ask for that
+-- the printer has written nothing yet, and keeps 64 KiB of text, or writes at once if options ask
+-- for that
 pub record IsNew {F : Type 0} (options : Options) (printer : Writer F) : Type 0 where
   pub pending : pending_bytes printer.pending ≡ []
   pub has_written : printer.has_written ≡ false
   pub has_failed : printer.has_failed ≡ false
-  pub room : is_line_buffered options ≡ true → printer.room ≡ 0
+  pub buffer_size : printer.buffer_size ≡ (if is_line_buffered options then 0 else 65536)
 
 -- so has the printer of a run, and nothing was counted: it counts if options ask for that
 pub record IsNewRun {F : Type 0} (options : Options) (run : CountedRun F) : Type 0 where
@@ -225,12 +233,12 @@ IsPrinterFor options is_across separators matcher template colors (Messages run)
     (summary_kind options is_across ≡ None) × (has options Json ≡ true)
     × (run.printer.format.always_begin_end ≡ false)
     × IsReplacer matcher template run.printer.format.replacer × IsNew options run.printer
+    × (run.stats ≡ no_stats)
 
 -- so with the colors that they ask for
 abbrev pub IsPrinterOf : {M : Type 0} → Options → Bool → Option (Bor Separators)
     → Option (Bor ColorTexts) → M → Option (Bor Template) → Printer M → Type 0
 IsPrinterOf options is_across separators chosen matcher template printer =
     (colors : ColorSpecs)
-    × IfSome (known_colors chosen (color_choice options) options.streams.is_terminal)
-    (λ known. colors ≡ known)
+    × AreColorsFor chosen (color_choice options) options.streams.is_terminal colors
     × IsPrinterFor options is_across separators matcher template colors printer

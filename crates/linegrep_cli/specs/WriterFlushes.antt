@@ -12,5 +12,6 @@ module _ {W : Type 0} (write_step : W → OutputCall → W → Type 0) where
     pub flushed : Flushes write_step writer (pending_bytes old.pending) result writer'
     pub emptied : pending_bytes new.pending ≡ []
     pub format : new.format ≡ old.format
+    pub buffer_size : new.buffer_size ≡ old.buffer_size
     pub has_written : new.has_written ≡ old.has_written
     pub has_failed : new.has_failed ≡ (if is_ok result then old.has_failed else true)

@@ -1,6 +1,6 @@
 //! Whether what is written has colors.
-ghost use Rattle.std.specs.Prelude.{◌≡◌, IfSome, option_map};
-ghost use Rattle.linegrep_cli.specs.PrinterOptions.{known_colors};
+ghost use Rattle.std.specs.Prelude.{option_map};
+ghost use Rattle.linegrep_cli.specs.PrinterOptions.{AreColorsFor};
 
 use grep_printer::{ColorSpecs, ColorTexts};
 use std::env;
@@ -14,8 +14,8 @@ pub fn color_specs<'c>(
     chosen: Option<&'c ColorTexts>,
     is_terminal: bool,
 ) -> ColorSpecs<'c>
-    ensures { IfSome (known_colors chosen.entry (option_map (λ text. text.now) choice.entry)
-        is_terminal) (λ known. result ≡ known) }
+    ensures { AreColorsFor chosen.entry (option_map (λ text. text.now) choice.entry) is_terminal
+        result }
 {
     let is_colored = match choice {
         Some("always" | "ansi") => true,

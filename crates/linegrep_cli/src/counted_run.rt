@@ -1,5 +1,5 @@
 //! Searches that a format prints, and what is counted of them.
-ghost use Rattle.std.specs.Prelude.{◌≡◌};
+ghost use Rattle.std.specs.Prelude.{◌≡◌, true};
 ghost use Rattle.grep_printer.specs.StatsSums.{no_stats};
 ghost use Rattle.linegrep_cli.specs.CountedRuns.{AreAdded, AreStatsPut, IsCountedSearch};
 ghost use Rattle.linegrep_cli.specs.CountedRuns.{IsRunFlushed};
@@ -47,6 +47,7 @@ impl<F: Format> CountedRun<F> {
         path: Option<&str>,
     ) -> Searched
         ensures settings { searcher.new.settings ≡ searcher.old.settings }
+        ensures buffers { searcher.old.has_buffers ≡ true → searcher.new.has_buffers ≡ true }
         ensures printed { IsCountedSearch F.rules M.Error.output M.facts M.first_at W.step H.remaining H.step
             searcher.old matcher path.entry haystack.old writer.old self.old result haystack.new
             writer.new self.new }

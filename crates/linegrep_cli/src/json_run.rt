@@ -1,5 +1,6 @@
 //! Searches of which the reports are written as JSON.
-ghost use Rattle.std.specs.Prelude.{◌≡◌, ℕ};
+ghost use Rattle.std.specs.Prelude.{◌≡◌, ℕ, true};
+ghost use Rattle.grep_printer.specs.StatsSums.{no_stats};
 ghost use Rattle.linegrep_cli.specs.JsonRuns.{AreCounted, AreTotalsPut, IsEndPut, IsJsonWritten};
 ghost use Rattle.linegrep_cli.specs.WriterFlushes.{IsWriterFlushed};
 
@@ -10,8 +11,8 @@ use grep_searcher::{FindAt, SearchError, Searcher, Source};
 use std::io;
 use std::time::Instant;
 
-/// A printer of JSON, with what matches would be replaced by, the totals of the searches so far, and when the run began. Where the
-/// clock fails a time is 0.
+/// A printer of JSON, with what matches would be replaced by, the totals of the searches so far, and
+/// when the run began. Where the clock fails a time is 0.
 #[derive(Drop)]
 pub struct JsonRun<R> {
     printer: Printer<JsonFormat<R>>,
@@ -22,7 +23,8 @@ pub struct JsonRun<R> {
 impl<R> JsonRun<R> {
     /// A run that begins now.
     pub fn new(rt: &HostRuntime, printer: Printer<JsonFormat<R>>) -> JsonRun<R>
-        ensures { result.printer ≡ printer }
+        ensures printer { result.printer ≡ printer }
+        ensures stats { result.stats ≡ no_stats }
     {
         JsonRun {
             printer,
@@ -91,6 +93,7 @@ impl<R: Replacer> JsonRun<R> {
         path: Option<&str>,
     ) -> Searched
         ensures settings { searcher.new.settings ≡ searcher.old.settings }
+        ensures buffers { searcher.old.has_buffers ≡ true → searcher.new.has_buffers ≡ true }
         ensures written { IsJsonWritten R.text_at M.Error.output M.facts M.first_at W.step H.remaining
             H.step searcher.old matcher path.entry haystack.old writer.old self.old result haystack.new
             writer.new self.new }

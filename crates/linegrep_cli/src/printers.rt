@@ -1,5 +1,5 @@
 //! What writes what is found.
-ghost use Rattle.std.specs.Prelude.{◌≡◌};
+ghost use Rattle.std.specs.Prelude.{◌≡◌, true};
 ghost use Rattle.linegrep_cli.specs.EngineSteps.{has_failed};
 ghost use Rattle.linegrep_cli.specs.PrinterSearches.{HasTotals, IsFinished, IsFlushed, IsSearchWritten};
 
@@ -42,6 +42,7 @@ impl<'c, M: CapturesAt + Copy> Printer<'c, M> {
         path: Option<&str>,
     ) -> Searched
         ensures settings { searcher.new.settings ≡ searcher.old.settings }
+        ensures buffers { searcher.old.has_buffers ≡ true → searcher.new.has_buffers ≡ true }
         ensures written { IsSearchWritten M.Error.output M.facts M.first_at M.groups_at W.step H.remaining H.step
             searcher.old matcher path.entry haystack.old writer.old self.old result haystack.new
             writer.new self.new }

@@ -190,6 +190,7 @@ fn run_of<F>(
     printer: grep_printer::Printer<F>,
 ) -> CountedRun<F>
     requires pending { pending_bytes printer.pending ≡ [] }
+    requires buffer_size { printer.buffer_size ≡ 65536 }
     requires has_written { printer.has_written ≡ false }
     requires has_failed { printer.has_failed ≡ false }
     ensures format { result.printer.format.format ≡ printer.format }
@@ -205,7 +206,7 @@ fn buffered<F>(
     mut printer: grep_printer::Printer<F>,
 ) -> grep_printer::Printer<F>
     ensures { result
-        ≡ record printer { room = if is_line_buffered then 0 else printer.room } }
+        ≡ record printer { buffer_size = if is_line_buffered then 0 else printer.buffer_size } }
 {
     if is_line_buffered {
         printer.set_buffer_size(0);

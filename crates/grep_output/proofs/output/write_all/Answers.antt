@@ -1,4 +1,4 @@
-use Rattle.std.proofs.Common.{refl, ap, take}
+use Rattle.std.proofs.Common.{refl, rules}
 use Rattle.std.proofs.lemmas.List.{take_rest}
 use Rattle.grep_output.proofs.OutputLemmas.{writing-more, writing-fails}
 use Rattle.grep_output.proofs.output.write_all.Goals as goal
@@ -14,7 +14,7 @@ pub returns-in-Ok-eq0 : goal.returns-in-Ok-eq0
 returns-in-Ok-eq0 g c =
     writing-fails g.W.Output.step c.args.writer.now c.loop-rest.writer c.write_some.new.writer c.args.buffer.now
     c.loop-rest.rest.now c.from.result _ c.loop-rest.invariant c.in-Ok-eq0.ensures.calls
-    (ap (λ n. take n c.loop-rest.rest.now) c.in-Ok-eq0.field-0-test, c.from.ensures)
+    (search rules, c.in-Ok-eq0.field-0-test, c.from.ensures)
 
 pub returns-in-Err : goal.returns-in-Err
 returns-in-Err g c =

@@ -17,7 +17,7 @@ returns-then-keeps_text-clause-kept g c =
         printer = search rules;
         writer = search rules;
         format = search rules;
-        room = search rules;
+        buffer_size = search rules;
         matcher = search rules;
         path = search rules;
       };
@@ -33,4 +33,5 @@ returns-then-keeps_text-clause-kept g c =
       format = search rules;
       has_written = search rules;
       has_failed = search rules;
+      at_once = search rules;
     }

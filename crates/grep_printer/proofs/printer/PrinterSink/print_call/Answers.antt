@@ -30,7 +30,7 @@ returns-in-Err g c =
         printer = search rules;
         writer = search rules;
         format = search rules;
-        room = search rules;
+        buffer_size = search rules;
         matcher = search rules;
         path = search rules;
       };

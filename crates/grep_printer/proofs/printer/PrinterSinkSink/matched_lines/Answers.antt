@@ -9,10 +9,10 @@ returns-clause-taken g c =
     match-kept g.F.Format.rules g.M.Error.Display.output g.M.Matcher.facts g.M.FindAt.first_at
     g.W.Output.step c.args.searcher.now.settings c.args.self.now _ c.args.lines.now
     c.push_lines.new.text.text c.push_lines.new.self some (search rules) (record {
-      same = record { printer = refl; writer = refl; format = refl; room = refl; matcher = refl; path = refl };
+      same = record { printer = refl; writer = refl; format = refl; buffer_size = refl; matcher = refl; path = refl };
       writer = refl;
       pending = search rules;
       format = refl;
       has_written = search rules;
       has_failed = refl;
-    })
+    }) (search rules)
