@@ -1,6 +1,6 @@
 //! Steps from line to line.
 ghost use Rattle.std.specs.Prelude.{◌≡◌, ◌∷◌, ◌↔◌, ◌≤◌, ◌<◌, ℕ, length, IsNone, IfSome, IfNone};
-ghost use Rattle.std.specs.Prelude.{slice_range};
+ghost use Rattle.std.specs.Prelude.{◌≢◌, slice_index, slice_range};
 ghost use Rattle.grep_matcher.specs.Lines.{lines};
 ghost use Rattle.grep_lines.specs.Positions.{IsLineStart, IsLine};
 ghost use Rattle.grep_lines.specs.FirstLine.{IsFirstLine};
@@ -79,7 +79,7 @@ impl LineStep {
 }
 
 /// The length of the first line in bytes, with its terminator. The caller ensures that there is a
-/// byte. Most lines end within 64 bytes, which takes one comparison of vectors.
+/// byte. Most lines end within 64 bytes, or else 128, which takes a comparison of vectors or two.
 #[inline(always)]
 pub(crate) fn first_line_length(terminator: u8, bytes: &[u8]) -> usize
     requires { 0 < length bytes.now }
@@ -90,9 +90,26 @@ pub(crate) fn first_line_length(terminator: u8, bytes: &[u8]) -> usize
     }
     let near = marks(bytes, 0, terminator);
     if near == 0 {
-        return far_length(terminator, bytes);
+        return long_length(terminator, bytes);
     }
     lowest(near) + 1
+}
+
+// The length of the first line, which doesn't end within 64 bytes.
+#[inline]
+fn long_length(terminator: u8, bytes: &[u8]) -> usize
+    requires long { WIDTH ≤ length bytes.now }
+    requires unmarked { (i : ℕ) → i < WIDTH → slice_index bytes.now i ≢ terminator }
+    ensures { IsFirstLine terminator bytes.now result }
+{
+    if bytes.len() < 2 * WIDTH {
+        return far_length(terminator, bytes);
+    }
+    let next = marks(bytes, WIDTH, terminator);
+    if next == 0 {
+        return far_length(terminator, bytes);
+    }
+    WIDTH + lowest(next) + 1
 }
 
 // The length of the first line of few bytes: by two vectors that overlap, if there are enough for

@@ -3,6 +3,7 @@ ghost use Rattle.std.specs.Prelude.{◌≡◌, ◌≤◌, ◌+◌, ◌-◌, leng
 ghost use Rattle.grep_matcher.specs.Lines.{line_start};
 ghost use Rattle.grep_lines.specs.Blocks.{block_start, block_end, lines_before};
 ghost use Rattle.grep_lines.specs.FirstLine.{IsLastStart};
+ghost use Rattle.grep_lines.specs.LastStarts.{IsLookedFor};
 
 use crate::line_step::first_line_length;
 use crate::marks::{WIDTH, bits_below, highest, marks};
@@ -53,29 +54,60 @@ pub fn line_of(bytes: &[u8], terminator: u8, position: usize) -> Match
     Match::new(start, line_end(bytes, position, terminator))
 }
 
-// The last line start up to a position. Most lines start less than 64 bytes before it, which takes
-// one comparison of vectors.
+/// What is known of the last line start up to a position.
+pub(crate) enum LastStart {
+    /// Where it is.
+    At(usize),
+    /// It is the last one up to this position.
+    UpTo(usize),
+}
+
+// The last line start up to a position. Most lines start less than 64 bytes before it, or else 128,
+// which takes a comparison of vectors or two.
 #[inline(always)]
 pub(crate) fn last_start(bytes: &[u8], position: usize, terminator: u8) -> usize
     requires { position ≤ length bytes.now }
     ensures { IsLastStart terminator bytes.now position result }
 {
+    match near_start(bytes, position, terminator) {
+        LastStart::At(start) => start,
+        LastStart::UpTo(earlier) => earlier_start(bytes, earlier, terminator),
+    }
+}
+
+// The last line start up to a position, if it is less than 64 bytes before it.
+#[inline(always)]
+fn near_start(bytes: &[u8], position: usize, terminator: u8) -> LastStart
+    requires { position ≤ length bytes.now }
+    ensures { IsLookedFor terminator bytes.now position result }
+{
     let from = position.saturating_sub(WIDTH - 1);
     if bytes.len() - from < WIDTH {
-        return far_start(bytes, position, terminator);
+        return LastStart::UpTo(position);
     }
     let near = bits_below(marks(bytes, from, terminator), position - from);
     if near != 0 {
-        return from + highest(near) + 1;
+        return LastStart::At(from + highest(near) + 1);
     }
     if from == 0 {
-        return 0;
+        return LastStart::At(0);
     }
-    far_start(bytes, from, terminator)
+    LastStart::UpTo(from)
+}
+
+// The last line start up to a position, before which few bytes were looked at.
+#[inline(never)]
+fn earlier_start(bytes: &[u8], position: usize, terminator: u8) -> usize
+    requires { position ≤ length bytes.now }
+    ensures { IsLastStart terminator bytes.now position result }
+{
+    match near_start(bytes, position, terminator) {
+        LastStart::At(start) => start,
+        LastStart::UpTo(earlier) => far_start(bytes, earlier, terminator),
+    }
 }
 
 // The last line start up to a position, by a search back from there.
-#[inline(never)]
 fn far_start(bytes: &[u8], position: usize, terminator: u8) -> usize
     requires { position ≤ length bytes.now }
     ensures { IsLastStart terminator bytes.now position result }

@@ -1,6 +1,6 @@
 use Rattle.std.proofs.Common.{arith}
 use Rattle.grep_lines.proofs.MaskLemmas.{start-before, start-marked}
-use Rattle.grep_lines.proofs.whole_lines.last_start.Goals as goal
+use Rattle.grep_lines.proofs.whole_lines.near_start.Goals as goal
 
 pub returns-then-near-ne0 : goal.returns-then-near-ne0
 returns-then-near-ne0 c =
@@ -26,8 +26,10 @@ returns-then-from-eq0 c =
 
 pub returns : goal.returns
 returns c =
-    let from = c.saturating_sub-from in
-    start-before c.args.terminator c.args.bytes.now c.args.position from.result c.marks.result
-    c.bits_below-near.result
-    (omega (arith, from.ensures)) (omega (arith, from.ensures)) c.marks.ensures
-    c.bits_below-near.ensures.kept _ (omega (arith, c.if-near-ne0.false)) c.far_start-2.ensures
+    let from = c.saturating_sub-from in (
+      omega (arith, from.ensures),
+      λ start last. start-before c.args.terminator c.args.bytes.now c.args.position from.result
+          c.marks.result c.bits_below-near.result (omega (arith, from.ensures))
+          (omega (arith, from.ensures)) c.marks.ensures c.bits_below-near.ensures.kept start
+          (omega (arith, c.if-near-ne0.false)) last,
+    )
