@@ -63,6 +63,7 @@ impl Config {
 
     // Where the last line starts, from `start` up to a candidate, before which there are 16 KiB at
     // most. A line starts at both.
+    #[inline(always)]
     fn last_start_in_room(&self, window: &[u8], start: usize, candidate: usize) -> usize
         requires ordered { start ≤ candidate }
         requires within { candidate ≤ length window.now }
