@@ -1,6 +1,6 @@
 -- What a run over operands visits, in which order, what comes of it, and the status.
 use Rattle.std.specs.Prelude.{◌≡◌, ◌≢◌, ◌⊎◌, ℕ, Bool, true, false, not, ◌&&◌, ◌||◌, ◌==◌, if◌then◌else◌}
-use Rattle.std.specs.Prelude.{codes, List, [], ◌∷◌, ◌++◌, Option, None, Some, is_some, is_ok}
+use Rattle.std.specs.Prelude.{◌+◌, codes, List, [], ◌∷◌, ◌++◌, Option, None, Some, is_some, is_ok}
 use Rattle.std.specs.Prelude.{MatchBool, Result, Ok, Err, String, string_bytes}
 use Rattle.std.specs.List.{list_any}
 use Rattle.std.specs.Borrow.{Bor}
@@ -96,6 +96,15 @@ abbrev pub EndsAs : Visit → Visit → Type 0
 EndsAs total visit = (visit ≡ total) ⊎ ((error : Error) × (error_kind error ≡ OutOfMemory)
     × (visit ≡ record total { failure = Some error }))
 
+module _ {E F : Type 0} (step : E → EngineCall F → E → Type 0) where
+  -- so many texts are written to standard error, and the last error in that is this
+  pub data AreWritten (old : E) : ℕ → Option Error → E → Type 0 where
+    no_text : AreWritten old 0 None old
+    next_text : (count : ℕ) (failure : Option Error) {mid new : E}
+        (said : Result (Unit {0}) Error) → AreWritten old count failure mid
+        → step mid (says said) new
+        → AreWritten old (count + 1) (option_or (error_of said) failure) new
+
 module _ {E F : Type 0} (step : E → EngineCall F → E → Type 0) (scope : Scope) where
   -- a text is written to standard error, unless nothing is to be said; then writing what was found
   -- before may fail
@@ -109,12 +118,10 @@ module _ {E F : Type 0} (step : E → EngineCall F → E → Type 0) (scope : Sc
   IsReported old visit new = (failure : Option Error) × IsSaid old failure new
       × (visit ≡ record no_visit { has_error = true; failure = failure })
 
-  -- some texts are written to standard error
-  pub data AreSaid (old : E) : Option Error → E → Type 0 where
-    no_text : AreSaid old None old
-    next_text : (failure : Option Error) {mid new : E} (said : Result (Unit {0}) Error)
-        → AreSaid old failure mid → step mid (says said) new
-        → AreSaid old (option_or (error_of said) failure) new
+  -- so many texts about ignore files are written to standard error, or none if they aren't asked for
+  abbrev pub AreSaid : E → ℕ → Option Error → E → Type 0
+  AreSaid old count failure new =
+      AreWritten step old (if scope.is_lenient || scope.is_silent then 0 else count) failure new
 
 module _ {E F : Type 0} (step : E → EngineCall F → E → Type 0) (has_failed : E → Bool)
     (scope : Scope) where
@@ -194,8 +201,8 @@ module _ {E F : Type 0} (opens : List ℕ → Result F Error → Type 0)
         → IsEntryVisited old (File text) visit new
     of_unread : {visit : Visit} {new : E} {text : String Global} {error : Error}
         → IsReported step scope old visit new → IsEntryVisited old (Unread text error) visit new
-    of_warnings : {visit : Visit} {new : E} {text : String Global} (failure : Option Error)
-        → AreSaid step scope old failure new → visit ≡ record no_visit { failure = failure }
+    of_warnings : {visit : Visit} {new : E} {text : String Global} (count : ℕ)
+        (failure : Option Error) → AreSaid step scope old count failure new → visit ≡ record no_visit { failure = failure }
         → IsEntryVisited old (Folder text) visit new
 
   -- such are visited in order, none of which ended the run but the last

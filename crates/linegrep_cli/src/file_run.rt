@@ -1,6 +1,6 @@
 //! A run over files.
 ghost use Rattle.std.specs.Prelude.{◌≡◌, ◌≢◌, ◌⊎◌, ◌&&◌, [], true, false, not, IfErr, Some};
-ghost use Rattle.std.specs.Prelude.{◌↔◌, IsTrue, Option, Result, codes, if◌then◌else◌, is_some};
+ghost use Rattle.std.specs.Prelude.{◌↔◌, ℕ, length, IsTrue, Option, Result, codes, if◌then◌else◌, is_some};
 ghost use Rattle.std.specs.IoError.{error_kind};
 ghost use Rattle.std.specs.Option.{option_or};
 ghost use Rattle.std.specs.declared.io.ErrorKind.TheVariants.{BrokenPipe};
@@ -431,8 +431,8 @@ impl<'r, S: System> Run<'r, S> {
 
     // Says what is wrong with ignore files.
     fn warn<E: Engine<S::File>>(&self, engine: &mut E, choices: &mut Choices<'r>) -> Visit
-        ensures said { (failure : Option Error) × AreSaid E.step self.now.scope engine.old failure
-            engine.new × (result ≡ record no_visit { failure = failure }) }
+        ensures said { (count : ℕ) × (failure : Option Error)
+            × AreSaid E.step self.now.scope engine.old count failure engine.new × (result ≡ record no_visit { failure = failure }) }
         ensures same { SaysTheSame choices.old choices.new }
     {
         let failure = self.say_all(engine, choices.warnings());
@@ -442,7 +442,8 @@ impl<'r, S: System> Run<'r, S> {
 
     // Says what goes wrong, unless nothing is to be said. The result is the writer's error.
     fn say_all<E: Engine<S::File>>(&self, engine: &mut E, warnings: &[Failure]) -> Option<io::Error>
-        ensures { AreSaid E.step self.now.scope engine.old result engine.new }
+        ensures { AreSaid E.step self.now.scope engine.old (length warnings.now) result
+            engine.new }
     {
         let mut failure = None;
         if self.scope.is_lenient || self.scope.is_silent {

@@ -1,5 +1,6 @@
-use Rattle.linegrep_cli.specs.OperandRuns.{AreSaid}
+use Rattle.linegrep_cli.specs.OperandRuns.{AreWritten}
 use Rattle.linegrep_cli.proofs.file_run.Run.say_all.Given as goal
 
 abbrev pub invariant-loop-warning : goal.invariant-loop-warning
-invariant-loop-warning g l = AreSaid g.E.Engine.step l.self.scope l.fn.engine l.failure l.engine
+invariant-loop-warning g l =
+    AreWritten g.E.Engine.step l.fn.engine l.warning-index l.failure l.engine
