@@ -96,7 +96,7 @@ fn near_start(bytes: &[u8], position: usize, terminator: u8) -> LastStart
 }
 
 // The last line start up to a position, before which few bytes were looked at.
-#[inline(never)]
+#[inline(always)]
 fn earlier_start(bytes: &[u8], position: usize, terminator: u8) -> usize
     requires { position ≤ length bytes.now }
     ensures { IsLastStart terminator bytes.now position result }
@@ -108,6 +108,7 @@ fn earlier_start(bytes: &[u8], position: usize, terminator: u8) -> usize
 }
 
 // The last line start up to a position, by a search back from there.
+#[inline(never)]
 fn far_start(bytes: &[u8], position: usize, terminator: u8) -> usize
     requires { position ≤ length bytes.now }
     ensures { IsLastStart terminator bytes.now position result }

@@ -14,14 +14,17 @@ use std::simd::prelude::*;
 const HALF: usize = 16;
 
 /// The position of the first occurrence of the literal that a finder has from `start` on. The caller
-/// ensures that there are as many bytes from there on as the literal has.
+/// ensures that `start` is in the haystack, or at its end.
 #[inline(never)]
 pub(crate) fn find_few(finder: &Finder<'_>, haystack: &[u8], start: usize) -> Option<usize>
-    requires { start + length finder.now ≤ length haystack.now }
+    requires { start ≤ length haystack.now }
     ensures { FindsNeedle haystack.now finder.now start result }
 {
     let literal = finder.needle();
     let len = literal.len();
+    if haystack.len() - start < len {
+        return None;
+    }
     if len == 0 || haystack.len() < HALF + len {
         return find_rest(finder, haystack, start);
     }

@@ -1,18 +1,19 @@
 //! A pattern that matches a literal.
-ghost use Rattle.std.specs.Prelude.{◌≡◌, ◌≤◌, ℕ, IfOk, drop, length};
+ghost use Rattle.std.specs.Prelude.{◌≡◌, ◌≤◌, ℕ, IfOk, drop, length, slice_range};
 ghost use Rattle.grep_matcher.specs.ByteSets.{holds};
 ghost use Rattle.grep_matcher.specs.FindResults.{Avoids, IsFrom, match_from};
 ghost use Rattle.grep_matcher.specs.Literals.{lacks, literal_match};
-ghost use Rattle.memchr.specs.Find.{FindsNeedle};
+ghost use Rattle.grep_matcher.specs.Probes.{IsNearest, near_end};
+ghost use Rattle.memchr.specs.Find.{FindsNeedle, Nowhere, OccursAt};
 
 use crate::byte_set::ByteSet;
 use crate::find_at::FindAt;
 use crate::line_match_kind::LineMatchKind;
 use crate::line_terminator::LineTerminator;
 use crate::matcher::Matcher;
-use crate::probe::Probe;
+use crate::probe::{NEAR, Probe, near_end};
 use crate::range::Match;
-use crate::short::find_from;
+use crate::short::{Nearest, find_from, find_nearest, has_three, nearest_from};
 use memchr::memmem::Finder;
 use std::alloc::{AllocError, Global};
 use std::io;
@@ -77,14 +78,45 @@ impl<'n> LiteralMatcher<'n> {
         }
     }
 
-    // The position of the first occurrence.
+    // The position of the first occurrence. Most often it is near: then nothing is called, so that
+    // no register is saved.
     #[inline]
     fn first(&self, haystack: &[u8]) -> Option<usize>
         ensures { FindsNeedle haystack.now self.now 0 result }
     {
+        let literal = self.finder.needle();
+        let end = near_end(haystack, literal);
+        match nearest_from(literal, &haystack[0..end], 0) {
+            Nearest::Resembles(at) if has_three(literal) => Some(at),
+            nearest => self.first_from(haystack, nearest),
+        }
+    }
+
+    // The position of the first occurrence, of which this is known in the part that is near.
+    #[inline(never)]
+    fn first_from(&self, haystack: &[u8], nearest: Nearest) -> Option<usize>
+        requires { IsNearest (slice_range haystack.now 0 (near_end haystack.now self.now)) self.now 0
+            nearest }
+        ensures { FindsNeedle haystack.now self.now 0 result }
+    {
+        let end = near_end(haystack, self.finder.needle());
+        match find_nearest(&self.finder, &haystack[0..end], nearest) {
+            Some(position) => Some(position),
+            None if end == haystack.len() => None,
+            None => self.first_after(haystack),
+        }
+    }
+
+    // The position of the first occurrence, if none is near.
+    #[inline(never)]
+    fn first_after(&self, haystack: &[u8]) -> Option<usize>
+        requires within { NEAR ≤ length haystack.now }
+        requires passed { Nowhere (OccursAt haystack.now self.now) 0 NEAR }
+        ensures { FindsNeedle haystack.now self.now 0 result }
+    {
         match &self.probe {
-            Some(probe) if haystack.len() > SHORT => probe.find(&self.finder, haystack),
-            _ => find_from(&self.finder, haystack, 0),
+            Some(probe) => probe.find_after(&self.finder, haystack),
+            None => find_from(&self.finder, haystack, NEAR),
         }
     }
 

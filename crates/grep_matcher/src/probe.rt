@@ -6,7 +6,7 @@ ghost use Rattle.std.specs.Prelude.{◌≡◌, ◌≤◌, ◌<◌, ◌+◌, ◌^
 ghost use Rattle.std.specs.Prelude.{IsTrue, IfSome};
 ghost use Rattle.memchr.specs.Find.{FindsNeedle, Nowhere, OccursAt};
 ghost use Rattle.memchr.specs.Lanes.{Covers};
-ghost use Rattle.grep_matcher.specs.Probes.{HasBytesAt, IsProbeOf};
+ghost use Rattle.grep_matcher.specs.Probes.{HasBytesAt, IsProbeOf, near_end};
 
 use crate::lanes::{WIDTH, both, either, equal_from, highest_bits};
 use crate::short::find_from;
@@ -19,7 +19,7 @@ const STEP: usize = 4 * WIDTH;
 
 // How many positions are looked at first, as those of a short haystack: a literal of most lines is
 // found among them.
-const NEAR: usize = 512;
+pub(crate) const NEAR: usize = 512;
 
 // From which rank on a byte is frequent in text: the letters of English but for some ten.
 const FREQUENT: u8 = 220;
@@ -68,23 +68,9 @@ impl Probe {
         Some(Probe::Three(first, second, third))
     }
 
-    /// The position of the first occurrence of the literal that a finder has, which is this
-    /// probe's.
-    pub(crate) fn find(&self, finder: &Finder<'_>, haystack: &[u8]) -> Option<usize>
-        requires { IsProbeOf self.now finder.now }
-        ensures { FindsNeedle haystack.now finder.now 0 result }
-    {
-        let end = near_end(haystack, finder.needle());
-        match find_from(finder, &haystack[0..end], 0) {
-            Some(position) => Some(position),
-            None if end == haystack.len() => None,
-            None => self.find_after(finder, haystack),
-        }
-    }
-
-    // The position of the first occurrence, if none is near.
-    #[inline(never)]
-    fn find_after(&self, finder: &Finder<'_>, haystack: &[u8]) -> Option<usize>
+    /// The position of the first occurrence of the literal that a finder has, which is this probe's,
+    /// if none is near.
+    pub(crate) fn find_after(&self, finder: &Finder<'_>, haystack: &[u8]) -> Option<usize>
         requires probe { IsProbeOf self.now finder.now }
         requires within { NEAR ≤ length haystack.now }
         requires passed { Nowhere (OccursAt haystack.now finder.now) 0 NEAR }
@@ -137,10 +123,10 @@ fn find_in(finder: &Finder<'_>, part: &[u8]) -> Option<usize>
     finder.find(part)
 }
 
-// Where the part ends that is near.
-fn near_end(haystack: &[u8], literal: &[u8]) -> usize
-    ensures within { result ≤ length haystack.now }
-    ensures near { result < length haystack.now → NEAR + length literal.now ≤ result + 1 }
+/// Where the part ends that is near.
+#[inline(always)]
+pub(crate) fn near_end(haystack: &[u8], literal: &[u8]) -> usize
+    ensures { result ≡ near_end haystack.now literal.now }
 {
     haystack.len().min(literal.len() + NEAR - 1)
 }
