@@ -124,6 +124,7 @@ impl<'c, A: Allocator + Copy, T: Configured> Search<'c, A, T> {
         ensures may_call { C.may_call sink.new }
     {
         let terminator = self.terminator();
+        let reporting = self.config.reporting();
         let mut start = start;
         let mut ahead = NOTHING_AHEAD;
         // What is asked of the lines after one that matches: nothing until the sink has taken lines
@@ -137,9 +138,11 @@ impl<'c, A: Allocator + Copy, T: Configured> Search<'c, A, T> {
                 Ok(ahead) => ahead,
                 Err(error) => return Err(C::Error::error_message(self.alloc, error)),
             };
-            start = self.config.skip_unmatched(window, start, &ahead, walk);
+            start = self
+                .config
+                .skip_unmatched(reporting, window, start, &ahead, walk);
             if let Some(lines) = self.sink_chosen_lines::<M, C>(
-                matcher, further, window, start, walk, &ahead, sink,
+                matcher, reporting, further, window, start, walk, &ahead, sink,
             )? {
                 *walk = self.config.after_chosen(walk, start, &lines);
                 start = lines.end;

@@ -10,7 +10,7 @@ ghost use Rattle.grep_definitions.specs.LineCalls.{before_calls, pending_calls, 
 ghost use Rattle.grep_definitions.specs.SinkRuns.{outcome_of};
 ghost use Rattle.grep_walk.specs.ChosenLines.{AreChosen, chosen_calls};
 ghost use Rattle.grep_walk.specs.declared.line_run.LineRun.{LineRun};
-ghost use Rattle.grep_walk.specs.LookAheads.{AreAllowed, IsBounded};
+ghost use Rattle.grep_walk.specs.LookAheads.{AreAllowed, IsBounded, IsReporting};
 ghost use Rattle.grep_walk.specs.Walks.{IsOrdered, chooses, counts_lines, line_calls, line_end};
 ghost use Rattle.grep_walk.specs.Walks.{trails};
 ghost use Rattle.grep_walk.specs.Windows.{IsInWindow, IsLineIn};
@@ -19,7 +19,7 @@ use crate::search::{Configured, Search};
 use crate::sink_calls::SinkCalls;
 use grep_matcher::Matcher;
 use grep_report::{SinkContext, SinkContextKind, SinkMatch};
-use grep_walk::{Ahead, LineRun, Questions, Verdict, Walk};
+use grep_walk::{Ahead, LineRun, Questions, Reporting, Verdict, Walk};
 use std::alloc::Allocator;
 
 // What each line goes through is inlined into the loops: called, it made a search that reports
@@ -276,6 +276,7 @@ impl<'c, A: Allocator + Copy, T: Configured> Search<'c, A, T> {
     pub(crate) fn sink_chosen_lines<M: Matcher, C: SinkCalls<T>>(
         &self,
         matcher: &M,
+        reporting: Reporting,
         questions: Questions,
         window: &[u8],
         start: usize,
@@ -283,6 +284,7 @@ impl<'c, A: Allocator + Copy, T: Configured> Search<'c, A, T> {
         ahead: &Ahead,
         sink: &mut C::Sink,
     ) -> Result<Option<LineRun>, C::Error>
+        requires reporting { IsReporting self.now.config reporting }
         requires allowed { AreAllowed self.now.config (M.facts matcher.now).meaning questions }
         requires bounded { IsBounded window.now ahead.now }
         requires inside { start ≤ length window.now }
@@ -307,7 +309,7 @@ impl<'c, A: Allocator + Copy, T: Configured> Search<'c, A, T> {
     {
         let chosen = self
             .config
-            .chosen_lines(matcher, questions, window, start, walk, ahead);
+            .chosen_lines(matcher, reporting, questions, window, start, walk, ahead);
         let Some(lines) = chosen else {
             return Ok(None);
         };

@@ -11,6 +11,8 @@ use Rattle.grep_definitions.specs.LineCalls.{matches_line}
 use Rattle.grep_walk.specs.declared.look_ahead.Ahead.{Ahead}
 use Rattle.grep_walk.specs.declared.look_ahead.Questions.{Questions}
 use Rattle.grep_walk.specs.declared.look_ahead.Questions.TheVariants.{ManyLines, OneLine}
+use Rattle.grep_walk.specs.declared.look_ahead.Reporting.{Reporting}
+use Rattle.grep_walk.specs.declared.look_ahead.Reporting.TheVariants.{AnyLines, MatchesAlone}
 use Rattle.grep_walk.specs.declared.walk.Walk.{Walk}
 
 -- whether the line that begins at a position matches, if that is known
@@ -66,6 +68,20 @@ pub record MayAskAhead (settings : Settings) (meaning : Meaning) (w : Walk) : Ty
   pub allowed : AsksAhead settings meaning
   pub room : has_room settings w.match_count ≡ true
   pub unstopped : stops_next settings (nat_lt 0 w.match_count) ≡ false
+
+-- a search reports the lines that match, and no others
+pub record ReportsMatchesAlone (settings : Settings) : Type 0 where
+  pub straight : settings.invert_match ≡ false
+  pub selective : settings.passthru ≡ false
+  pub unstopped : settings.stop_on_nonmatch ≡ false
+  pub unlimited : settings.max_matches ≡ None
+  pub none_before : settings.before_context ≡ 0
+  pub none_after : settings.after_context ≡ 0
+
+-- these are the lines that it reports
+abbrev pub IsReporting : Settings → Reporting → Type 0
+IsReporting settings MatchesAlone = ReportsMatchesAlone settings
+IsReporting settings AnyLines = Unit {0}
 
 -- whether a line that isn't chosen is neither reported nor ends the search
 abbrev pub passes_unchosen : Settings → Walk → Bool

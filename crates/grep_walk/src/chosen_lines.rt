@@ -2,12 +2,12 @@
 ghost use Rattle.std.specs.Prelude.{◌≡◌, ◌≤◌, ◌<◌, ◌+◌, ◌-◌, ◌^◌, length};
 ghost use Rattle.std.specs.Prelude.{IfSome};
 ghost use Rattle.grep_walk.specs.ChosenLines.{AreChosen, after_chosen, chooses_alone};
-ghost use Rattle.grep_walk.specs.LookAheads.{AreAllowed, IsBounded};
+ghost use Rattle.grep_walk.specs.LookAheads.{AreAllowed, IsBounded, IsReporting};
 ghost use Rattle.grep_walk.specs.Walks.{IsOrdered};
 
 use crate::config::Config;
 use crate::line_run::LineRun;
-use crate::look_ahead::{Ahead, Questions};
+use crate::look_ahead::{Ahead, Questions, Reporting};
 use crate::walk::Walk;
 use grep_matcher::Matcher;
 
@@ -16,24 +16,26 @@ impl Config {
     /// match: under inversion lines that are known not to match; else the line that is known to
     /// match, and those after it that do, if the matcher may be asked about many lines. They are
     /// one line, or 16 KiB at most. `None` if there are none. The caller ensures that a line of the
-    /// window begins at `start`.
+    /// window begins at `start`, and that these are the lines that this search reports.
     #[inline(always)]
     pub fn chosen_lines<M: Matcher>(
         &self,
         matcher: &M,
+        reporting: Reporting,
         questions: Questions,
         window: &[u8],
         start: usize,
         walk: &Walk,
         ahead: &Ahead,
     ) -> Option<LineRun>
+        requires reporting { IsReporting self.now reporting }
         requires allowed { AreAllowed self.now (M.facts matcher.now).meaning questions }
         requires bounded { IsBounded window.now ahead.now }
         requires inside { start ≤ length window.now }
         ensures { IfSome result (AreChosen self.now (M.facts matcher.now) window.now start ahead.now
             walk.now) }
     {
-        if !self.chooses_alone(walk) {
+        if !self.chooses_alone(reporting, walk) {
             return None;
         }
         let matches = ahead.known_at(start)?;
@@ -54,12 +56,18 @@ impl Config {
     }
 
     // Whether each chosen line makes no call but its match's from here on.
-    fn chooses_alone(&self, walk: &Walk) -> bool
+    fn chooses_alone(&self, reporting: Reporting, walk: &Walk) -> bool
+        requires { IsReporting self.now reporting }
         ensures { result ≡ chooses_alone self.now walk.now }
     {
-        self.max_matches.is_none()
-            && (walk.next_unreported == walk.line
-                || self.before_context == 0 && self.after_context == 0)
+        match reporting {
+            Reporting::MatchesAlone => true,
+            Reporting::AnyLines => {
+                self.max_matches.is_none()
+                    && (walk.next_unreported == walk.line
+                        || self.before_context == 0 && self.after_context == 0)
+            }
+        }
     }
 
     /// The walk after lines that are chosen from `start` on. The caller ensures that each has a byte,

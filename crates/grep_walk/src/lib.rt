@@ -20,5 +20,5 @@ mod walk;
 pub use blocks::Blocks;
 pub use config::Config;
 pub use line_run::LineRun;
-pub use look_ahead::{Ahead, NOTHING_AHEAD, Questions};
+pub use look_ahead::{Ahead, NOTHING_AHEAD, Questions, Reporting};
 pub use walk::{Verdict, WALK_START, Walk};

@@ -8,6 +8,7 @@ ghost use Rattle.grep_matcher.specs.Lawful.{IsInside, IsLawfulResult};
 ghost use Rattle.grep_matcher.specs.Meanings.{Meaning};
 ghost use Rattle.grep_definitions.specs.Plans.{IsLawful};
 ghost use Rattle.grep_walk.specs.LookAheads.{known_at, AreQuestions, IsBounded, IsExact, IsKnown};
+ghost use Rattle.grep_walk.specs.LookAheads.{IsReporting};
 ghost use Rattle.grep_walk.specs.LookAheads.{can_skip, passes_unchosen, skips, MayAskAhead};
 ghost use Rattle.grep_walk.specs.Walks.{skip_unmatched, IsOrdered};
 
@@ -23,6 +24,16 @@ pub enum Questions {
     OneLine,
     /// Many lines at once, too.
     ManyLines,
+}
+
+/// Which lines a search by line reports, as far as each step has to look at the settings for it.
+#[derive(Clone, Copy)]
+pub enum Reporting {
+    /// Those that match, and no others: no setting inverts, limits or ends the search, or has it
+    /// report lines besides.
+    MatchesAlone,
+    /// Any.
+    AnyLines,
 }
 
 /// What is known of the lines of a window from a walk's line on, by positions in the window.
@@ -88,6 +99,20 @@ impl Config {
         } else {
             Questions::OneLine
         }
+    }
+
+    /// Which lines a search by line reports: what its steps ask for, so that they look at the settings
+    /// once.
+    pub fn reporting(&self) -> Reporting
+        ensures { IsReporting self.now result }
+    {
+        if self.invert_match || self.passthru || self.stop_on_nonmatch {
+            return Reporting::AnyLines;
+        }
+        if self.max_matches.is_some() || self.before_context > 0 || self.after_context > 0 {
+            return Reporting::AnyLines;
+        }
+        Reporting::MatchesAlone
     }
 
     /// Learns more if nothing is known of the line at `start`, and the matcher may be asked about
@@ -174,16 +199,18 @@ impl Config {
     /// Skips the lines from `start` on that are known not to match, if none of them can be
     /// reported: moves the walk past them and returns where it is then, in bytes of the window.
     /// They are counted only if lines are numbered or have contexts. The caller ensures that
-    /// `start` is in the window, where the walk is, and that the offset of the window's end is
-    /// below 2^64.
+    /// `start` is in the window, where the walk is, that the offset of the window's end is below
+    /// 2^64, and that these are the lines that this search reports.
     #[inline(always)]
     pub fn skip_unmatched(
         &self,
+        reporting: Reporting,
         window: &[u8],
         start: usize,
         ahead: &Ahead,
         walk: &mut Walk,
     ) -> usize
+        requires reporting { IsReporting self.now reporting }
         requires bounded { IsBounded window.now ahead.now }
         requires inside { start ≤ length window.now }
         requires fits { walk.old.offset + (length window.now - start) < 2 ^ 64 }
@@ -198,11 +225,11 @@ impl Config {
         ensures low { start ≤ result }
         ensures within { result ≤ length window.now }
     {
-        if start >= ahead.candidate || !self.can_skip(walk) {
+        if start >= ahead.candidate || !self.can_skip(reporting, walk) {
             return start;
         }
         let skipped = &window[start..ahead.candidate];
-        if self.counts_lines() {
+        if self.counts_lines(reporting) {
             *walk = self.skip_lines(walk, skipped);
         } else {
             walk.offset += skipped.len() as u64;
@@ -211,10 +238,14 @@ impl Config {
     }
 
     // Whether a walk may skip lines that don't match.
-    fn can_skip(&self, walk: &Walk) -> bool
+    fn can_skip(&self, reporting: Reporting, walk: &Walk) -> bool
+        requires { IsReporting self.now reporting }
         ensures { result ≡ can_skip self.now walk.now }
     {
-        !self.hits_if(false) && self.passes_unchosen(walk)
+        match reporting {
+            Reporting::MatchesAlone => walk.after_context_left == 0,
+            Reporting::AnyLines => !self.hits_if(false) && self.passes_unchosen(walk),
+        }
     }
 
     // Whether a line that isn't chosen is neither reported nor ends the search.

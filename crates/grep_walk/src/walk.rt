@@ -9,10 +9,12 @@ ghost use Rattle.grep_definitions.specs.Plans.{has_room, hits_if, stops_next};
 ghost use Rattle.grep_definitions.specs.Searches.{IsClosed, reports_nothing};
 ghost use Rattle.grep_definitions.specs.LineCalls.{matches_line};
 ghost use Rattle.grep_definitions.specs.SearchLaws.{number_of};
+ghost use Rattle.grep_walk.specs.LookAheads.{IsReporting};
 ghost use Rattle.grep_walk.specs.Walks.{counts_lines, after_line, skip_lines, is_over, IsOrdered};
 ghost use Rattle.grep_walk.specs.Walks.{can_hit, chooses, trails, IsDecided};
 
 use crate::config::Config;
+use crate::look_ahead::Reporting;
 use grep_lines::{LineStep, line_count, without_terminator};
 use grep_matcher::Matcher;
 
@@ -124,10 +126,16 @@ impl Config {
     }
 
     // Whether lines are counted: if they are numbered, or reported around matches.
-    pub(crate) fn counts_lines(&self) -> bool
+    pub(crate) fn counts_lines(&self, reporting: Reporting) -> bool
+        requires { IsReporting self.now reporting }
         ensures { result ≡ counts_lines self.now }
     {
-        self.line_number || self.after_context > 0 || self.before_context > 0
+        match reporting {
+            Reporting::MatchesAlone => self.line_number,
+            Reporting::AnyLines => {
+                self.line_number || self.after_context > 0 || self.before_context > 0
+            }
+        }
     }
 
     /// Whether no line may be reported.
