@@ -111,11 +111,17 @@ impl<'c, A: Allocator + Copy, T: Configured> Search<'c, A, T> {
         ensures may_call { C.may_call sink.new }
     {
         if let Verdict::Trailing = verdict {
-            return self.sink_matched::<C>(window, start, end, walk, sink);
+            match self.sink_matched::<C>(window, start, end, walk, sink) {
+                Ok(goes_on) => return Ok(goes_on),
+                Err(error) => return Err(error),
+            }
         }
         let kind = SinkContextKind::After;
         let line = &window[start..end];
-        self.sink_context::<C>(kind, line, walk.offset, walk.line, sink)
+        match self.sink_context::<C>(kind, line, walk.offset, walk.line, sink) {
+            Ok(goes_on) => return Ok(goes_on),
+            Err(error) => return Err(error),
+        }
     }
 
     // Reports the lines before the chosen one that a walk is at, which begins at `start` of the
@@ -230,7 +236,10 @@ impl<'c, A: Allocator + Copy, T: Configured> Search<'c, A, T> {
         if !self.sink_break::<C>(has_break, sink)? {
             return Ok(false);
         }
-        self.sink_context::<C>(SinkContextKind::Before, line, offset, index, sink)
+        match self.sink_context::<C>(SinkContextKind::Before, line, offset, index, sink) {
+            Ok(goes_on) => return Ok(goes_on),
+            Err(error) => return Err(error),
+        }
     }
 
     // Reports the line that a walk is at, from `start` up to `end` of the window, as a match, and
