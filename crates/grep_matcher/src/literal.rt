@@ -1,5 +1,6 @@
 //! A pattern that matches a literal.
-ghost use Rattle.std.specs.Prelude.{◌≡◌, ◌≤◌, ℕ, IfOk, drop, length, slice_range};
+ghost use Rattle.std.specs.Prelude.{◌≡◌, ◌≤◌, ◌+◌, ℕ, IfOk, IfSome, drop, length, slice_range};
+ghost use Rattle.std.specs.Option.{option_map};
 ghost use Rattle.grep_matcher.specs.ByteSets.{holds};
 ghost use Rattle.grep_matcher.specs.FindResults.{Avoids, IsFrom, match_from};
 ghost use Rattle.grep_matcher.specs.Literals.{lacks, literal_match};
@@ -75,6 +76,19 @@ impl<'n> LiteralMatcher<'n> {
             finder: Finder::new(literal),
             probe: Probe::new(literal),
             absent: absent_from(literal),
+        }
+    }
+
+    /// Where the first match starts: as `find`, but for the end, with no room for an error.
+    #[inline]
+    pub fn find_start(&self, haystack: &[u8]) -> Option<usize>
+        ensures value { option_map (λ start. (start, start + length self.now)) result
+            ≡ literal_match self.now haystack.now }
+        ensures within { IfSome result (λ start. start + length self.now ≤ length haystack.now) }
+    {
+        match self.first(haystack) {
+            Some(start) => Some(start),
+            None => None,
         }
     }
 

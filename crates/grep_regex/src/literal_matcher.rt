@@ -88,8 +88,8 @@ impl LiteralRegexMatcher<'_> {
         occurrence(&self.literal, haystack, start)
     }
 
-    // Where the first match starts. It isn't inlined, which makes the loop of a search faster.
-    #[inline(never)]
+    // Where the first match starts.
+    #[inline]
     fn first_start(&self, haystack: &[u8]) -> Option<usize>
         ensures first { MatchOption result
             (regex_first_at self.now.regex.now haystack.now 0 ≡ None)
@@ -97,8 +97,8 @@ impl LiteralRegexMatcher<'_> {
             × (regex_first_at self.now.regex.now haystack.now 0 ≡ Some (start, end))) }
         ensures within { IfSome result (λ start. start ≤ length haystack.now) }
     {
-        match self.first_at(haystack, 0) {
-            Some((start, _)) => Some(start),
+        match self.literal.find_start(haystack) {
+            Some(start) => Some(start),
             None => None,
         }
     }
