@@ -86,10 +86,7 @@ impl<'n> LiteralMatcher<'n> {
             ≡ literal_match self.now haystack.now }
         ensures within { IfSome result (λ start. start + length self.now ≤ length haystack.now) }
     {
-        match self.first(haystack) {
-            Some(start) => Some(start),
-            None => None,
-        }
+        self.first(haystack)
     }
 
     // The position of the first occurrence. Most often it is near: then nothing is called, so that

@@ -97,10 +97,7 @@ impl LiteralRegexMatcher<'_> {
             × (regex_first_at self.now.regex.now haystack.now 0 ≡ Some (start, end))) }
         ensures within { IfSome result (λ start. start ≤ length haystack.now) }
     {
-        match self.literal.find_start(haystack) {
-            Some(start) => Some(start),
-            None => None,
-        }
+        self.literal.find_start(haystack)
     }
 }
 
