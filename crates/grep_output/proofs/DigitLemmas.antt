@@ -1,8 +1,8 @@
 -- Digits that are put into a text at a position.
-use Rattle.std.proofs.Common.{◌≡◌, ℕ, ◌+◌, ◌/◌, ◌%◌, ◌^◌, ◌<◌, ◌≤◌, List, [], ◌∷◌, ◌++◌, length, take, decimal}
-use Rattle.std.proofs.Common.{sym, ap, ◌∙◌, subst, append_assoc}
+use Rattle.std.proofs.Common.{◌≡◌, ℕ, ◌+◌, ◌-◌, ◌/◌, ◌%◌, ◌^◌, ◌<◌, ◌≤◌, List, [], ◌∷◌, ◌++◌, drop, length, take}
+use Rattle.std.proofs.Common.{arith, decimal, sym, ap, ◌∙◌, subst, append_assoc}
 use Rattle.std.proofs.Math.Seq.{take-append-add}
-use Rattle.std.proofs.lemmas.List.{length-take-le, take-append-le}
+use Rattle.std.proofs.lemmas.List.{drop-drop, length-take-le, take-append-le}
 use borrow.Rule.Slice.PartMut.{put_mid, post_of}
 use Rattle.itoa.proofs.Decimal.{pair, decimal_pair}
 
@@ -14,6 +14,14 @@ take-copied at count k xs ys within enough =
     (length-take-le at xs within)
     (take-append-add (take at xs) (ys ++ post_of at k xs) count
     ∙ ap (λ zs. take at xs ++ zs) (take-append-le count ys (post_of at k xs) enough))
+
+-- what is the same from a position on is so from a later one on
+pub same-later : (from later : ℕ) (xs ys : List ℕ) → from ≤ later → drop from xs ≡ drop from ys
+    → drop later xs ≡ drop later ys
+same-later from later xs ys passed same =
+    let past : from + (later - from) ≡ later = omega arith in
+    subst (λ n. drop n xs ≡ drop n ys) past
+    (sym (drop-drop (later - from) from xs) ∙ (ap (drop (later - from)) same ∙ drop-drop (later - from) from ys))
 
 -- a number's hundreds, the two digits after them and a mark
 pub marked : (front : List ℕ) (n mark : ℕ) → 100 ≤ n → n < 2 ^ 64

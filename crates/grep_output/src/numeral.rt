@@ -1,6 +1,6 @@
 //! Numbers in decimal, put into a text one after another.
 ghost use Rattle.std.specs.Prelude.{◌≡◌, ◌+◌, ◌/◌, ◌%◌, ◌<◌, ◌≤◌, ◌^◌, [], ◌∷◌, ◌++◌, length, take};
-ghost use Rattle.std.specs.Prelude.{decimal};
+ghost use Rattle.std.specs.Prelude.{decimal, drop};
 ghost use Rattle.grep_output.specs.Outputs.{Writes};
 
 use crate::output::{Output, write_all};
@@ -46,13 +46,15 @@ impl Numeral {
     }
 
     /// Puts a number and a mark into a text at a position, and returns the position after them. What
-    /// comes after is overwritten. The caller ensures that there is room for `MARKED_LEN` bytes.
+    /// comes after is overwritten, within `MARKED_LEN` bytes from the position on: the caller ensures
+    /// that there are as many, and those after them stay.
     #[inline]
     pub fn put(&mut self, number: u64, mark: u8, text: &mut [u8], at: usize) -> usize
         requires { at + 21 ≤ length text.old }
         ensures end { result ≡ at + length (decimal number) + 1 }
         ensures room { result ≤ at + 21 }
         ensures text { take result text.new ≡ take at text.old ++ (decimal number ++ mark ∷ []) }
+        ensures rest { drop (at + 21) text.new ≡ drop (at + 21) text.old }
     {
         if number < 100 {
             return put_few(number, mark, text, at);
@@ -105,6 +107,7 @@ fn put_few(number: u64, mark: u8, text: &mut [u8], at: usize) -> usize
     ensures end { result ≡ at + length (decimal number) + 1 }
     ensures room { result ≤ at + 3 }
     ensures text { take result text.new ≡ take at text.old ++ (decimal number ++ mark ∷ []) }
+    ensures rest { drop (at + 3) text.new ≡ drop (at + 3) text.old }
 {
     if number >= 10 {
         put_pair(number, mark, text, at);
@@ -120,8 +123,9 @@ fn put_few(number: u64, mark: u8, text: &mut [u8], at: usize) -> usize
 fn put_pair(number: u64, mark: u8, text: &mut [u8], at: usize)
     requires few { number < 100 }
     requires room { at + 3 ≤ length text.old }
-    ensures { take (at + 3) text.new
+    ensures text { take (at + 3) text.new
         ≡ take at text.old ++ (48 + number / 10) ∷ (48 + number % 10) ∷ mark ∷ [] }
+    ensures rest { drop (at + 3) text.new ≡ drop (at + 3) text.old }
 {
     text[at] = b'0' + (number / 10) as u8;
     text[at + 1] = b'0' + (number % 10) as u8;

@@ -9,7 +9,7 @@ returns-then-number-ge10-clause-end c = omega (arith, length_two c.args.number c
 
 pub returns-then-number-ge10-clause-text : goal.returns-then-number-ge10-clause-text
 returns-then-number-ge10-clause-text c = rw (decimal_two c.args.number c.if-number-ge10.true c.requires.few)
-    c.put_pair.ensures
+    c.put_pair.ensures.text
 
 pub returns-clause-end : goal.returns-clause-end
 returns-clause-end c = omega (arith, length_one c.args.number (omega arith))
