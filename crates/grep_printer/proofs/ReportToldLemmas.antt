@@ -1,8 +1,8 @@
 -- What the message of a report tells of it.
 use Rattle.std.proofs.Common.{◌≡◌, ◌≢◌, ◌∙◌, ℕ, ◌<◌, ◌^◌, List, [], ◌∷◌, Bool, true, false, Option, None, Some, ap}
-use Rattle.std.proofs.Common.{ap₂, arith, length, map, refl, sym}
+use Rattle.std.proofs.Common.{ap₂, arith, length, refl, subst, sym}
 use Rattle.std.proofs.lemmas.Fmt.{decimal_injective}
-use Rattle.std.proofs.lemmas.List.Elements.{All-head, All-tail}
+use Rattle.std.proofs.lemmas.List.Elements.{All-cons, All-head, All-nil, All-tail}
 use Rattle.std.specs.Borrow.{Bor}
 use Rattle.std.specs.Option.{IfSome}
 use Rattle.std.specs.Prelude.{All, codes, decimal, if◌then◌else◌}
@@ -11,7 +11,8 @@ use Rattle.base64.proofs.EngineFacts.{decode_of-encode_of}
 use Rattle.base64.specs.Engines.{standard}
 use Rattle.base64.specs.GeneralPurpose.{IsBytes, decode_of, encode_of}
 use Rattle.json.specs.Json.{Json, Members, member, no_members}
-use Rattle.grep_printer.specs.JsonLaws.{BeginsTell, IsWordRange, MessagesTell, Reported, message_of_report}
+use Rattle.grep_printer.specs.JsonLaws.{AreSameTexts, BeginsTell, IsWordRange, MessagesTell, Reported}
+use Rattle.grep_printer.specs.JsonLaws.{message_of_report}
 use Rattle.grep_printer.specs.JsonLaws.{path_text}
 use Rattle.grep_printer.specs.JsonMessages.{base64_json, begin_json, bytes_json, number_json, optional_json, path_json}
 use Rattle.grep_printer.specs.JsonMessages.{report_json, submatch_items, submatch_json, text_json}
@@ -69,55 +70,54 @@ places-told a b first later starts ends =
     ap₂ (λ (m n : ℕ). (m, n)) (decimal_injective a.0 b.0 first.0 later.0 starts)
     (decimal_injective a.1 b.1 first.1 later.1 ends)
 
-range-told : (bytes others : List ℕ) (text other : Option (List ℕ)) (a b : ℕ × ℕ) → IfSome text IsBytes
-    → IfSome other IsBytes → IsWordRange a → IsWordRange b
-    → submatch_json bytes text a ≡ submatch_json others other b → (text ≡ other) × (a ≡ b)
+range-told : (bytes others : List ℕ) (text other : Option (List ℕ)) (a b : ℕ × ℕ) → IsWordRange a → IsWordRange b
+    → submatch_json bytes text a ≡ submatch_json others other b → AreSameTexts text other × (a ≡ b)
 unfolding submatch_json
-range-told bytes others None None a b is also first later same =
+range-told bytes others None None a b first later same =
     let starts : decimal a.0 ≡ decimal b.0 = cc in
     let ends : decimal a.1 ≡ decimal b.1 = cc in
-    (refl, places-told a b first later starts ends)
-range-told bytes others (Some text) None a b is also first later same =
+    (tt, places-told a b first later starts ends)
+range-told bytes others (Some text) None a b first later same =
     let members : member (codes "replacement") (bytes_json text) (positions_json a) ≡ positions_json b = cc in
     absurd (place-other text _ _ (number_json b.0) members)
-range-told bytes others None (Some other) a b is also first later same =
+range-told bytes others None (Some other) a b first later same =
     let members : member (codes "replacement") (bytes_json other) (positions_json b) ≡ positions_json a = cc in
     absurd (place-other other _ _ (number_json a.0) members)
-range-told bytes others (Some text) (Some other) a b is also first later same =
+range-told bytes others (Some text) (Some other) a b first later same =
     let texts : bytes_json text ≡ bytes_json other = cc in
     let starts : decimal a.0 ≡ decimal b.0 = cc in
     let ends : decimal a.1 ≡ decimal b.1 = cc in
-    (ap Some (bytes-told text other is also texts), places-told a b first later starts ends)
+    (λ is also. bytes-told text other is also texts, places-told a b first later starts ends)
 
 ranges-told : (bytes others : List ℕ) (text_at other_at : ℕ → Option (List ℕ)) (a b : List (ℕ × ℕ))
-    → ((position : ℕ) → IfSome (text_at position) IsBytes) → ((position : ℕ) → IfSome (other_at position) IsBytes)
     → All IsWordRange a → All IsWordRange b → submatch_items bytes text_at a ≡ submatch_items others other_at b
-    → (map (λ range. text_at range.0) a ≡ map (λ range. other_at range.0) b) × (a ≡ b)
-ranges-told bytes others text_at other_at [] [] is also first later same = (refl, refl)
-ranges-told bytes others text_at other_at [] (y ∷ b) is also first later same = absurd cc
-ranges-told bytes others text_at other_at (x ∷ a) [] is also first later same = absurd cc
-ranges-told bytes others text_at other_at (x ∷ a) (y ∷ b) is also first later same =
+    → All (λ range. AreSameTexts (text_at range.0) (other_at range.0)) a × (a ≡ b)
+ranges-told bytes others text_at other_at [] [] first later same = (All-nil _, refl)
+ranges-told bytes others text_at other_at [] (y ∷ b) first later same = absurd cc
+ranges-told bytes others text_at other_at (x ∷ a) [] first later same = absurd cc
+ranges-told bytes others text_at other_at (x ∷ a) (y ∷ b) first later same =
     let one : submatch_json bytes (text_at x.0) x ≡ submatch_json others (other_at y.0) y = cc in
     let more : submatch_items bytes text_at a ≡ submatch_items others other_at b = cc in
-    let here = range-told bytes others (text_at x.0) (other_at y.0) x y (is x.0) (also y.0)
-    (All-head IsWordRange x a first) (All-head IsWordRange y b later) one in
-    let rest = ranges-told bytes others text_at other_at a b is also (All-tail IsWordRange x a first)
+    let here = range-told bytes others (text_at x.0) (other_at y.0) x y (All-head IsWordRange x a first)
+    (All-head IsWordRange y b later) one in
+    let rest = ranges-told bytes others text_at other_at a b (All-tail IsWordRange x a first)
     (All-tail IsWordRange y b later) more in (
-      ap₂ (λ (t : Option (List ℕ)) (ts : List (Option (List ℕ))). t ∷ ts) here.0 rest.0,
+      All-cons (λ range. AreSameTexts (text_at range.0) (other_at range.0)) x a
+          (subst (λ range. AreSameTexts (text_at x.0) (other_at range.0)) (sym here.1) here.0) rest.0,
       ap₂ (λ (z : ℕ × ℕ) (c : List (ℕ × ℕ)). z ∷ c) here.1 rest.1,
     )
 
 -- all of a report
 pub messages-tell : MessagesTell
 unfolding report_json
-messages-tell a b first later is also same =
+messages-tell a b first later same =
     let path : path_json a.path ≡ path_json b.path = cc in
     let bytes : bytes_json a.bytes ≡ bytes_json b.bytes = cc in
     let number : optional_json a.number ≡ optional_json b.number = cc in
     let offset : decimal a.offset ≡ decimal b.offset = cc in
     let items : submatch_items a.bytes a.text_at a.ranges ≡ submatch_items b.bytes b.text_at b.ranges = cc in
-    let ranges = ranges-told a.bytes b.bytes a.text_at b.text_at a.ranges b.ranges is also
-    first.ranges later.ranges items in
+    let ranges = ranges-told a.bytes b.bytes a.text_at b.text_at a.ranges b.ranges first.ranges
+    later.ranges items in
     record {
       type = cc;
       path = path-told a.path b.path path;

@@ -5,8 +5,6 @@ use Rattle.std.proofs.lemmas.List.{append-nil, same_from_push}
 use Rattle.std.proofs.lemmas.List.Elements.{All-append, All-cons, All-head, All-map, All-nil, All-tail, All-weaker}
 use Rattle.std.specs.Borrow.{Bor}
 use Rattle.std.specs.List.{AllZip, flat_map, fold, list_any}
-use Rattle.std.specs.Option.{IfSome}
-use Rattle.base64.specs.GeneralPurpose.{IsBytes}
 use Rattle.std.specs.Prelude.{All, ◌&&◌, ◌||◌, if◌then◌else◌, not}
 use Rattle.json.specs.Json.{Json, document}
 use Rattle.grep_matcher.proofs.LineLemmas.{lines-end, lines-inner}
@@ -15,7 +13,7 @@ use Rattle.grep_searcher.specs.Plans.{Call, begins, matches, context, breaks, bi
 use Rattle.grep_printer.proofs.ReadBackLemmas.{messages-read-back}
 use Rattle.grep_printer.proofs.ReportToldLemmas.{begin-other, messages-tell}
 use Rattle.grep_printer.specs.Formats.{PrintedCall, Scene, Surroundings, printed_by, printed_with}
-use Rattle.grep_printer.specs.JsonLaws.{HasByteTexts, IsLineOf, IsReport, IsSameReport, IsWordRange, Reported}
+use Rattle.grep_printer.specs.JsonLaws.{IsLineOf, IsReport, IsSameReport, IsWordRange, Reported}
 use Rattle.grep_printer.specs.JsonLaws.{message_of_report}
 use Rattle.grep_printer.specs.JsonMessages.{begin_json, json_line}
 use Rattle.grep_printer.specs.JsonTexts.{json_progress, json_rules, json_text, with_text}
@@ -205,42 +203,18 @@ messages-read always path text_at begun calls has =
         (messages-read-back.begin path) (All-nil (λ m. IsLineOf m (json_line m)))
     opening false = All-nil (λ m. IsLineOf m (json_line m))
 
--- what their matches would be replaced by are bytes
-call-texts : (path : Option (Bor (List ℕ))) (text_at : CallTextAt) (around : Surroundings) (call : Call)
-    (parts : List (ℕ × ℕ)) → ((around : Surroundings) (call : Call) (position : ℕ)
-    → IfSome (text_at around call position) IsBytes) → All HasByteTexts (report_in path text_at around call parts)
-call-texts path text_at around begins parts are = All-nil HasByteTexts
-call-texts path text_at around (matches number offset bytes) parts are =
-    All-cons HasByteTexts _ [] (are around (matches number offset bytes)) (All-nil HasByteTexts)
-call-texts path text_at around (context kind number offset bytes) parts are =
-    All-cons HasByteTexts _ [] (are around (context kind number offset bytes)) (All-nil HasByteTexts)
-call-texts path text_at around breaks parts are = All-nil HasByteTexts
-call-texts path text_at around (binary_data offset) parts are = All-nil HasByteTexts
-call-texts path text_at around (finishes count binary) parts are = All-nil HasByteTexts
-
-calls-texts : (path : Option (Bor (List ℕ))) (text_at : CallTextAt) (calls : List PrintedCall)
-    → ((around : Surroundings) (call : Call) (position : ℕ) → IfSome (text_at around call position) IsBytes)
-    → All HasByteTexts (reports_of path text_at calls)
-calls-texts path text_at [] are = All-nil HasByteTexts
-calls-texts path text_at (printed ∷ later) are =
-    All-append HasByteTexts (report_in path text_at printed.around printed.call printed.parts)
-    (reports_of path text_at later) (call-texts path text_at printed.around printed.call printed.parts are)
-    (calls-texts path text_at later are)
-
 -- ---- what the messages tell
 
 reports-same : (first later : List Reported) → All IsReport first → All IsReport later
-    → All HasByteTexts first → All HasByteTexts later
     → map message_of_report first ≡ map message_of_report later → AllZip IsSameReport first later
-reports-same [] [] one two is also same = tt
-reports-same [] (b ∷ later) one two is also same = absurd cc
-reports-same (a ∷ first) [] one two is also same = absurd cc
-reports-same (a ∷ first) (b ∷ later) one two is also same =
+reports-same [] [] one two same = tt
+reports-same [] (b ∷ later) one two same = absurd cc
+reports-same (a ∷ first) [] one two same = absurd cc
+reports-same (a ∷ first) (b ∷ later) one two same =
     let head : message_of_report a ≡ message_of_report b = cc in let tail : map message_of_report first ≡ map message_of_report later = cc in (
       messages-tell a b (All-head IsReport a first one) (All-head IsReport b later two)
-          (All-head HasByteTexts a first is) (All-head HasByteTexts b later also) head,
-      reports-same first later (All-tail IsReport a first one) (All-tail IsReport b later two)
-          (All-tail HasByteTexts a first is) (All-tail HasByteTexts b later also) tail,
+          head,
+      reports-same first later (All-tail IsReport a first one) (All-tail IsReport b later two) tail,
     )
 
 -- `begin` is no report's
@@ -251,14 +225,13 @@ begin-alone path first (b ∷ later) same = let head : begin_json path ≡ messa
 
 messages-same : (due also : Bool) (path other : Option (Bor (List ℕ))) (first later : List Reported)
     → All IsReport first → All IsReport later
-    → All HasByteTexts first → All HasByteTexts later
     → (if due then begin_json path ∷ [] else []) ++ map message_of_report first
     ≡ (if also then begin_json other ∷ [] else []) ++ map message_of_report later → AllZip IsSameReport first later
-messages-same true true path other first later one two is also same =
-    let tail : map message_of_report first ≡ map message_of_report later = cc in reports-same first later one two is also tail
-messages-same true false path other first later one two is also same = absurd (begin-alone path first later same)
-messages-same false true path other first later one two is also same = absurd (begin-alone other later first (sym same))
-messages-same false false path other first later one two is also same = reports-same first later one two is also same
+messages-same true true path other first later one two same =
+    let tail : map message_of_report first ≡ map message_of_report later = cc in reports-same first later one two tail
+messages-same true false path other first later one two same = absurd (begin-alone path first later same)
+messages-same false true path other first later one two same = absurd (begin-alone other later first (sym same))
+messages-same false false path other first later one two same = reports-same first later one two same
 
 pub searches-read : {R : Type 0} (text_at : R → TextAt) → SearchesAreReadBack text_at
 searches-read text_at format scene calls has =
@@ -269,7 +242,7 @@ searches-read text_at format scene calls has =
     (messages-read format.always_begin_end scene.path texts format.progress.is_begun calls has)
 
 pub searches-tell : {R : Type 0} (text_at : R → TextAt) → SearchesTell text_at
-searches-tell text_at format other scene another calls others has also are be same =
+searches-tell text_at format other scene another calls others has also same =
     let first = texts_of text_at format scene in
     let second = texts_of text_at other another in
     let one = searches-read text_at format scene calls has in
@@ -279,7 +252,6 @@ searches-tell text_at format other scene another calls others has also are be sa
     (not other.progress.is_begun && list_any (λ p. opens other.always_begin_end p.call) others)
     scene.path another.path (reports_of scene.path first calls) (reports_of another.path second others)
     (calls-words scene.path first calls has) (calls-words another.path second others also)
-    (calls-texts scene.path first calls are) (calls-texts another.path second others be)
     (lines-tell (messages_of format.always_begin_end scene.path first format.progress.is_begun calls)
     (messages_of other.always_begin_end another.path second other.progress.is_begun others)
     (lines 10 (printed_by (json_rules text_at) scene format calls).text) one.read

@@ -1,5 +1,5 @@
 -- What a reader of JSON makes of the messages of a printer.
-use Rattle.std.specs.Prelude.{◌≡◌, ◌≢◌, ℕ, ◌<◌, ◌^◌, All, List, [], ◌∷◌, ◌++◌, map, Option, None, Some}
+use Rattle.std.specs.Prelude.{◌≡◌, ◌≢◌, ℕ, ◌<◌, ◌^◌, All, List, [], ◌∷◌, ◌++◌, Option, None, Some}
 use Rattle.std.specs.Borrow.{Bor}
 use Rattle.std.specs.Option.{IfSome}
 use Rattle.base64.specs.GeneralPurpose.{IsBytes}
@@ -47,10 +47,6 @@ pub record IsReport (report : Reported) : Type 0 where
   pub offset : report.offset < 2 ^ 64
   pub ranges : All IsWordRange report.ranges
 
--- what its matches would be replaced by are bytes
-abbrev pub HasByteTexts : Reported → Type 0
-HasByteTexts report = (position : ℕ) → IfSome (report.text_at position) IsBytes
-
 -- its message
 abbrev pub message_of_report : Reported → Json
 message_of_report report =
@@ -62,6 +58,12 @@ abbrev pub path_text : Option (Bor (List ℕ)) → Option (List ℕ)
 path_text None = None
 path_text (Some path) = Some path.now
 
+-- there are two texts, which are the same if they are bytes, or there is neither
+abbrev pub AreSameTexts : Option (List ℕ) → Option (List ℕ) → Type 0
+AreSameTexts None None = Unit {0}
+AreSameTexts (Some a) (Some b) = IsBytes a → IsBytes b → a ≡ b
+AreSameTexts a b = ⊥
+
 -- two reports are the same
 pub record IsSameReport (a b : Reported) : Type 0 where
   pub type : a.type ≡ b.type
@@ -69,8 +71,8 @@ pub record IsSameReport (a b : Reported) : Type 0 where
   pub bytes : a.bytes ≡ b.bytes
   pub number : a.number ≡ b.number
   pub offset : a.offset ≡ b.offset
-  pub texts : map (λ range. a.text_at range.0) a.ranges ≡ map (λ range. b.text_at range.0) b.ranges
   pub ranges : a.ranges ≡ b.ranges
+  pub texts : All (λ range. AreSameTexts (a.text_at range.0) (b.text_at range.0)) a.ranges
 
 -- the lines of messages are read back as these messages
 pub record MessagesAreReadBack : Type 0 where
@@ -87,8 +89,8 @@ pub record MessagesAreReadBack : Type 0 where
 -- a message tells all of its report: no other report has it
 abbrev pub MessagesTell : Type 0
 MessagesTell =
-    (a b : Reported) → IsReport a → IsReport b → HasByteTexts a → HasByteTexts b
-    → message_of_report a ≡ message_of_report b → IsSameReport a b
+    (a b : Reported) → IsReport a → IsReport b → message_of_report a ≡ message_of_report b
+    → IsSameReport a b
 
 -- the message that begins a search tells its path, and is that of no report
 pub record BeginsTell : Type 0 where

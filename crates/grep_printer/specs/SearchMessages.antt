@@ -118,18 +118,11 @@ module _ {R : Type 0} (text_at : R → TextAt) where
       → AreReadBack (messages_of format.always_begin_end scene.path (texts_of format scene)
       format.progress.is_begun calls) (printed_by (json_rules text_at) scene format calls).text
 
-  -- what matches would be replaced by are bytes
-  abbrev pub HaveByteTexts : JsonFormat R → Scene → Type 0
-  HaveByteTexts format scene =
-      (around : Surroundings) (call : Call) (position : ℕ)
-      → IfSome (texts_of format scene around call position) IsBytes
-
   -- the text of a search tells its reports: any search with this text has the same ones
   abbrev pub SearchesTell : Type 0
   SearchesTell =
       (format other : JsonFormat R) (scene another : Scene) (calls others : List PrintedCall)
       → All HasPrintedWords calls → All HasPrintedWords others
-      → HaveByteTexts format scene → HaveByteTexts other another
       → (printed_by (json_rules text_at) scene format calls).text
       ≡ (printed_by (json_rules text_at) another other others).text
       → AllZip IsSameReport (reports_of scene.path (texts_of format scene) calls)

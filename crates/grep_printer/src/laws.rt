@@ -43,10 +43,11 @@ pub fn messages_are_read_back()
 
 /// The text of a whole search, split after each line feed, has a line for each of the messages of
 /// its calls, in order, which is read as this message: for `begin`, if it is due and wasn't written
-/// before, and for each match and each context line. So the text tells all of its reports: no
-/// search that reports anything else has it. What the calls report are numbers of 64 bits, and
-/// bytes, as it is for the plan of a search of bytes, fewer than the greatest such number, under
-/// any binary detection; then the positions of the matches in it are such numbers too.
+/// before, and for each match and each context line. So the text tells all of its reports, and what
+/// their matches would be replaced by, if that is bytes: no search that reports anything else has
+/// it. What the calls report are numbers of 64 bits, and bytes, as it is for the plan of a search of
+/// bytes, fewer than the greatest such number, under any binary detection; then the positions of the
+/// matches in it are such numbers too.
 pub fn searches_are_read_back<R: Replacer>()
     ensures read { SearchesAreReadBack R.text_at }
     ensures tell { SearchesTell R.text_at }
