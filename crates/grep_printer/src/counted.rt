@@ -27,8 +27,8 @@ pub struct CountedFormat<F> {
 }
 
 impl<F> Printer<F> {
-    /// The printer, which has written nothing yet, and which also counts what it finds and writes
-    /// in each search if `is_counting` is set.
+    /// The printer, with what it keeps and has written, which also counts what it finds and writes in
+    /// each search from now on if `is_counting` is set.
     pub fn counting(self, is_counting: bool) -> Printer<CountedFormat<F>>
         ensures pending { pending_bytes result.pending ≡ pending_bytes self.pending }
         ensures format { result.format ≡ record {

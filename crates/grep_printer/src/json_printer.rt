@@ -59,7 +59,8 @@ impl JsonBuilder {
         self
     }
 
-    /// A printer with these settings. It takes memory from `alloc` when it writes.
+    /// A printer with these settings, which has written nothing yet. It takes memory from `alloc`
+    /// when it writes.
     pub fn build(&self, alloc: Global) -> Json
         ensures pending { pending_bytes result.pending ≡ [] }
         ensures buffer_size { result.buffer_size ≡ 65536 }
@@ -70,8 +71,9 @@ impl JsonBuilder {
         self.build_with(alloc, NoReplacer)
     }
 
-    /// A printer with these settings, of which the messages of reports also have what each match
-    /// would be replaced by. It takes memory from `alloc` when it writes.
+    /// A printer with these settings, which has written nothing yet, and of which the messages of
+    /// reports also have what each match would be replaced by. It takes memory from `alloc` when it
+    /// writes.
     pub fn build_with<R>(&self, alloc: Global, replacer: R) -> Printer<JsonFormat<R>>
         ensures pending { pending_bytes result.pending ≡ [] }
         ensures buffer_size { result.buffer_size ≡ 65536 }

@@ -25,10 +25,10 @@ pub struct ReplacedFormat<'t, F, M> {
 }
 
 impl<F> Printer<F> {
-    /// The printer, which has written nothing yet, with each part that matches replaced by what a
-    /// template makes of its groups: each sink has to be for the search with this matcher. Where a
-    /// report would then be too long to have an offset of 64 bits, that counts as being out of
-    /// memory.
+    /// The printer, with what it keeps and has written, by which from now on each part that matches is
+    /// replaced by what a template makes of its groups: each sink has to be for the search with this
+    /// matcher. Where a report would then be too long to have an offset of 64 bits, that counts as
+    /// being out of memory.
     pub fn replacing<'t, M>(
         self,
         matcher: M,

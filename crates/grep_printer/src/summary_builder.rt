@@ -102,8 +102,8 @@ impl<'c> SummaryBuilder<'c> {
         }
     }
 
-    /// A printer with these settings. It takes memory from `alloc` when it writes, and when it
-    /// counts the parts of a match.
+    /// A printer with these settings, which has written nothing yet. It takes memory from `alloc`
+    /// when it writes, and when it counts the parts of a match.
     pub fn build(&self, alloc: Global) -> Summary<'c>
         ensures pending { pending_bytes result.pending ≡ [] }
         ensures buffer_size { result.buffer_size ≡ 65536 }

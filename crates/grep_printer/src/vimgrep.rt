@@ -31,9 +31,10 @@ pub struct VimgrepFormat<'c> {
 }
 
 impl<'c> StandardBuilder<'c> {
-    /// A printer that writes for each part that matches the line in which it starts, after the path,
-    /// the line's number, the part's column in it if `column` is set, and its offset if
-    /// `byte_offset` is. The settings `heading` and `only_matching` don't count.
+    /// A printer that has written nothing yet, and writes for each part that matches the line in
+    /// which it starts, after the path, the line's number, the part's column in it if `column` is
+    /// set, and its offset if `byte_offset` is. The settings `heading` and `only_matching` don't
+    /// count.
     pub fn build_vimgrep(&self, alloc: Global) -> Vimgrep<'c>
         ensures pending { pending_bytes result.pending ≡ [] }
         ensures buffer_size { result.buffer_size ≡ 65536 }
