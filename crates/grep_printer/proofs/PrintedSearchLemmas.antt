@@ -1,16 +1,19 @@
 -- A search of a source with the sink of a printer has written the texts of its calls.
 use Rattle.std.proofs.Common.{◌≡◌, ℕ, Bool, true, false, List, Option, None, Some, Result, Ok, Err, length, refl, subst, sym, inl, inr}
 use Rattle.std.specs.Global.{Global}
+use Rattle.std.specs.Prelude.{OnOk}
 use Rattle.std.specs.declared.io.Error.{Error}
 use Rattle.grep_output.specs.Outputs.{OutputCall}
 use Rattle.grep_printer.proofs.WalkLemmas.{calls-print, run-fails, run-prints}
-use Rattle.grep_printer.specs.Formats.{Rules}
-use Rattle.grep_printer.specs.PrinterSteps.{IsSameSink, PrintsCall}
+use Rattle.grep_printer.specs.Formats.{PrintedCall, Rules, goes_on_after_each}
+use Rattle.grep_printer.specs.PrinterSteps.{IsSameSink, PrintsCall, scene_of}
 use Rattle.grep_printer.specs.declared.printer.PrinterSink.{PrinterSink}
 use Rattle.grep_searcher.specs.Meanings.{MatcherFacts}
-use Rattle.grep_searcher.specs.Plans.{Call, IsAskedWith, IsRun, Plan, Planned, SearcherState, Settings, refusal_of}
+use Rattle.grep_searcher.specs.Plans.{Call, IsAskedWith, IsRun, Plan, Planned, SearcherState, Settings, all_true}
+use Rattle.grep_searcher.specs.Plans.{finish_after, is_across, refusal_of}
 use Rattle.grep_searcher.specs.Plans.{search_plan}
-use Rattle.grep_searcher.specs.Searches.{GoesOnWith, IsCut, IsCutSearch, IsPoint, IsRead, IsReaderSearch, IsReaderSearched}
+use Rattle.grep_searcher.specs.Searches.{EachAsked, EachPoint, GoesOnWith, HasReadLines, IsAllSeen, IsCut, IsCutSearch, IsPoint}
+use Rattle.grep_searcher.specs.Searches.{IsRead, IsReaderSearched, quits}
 use Rattle.grep_searcher.specs.Searches.{IsSearchOf, IsUnlessRefusedBy, Look, Points, asked, calls_with, look_of, plan_with, ran, view_in}
 use Rattle.grep_searcher.specs.Searches.{HasBegun, IsInOrder, IsInputOf, asked_in_order, ran_in_order, read_in_order, viewed_plan}
 use Rattle.grep_searcher.specs.SinkFolds.{InputsAreSearched}
@@ -18,7 +21,8 @@ use Rattle.grep_searcher.specs.Source.{ReadResult}
 use Rattle.grep_searcher.specs.declared.ConfigError.{ConfigError}
 use Rattle.grep_searcher.specs.declared.SearchError.{SearchError}
 use Rattle.grep_searcher.specs.declared.SearchError.TheVariants.{Io}
-use Rattle.grep_printer.specs.PrintedSearches.{IsInputPrinted, IsSearchPrinted, IsSourcePrinted, PrintsFirst}
+use Rattle.grep_printer.specs.PrintedSearches.{IsAllSeenAfter, IsInputPrinted, IsPlanPrinted, IsPointOfAll, IsSearchPrinted}
+use Rattle.grep_printer.specs.PrintedSearches.{IsSeenSearch, IsSourcePrinted, PrintsFirst}
 use Rattle.grep_printer.specs.PrintedSearches.{PrintsPlan, of_input, of_matcher, of_plan, of_reading, search_errors}
 
 module _ {F M W E : Type 0} (rules : Rules F) (output : E → Option (List ℕ)) (facts : M → MatcherFacts E)
@@ -26,14 +30,18 @@ module _ {F M W E : Type 0} (rules : Rules F) (output : E → Option (List ℕ))
   abbrev StepOf : PrinterSink F M W → Settings → Call → Result Bool (SearchError Global) → PrinterSink F M W → Type 0
   StepOf = PrintsCall rules output facts first_at write_step
 
-  -- a run along a plan
-  plan-printed : (settings : Settings) (old : PrinterSink F M W) (plan : Plan)
+  -- a run along a plan, of whose calls more is known if all were made
+  plan-printed : (Known : Plan → List PrintedCall → Type 0) (settings : Settings) (old : PrinterSink F M W) (plan : Plan)
       (result : Result (Unit {0}) (SearchError Global)) (new : PrinterSink F M W)
-      → IsRun StepOf settings old plan result new
-      → PrintsPlan rules output facts first_at write_step old settings plan result new
-  plan-printed settings old plan (Ok u) new run =
-      run-prints rules output facts first_at write_step settings old plan new run
-  plan-printed settings old plan (Err e) new run =
+      (run : IsRun StepOf settings old plan result new)
+      → ((printed : List PrintedCall)
+      → (goes_on_after_each rules (scene_of old settings) old.format printed ≡ true → run.outcome ≡ all_true)
+      → Known plan printed)
+      → PrintsPlan rules output facts first_at write_step Known old settings plan result new
+  plan-printed Known settings old plan (Ok u) new run known =
+      let end = run-prints rules output facts first_at write_step settings old plan new run in
+      (end.0, end.1, end.2, known end.0 end.3)
+  plan-printed Known settings old plan (Err e) new run known =
       run-fails rules output facts first_at write_step settings old plan e new run
 
   -- some first calls
@@ -53,8 +61,8 @@ module _ {F M W E : Type 0} (rules : Rules F) (output : E → Option (List ℕ))
       (viewed_plan settings (facts old.matcher).meaning look bytes) old result new
       → IsInputPrinted rules output facts first_at write_step settings look bytes count old result new
   input-printed settings look bytes count old result new (ran point at run read) =
-      of_plan point at (plan-printed settings old (plan_with settings.binary_detection point
-      (viewed_plan settings (facts old.matcher).meaning look bytes)) result new run)
+      of_plan point at (plan-printed (λ plan printed. Unit {0}) settings old (plan_with settings.binary_detection point
+      (viewed_plan settings (facts old.matcher).meaning look bytes)) result new run (λ printed whole. tt))
   input-printed settings look bytes count old (Err e) new (asked haystack error calls is_asked fails message goes) =
       of_matcher haystack error calls is_asked fails message (first-printed settings old
       (IsPoint settings (facts old.matcher).meaning bytes look count) calls new goes)
@@ -67,12 +75,44 @@ module _ {F M W E : Type 0} (rules : Rules F) (output : E → Option (List ℕ))
     abbrev look : Look
     look = look_of state.settings (facts old.matcher).meaning false
 
+    abbrev Search : Result (Unit {0}) (SearchError Global) → Type 0
+    Search result =
+        IsSeenSearch rules output facts first_at write_step remaining read_step state reader old result reader' new
+
+    -- what was seen, along its plan
+    plan-seen : (result : Result (Unit {0}) (SearchError Global)) (search : Search result)
+        → IsSearchOf StepOf (search_errors output) (facts old.matcher) state.settings
+        (EachPoint remaining read_step StepOf (search_errors output) (facts old.matcher) state look
+        (IsInputOf remaining read_step search.taken state.settings) (length search.seen))
+        (EachAsked remaining read_step StepOf (search_errors output) (facts old.matcher) state look
+        (IsInputOf remaining read_step search.taken state.settings) search.seen)
+        (λ plan outcome ended. (outcome ≡ all_true
+        → (quits state.settings.binary_detection ≡ true → plan.finish.binary ≡ None)
+        → (bytes : List ℕ) → IsInputOf remaining read_step search.taken state.settings bytes
+        → IsAllSeen remaining read_step StepOf (search_errors output) (facts old.matcher) state look search.seen bytes)
+        × OnOk ended (is_across state.settings (facts old.matcher).meaning ≡ false
+        → HasReadLines remaining read_step StepOf state.settings reader old reader' search.taken search.seen
+        (finish_after outcome plan.finish)))
+        (search_plan state.settings (facts old.matcher).meaning search.seen) old result new
+        → IsPlanPrinted rules output facts first_at write_step state.settings
+        (IsPointOfAll rules output facts first_at write_step remaining read_step state search.taken old
+        (length search.seen)) (IsAskedWith state.settings (facts old.matcher).meaning search.seen)
+        (IsAllSeenAfter rules output facts first_at write_step remaining read_step state search)
+        (search_plan state.settings (facts old.matcher).meaning search.seen) old result new
+    plan-seen result search (ran point at run read) =
+        of_plan point at (plan-printed (IsAllSeenAfter rules output facts first_at write_step remaining read_step state
+        search) state.settings old (plan_with state.settings.binary_detection point
+        (search_plan state.settings (facts old.matcher).meaning search.seen)) result new run
+        (λ printed whole goes unquit. read.0 (whole goes) unquit))
+    plan-seen (Err e) search (asked haystack error calls is_asked fails message goes) =
+        of_matcher haystack error calls is_asked.0 fails message (first-printed state.settings old
+        (IsPointOfAll rules output facts first_at write_step remaining read_step state search.taken old
+        (length search.seen)) calls new goes)
+
     -- a search of what was seen
-    seen-printed : Inputs old.matcher → (result : Result (Unit {0}) (SearchError Global))
-        → IsReaderSearch remaining read_step StepOf (search_errors output) (facts old.matcher) state look reader old
-        result reader' new
+    seen-printed : Inputs old.matcher → (result : Result (Unit {0}) (SearchError Global)) → Search result
         → IsSourcePrinted rules output facts first_at write_step remaining read_step state reader old result reader' new
-    seen-printed inputs result read = of_input read.taken (length read.seen) (λ bytes input.
+    seen-printed inputs result read = of_input read (plan-seen result read read.over_seen) (λ bytes input.
         input-printed state.settings look bytes (length read.seen) old result new
         (inputs state look reader old result reader' new read bytes input))
 

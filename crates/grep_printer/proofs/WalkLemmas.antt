@@ -1,5 +1,6 @@
 -- What the sink of a printer has printed after a run along a plan.
 use Rattle.std.proofs.Common.{◌≡◌, ◌∙◌, List, [], ◌∷◌, ◌++◌, ap, append_assoc, inl, inr, refl, sym, subst}
+use Rattle.std.proofs.lemmas.Bool.{and_parts}
 use Rattle.std.proofs.lemmas.List.{append-nil}
 use Rattle.std.specs.Global.{Global}
 use Rattle.std.specs.List.{fold}
@@ -13,7 +14,7 @@ use Rattle.grep_searcher.specs.Plans.{all_true, finishes}
 use Rattle.grep_searcher.specs.declared.SearchError.{SearchError}
 use Rattle.grep_printer.specs.CallParts.{Anything, HasParts, has_match, parts_of_call}
 use Rattle.grep_printer.specs.Formats.{AllGoOn, AreAlong, IsEnd, Printed, PrintedCall, Rules, Scene, printed_by}
-use Rattle.grep_printer.specs.Formats.{is_text, nothing_around, printed_with}
+use Rattle.grep_printer.specs.Formats.{goes_on_after_each, is_text, nothing_around, printed_with}
 use Rattle.grep_printer.proofs.SomeTextLemmas.{text-more, text-none}
 use Rattle.grep_printer.specs.PrinterSteps.{FailsAlongPlan, FailsToPrint, HasFound, IsCutShort, IsSameSink}
 use Rattle.grep_printer.specs.PrinterSteps.{Prints, PrintsAll, PrintsCall, scene_of, text_of}
@@ -162,20 +163,27 @@ module _ {F M W E : Type 0} (rules : Rules F) (output : E → Option (List ℕ))
   passed-from (planned ∷ later) made old new has (inr (inr (e, is, here))) = absurd (let never = is in cc)
 
   -- a run that ended in `Ok`
-  record Walked (made : Printed F) (calls : List Planned) (finish : Finish) (new : PrinterSink F M W) : Type 0 where
+  record Walked (made : Printed F) (calls : List Planned) (outcome : Outcome (SearchError Global)) (finish : Finish)
+      (new : PrinterSink F M W) : Type 0 where
     printed : List PrintedCall
     along : AreAlong rules scene Found made.format calls finish printed
     has : HasPrinted (fold (printed_with rules scene) made printed) new
+    whole : goes_on_after_each rules scene made.format printed ≡ true → outcome ≡ all_true
 
   walked-from : (finish : Finish) (new : PrinterSink F M W) (calls : List Planned) (made : Printed F)
       (old mid : PrinterSink F M W) (outcome : Outcome (SearchError Global)) → HasPrinted made old
       → AreMade StepOf settings old calls outcome mid → IsFinished StepOf settings outcome mid finish (Ok tt) new
-      → Walked made calls finish new
+      → Walked made calls outcome finish new
   walked-from finish new [] made old mid outcome has (is, same) finished =
       let last = subst (λ o. IsFinished StepOf settings o mid finish (Ok tt) new) is finished in
       let one = printed-more made mid (finishes finish.count finish.binary) true new
       (subst (λ s. HasPrinted made s) (sym same) has) last in
-      record { printed = one.printed ∷ []; along = (one.printed, refl, one.is_call, one.found); has = one.has }
+      record {
+        printed = one.printed ∷ [];
+        along = (one.printed, refl, one.is_call, one.found);
+        has = one.has;
+        whole = λ goes. is;
+      }
   walked-from finish new (planned ∷ later) made old mid outcome has (inl (between, here, rest)) finished =
       let one = printed-more made old planned.call true between has here in
       let others = walked-from finish new later (printed_with rules scene made one.printed) between mid outcome one.has
@@ -183,6 +191,7 @@ module _ {F M W E : Type 0} (rules : Rules F) (output : E → Option (List ℕ))
         printed = one.printed ∷ others.printed;
         along = (one.printed, others.printed, refl, one.is_call, one.found, inl (sym one.goes_on, others.along));
         has = others.has;
+        whole = λ goes. others.whole (and_parts _ _ goes).1;
       }
   walked-from finish new (planned ∷ later) made old mid outcome has (inr (inl (is, here))) finished =
       let one = printed-more made old planned.call false mid has here in
@@ -199,6 +208,7 @@ module _ {F M W E : Type 0} (rules : Rules F) (output : E → Option (List ℕ))
           inr (sym one.goes_on, (end.printed, refl, end.is_call, end.found)),
         );
         has = end.has;
+        whole = λ goes. absurd (let never = one.goes_on ∙ (and_parts _ _ goes).0 in cc);
       }
   walked-from finish new (planned ∷ later) made old mid outcome has (inr (inr (e, is, here))) finished =
       let last = subst (λ o. IsFinished StepOf settings o mid finish (Ok tt) new) is finished in
@@ -391,13 +401,14 @@ module _ {F M W E : Type 0} (rules : Rules F) (output : E → Option (List ℕ))
       (end.printed, end.all, all-printed end.printed new end.has)
 
   -- a run along a plan that ended in `Ok`
-  pub run-prints : (plan : Plan) (new : PrinterSink F M W) → IsRun StepOf settings start plan (Ok tt) new
+  pub run-prints : (plan : Plan) (new : PrinterSink F M W) (run : IsRun StepOf settings start plan (Ok tt) new)
       → (printed : List PrintedCall) × AreAlong rules scene Found start.format plan.calls plan.finish printed
       × PrintsAll rules output facts first_at write_step start settings printed new
+      × (goes_on_after_each rules scene start.format printed ≡ true → run.outcome ≡ all_true)
   run-prints plan new run =
       let end = walked-from plan.finish new plan.calls (record { format = start.format; text = [] }) start run.mid
       run.outcome printed-none run.made run.finished in
-      (end.printed, end.along, all-printed end.printed new end.has)
+      (end.printed, end.along, all-printed end.printed new end.has, end.whole)
 
   -- a run along a plan that ended in an error
   pub run-fails : (plan : Plan) (e : SearchError Global) (new : PrinterSink F M W)

@@ -1,6 +1,6 @@
 -- What a printer makes of the calls of a search, whatever its format is.
-use Rattle.std.specs.Prelude.{◌≡◌, ◌⊎◌, ℕ, Bool, true, false, not, ◌||◌, ◌==◌, List, [], ◌∷◌, ◌++◌}
-use Rattle.std.specs.Prelude.{length, Option}
+use Rattle.std.specs.Prelude.{◌≡◌, ◌⊎◌, ℕ, Bool, true, false, not, ◌&&◌, ◌||◌, ◌==◌, List, [], ◌∷◌}
+use Rattle.std.specs.Prelude.{◌++◌, length, Option}
 use Rattle.std.specs.Borrow.{Bor}
 use Rattle.std.specs.List.{fold}
 use Rattle.grep_searcher.specs.Plans.{Call, Finish, Planned, Settings, finishes}
@@ -65,6 +65,13 @@ module _ {F : Type 0} (rules : Rules F) (scene : Scene) where
   -- with some calls, in order
   abbrev pub printed_by : F → List PrintedCall → Printed F
   printed_by format calls = fold printed_with (record { format = format; text = [] }) calls
+
+  -- whether the search goes on after each of some calls
+  abbrev pub goes_on_after_each : F → List PrintedCall → Bool
+  goes_on_after_each format [] = true
+  goes_on_after_each format (printed ∷ later) =
+      rules.goes_on format scene printed
+      && goes_on_after_each (rules.next format scene printed) later
 
 -- a call without parts
 abbrev pub without_parts : Planned → PrintedCall

@@ -11,14 +11,17 @@ use Rattle.grep_searcher.specs.Plans.{IsAskedWith, Plan, Planned, SearcherState,
 use Rattle.grep_searcher.specs.Plans.{refusal_of, search_plan}
 use Rattle.grep_searcher.specs.SearchErrors.{IsMessageOf}
 use Rattle.grep_searcher.specs.Searches.{BinaryPoint, IsInputOf, IsPoint, IsUnlessRefusedBy}
-use Rattle.grep_searcher.specs.Searches.{IsCut, Look, Points, Taken, calls_with, look_of}
+use Rattle.grep_searcher.specs.Searches.{IsAllSeen, IsCut, IsReaderSearch, Look, Points, Taken}
+use Rattle.grep_searcher.specs.Searches.{calls_with, look_of}
 use Rattle.grep_searcher.specs.Searches.{plan_with, quits, view_in, viewed_plan}
 use Rattle.grep_searcher.specs.Source.{ReadResult}
 use Rattle.grep_searcher.specs.declared.SearchError.{SearchError}
 use Rattle.grep_searcher.specs.declared.SearchError.TheVariants.{Config, Io}
 use Rattle.grep_printer.specs.CallParts.{Anything}
 use Rattle.grep_printer.specs.Formats.{AllGoOn, AreAlong, PrintedCall, Rules}
-use Rattle.grep_printer.specs.PrinterSteps.{FailsAlongPlan, HasFound, PrintsAll, scene_of}
+use Rattle.grep_printer.specs.Formats.{goes_on_after_each}
+use Rattle.grep_printer.specs.PrinterSteps.{FailsAlongPlan, HasFound, PrintsAll, PrintsCall}
+use Rattle.grep_printer.specs.PrinterSteps.{scene_of}
 use Rattle.grep_printer.specs.declared.printed_search.Searched.{Searched}
 use Rattle.grep_printer.specs.declared.printer.Printer.{Printer}
 use Rattle.grep_printer.specs.declared.printer.PrinterSink.{PrinterSink}
@@ -50,14 +53,15 @@ module _ {F M W E : Type 0} (rules : Rules F) (output : E → Option (List ℕ))
       (HasFound rules Anything facts first_at old settings) old.format calls printed
       × PrintsAll rules output facts first_at write_step old settings printed new
 
-  -- so do those of all calls along a plan, or a call fails after some of them
-  abbrev pub PrintsPlan : PrinterSink F M W → Settings → Plan
+  -- so do those of all calls along a plan, of which this is known; or a call fails after some
+  abbrev pub PrintsPlan : (Plan → List PrintedCall → Type 0) → PrinterSink F M W → Settings → Plan
       → Result (Unit {0}) (SearchError Global) → PrinterSink F M W → Type 0
-  PrintsPlan old settings plan (Ok u) new = (printed : List PrintedCall)
+  PrintsPlan Known old settings plan (Ok u) new = (printed : List PrintedCall)
       × AreAlong rules (scene_of old settings)
       (HasFound rules Anything facts first_at old settings) old.format plan.calls plan.finish printed
       × PrintsAll rules output facts first_at write_step old settings printed new
-  PrintsPlan old settings plan (Err e) new =
+      × Known plan printed
+  PrintsPlan Known old settings plan (Err e) new =
       FailsAlongPlan rules output facts first_at write_step old settings plan e new
 
   -- some first calls of a search, which goes on after them, with `binary_data` if it comes
@@ -67,26 +71,29 @@ module _ {F M W E : Type 0} (rules : Rules F) (output : E → Option (List ℕ))
       × (quits settings.binary_detection ≡ true → point ≡ None)
       × PrintsCalls old settings (calls_with point calls) new
 
-  -- what a search of some bytes printed, of which so many were seen: the calls of its plan, up to one
-  -- that failed, or those before a question at which the matcher did
-  pub data IsInputPrinted (settings : Settings) (look : Look) (bytes : List ℕ) (count : ℕ)
-      (old : PrinterSink F M W)
+  -- what a search with a plan printed: its calls, up to one that failed, or those before a question
+  -- at which the matcher did
+  pub data IsPlanPrinted (settings : Settings) (IsAt : Points)
+      (IsAsked : List ℕ → List Planned → Type 0) (Known : Plan → List PrintedCall → Type 0)
+      (plan : Plan) (old : PrinterSink F M W)
       : Result (Unit {0}) (SearchError Global) → PrinterSink F M W → Type 0 where
     of_plan : {result : Result (Unit {0}) (SearchError Global)} {new : PrinterSink F M W}
-        (point : Option BinaryPoint)
-        → IsPoint settings (facts old.matcher).meaning bytes look count
-        (viewed_plan settings (facts old.matcher).meaning look bytes).calls point
-        → PrintsPlan old settings (plan_with settings.binary_detection point
-        (viewed_plan settings (facts old.matcher).meaning look bytes)) result new
-        → IsInputPrinted settings look bytes count old result new
+        (point : Option BinaryPoint) → IsAt plan.calls point
+        → PrintsPlan Known old settings (plan_with settings.binary_detection point plan) result new
+        → IsPlanPrinted settings IsAt IsAsked Known plan old result new
     of_matcher : {e : SearchError Global} {new : PrinterSink F M W} (haystack : List ℕ)
-        (error : E) (calls : List Planned)
-        → IsAskedWith settings (facts old.matcher).meaning (view_in settings look bytes) haystack
-        calls
+        (error : E) (calls : List Planned) → IsAsked haystack calls
         → (facts old.matcher).fails haystack error → (search_errors output).is_message error e
-        → PrintsFirst old settings
-        (IsPoint settings (facts old.matcher).meaning bytes look count) calls new
-        → IsInputPrinted settings look bytes count old (Err e) new
+        → PrintsFirst old settings IsAt calls new
+        → IsPlanPrinted settings IsAt IsAsked Known plan old (Err e) new
+
+  -- what a search of some bytes printed, of which so many were seen
+  abbrev pub IsInputPrinted : Settings → Look → List ℕ → ℕ → PrinterSink F M W
+      → Result (Unit {0}) (SearchError Global) → PrinterSink F M W → Type 0
+  IsInputPrinted settings look bytes count old =
+      IsPlanPrinted settings (IsPoint settings (facts old.matcher).meaning bytes look count)
+      (IsAskedWith settings (facts old.matcher).meaning (view_in settings look bytes))
+      (λ plan printed. Unit {0}) (viewed_plan settings (facts old.matcher).meaning look bytes) old
 
   module _ {R : Type 0} (remaining : R → Option (List ℕ)) (read_step : R → ReadResult → R → Type 0)
       (state : SearcherState) where
@@ -101,14 +108,36 @@ module _ {F M W E : Type 0} (rules : Rules F) (output : E → Option (List ℕ))
         (bytes : List ℕ) → IsInputOf remaining read_step taken state.settings bytes
         → IsPoint state.settings (facts old.matcher).meaning bytes (look old) count calls point
 
-    -- what a search of a source printed: the calls for its bytes, whatever follows what was taken of
-    -- them; or, as not all could be read, those for the lines that were seen
+    -- the search of the lines that were seen: each step of the sink prints a call
+    abbrev pub IsSeenSearch : R → PrinterSink F M W → Result (Unit {0}) (SearchError Global) → R
+        → PrinterSink F M W → Type 0
+    IsSeenSearch reader old result reader' new = IsReaderSearch remaining read_step
+        (PrintsCall rules output facts first_at write_step) (search_errors output)
+        (facts old.matcher) state (look old) reader old result reader' new
+
+    -- if it went on after each call, and no byte ended it, each line was seen that may be reported
+    abbrev pub IsAllSeenAfter : {reader reader' : R} {old : PrinterSink F M W}
+        {result : Result (Unit {0}) (SearchError Global)} {new : PrinterSink F M W}
+        → IsSeenSearch reader old result reader' new → Plan → List PrintedCall → Type 0
+    IsAllSeenAfter {old = old} search plan printed =
+        goes_on_after_each rules (scene_of old state.settings) old.format printed ≡ true
+        → (quits state.settings.binary_detection ≡ true → plan.finish.binary ≡ None)
+        → (bytes : List ℕ) → IsInputOf remaining read_step search.taken state.settings bytes
+        → IsAllSeen remaining read_step (PrintsCall rules output facts first_at write_step)
+        (search_errors output) (facts old.matcher) state (look old) search.seen bytes
+
+    -- what a search of a source printed: the calls for the lines that were seen, which are those for
+    -- its bytes, whatever follows what was taken of them; or, as not all could be read, those before
     pub data IsSourcePrinted (reader : R) (old : PrinterSink F M W)
         : Result (Unit {0}) (SearchError Global) → R → PrinterSink F M W → Type 0 where
       of_input : {result : Result (Unit {0}) (SearchError Global)} {reader' : R}
-          {new : PrinterSink F M W} (taken : Taken remaining read_step reader reader') (count : ℕ)
-          → ((bytes : List ℕ) → IsInputOf remaining read_step taken state.settings bytes
-          → IsInputPrinted state.settings (look old) bytes count old result new)
+          {new : PrinterSink F M W} (search : IsSeenSearch reader old result reader' new)
+          → IsPlanPrinted state.settings (IsPointOfAll search.taken old (length search.seen))
+          (IsAskedWith state.settings (facts old.matcher).meaning search.seen)
+          (IsAllSeenAfter search)
+          (search_plan state.settings (facts old.matcher).meaning search.seen) old result new
+          → ((bytes : List ℕ) → IsInputOf remaining read_step search.taken state.settings bytes
+          → IsInputPrinted state.settings (look old) bytes (length search.seen) old result new)
           → IsSourcePrinted reader old result reader' new
       of_reading : {mid reader' : R} {new : PrinterSink F M W}
           (taken : Taken remaining read_step reader mid) (begun : Bool) (seen : List ℕ)

@@ -13,7 +13,7 @@ use Rattle.grep_searcher.specs.declared.SearchError.TheVariants.{Io}
 use Rattle.grep_printer.specs.CallParts.{Anything, FailsAtParts, HasParts}
 use Rattle.grep_printer.specs.CallParts.{has_match}
 use Rattle.grep_printer.specs.Formats.{AllGoOn, AreAlong, PrintedCall, Rules, Scene, Surroundings, is_text}
-use Rattle.grep_printer.specs.Formats.{printed_by}
+use Rattle.grep_printer.specs.Formats.{goes_on_after_each, printed_by}
 use Rattle.grep_printer.specs.declared.printer.PrinterSink.{PrinterSink}
 
 -- the matcher and the path of a sink stay, and so do the printer and the writer that it refers to,
@@ -157,16 +157,19 @@ module _ {F M W E : Type 0} (rules : Rules F) (output : E → Option (List ℕ))
       (HasFound rules Anything facts first_at old settings) old.format calls printed
       × PrintsAll old settings printed new
 
-  -- a run of the sink that ended in `Ok` has written the texts of the calls of its plan
+  -- a run of the sink that ended in `Ok` has written the texts of the calls of its plan: of all, if
+  -- the search went on after each
   abbrev pub RunsPrint : Type 0
   RunsPrint =
       (settings : Settings) (old : PrinterSink F M W) (plan : Plan) (new : PrinterSink F M W)
-      → IsRun PrintsCall settings old plan (Ok tt) new
+      (run : IsRun PrintsCall settings old plan (Ok tt) new)
       → (printed : List PrintedCall)
       × AreAlong rules (scene_of old settings)
       (HasFound rules Anything facts first_at old settings) old.format plan.calls plan.finish
       printed
       × PrintsAll old settings printed new
+      × (goes_on_after_each rules (scene_of old settings) old.format printed ≡ true
+      → run.outcome ≡ all_true)
 
   -- the call after some others isn't printed: the writer failed after some first bytes of its text,
   -- or it had no call more, and there was no memory, or the matcher failed

@@ -172,9 +172,10 @@ module _ {M W E : Type 0} (output : E → Option (List ℕ)) (facts : M → Matc
 
   -- the calls of a plan
   plan-put : (plan : Plan) (result : Result (Unit {0}) (SearchError Global)) (ended : PrinterSink StandardFormat M W)
-      → PrintsPlan standard_rules output facts first_at write_step begun settings plan result ended
+      → PrintsPlan standard_rules output facts first_at write_step (λ plan printed. Unit {0}) begun settings plan result
+      ended
       → IsEnd plan.calls result ended
-  plan-put plan (Ok u) ended (printed, all, put) = put-of plan.calls printed ended
+  plan-put plan (Ok u) ended (printed, all, put, known) = put-of plan.calls printed ended
       (along scene Found begun.format.config bare none plan.calls plan.finish start printed refl all) put
   plan-put plan (Err e) ended fails = cut-by plan e ended fails fails.cut
 
@@ -186,10 +187,10 @@ module _ {M W E : Type 0} (output : E → Option (List ℕ)) (facts : M → Matc
       → IsEnd (calls_of options bytes) result ended
   input-put known infallible bytes count result ended (of_plan point at printed) =
       plan-put (search_plan settings (meaning_of options) bytes) result ended
-      (subst (λ meaning. PrintsPlan standard_rules output facts first_at write_step begun settings
+      (subst (λ meaning. PrintsPlan standard_rules output facts first_at write_step (λ plan printed. Unit {0}) begun settings
       (search_plan settings meaning bytes) result ended) known
-      (subst (λ (p : Option BinaryPoint). PrintsPlan standard_rules output facts first_at write_step begun settings
-      (plan_with settings.binary_detection p (search_plan settings (facts begun.matcher).meaning bytes)) result ended)
+      (subst (λ (p : Option BinaryPoint). PrintsPlan standard_rules output facts first_at write_step (λ plan printed. Unit {0}) begun
+      settings (plan_with settings.binary_detection p (search_plan settings (facts begun.matcher).meaning bytes)) result ended)
       at printed))
   input-put known infallible bytes count (Err e) ended (of_matcher haystack error calls asked fails message first) =
       absurd (infallible haystack error fails)

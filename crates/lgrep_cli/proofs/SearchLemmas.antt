@@ -1,5 +1,5 @@
 -- What a search of a reader with a printer has put, and what is written in the end.
-use Rattle.std.proofs.Common.{◌≡◌, ℕ, List, [], ◌++◌, refl, sym, ap, ◌∙◌, subst}
+use Rattle.std.proofs.Common.{◌≡◌, ℕ, List, [], ◌++◌, length, refl, sym, ap, ◌∙◌, subst}
 use Rattle.std.proofs.lemmas.List.{append-nil}
 use Rattle.std.specs.Prelude.{Bool, true, false, if◌then◌else◌, Option, Some, None, Result, Ok, Err, IfErr, OnOk}
 use Rattle.std.specs.Borrow.{Bor}
@@ -283,12 +283,12 @@ module _ {R W M E : Type 0} (remaining : R → Option (List ℕ)) (read_step : R
         → IsSourcePrinted standard_rules output facts first_at write_step remaining read_step (numbering options false)
         reader begun result reader' ended
         → HasSearched result
-    source-searched (Ok u) (of_input taken count printed) =
-        whole taken (λ bytes input. input-put output facts first_at write_step options begun is known infallible bytes
-        count (Ok u) ended (printed bytes input))
-    source-searched (Err e) (of_input taken count printed) =
-        cut e taken (λ bytes input. input-put output facts first_at write_step options begun is known infallible bytes
-        count (Err e) ended (printed bytes input))
+    source-searched (Ok u) (of_input search plan printed) =
+        whole search.taken (λ bytes input. input-put output facts first_at write_step options begun is known infallible bytes
+        (length search.seen) (Ok u) ended (printed bytes input))
+    source-searched (Err e) (of_input search plan printed) =
+        cut e search.taken (λ bytes input. input-put output facts first_at write_step options begun is known infallible bytes
+        (length search.seen) (Err e) ended (printed bytes input))
     source-searched (Err e) (of_reading taken true seen error cause (point, at, goes, calls)) =
         let put = goes-put output facts first_at write_step options begun is (calls_of options seen) ended
         (subst (λ meaning. PrintsCalls standard_rules output facts first_at write_step begun settings
