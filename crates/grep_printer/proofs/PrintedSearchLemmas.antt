@@ -40,7 +40,7 @@ module _ {F M W E : Type 0} (rules : Rules F) (output : E → Option (List ℕ))
       → PrintsPlan rules output facts first_at write_step Known old settings plan result new
   plan-printed Known settings old plan (Ok u) new run known =
       let end = run-prints rules output facts first_at write_step settings old plan new run in
-      (end.0, end.1, end.2, known end.0 end.3)
+      (end.0, end.1, end.2, end.4, known end.0 end.3)
   plan-printed Known settings old plan (Err e) new run known =
       run-fails rules output facts first_at write_step settings old plan e new run
 

@@ -11,12 +11,13 @@ use Rattle.grep_output.specs.PendingTexts.{PutsAll, pending_bytes}
 use Rattle.grep_matcher.specs.Meanings.{MatcherFacts}
 use Rattle.grep_searcher.specs.Plans.{AreMade, Call, Finish, IsFinished, IsRun, Outcome, Plan, Planned, Settings}
 use Rattle.grep_searcher.specs.Plans.{all_true, finishes}
+use Rattle.grep_searcher.specs.SearchLaws.{is_match}
 use Rattle.grep_searcher.specs.declared.SearchError.{SearchError}
 use Rattle.grep_printer.specs.CallParts.{Anything, HasParts, has_match, parts_of_call}
 use Rattle.grep_printer.specs.Formats.{AllGoOn, AreAlong, IsEnd, Printed, PrintedCall, Rules, Scene, printed_by}
 use Rattle.grep_printer.specs.Formats.{goes_on_after_each, is_text, nothing_around, printed_with}
 use Rattle.grep_printer.proofs.SomeTextLemmas.{text-more, text-none}
-use Rattle.grep_printer.specs.PrinterSteps.{FailsAlongPlan, FailsToPrint, HasFound, IsCutShort, IsSameSink}
+use Rattle.grep_printer.specs.PrinterSteps.{FailsAlongPlan, FailsToPrint, HasFound, IsCutShort, IsSameSink, KeepsNoMore}
 use Rattle.grep_printer.specs.PrinterSteps.{Prints, PrintsAll, PrintsCall, scene_of, text_of}
 use Rattle.grep_printer.specs.declared.printer.PrinterSink.{PrinterSink}
 
@@ -100,6 +101,7 @@ module _ {F M W E : Type 0} (rules : Rules F) (output : E → Option (List ℕ))
     found : Found made.format printed
     goes_on : goes ≡ rules.goes_on made.format scene printed
     has : HasPrinted (printed_with rules scene made printed) new
+    kept : is_match call ≡ false → KeepsNoMore new
 
   printed-more : (made : Printed F) (old : PrinterSink F M W) (call : Call) (goes : Bool) (new : PrinterSink F M W)
       → HasPrinted made old → Prints rules output facts first_at write_step Anything old settings call goes new
@@ -129,6 +131,7 @@ module _ {F M W E : Type 0} (rules : Rules F) (output : E → Option (List ℕ))
           has_failed = step.has_failed ∙ has.has_failed;
           at_once = λ none empty. step.at_once (has.same.buffer_size ∙ none);
         };
+        kept = step.kept;
       }
 
   -- nothing is printed yet
@@ -169,6 +172,7 @@ module _ {F M W E : Type 0} (rules : Rules F) (output : E → Option (List ℕ))
     along : AreAlong rules scene Found made.format calls finish printed
     has : HasPrinted (fold (printed_with rules scene) made printed) new
     whole : goes_on_after_each rules scene made.format printed ≡ true → outcome ≡ all_true
+    kept : KeepsNoMore new
 
   walked-from : (finish : Finish) (new : PrinterSink F M W) (calls : List Planned) (made : Printed F)
       (old mid : PrinterSink F M W) (outcome : Outcome (SearchError Global)) → HasPrinted made old
@@ -183,6 +187,7 @@ module _ {F M W E : Type 0} (rules : Rules F) (output : E → Option (List ℕ))
         along = (one.printed, refl, one.is_call, one.found);
         has = one.has;
         whole = λ goes. is;
+        kept = one.kept refl;
       }
   walked-from finish new (planned ∷ later) made old mid outcome has (inl (between, here, rest)) finished =
       let one = printed-more made old planned.call true between has here in
@@ -192,6 +197,7 @@ module _ {F M W E : Type 0} (rules : Rules F) (output : E → Option (List ℕ))
         along = (one.printed, others.printed, refl, one.is_call, one.found, inl (sym one.goes_on, others.along));
         has = others.has;
         whole = λ goes. others.whole (and_parts _ _ goes).1;
+        kept = others.kept;
       }
   walked-from finish new (planned ∷ later) made old mid outcome has (inr (inl (is, here))) finished =
       let one = printed-more made old planned.call false mid has here in
@@ -209,6 +215,7 @@ module _ {F M W E : Type 0} (rules : Rules F) (output : E → Option (List ℕ))
         );
         has = end.has;
         whole = λ goes. absurd (let never = one.goes_on ∙ (and_parts _ _ goes).0 in cc);
+        kept = end.kept refl;
       }
   walked-from finish new (planned ∷ later) made old mid outcome has (inr (inr (e, is, here))) finished =
       let last = subst (λ o. IsFinished StepOf settings o mid finish (Ok tt) new) is finished in
@@ -404,11 +411,11 @@ module _ {F M W E : Type 0} (rules : Rules F) (output : E → Option (List ℕ))
   pub run-prints : (plan : Plan) (new : PrinterSink F M W) (run : IsRun StepOf settings start plan (Ok tt) new)
       → (printed : List PrintedCall) × AreAlong rules scene Found start.format plan.calls plan.finish printed
       × PrintsAll rules output facts first_at write_step start settings printed new
-      × (goes_on_after_each rules scene start.format printed ≡ true → run.outcome ≡ all_true)
+      × (goes_on_after_each rules scene start.format printed ≡ true → run.outcome ≡ all_true) × KeepsNoMore new
   run-prints plan new run =
       let end = walked-from plan.finish new plan.calls (record { format = start.format; text = [] }) start run.mid
       run.outcome printed-none run.made run.finished in
-      (end.printed, end.along, all-printed end.printed new end.has, end.whole)
+      (end.printed, end.along, all-printed end.printed new end.has, end.whole, end.kept)
 
   -- a run along a plan that ended in an error
   pub run-fails : (plan : Plan) (e : SearchError Global) (new : PrinterSink F M W)

@@ -1,6 +1,6 @@
 -- What a printer does when it writes a text that is that of no call, as a message about all
 -- searches.
-use Rattle.std.specs.Prelude.{◌≡◌, ◌⊎◌, ◌||◌, true, ℕ, List, [], ◌++◌}
+use Rattle.std.specs.Prelude.{◌≡◌, ◌⊎◌, ◌≤◌, ◌||◌, true, ℕ, List, [], ◌++◌, length}
 use Rattle.std.specs.Global.{Global}
 use Rattle.std.specs.declared.io.Error.{Error}
 use Rattle.grep_output.specs.Outputs.{FailsToWrite, OutputCall}
@@ -12,8 +12,8 @@ use Rattle.grep_printer.specs.Formats.{is_text}
 use Rattle.grep_printer.specs.declared.printer.Printer.{Printer}
 
 module _ {F W : Type 0} (write_step : W → OutputCall → W → Type 0) where
-  -- a text comes after what is pending, and nothing else. With a buffer of no bytes nothing is
-  -- pending after it if nothing was before
+  -- a text comes after what is pending, and nothing else. No more is pending after it than the
+  -- printer keeps if no more was before
   pub record PutsText (writer : W) (old : Printer F) (text : List ℕ) (writer' : W)
       (new : Printer F) : Type 0 where
     pub put : PutsAll write_step writer (pending_bytes old.pending) text writer'
@@ -22,8 +22,8 @@ module _ {F W : Type 0} (write_step : W → OutputCall → W → Type 0) where
     pub buffer_size : new.buffer_size ≡ old.buffer_size
     pub has_written : new.has_written ≡ (old.has_written || is_text text)
     pub has_failed : new.has_failed ≡ old.has_failed
-    pub at_once : old.buffer_size ≡ 0 → pending_bytes old.pending ≡ []
-        → pending_bytes new.pending ≡ []
+    pub kept : length (pending_bytes old.pending) ≤ old.buffer_size
+        → length (pending_bytes new.pending) ≤ new.buffer_size
 
   -- the writer failed after some first bytes of what was pending and of a text
   pub record FailsAtText (writer : W) (old : Printer F) (text : List ℕ) (e : SearchError Global)

@@ -20,8 +20,8 @@ use Rattle.grep_searcher.specs.declared.SearchError.TheVariants.{Config, Io}
 use Rattle.grep_printer.specs.CallParts.{Anything}
 use Rattle.grep_printer.specs.Formats.{AllGoOn, AreAlong, PrintedCall, Rules}
 use Rattle.grep_printer.specs.Formats.{goes_on_after_each}
-use Rattle.grep_printer.specs.PrinterSteps.{FailsAlongPlan, HasFound, PrintsAll, PrintsCall}
-use Rattle.grep_printer.specs.PrinterSteps.{scene_of}
+use Rattle.grep_printer.specs.PrinterSteps.{FailsAlongPlan, HasFound, KeepsNoMore, PrintsAll}
+use Rattle.grep_printer.specs.PrinterSteps.{PrintsCall, scene_of}
 use Rattle.grep_printer.specs.declared.printed_search.Searched.{Searched}
 use Rattle.grep_printer.specs.declared.printer.Printer.{Printer}
 use Rattle.grep_printer.specs.declared.printer.PrinterSink.{PrinterSink}
@@ -60,7 +60,7 @@ module _ {F M W E : Type 0} (rules : Rules F) (output : E → Option (List ℕ))
       × AreAlong rules (scene_of old settings)
       (HasFound rules Anything facts first_at old settings) old.format plan.calls plan.finish printed
       × PrintsAll rules output facts first_at write_step old settings printed new
-      × Known plan printed
+      × KeepsNoMore new × Known plan printed
   PrintsPlan Known old settings plan (Err e) new =
       FailsAlongPlan rules output facts first_at write_step old settings plan e new
 

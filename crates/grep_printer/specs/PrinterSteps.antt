@@ -1,6 +1,6 @@
 -- What the sink of a printer does at a call of a search, and in a whole search, of any format.
-use Rattle.std.specs.Prelude.{◌≡◌, ◌⊎◌, ℕ, Bool, false, true, ◌&&◌, ◌||◌, List, [], ◌∷◌, ◌++◌}
-use Rattle.std.specs.Prelude.{Option, Result, Ok, Err}
+use Rattle.std.specs.Prelude.{◌≡◌, ◌⊎◌, ◌≤◌, ℕ, Bool, false, true, ◌&&◌, ◌||◌, List, [], ◌∷◌, ◌++◌}
+use Rattle.std.specs.Prelude.{length, Option, Result, Ok, Err}
 use Rattle.std.specs.Global.{Global}
 use Rattle.std.specs.declared.io.Error.{Error}
 use Rattle.grep_output.specs.Outputs.{Begins, FailsToWrite, OutputCall}
@@ -8,6 +8,7 @@ use Rattle.grep_output.specs.PendingTexts.{PutsAll, pending_bytes}
 use Rattle.grep_matcher.specs.Meanings.{MatcherFacts}
 use Rattle.grep_searcher.specs.Plans.{AreMade, Call, IsRun, Plan, Planned, Settings, all_true}
 use Rattle.grep_searcher.specs.SearchErrors.{IsOutOfMemory}
+use Rattle.grep_searcher.specs.SearchLaws.{is_match}
 use Rattle.grep_searcher.specs.declared.SearchError.{SearchError}
 use Rattle.grep_searcher.specs.declared.SearchError.TheVariants.{Io}
 use Rattle.grep_printer.specs.CallParts.{Anything, FailsAtParts, HasParts}
@@ -44,6 +45,11 @@ pub record IsAsBefore {F M W : Type 0} (old new : PrinterSink F M W) : Type 0 wh
   pub has_written : new.printer.now.has_written ≡ old.printer.now.has_written
   pub has_failed : new.printer.now.has_failed ≡ old.printer.now.has_failed
 
+-- no more text waits to be written than the printer keeps
+abbrev pub KeepsNoMore : {F M W : Type 0} → PrinterSink F M W → Type 0
+KeepsNoMore sink =
+    length (pending_bytes sink.printer.now.pending) ≤ sink.printer.now.buffer_size
+
 -- what the texts of a sink's calls depend on
 abbrev pub scene_of : {F M W : Type 0} → PrinterSink F M W → Settings → Scene
 scene_of sink settings = record { path = sink.path; settings = settings }
@@ -64,7 +70,8 @@ module _ {F M W E : Type 0} (rules : Rules F) (output : E → Option (List ℕ))
     (facts : M → MatcherFacts E) (first_at : M → List ℕ → ℕ → Option (ℕ × ℕ))
     (write_step : W → OutputCall → W → Type 0) (Shown : Surroundings → Type 0) where
   -- a call succeeds: its text comes after what is pending, and nothing else is written. With a
-  -- buffer of no bytes nothing is pending after it
+  -- buffer of no bytes nothing is pending after it, and else no more than its bytes, but after a
+  -- match
   pub record Prints (old : PrinterSink F M W) (settings : Settings) (call : Call) (goes : Bool)
       (new : PrinterSink F M W) : Type 0 where
     pub same : IsSameSink old new
@@ -79,6 +86,7 @@ module _ {F M W E : Type 0} (rules : Rules F) (output : E → Option (List ℕ))
         ≡ (old.printer.now.has_written || is_text (text_of rules old settings printed))
     pub has_failed : new.printer.now.has_failed ≡ old.printer.now.has_failed
     pub at_once : old.printer.now.buffer_size ≡ 0 → pending_bytes new.printer.now.pending ≡ []
+    pub kept : is_match call ≡ false → KeepsNoMore new
 
   -- the writer failed after some first bytes of what was pending and of the text of a call
   pub record FailsToWriteCall (old : PrinterSink F M W) (settings : Settings) (call : Call)
@@ -157,8 +165,8 @@ module _ {F M W E : Type 0} (rules : Rules F) (output : E → Option (List ℕ))
       (HasFound rules Anything facts first_at old settings) old.format calls printed
       × PrintsAll old settings printed new
 
-  -- a run of the sink that ended in `Ok` has written the texts of the calls of its plan: of all, if
-  -- the search went on after each
+  -- a run of the sink that ended in `Ok` has written the texts of the calls of its plan, of all if
+  -- the search went on after each, but for as many bytes as the printer keeps
   abbrev pub RunsPrint : Type 0
   RunsPrint =
       (settings : Settings) (old : PrinterSink F M W) (plan : Plan) (new : PrinterSink F M W)
@@ -170,6 +178,7 @@ module _ {F M W E : Type 0} (rules : Rules F) (output : E → Option (List ℕ))
       × PrintsAll old settings printed new
       × (goes_on_after_each rules (scene_of old settings) old.format printed ≡ true
       → run.outcome ≡ all_true)
+      × KeepsNoMore new
 
   -- the call after some others isn't printed: the writer failed after some first bytes of its text,
   -- or it had no call more, and there was no memory, or the matcher failed

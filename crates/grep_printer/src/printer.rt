@@ -1,5 +1,5 @@
 //! A printer of any format, and the sink of one search after another.
-ghost use Rattle.std.specs.Prelude.{◌≡◌, ◌⊎◌, ◌+◌, ◌<◌, ◌^◌, ◌&&◌, ◌||◌, [], true, false, IfErr};
+ghost use Rattle.std.specs.Prelude.{◌≡◌, ◌⊎◌, ◌+◌, ◌<◌, ◌≤◌, ◌^◌, ◌&&◌, ◌||◌, [], true, false, IfErr};
 ghost use Rattle.std.specs.Prelude.{Err, IfNone, IfSome, MatchResult, Ok, OnErr, OnOk, ◌++◌};
 ghost use Rattle.grep_output.specs.Outputs.{Writes};
 ghost use Rattle.std.specs.Prelude.{MatchBool, if◌then◌else◌, is_ok, length};
@@ -193,6 +193,8 @@ impl<F> Printer<F> {
         ensures has_failed { self.new.has_failed ≡ self.old.has_failed }
         ensures at_once { result ≡ true → self.old.buffer_size ≡ 0
             → pending_bytes self.old.pending ≡ [] }
+        ensures kept { result ≡ true
+            → length (pending_bytes self.new.pending) ≤ self.new.buffer_size }
         ensures full { result ≡ false → self.new ≡ self.old }
     {
         if self.pending.len() > self.buffer_size {
@@ -261,6 +263,7 @@ impl<F> Printer<F> {
             result writer.new (pending_bytes self.new.pending) }
         ensures emptied { OnErr result (pending_bytes self.new.pending ≡ []) }
         ensures at_once { self.old.buffer_size ≡ 0 → pending_bytes self.new.pending ≡ [] }
+        ensures kept { length (pending_bytes self.new.pending) ≤ self.new.buffer_size }
         ensures format { self.new.format ≡ self.old.format }
         ensures buffer_size { self.new.buffer_size ≡ self.old.buffer_size }
         ensures has_written { self.new.has_written

@@ -175,7 +175,7 @@ module _ {M W E : Type 0} (output : E → Option (List ℕ)) (facts : M → Matc
       → PrintsPlan standard_rules output facts first_at write_step (λ plan printed. Unit {0}) begun settings plan result
       ended
       → IsEnd plan.calls result ended
-  plan-put plan (Ok u) ended (printed, all, put, known) = put-of plan.calls printed ended
+  plan-put plan (Ok u) ended (printed, all, put, kept, known) = put-of plan.calls printed ended
       (along scene Found begun.format.config bare none plan.calls plan.finish start printed refl all) put
   plan-put plan (Err e) ended fails = cut-by plan e ended fails fails.cut
 

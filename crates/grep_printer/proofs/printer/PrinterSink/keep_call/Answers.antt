@@ -34,4 +34,5 @@ returns-then-keeps_text-clause-kept g c =
       has_written = search rules;
       has_failed = search rules;
       at_once = search rules;
+      kept = search rules;
     }
