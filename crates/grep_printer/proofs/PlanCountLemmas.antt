@@ -313,7 +313,7 @@ module _ (config : SummaryConfig) (scene : Scene) where
 
 -- a search
 pub summaries-count : SummariesCount
-summaries-count config scene calls last count binary counted inner ends =
+summaries-count config scene calls last count binary inner ends =
     let start = so_many config 0 0 [] in
     let found = matched calls in
     let all : fold (printed_with summary_rules scene) start (calls ++ last ∷ [])

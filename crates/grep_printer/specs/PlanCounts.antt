@@ -11,7 +11,7 @@ use Rattle.grep_printer.specs.Formats.{PrintedCall, Scene, is_text, printed_by}
 use Rattle.grep_printer.specs.JsonTexts.{json_rules, new_json_format}
 use Rattle.grep_printer.specs.ReplacerTexts.{TextAt}
 use Rattle.grep_printer.specs.StatsSums.{capped}
-use Rattle.grep_printer.specs.SummaryTexts.{counts_on, finish_text, is_left_out, no_counts}
+use Rattle.grep_printer.specs.SummaryTexts.{finish_text, is_left_out, no_counts}
 use Rattle.grep_printer.specs.SummaryTexts.{summary_rules}
 use Rattle.grep_printer.specs.declared.json_printer.JsonProgress.{JsonProgress}
 use Rattle.grep_printer.specs.declared.summary.Counts.{Counts}
@@ -68,7 +68,8 @@ summary_counts found = record {
   part_count = capped (sum_by times_counted found);
 }
 
--- in a search of which all matches count they are counted, and the text is that for their counts
+-- the matches of a search are counted, and the text is that for their counts, unless a binary byte
+-- ended it
 pub record IsSummedUp (config : SummaryConfig) (scene : Scene) (calls : List PrintedCall)
     (last : PrintedCall) (binary : Option ℕ) : Type 0 where
   pub counts : (printed_by summary_rules scene (record { config = config; counts = no_counts })
@@ -86,6 +87,5 @@ pub record IsSummedUp (config : SummaryConfig) (scene : Scene) (calls : List Pri
 abbrev pub SummariesCount : Type 0
 SummariesCount =
     (config : SummaryConfig) (scene : Scene) (calls : List PrintedCall) (last : PrintedCall)
-    (count : ℕ) (binary : Option ℕ) → counts_on config.kind ≡ true
-    → All (λ printed. is_inner printed.call ≡ true) calls → last.call ≡ finishes count binary
-    → IsSummedUp config scene calls last binary
+    (count : ℕ) (binary : Option ℕ) → All (λ printed. is_inner printed.call ≡ true) calls
+    → last.call ≡ finishes count binary → IsSummedUp config scene calls last binary

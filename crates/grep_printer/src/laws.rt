@@ -55,8 +55,8 @@ pub fn searches_are_read_back<R: Replacer>()
     ensures parts { PartsHaveWords }
 {}
 
-/// What a `Json` counts in a search, and a `Summary` that counts all matches of one, in terms of
-/// all its calls and their parts: the sums over the matches, up to the greatest number of 64 bits.
+/// What a `Json`, and a `Summary` of any kind, count in a search, in terms of all its calls and their
+/// parts: the sums over the matches, up to the greatest number of 64 bits.
 pub fn matches_are_counted<R: Replacer>()
     ensures json { JsonCounts R.text_at }
     ensures summary { SummariesCount }
