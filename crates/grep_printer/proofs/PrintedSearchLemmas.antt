@@ -15,13 +15,14 @@ use Rattle.grep_searcher.specs.Plans.{search_plan}
 use Rattle.grep_searcher.specs.Searches.{EachAsked, EachPoint, GoesOnWith, HasReadLines, IsAllSeen, IsCut, IsCutSearch, IsPoint}
 use Rattle.grep_searcher.specs.Searches.{IsRead, IsReaderSearched, quits}
 use Rattle.grep_searcher.specs.Searches.{IsSearchOf, IsUnlessRefusedBy, Look, Points, asked, calls_with, look_of, plan_with, ran, view_in}
-use Rattle.grep_searcher.specs.Searches.{HasBegun, IsInOrder, IsInputOf, asked_in_order, ran_in_order, read_in_order, viewed_plan}
+use Rattle.grep_searcher.specs.Searches.{HasBegun, IsInOrder, IsInputOf, IsReadingError, asked_in_order, ran_in_order, read_in_order, viewed_plan}
 use Rattle.grep_searcher.specs.SinkFolds.{InputsAreSearched}
 use Rattle.grep_searcher.specs.Source.{ReadResult}
 use Rattle.grep_searcher.specs.declared.ConfigError.{ConfigError}
 use Rattle.grep_searcher.specs.declared.SearchError.{SearchError}
 use Rattle.grep_searcher.specs.declared.SearchError.TheVariants.{Io}
-use Rattle.grep_printer.specs.PrintedSearches.{IsAllSeenAfter, IsInputPrinted, IsPlanPrinted, IsPointOfAll, IsSearchPrinted}
+use Rattle.grep_printer.specs.PrintedSearches.{IsAllSeenAfter, IsInputPrinted, IsPlanPrinted, IsPointOfAll, IsPrintedInOrder}
+use Rattle.grep_printer.specs.PrintedSearches.{IsSearchPrinted}
 use Rattle.grep_printer.specs.PrintedSearches.{IsSeenSearch, IsSourcePrinted, PrintsFirst}
 use Rattle.grep_printer.specs.PrintedSearches.{PrintsPlan, of_input, of_matcher, of_plan, of_reading, search_errors}
 
@@ -227,3 +228,13 @@ module _ {F M W E : Type 0} (rules : Rules F) (output : E → Option (List ℕ))
         (subst (λ m. refusal_of state.settings (facts m).meaning ≡ None
         → IsInOrder StepOf (search_errors output) (facts m) state.settings IsOfReading old result new) (sym is)
         in_order)
+
+    -- whatever the matcher, the calls came in order
+    pub search-in-order : (matcher : M) → old.matcher ≡ matcher → (result : Result (Unit {0}) (SearchError Global))
+        → (refusal_of state.settings (facts matcher).meaning ≡ None
+        → IsInOrder StepOf (search_errors output) (facts matcher) state.settings
+        (IsReadingError remaining read_step reader reader') old result new)
+        → IsPrintedInOrder rules output facts first_at write_step remaining read_step state reader old result reader' new
+    search-in-order matcher is result in_order = subst (λ m. refusal_of state.settings (facts m).meaning ≡ None
+        → IsInOrder StepOf (search_errors output) (facts m) state.settings
+        (IsReadingError remaining read_step reader reader') old result new) (sym is) in_order

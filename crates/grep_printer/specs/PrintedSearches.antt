@@ -11,7 +11,8 @@ use Rattle.grep_searcher.specs.Plans.{IsAskedWith, Plan, Planned, SearcherState,
 use Rattle.grep_searcher.specs.Plans.{refusal_of, search_plan}
 use Rattle.grep_searcher.specs.SearchErrors.{IsMessageOf}
 use Rattle.grep_searcher.specs.Searches.{BinaryPoint, IsInputOf, IsPoint, IsUnlessRefusedBy}
-use Rattle.grep_searcher.specs.Searches.{IsAllSeen, IsCut, IsReaderSearch, Look, Points, Taken}
+use Rattle.grep_searcher.specs.Searches.{IsAllSeen, IsCut, IsInOrder, IsReaderSearch, IsReadingError}
+use Rattle.grep_searcher.specs.Searches.{Look, Points, Taken}
 use Rattle.grep_searcher.specs.Searches.{calls_with, look_of}
 use Rattle.grep_searcher.specs.Searches.{plan_with, quits, view_in, viewed_plan}
 use Rattle.grep_searcher.specs.Source.{ReadResult}
@@ -21,7 +22,7 @@ use Rattle.grep_printer.specs.CallParts.{Anything}
 use Rattle.grep_printer.specs.Formats.{AllGoOn, AreAlong, PrintedCall, Rules}
 use Rattle.grep_printer.specs.Formats.{goes_on_after_each}
 use Rattle.grep_printer.specs.PrinterSteps.{FailsAlongPlan, HasFound, KeepsNoMore, PrintsAll}
-use Rattle.grep_printer.specs.PrinterSteps.{PrintsCall, scene_of}
+use Rattle.grep_printer.specs.PrinterSteps.{IsSameSink, PrintsCall, scene_of}
 use Rattle.grep_printer.specs.declared.printed_search.Searched.{Searched}
 use Rattle.grep_printer.specs.declared.printer.Printer.{Printer}
 use Rattle.grep_printer.specs.declared.printer.PrinterSink.{PrinterSink}
@@ -156,6 +157,16 @@ module _ {F M W E : Type 0} (rules : Rules F) (output : E → Option (List ℕ))
         (reader' ≡ reader) (IsSourcePrinted reader old result reader' new)
         (refusal_of state.settings (facts old.matcher).meaning)
 
+    -- with any matcher and reader a search that isn't refused makes its calls in order, each of which
+    -- prints
+    abbrev pub IsPrintedInOrder : R → PrinterSink F M W → Result (Unit {0}) (SearchError Global) → R
+        → PrinterSink F M W → Type 0
+    IsPrintedInOrder reader old result reader' new =
+        refusal_of state.settings (facts old.matcher).meaning ≡ None
+        → IsInOrder (PrintsCall rules output facts first_at write_step) (search_errors output)
+        (facts old.matcher) state.settings (IsReadingError remaining read_step reader reader')
+        old result new
+
     -- so a printer printed what a search of a source reports to its sink, and it is known whether
     -- that found what it is for
     pub record IsPrintedBy (matcher : M) (path : Option (Bor (List ℕ))) (reader : R) (writer : W)
@@ -164,7 +175,9 @@ module _ {F M W E : Type 0} (rules : Rules F) (output : E → Option (List ℕ))
       pub begun : PrinterSink F M W
       pub ended : PrinterSink F M W
       pub begins : IsSinkFor rules old writer matcher path begun
+      pub same : IsSameSink begun ended
       pub searches : IsSearchPrinted reader begun searched.result reader' ended
+      pub in_order : IsPrintedInOrder reader begun searched.result reader' ended
       pub has_match : searched.has_match ≡ rules.has_match ended.format
       pub ends : ended.printer.now ≡ new
       pub wrote : ended.writer.now ≡ writer'

@@ -1,6 +1,8 @@
 //! Searches of which a printer writes the reports.
-ghost use Rattle.std.specs.Prelude.{◌≡◌, true};
-ghost use Rattle.grep_printer.specs.PrintedSearches.{IsPrintedBy, IsSearchPrinted};
+ghost use Rattle.std.specs.Prelude.{◌≡◌, OnOk, true};
+ghost use Rattle.grep_printer.specs.PrintedSearches.{IsPrintedBy, IsPrintedInOrder};
+ghost use Rattle.grep_printer.specs.PrintedSearches.{IsSearchPrinted};
+ghost use Rattle.grep_printer.specs.PrinterSteps.{IsSameSink};
 
 use crate::format::Format;
 use crate::printer::{Printer, PrinterSink};
@@ -12,6 +14,8 @@ use std::alloc::Global;
 /// Searches what a source gives with the matcher of a printer's sink, to which it reports: the
 /// printer writes the texts of the calls, or keeps them. An error is one of the search, or of the
 /// printer: out of memory, or the writer's. The caller ensures that the matcher is the sink's.
+///
+/// With any matcher the calls come in order: `begin`, reports, and `finish` unless it failed.
 pub fn search<F: Format, M: FindAt + Copy, H: Source, W: Output>(
     searcher: &mut Searcher,
     matcher: M,
@@ -21,10 +25,12 @@ pub fn search<F: Format, M: FindAt + Copy, H: Source, W: Output>(
     requires { sink.old.matcher ≡ matcher }
     ensures settings { searcher.new.settings ≡ searcher.old.settings }
     ensures buffers { searcher.old.has_buffers ≡ true → searcher.new.has_buffers ≡ true }
-    ensures printer { sink.new.printer.ghost_name ≡ sink.old.printer.ghost_name }
-    ensures writer { sink.new.writer.ghost_name ≡ sink.old.writer.ghost_name }
+    ensures gets { OnOk result (searcher.new.has_buffers ≡ true) }
+    ensures same { IsSameSink sink.old sink.new }
     ensures printed { IsSearchPrinted F.rules M.Error.output M.facts M.first_at W.step H.remaining
         H.step searcher.old haystack.old sink.old result haystack.new sink.new }
+    ensures in_order { IsPrintedInOrder F.rules M.Error.output M.facts M.first_at W.step
+        H.remaining H.step searcher.old haystack.old sink.old result haystack.new sink.new }
 {
     inputs_are_searched::<Global, M, H, PrinterSink<'_, F, M, W>>(sink);
     searcher.search_reader(matcher, haystack, sink)

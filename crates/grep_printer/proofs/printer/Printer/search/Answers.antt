@@ -12,7 +12,9 @@ returns-clause-printed g c = record {
     names = c.sink-sink.ensures.path;
     format = c.sink-sink.ensures.format;
   };
+  same = c.search-result.ensures.same;
   searches = c.search-result.ensures.printed;
+  in_order = c.search-result.ensures.in_order;
   has_match = c.end-has_match.ensures.has_match;
   ends = search rules;
   wrote = search rules;

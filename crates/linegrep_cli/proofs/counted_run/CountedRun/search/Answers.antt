@@ -15,7 +15,9 @@ returns-clause-printed g c = record {
       names = c.sink-sink.ensures.path;
       format = c.sink-sink.ensures.format;
     };
+    same = c.search-result.ensures.same;
     searches = rw c.keep.ensures.result c.search-result.ensures.printed;
+    in_order = rw c.keep.ensures.result c.search-result.ensures.in_order;
     has_match = c.keep.ensures.has_match ∙ c.end-has_match.ensures.has_match;
     ends = sym (c.keep.ensures.printer ∙ c.end-has_match.ensures.printer);
     wrote = search rules;
