@@ -8,6 +8,7 @@ pub mod JsonBytesLemmas
 pub mod JsonLineLemmas
 pub mod FoundPartLemmas
 pub mod LineFeedLemmas
+pub mod LinePlaceLemmas
 pub mod PartTextLemmas
 pub mod PassedLineLemmas
 pub mod PlainLineLemmas

@@ -8,11 +8,11 @@ use Rattle.grep_printer.proofs.PartTextLemmas.{IsWriting, writing-more}
 use Rattle.grep_printer.proofs.PassedLineLemmas.{lines-passed}
 use Rattle.grep_printer.proofs.PushLemmas.{adds-two}
 use Rattle.grep_printer.specs.Formats.{Scene}
-use Rattle.grep_printer.specs.LineTexts.{end_byte}
+use Rattle.grep_printer.specs.LineTexts.{end_byte, number_after}
 use Rattle.grep_printer.specs.MatchedParts.{AreInOrder}
 use Rattle.grep_printer.specs.Reports.{line_kind, reporting_call}
 use Rattle.grep_printer.specs.StandardTexts.{is_hidden, layout_of, text_before}
-use Rattle.grep_printer.specs.VimgrepTexts.{number_after, part_line, part_lines, vimgrep_text}
+use Rattle.grep_printer.specs.VimgrepTexts.{part_line, part_lines, vimgrep_text}
 use Rattle.grep_printer.specs.declared.config.Config.{Config}
 use Rattle.grep_printer.specs.declared.fields.Layout.{Layout}
 use Rattle.grep_printer.specs.declared.report.Report.{Report}

@@ -10,6 +10,7 @@ pub mod JsonLaws
 pub mod JsonMessages
 pub mod JsonPieces
 pub mod JsonTexts
+pub mod LinePlaces
 pub mod LineTexts
 pub mod MatchedParts
 pub mod PartErrors

@@ -8,7 +8,7 @@ use Rattle.std.specs.Prelude.{Option, Some, None, slice_range}
 use Rattle.std.specs.Borrow.{Bor}
 use Rattle.std.specs.Global.{Global}
 use Rattle.std.specs.List.{count_by, ends_with, list_any, prefix_len}
-use Rattle.std.specs.Option.{is_none, unwrap_or}
+use Rattle.std.specs.Option.{is_none, option_map, unwrap_or}
 use Rattle.bstr.specs.Unicode.{Span, grapheme_spans}
 use Rattle.grep_matcher.specs.Lines.{byte_of}
 use Rattle.grep_searcher.specs.Lines.{strip}
@@ -47,6 +47,11 @@ missing_end terminator line =
 abbrev pub next_number : Option ℕ → Option ℕ
 next_number None = None
 next_number (Some number) = Some (min (number + 1) (2 ^ 64 - 1))
+
+-- the number of a line after so many others, by the number of the first; it stays at the greatest
+-- of 64 bits
+abbrev pub number_after : Option ℕ → ℕ → Option ℕ
+number_after number count = option_map (λ first. min (first + count) (2 ^ 64 - 1)) number
 
 -- the place after a line
 abbrev pub place_after : Place → List ℕ → Place

@@ -1,14 +1,13 @@
 -- The text that a printer in the form of Vim's quickfix list writes: of each part of a report that
 -- matches the line in which it starts.
-use Rattle.std.specs.Prelude.{ℕ, ◌+◌, ◌-◌, ◌^◌, min, true, false, if◌then◌else◌, List, [], ◌∷◌, ◌++◌}
+use Rattle.std.specs.Prelude.{ℕ, ◌+◌, ◌-◌, true, false, if◌then◌else◌, List, [], ◌∷◌, ◌++◌}
 use Rattle.std.specs.Prelude.{Option, slice_range}
 use Rattle.std.specs.Bool.{then_some}
 use Rattle.std.specs.List.{flat_map}
-use Rattle.std.specs.Option.{option_map}
 use Rattle.grep_lines.specs.Blocks.{block_end, block_start, lines_before}
 use Rattle.grep_searcher.specs.Plans.{Call, matches, context}
 use Rattle.grep_printer.specs.Formats.{Rules, Scene}
-use Rattle.grep_printer.specs.LineTexts.{end_byte, line_text}
+use Rattle.grep_printer.specs.LineTexts.{end_byte, line_text, number_after}
 use Rattle.grep_printer.specs.StandardTexts.{call_text, is_hidden, layout_of, standard_rules}
 use Rattle.grep_printer.specs.StandardTexts.{text_before}
 use Rattle.grep_printer.specs.declared.config.Config.{Config}
@@ -21,11 +20,6 @@ use Rattle.grep_printer.specs.declared.vimgrep.VimgrepFormat.{VimgrepFormat}
 -- the settings of such a printer: the path is in each line, and the line is written whole
 abbrev pub vimgrep_config : Config → Config
 vimgrep_config config = record config { heading = false; only_matching = false }
-
--- the number of a line after so many others, by the number of the first; it stays at the greatest
--- of 64 bits
-abbrev pub number_after : Option ℕ → ℕ → Option ℕ
-number_after number count = option_map (λ first. min (first + count) (2 ^ 64 - 1)) number
 
 -- the layout of the lines, what they belong to, and a report
 module _ (layout : Layout) (kind : LineKind) (offset : ℕ) (bytes : List ℕ) where

@@ -1,6 +1,7 @@
 //! What the printers make of a search: each law is the contract of a function that does nothing.
 ghost use Rattle.grep_printer.specs.CountedTexts.{StatsCount};
 ghost use Rattle.grep_printer.specs.JsonLaws.{BeginsTell, MessagesAreReadBack, MessagesTell};
+ghost use Rattle.grep_printer.specs.LinePlaces.{LinesArePlaced, PlainLinesAreNumbered};
 ghost use Rattle.grep_printer.specs.MatchedParts.{PartsAreSuccessive};
 ghost use Rattle.grep_printer.specs.PlanCounts.{JsonCounts, SummariesCount};
 ghost use Rattle.grep_printer.specs.PrinterSteps.{CallsPrint, RunsFailToPrint, RunsPrint};
@@ -53,6 +54,13 @@ pub fn searches_are_read_back<R: Replacer>()
     ensures tell { SearchesTell R.text_at }
     ensures words { PlansHaveWords }
     ensures parts { PartsHaveWords }
+{}
+
+/// The text of some lines is that of each, in order: the line after i others has the number of the
+/// first and i more, up to the greatest number of 64 bits, and begins where those before it end.
+pub fn lines_are_placed()
+    ensures placed { LinesArePlaced }
+    ensures plain { PlainLinesAreNumbered }
 {}
 
 /// What a `Json`, and a `Summary` of any kind, count in a search, in terms of all its calls and their

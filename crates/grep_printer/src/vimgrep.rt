@@ -2,8 +2,9 @@
 ghost use Rattle.std.specs.Prelude.{◌≡◌, ◌+◌, ◌<◌, ◌≤◌, ◌^◌, [], false, length};
 ghost use Rattle.grep_printer.specs.MatchedParts.{AreInOrder};
 ghost use Rattle.grep_output.specs.PendingTexts.{Adds, pending_bytes};
+ghost use Rattle.grep_printer.specs.LineTexts.{number_after};
 ghost use Rattle.grep_printer.specs.Reports.{line_kind};
-ghost use Rattle.grep_printer.specs.VimgrepTexts.{number_after, part_line, part_lines};
+ghost use Rattle.grep_printer.specs.VimgrepTexts.{part_line, part_lines};
 ghost use Rattle.grep_printer.specs.VimgrepTexts.{vimgrep_config};
 
 use crate::config::StandardBuilder;

@@ -1,5 +1,5 @@
 use Rattle.std.proofs.Common.{◌≡◌, arith, rules}
-use Rattle.grep_printer.specs.VimgrepTexts.{number_after}
+use Rattle.grep_printer.specs.LineTexts.{number_after}
 use Rattle.grep_printer.proofs.vimgrep.push_part_line.Goals as goal
 
 pub push_line-requires-clause-ordered : goal.push_line-requires-clause-ordered
