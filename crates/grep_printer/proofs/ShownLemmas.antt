@@ -29,6 +29,7 @@ module _ {F M W E : Type 0} (rules : Rules F) (output : E → Option (List ℕ))
     has_failed = prints.has_failed;
     at_once = prints.at_once;
     kept = prints.kept;
+    unwritten = prints.unwritten;
   }
   prints-weaker old settings call (Err e) new fails = record {
     same = fails.same;

@@ -85,6 +85,7 @@ module _ {F M W E : Type 0} (rules : Rules F) (output : E → Option (List ℕ))
     has_failed = kept.has_failed;
     at_once = λ unbuffered. absurd (omega arith);
     kept = λ other. absurd (let never = other in cc);
+    unwritten = λ bare fits. kept.writer;
   }
 
   -- calls of which the texts are kept

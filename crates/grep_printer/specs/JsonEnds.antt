@@ -12,8 +12,8 @@ use Rattle.grep_printer.specs.Formats.{is_text}
 use Rattle.grep_printer.specs.declared.printer.Printer.{Printer}
 
 module _ {F W : Type 0} (write_step : W → OutputCall → W → Type 0) where
-  -- a text comes after what is pending, and nothing else. No more is pending after it than the
-  -- printer keeps if no more was before
+  -- a text comes after what is pending, and nothing else: the writer has no call if both fit in the
+  -- buffer. No more is pending after it than the printer keeps if no more was before
   pub record PutsText (writer : W) (old : Printer F) (text : List ℕ) (writer' : W)
       (new : Printer F) : Type 0 where
     pub put : PutsAll write_step writer (pending_bytes old.pending) text writer'
@@ -24,6 +24,8 @@ module _ {F W : Type 0} (write_step : W → OutputCall → W → Type 0) where
     pub has_failed : new.has_failed ≡ old.has_failed
     pub kept : length (pending_bytes old.pending) ≤ old.buffer_size
         → length (pending_bytes new.pending) ≤ new.buffer_size
+    pub unwritten : length (pending_bytes old.pending ++ text) ≤ old.buffer_size
+        → writer' ≡ writer
 
   -- the writer failed after some first bytes of what was pending and of a text
   pub record FailsAtText (writer : W) (old : Printer F) (text : List ℕ) (e : SearchError Global)

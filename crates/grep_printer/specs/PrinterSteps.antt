@@ -69,9 +69,10 @@ module _ {F M W : Type 0} (rules : Rules F) where
 module _ {F M W E : Type 0} (rules : Rules F) (output : E → Option (List ℕ))
     (facts : M → MatcherFacts E) (first_at : M → List ℕ → ℕ → Option (ℕ × ℕ))
     (write_step : W → OutputCall → W → Type 0) (Shown : Surroundings → Type 0) where
-  -- a call succeeds: its text comes after what is pending, and nothing else is written. With a
-  -- buffer of no bytes nothing is pending after it, and else no more than its bytes, but after a
-  -- match
+  -- a call succeeds: its text comes after what is pending, and nothing else is written: nothing at
+  -- all if both fit in the buffer, unless the text is of lines alone, for which memory may be out.
+  -- With a buffer of no bytes nothing is pending after it, and else no more than its bytes, but after
+  -- a match
   pub record Prints (old : PrinterSink F M W) (settings : Settings) (call : Call) (goes : Bool)
       (new : PrinterSink F M W) : Type 0 where
     pub same : IsSameSink old new
@@ -87,6 +88,9 @@ module _ {F M W E : Type 0} (rules : Rules F) (output : E → Option (List ℕ))
     pub has_failed : new.printer.now.has_failed ≡ old.printer.now.has_failed
     pub at_once : old.printer.now.buffer_size ≡ 0 → pending_bytes new.printer.now.pending ≡ []
     pub kept : is_match call ≡ false → KeepsNoMore new
+    pub unwritten : rules.is_bare old.format (scene_of old settings) ≡ false
+        → length (pending_bytes old.printer.now.pending ++ text_of rules old settings printed)
+        ≤ old.printer.now.buffer_size → new.writer.now ≡ old.writer.now
 
   -- the writer failed after some first bytes of what was pending and of the text of a call
   pub record FailsToWriteCall (old : PrinterSink F M W) (settings : Settings) (call : Call)

@@ -196,6 +196,8 @@ impl<F> Printer<F> {
         ensures kept { result ≡ true
             → length (pending_bytes self.new.pending) ≤ self.new.buffer_size }
         ensures full { result ≡ false → self.new ≡ self.old }
+        ensures over { result ≡ false
+            → self.old.buffer_size < length (pending_bytes self.old.pending) }
     {
         if self.pending.len() > self.buffer_size {
             return false;
@@ -264,6 +266,8 @@ impl<F> Printer<F> {
         ensures emptied { OnErr result (pending_bytes self.new.pending ≡ []) }
         ensures at_once { self.old.buffer_size ≡ 0 → pending_bytes self.new.pending ≡ [] }
         ensures kept { length (pending_bytes self.new.pending) ≤ self.new.buffer_size }
+        ensures unwritten { length (pending_bytes self.old.pending) ≤ self.old.buffer_size
+            → writer.new ≡ writer.old }
         ensures format { self.new.format ≡ self.old.format }
         ensures buffer_size { self.new.buffer_size ≡ self.old.buffer_size }
         ensures has_written { self.new.has_written

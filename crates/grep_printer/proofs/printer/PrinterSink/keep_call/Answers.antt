@@ -35,4 +35,5 @@ returns-then-keeps_text-clause-kept g c =
       has_failed = search rules;
       at_once = search rules;
       kept = search rules;
+      unwritten = search rules;
     }
