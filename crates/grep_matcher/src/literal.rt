@@ -131,15 +131,31 @@ impl<'n> LiteralMatcher<'n> {
         }
     }
 
-    // The first match from a position on, in a short haystack.
+    // The position of the first occurrence from a position on.
+    #[inline(always)]
+    fn position_from(&self, haystack: &[u8], start: usize) -> Option<usize>
+        requires { start ≤ length haystack.now }
+        ensures { FindsNeedle haystack.now self.now start result }
+    {
+        if haystack.len() - start <= SHORT {
+            return find_from(&self.finder, haystack, start);
+        }
+        match self.first(&haystack[start..]) {
+            Some(position) => Some(start + position),
+            None => None,
+        }
+    }
+
+    /// The first match from a position on: as `find_at`, with no room for an error. The caller ensures
+    /// that the position is in the haystack, or at its end.
     #[inline]
-    fn short_match(&self, haystack: &[u8], start: usize) -> Option<Match>
+    pub fn match_at(&self, haystack: &[u8], start: usize) -> Option<Match>
         requires { start ≤ length haystack.now }
         ensures value { result ≡ match_from start (literal_match self.now (drop start haystack.now)) }
         ensures within { IsFrom start haystack.now result }
         ensures avoids { Avoids (lacks self.now) haystack.now result }
     {
-        match find_from(&self.finder, haystack, start) {
+        match self.position_from(haystack, start) {
             Some(at) => Some(Match::new(at, at + self.finder.needle().len())),
             None => None,
         }
@@ -215,12 +231,6 @@ impl FindAt for LiteralMatcher<'_> {
 
     #[inline]
     fn find_at(&self, haystack: &[u8], start: usize) -> Result<Option<Match>, io::Error> {
-        if haystack.len() - start <= SHORT {
-            return Ok(self.short_match(haystack, start));
-        }
-        match self.find(&haystack[start..])? {
-            Some(found) => Ok(Some(found.offset(start))),
-            None => Ok(None),
-        }
+        Ok(self.match_at(haystack, start))
     }
 }

@@ -7,7 +7,7 @@ ghost use Rattle.grep_regex.specs.Spelled.{IsSpelled};
 ghost use Rattle.grep_regex.specs.Views.{program_re};
 
 use crate::regex::Regex;
-use grep_matcher::{FindAt, LiteralMatcher};
+use grep_matcher::LiteralMatcher;
 use regex_hir::Hir;
 
 // The bytes of the literal that a pattern is, if it is one that isn't empty.
@@ -42,9 +42,8 @@ pub(crate) fn occurrence(
         ≡ match_from start (literal_match literal.now (drop start haystack.now)) }
     ensures within { IsFrom start haystack.now result }
 {
-    match literal.find_at(haystack, start) {
-        Ok(Some(found)) => Some((found.start(), found.end())),
-        Ok(None) => None,
-        Err(_) => unreachable!(),
+    match literal.match_at(haystack, start) {
+        Some(found) => Some((found.start(), found.end())),
+        None => None,
     }
 }
