@@ -6,14 +6,19 @@ use Rattle.linegrep_cli.specs.PathSeparators.{path_separator_of}
 use Rattle.linegrep_cli.specs.SearcherOptions.{searcher_settings}
 use Rattle.linegrep_cli.specs.SeparatorOptions.{IsSeparators}
 use Rattle.linegrep_cli.specs.declared.options.Options.{Options}
+use Rattle.linegrep_cli.specs.declared.search.Layout.{Layout}
 use Rattle.linegrep_cli.specs.declared.search.Prepared.{Prepared}
 use Rattle.linegrep_files.specs.FolderFacts.{FolderFacts}
 
--- a searcher, the choices of files, separators and colors are those that options ask for
+-- separators, colors and what stands in place of slashes are those that options ask for
+pub record IsLayout (options : Options) (layout : Layout) : Type 0 where
+  pub separators : IsSeparators options layout.separators
+  pub colors : AreColorTexts options layout.colors
+  pub path_separator : layout.path_separator ≡ path_separator_of options
+
+-- a searcher, the choices of files and what is written besides are those that options ask for
 pub record IsPrepared (folders : FolderFacts) (options : Options) (prepared : Prepared) : Type 0
   where
     pub settings : prepared.searcher.settings ≡ searcher_settings options
     pub choices : AreChoicesOf folders options prepared.choices
-    pub separators : IsSeparators options prepared.separators
-    pub colors : AreColorTexts options prepared.colors
-    pub path_separator : prepared.path_separator ≡ path_separator_of options
+    pub layout : IsLayout options prepared.layout

@@ -686,30 +686,37 @@ pub fn tables() -> [&'static [Row]; 7] {
 
 /// The command line of the program. The only error is being out of memory.
 pub fn command<'a>(alloc: Global) -> Result<Command<'a>, AllocError> {
-    let mut command = first_command(alloc);
+    let mut command = Ok(empty_command(alloc));
+    command = add(command, Ok(operands(alloc)));
+    command = add(command, nothing(alloc));
+    command = add(command, Ok(short_help(alloc)));
     for rows in tables() {
         command = add_rows(alloc, command, rows);
     }
     command
 }
 
-// The command line with the options that aren't in a table.
-fn first_command<'a>(alloc: Global) -> Result<Command<'a>, AllocError> {
-    let operands = Arg::new(alloc, "operands")
-        .num_args(0..)
-        .action(ArgAction::Append);
-    let short_help = Arg::new(alloc, "short-help")
-        .short('h')
-        .action(ArgAction::HelpShort);
+// The command line without options.
+fn empty_command<'a>(alloc: Global) -> Command<'a> {
     Command::new(alloc, "linegrep")
         .version("0.1.0")
         .override_help(SHORT_HELP)
         .disable_help_flag(true)
         .no_binary_name(true)
         .args_override_self(true)
-        .arg(operands)?
-        .arg(nothing(alloc)?)?
-        .arg(short_help)
+}
+
+// What isn't an option.
+fn operands<'a>(alloc: Global) -> Arg<'a> {
+    Arg::new(alloc, "operands")
+        .num_args(0..)
+        .action(ArgAction::Append)
+}
+
+fn short_help<'a>(alloc: Global) -> Arg<'a> {
+    Arg::new(alloc, "short-help")
+        .short('h')
+        .action(ArgAction::HelpShort)
 }
 
 // The options that make no difference.
@@ -735,18 +742,17 @@ fn add_rows<'a>(
     rows: &'static [Row],
 ) -> Result<Command<'a>, AllocError> {
     for row in rows {
-        command = add_row(alloc, command, row);
+        command = add(command, row.arg(alloc));
     }
     command
 }
 
-// Adds an option. A `match` is proved sooner than a `?` here.
-fn add_row<'a>(
-    alloc: Global,
+// Adds an argument. A `match` is proved sooner than a `?` here.
+fn add<'a>(
     command: Result<Command<'a>, AllocError>,
-    row: &'static Row,
+    arg: Result<Arg<'a>, AllocError>,
 ) -> Result<Command<'a>, AllocError> {
-    match (command, row.arg(alloc)) {
+    match (command, arg) {
         (Ok(command), Ok(arg)) => command.arg(arg),
         _ => Err(AllocError),
     }

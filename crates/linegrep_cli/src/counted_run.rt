@@ -33,32 +33,6 @@ impl<F> CountedRun<F> {
             start,
         }
     }
-}
-
-impl<F: Format> CountedRun<F> {
-    /// Searches a haystack, and writes what the format makes of it, with a path if there is one.
-    pub fn search<M: FindAt + Copy, H: Source, W: Output>(
-        &mut self,
-        rt: &HostRuntime,
-        searcher: &mut Searcher,
-        matcher: M,
-        haystack: &mut H,
-        writer: &mut W,
-        path: Option<&str>,
-    ) -> Searched
-        ensures settings { searcher.new.settings ≡ searcher.old.settings }
-        ensures buffers { searcher.old.has_buffers ≡ true → searcher.new.has_buffers ≡ true }
-        ensures printed { IsCountedSearch F.rules M.Error.output M.facts M.first_at W.step H.remaining H.step
-            searcher.old matcher path.entry haystack.old writer.old self.old result haystack.new
-            writer.new self.new }
-    {
-        let start = now(rt, &self.printer);
-        let mut sink = self.printer.sink(writer, matcher, path);
-        let result = search(searcher, matcher, haystack, &mut sink);
-        let counted = sink.stats(elapsed(rt, start));
-        let has_match = sink.end();
-        self.keep(has_match, result, &counted)
-    }
 
     /// Writes what was counted in all searches, if it was. An error is the writer's, or one of
     /// being out of memory.
@@ -90,9 +64,7 @@ impl<F: Format> CountedRun<F> {
     {
         self.printer.has_failed()
     }
-}
 
-impl<F> CountedRun<F> {
     // Adds the counts of a search, unless it failed.
     fn keep(
         &mut self,
@@ -119,6 +91,32 @@ impl<F> CountedRun<F> {
                 result: Err(error),
             },
         }
+    }
+}
+
+impl<F: Format> CountedRun<F> {
+    /// Searches a haystack, and writes what the format makes of it, with a path if there is one.
+    pub fn search<M: FindAt + Copy, H: Source, W: Output>(
+        &mut self,
+        rt: &HostRuntime,
+        searcher: &mut Searcher,
+        matcher: M,
+        haystack: &mut H,
+        writer: &mut W,
+        path: Option<&str>,
+    ) -> Searched
+        ensures settings { searcher.new.settings ≡ searcher.old.settings }
+        ensures buffers { searcher.old.has_buffers ≡ true → searcher.new.has_buffers ≡ true }
+        ensures printed { IsCountedSearch F.rules M.Error.output M.facts M.first_at W.step H.remaining H.step
+            searcher.old matcher path.entry haystack.old writer.old self.old result haystack.new
+            writer.new self.new }
+    {
+        let start = now(rt, &self.printer);
+        let mut sink = self.printer.sink(writer, matcher, path);
+        let result = search(searcher, matcher, haystack, &mut sink);
+        let counted = sink.stats(elapsed(rt, start));
+        let has_match = sink.end();
+        self.keep(has_match, result, &counted)
     }
 }
 

@@ -121,7 +121,7 @@ impl<'e, F, M, R, W, E> PrintingEngine<'e, F, M, R, W, E> {
     pub fn into_parts(self) -> (R, W)
     where
         F: Drop,
-        M: CapturesAt + Copy,
+        M: Copy,
         ensures input { result.0 ≡ self.entry.haystack.reader }
         ensures writer { result.1 ≡ self.entry.writer }
     {
@@ -141,7 +141,7 @@ impl<'e, F, M, R, W, E> PrintingEngine<'e, F, M, R, W, E> {
     }
 }
 
-impl<'e, F: Read + Drop, M: CapturesAt + Copy, R: Source, W: Output, E: Output> PrintingEngine<
+impl<'e, F: Read + Drop, M: CapturesAt + Copy, R: Source, W: Output, E> PrintingEngine<
     'e,
     F,
     M,

@@ -60,7 +60,9 @@ impl<'c, M: CapturesAt + Copy> Printer<'c, M> {
             Printer::Json(run) => run.search(rt, searcher, matcher, haystack, writer, path),
         }
     }
+}
 
+impl<'c, M> Printer<'c, M> {
     /// Whether the writer failed.
     pub fn has_failed(&self) -> bool
         ensures { result ≡ has_failed self.now }

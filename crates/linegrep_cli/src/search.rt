@@ -6,7 +6,9 @@ ghost use Rattle.std.specs.Option.{option_copied};
 ghost use Rattle.grep_replace.specs.declared.template.Template.{Template};
 ghost use Rattle.grep_regex.specs.Views.{IsNamed, regex_options, regex_patterns};
 ghost use Rattle.linegrep_cli.specs.PatternOptions.{pattern_options, pattern_texts};
-ghost use Rattle.linegrep_cli.specs.PreparedRuns.{IsPrepared};
+ghost use Rattle.linegrep_cli.specs.ColorOptions.{refuses_colors};
+ghost use Rattle.linegrep_cli.specs.PathSeparators.{refuses_path_separator};
+ghost use Rattle.linegrep_cli.specs.PreparedRuns.{IsLayout, IsPrepared};
 ghost use Rattle.linegrep_cli.specs.Refusals.{IsCause, IsRefusedFor, IsSaid};
 ghost use Rattle.linegrep_cli.specs.TemplateOptions.{IsTemplate};
 ghost use Rattle.linegrep_cli.specs.WholeRuns.{IsRunFor, IsRunWith, IsWholeRun};
@@ -30,7 +32,7 @@ use grep_regex::{NamedMatcher, Naming, Regex};
 use grep_replace::{CapturesAt, Template};
 use grep_searcher::{FindAt, Matcher, Searcher, Source};
 use linegrep_files::Choices;
-use std::alloc::AllocError;
+use std::alloc::{AllocError, Global};
 use std::fmt::Display;
 use std::marker::Brand;
 
@@ -67,9 +69,15 @@ impl<R, W> Ended<R, W> {
 struct Prepared<'r> {
     searcher: Searcher,
     choices: Choices<'r>,
+    layout: Layout,
+    template: Option<Template>,
+}
+
+// What is written besides what is found.
+#[derive(Drop)]
+struct Layout {
     separators: Option<Separators>,
     colors: Option<ColorTexts>,
-    template: Option<Template>,
     path_separator: Option<u8>,
 }
 
@@ -93,40 +101,78 @@ fn prepare<'r, S: System>(
     ensures refused { IfErr result (λ failure. has_cause failure ≡ true
         → IsCause options.now patterns.now) }
 {
-    let searcher = build_searcher(rt.alloc(), options)?;
-    let regex = match compile(rt.alloc(), options, patterns) {
-        Ok(regex) => regex,
-        Err(failure) => return Err(failure),
-    };
-    let template = match template(rt.alloc(), options, &regex) {
-        Ok(template) => template,
-        Err(_) => return Err(Failure::out_of_memory()),
-    };
-    let path_separator = match path_separator(rt.alloc(), options) {
-        Ok(path_separator) => path_separator,
-        Err(failure) => return Err(failure),
-    };
-    let colors = match color_texts(rt.alloc(), options) {
-        Ok(colors) => colors,
-        Err(failure) => return Err(failure),
-    };
     options.order().check(rt)?;
+    let layout = match layout_of(rt.alloc(), options) {
+        Ok(layout) => layout,
+        Err(failure) => return Err(failure),
+    };
     let choices = match Choices::read(rt, system, &file_options(options)) {
         Ok(choices) => choices,
         Err(failure) => return Err(failure),
     };
-    match separators(rt.alloc(), options) {
-        Ok(separators) => {
+    let searcher = match build_searcher(rt.alloc(), options) {
+        Ok(searcher) => searcher,
+        Err(failure) => return Err(failure),
+    };
+    match compile_with_template(rt.alloc(), options, patterns) {
+        Ok((regex, template)) => {
             let prepared = Prepared {
                 searcher,
                 choices,
-                separators,
-                colors,
+                layout,
                 template,
-                path_separator,
             };
             Ok((regex, prepared))
         }
+        Err(failure) => Err(failure),
+    }
+}
+
+// What is written besides what is found. An error is that of a setting, or of being out of memory.
+fn layout_of(alloc: Global, options: &Options<'_, '_>) -> Result<Layout, Failure>
+    ensures layout { IfOk result (IsLayout options.now) }
+    ensures refused { IfErr result (λ failure. has_cause failure ≡ true
+        → (refuses_path_separator options.now ≡ true) ⊎ (refuses_colors options.now ≡ true)) }
+{
+    let path_separator = match path_separator(alloc, options) {
+        Ok(path_separator) => path_separator,
+        Err(failure) => return Err(failure),
+    };
+    let colors = match color_texts(alloc, options) {
+        Ok(colors) => colors,
+        Err(failure) => return Err(failure),
+    };
+    match separators(alloc, options) {
+        Ok(separators) => Ok(Layout {
+            separators,
+            colors,
+            path_separator,
+        }),
+        Err(_) => Err(Failure::out_of_memory()),
+    }
+}
+
+// The expression that the options ask for, and the template for its groups, if they ask for one. An
+// error is that of a pattern, or of being out of memory.
+fn compile_with_template(
+    alloc: Global,
+    options: &Options<'_, '_>,
+    patterns: &[String],
+) -> Result<(Regex, Option<Template>), Failure>
+    ensures options { IfOk result (λ (regex, template).
+        regex_options regex ≡ pattern_options options.now patterns.now) }
+    ensures patterns { IfOk result (λ (regex, template).
+        regex_patterns regex ≡ pattern_texts options.now patterns.now) }
+    ensures template { IfOk result (λ (regex, template). IsTemplate options.now regex template) }
+    ensures refused { IfErr result (λ failure. has_cause failure ≡ true
+        → IsCause options.now patterns.now) }
+{
+    let regex = match compile(alloc, options, patterns) {
+        Ok(regex) => regex,
+        Err(failure) => return Err(failure),
+    };
+    match template(alloc, options, &regex) {
+        Ok(template) => Ok((regex, template)),
         Err(_) => Err(Failure::out_of_memory()),
     }
 }
@@ -228,10 +274,8 @@ fn search_with<'r, M: CapturesAt + Copy, S: System, R: Source + Drop, W: Output 
     let Prepared {
         searcher,
         mut choices,
-        separators,
-        colors,
+        layout,
         template,
-        path_separator,
     } = prepared;
     let scope = Scope::new(system, options);
     let is_across = searcher.multi_line_with_matcher(matcher);
@@ -239,8 +283,8 @@ fn search_with<'r, M: CapturesAt + Copy, S: System, R: Source + Drop, W: Output 
         rt,
         options,
         is_across,
-        separators.as_ref(),
-        colors.as_ref(),
+        layout.separators.as_ref(),
+        layout.colors.as_ref(),
         matcher,
         template.as_ref(),
     );
@@ -252,7 +296,7 @@ fn search_with<'r, M: CapturesAt + Copy, S: System, R: Source + Drop, W: Output 
         output,
         input,
         errors,
-        path_separator,
+        layout.path_separator,
     );
     let run = Run::new(rt, system, scope);
     let status = run.complete(&mut engine, &mut choices, options.paths());

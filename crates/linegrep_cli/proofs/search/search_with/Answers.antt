@@ -27,9 +27,9 @@ returns g c =
           settings = ap (λ (state : SearcherState). state.settings) c.new-engine.ensures.searcher ∙ settings;
           asks = c.new-engine.ensures.matcher;
           separators = separators;
-          lent = subst (IsSeparators options) (sym c.as_ref.ensures.value) c.requires.separators;
+          lent = subst (IsSeparators options) (sym c.as_ref.ensures.value) c.requires.layout.separators;
           chosen = colors;
-          colored = subst (AreColorTexts options) (sym c.as_ref-2.ensures.value) c.requires.colors;
+          colored = subst (AreColorTexts options) (sym c.as_ref-2.ensures.value) c.requires.layout.colors;
           printer = subst (λ printer. IsPrinterOf options (is_across (searcher_settings options)
               (g.M.Matcher.facts matcher).meaning) separators colors matcher template printer)
               (sym c.new-engine.ensures.printer)
@@ -40,7 +40,7 @@ returns g c =
           writes_to = c.new-engine.ensures.writer;
           haystack = c.new-engine.ensures.haystack;
           says = c.new-engine.ensures.errors;
-          path_separator = c.new-engine.ensures.path_separator ∙ c.requires.path_separator;
+          path_separator = c.new-engine.ensures.path_separator ∙ c.requires.layout.path_separator;
           detection = c.new-engine.ensures.detection ∙ ap (λ (settings : Settings). settings.binary_detection) settings;
         };
         run = rw (c.new-run.ensures.system, c.new-run.ensures.scope, c.paths.ensures) at c.complete-status.ensures;
