@@ -1,17 +1,17 @@
 -- The operands that a run has visited, and what it visits of a folder.
 use Rattle.std.proofs.Common.{◌≡◌, ℕ, ◌+◌, ◌<◌, Bool, true, false, List, [], ◌∷◌, ◌++◌, Option, Result, take, drop}
 use Rattle.std.proofs.Common.{ap, get_or, refl, subst, sym, ◌∙◌, ◌⊎◌, inl, inr, length}
-use Rattle.std.specs.Prelude.{◌&&◌, ◌||◌, ◌≢◌, MatchBool, is_some, not}
+use Rattle.std.specs.Prelude.{◌&&◌, ◌||◌, ◌≢◌, MatchBool, is_some}
 use Rattle.std.specs.Borrow.{Bor}
 use Rattle.std.specs.declared.io.Error.{Error}
 use Rattle.std.proofs.lemmas.Bool.{true≢false}
 use Rattle.std.proofs.lemmas.List.{take-append-drop, take_more}
 use Rattle.linegrep_cli.specs.EngineCalls.{EngineCall}
 use Rattle.linegrep_cli.specs.OperandRuns.{AreAllVisited, AreVisited, IsFolderVisited, IsNamedVisited}
-use Rattle.linegrep_cli.specs.OperandRuns.{IsOperandVisited, IsWalkedTo, is_escaped}
+use Rattle.linegrep_cli.specs.OperandRuns.{IsOperandVisited, IsWalkedTo, ends_with_match, is_escaped}
 use Rattle.linegrep_cli.specs.OperandRuns.{is_input, is_over, next_operand, no_visit, of_file_at, of_folder}
 use Rattle.linegrep_cli.specs.OperandRuns.{of_listing, of_missing, of_unfound, visited_then}
-use Rattle.linegrep_cli.specs.declared.file_run.Scope.{Scope}
+use Rattle.linegrep_cli.specs.declared.scope.Scope.{Scope}
 use Rattle.linegrep_cli.specs.declared.visit.Visit.{Visit}
 use Rattle.linegrep_files.specs.Choices.{AreAlike}
 use Rattle.linegrep_files.specs.FolderFacts.{FolderFacts}
@@ -25,23 +25,22 @@ use Rattle.linegrep_files.proofs.AlikeLemmas.{taken-by}
 
 -- a run that has visited nothing isn't over
 pub not-over : (scope : Scope) → is_over scope no_visit ≡ false
-not-over scope = elim scope.is_quiet as (λ quiet. (quiet && false) ≡ false) [ true ↦ refl | false ↦ refl ]
+not-over scope = elim (ends_with_match scope.quiet) as (λ ends. (ends && false) ≡ false) [ true ↦ refl | false ↦ refl ]
 
 -- if a run isn't over after what was visited next, that alone doesn't end it
 pub next-over : (scope : Scope) (total next after : Visit) → after ≡ visited_then total next
     → is_over scope after ≡ false → is_over scope next ≡ false
 next-over scope total next after is on =
-    ends (is_some next.failure) scope.is_quiet total.has_match next.has_match scope.counts_all
+    alone (is_some next.failure) (ends_with_match scope.quiet) total.has_match next.has_match
     (sym (ap (is_over scope) is) ∙ on)
   where
-    ends : (failed quiet before now counts : Bool)
-        → (failed || (quiet && ((before || now) && not counts))) ≡ false
-        → (failed || (quiet && (now && not counts))) ≡ false
-    ends true quiet before now counts on = on
-    ends false false before now counts on = on
-    ends false true before false counts on = refl
-    ends false true false true counts on = on
-    ends false true true true counts on = on
+    alone : (failed ends before now : Bool) → (failed || (ends && (before || now))) ≡ false
+        → (failed || (ends && now)) ≡ false
+    alone true ends before now on = on
+    alone false false before now on = on
+    alone false true before false on = refl
+    alone false true false true on = on
+    alone false true true true on = on
 
 -- what is visited of a folder by choices is visited by those that differ in ignore files of folders
 first-of : (folders : FolderFacts) (route : Route) (old choices : Choices) (folder : List ℕ)

@@ -14,7 +14,10 @@ use Rattle.grep_searcher.specs.declared.SearchError.{SearchError}
 use Rattle.linegrep_cli.specs.EngineCalls.{EngineCall, finishes, lists, says, searches_file}
 use Rattle.linegrep_cli.specs.EngineCalls.{searches_input, sets_quits}
 use Rattle.linegrep_cli.specs.EngineSteps.{IsWrittenError}
-use Rattle.linegrep_cli.specs.declared.file_run.Scope.{Scope}
+use Rattle.linegrep_cli.specs.declared.scope.Messages.{Messages}
+use Rattle.linegrep_cli.specs.declared.scope.Messages.TheVariants.{Full, Silent, WithoutWarnings}
+use Rattle.linegrep_cli.specs.declared.scope.Quiet.{Quiet}
+use Rattle.linegrep_cli.specs.declared.scope.Scope.{Scope}
 use Rattle.linegrep_cli.specs.declared.visit.Visit.{Visit}
 use Rattle.grep_printer.specs.declared.printed_search.Searched.{Searched}
 use Rattle.linegrep_files.specs.FileIds.{is_same_file}
@@ -50,10 +53,20 @@ IsLeftOut identifies scope file is_left_out =
     ((id : Option FileId) × identifies file id × (is_left_out ≡ is_same scope.left_out id))
     (is_left_out ≡ false)
 
+-- a run that writes nothing of what it finds looks for a file without a match
+abbrev pub seeks_unmatched : Option Quiet → Bool
+seeks_unmatched None = false
+seeks_unmatched (Some quiet) = quiet.seeks_unmatched
+
+-- or it looks for a match, of which the first ends it unless all are counted
+abbrev pub ends_with_match : Option Quiet → Bool
+ends_with_match None = false
+ends_with_match (Some quiet) = not quiet.counts_all
+
 -- a search found what is looked for: a match, or if files without one are sought none
 abbrev pub has_found : Scope → Searched → Bool
 has_found scope searched =
-    if scope.seeks_unmatched then is_ok searched.result && not searched.has_match
+    if seeks_unmatched scope.quiet then is_ok searched.result && not searched.has_match
     else searched.has_match
 
 -- the path that is written of what has a name
@@ -63,8 +76,8 @@ path_of scope name = if scope.shows_paths then Some name else None
 -- what is visited after this makes no difference: the run failed, or nothing is written or counted
 -- and there is a match
 abbrev pub is_over : Scope → Visit → Bool
-is_over scope total = is_some total.failure
-    || (scope.is_quiet && (total.has_match && not scope.counts_all))
+is_over scope total =
+    is_some total.failure || (ends_with_match scope.quiet && total.has_match)
 
 -- what was visited of a folder is what choices say: all of it, or if that ended the run some first of
 -- it
@@ -75,12 +88,24 @@ IsWalkedTo folders scope choices folder visited visit =
 
 -- the status if all was written
 abbrev pub status_of : Scope → Visit → ℕ
-status_of scope total = if total.has_error && not (scope.is_quiet && total.has_match) then 2
+status_of scope total = if total.has_error && not (is_some scope.quiet && total.has_match) then 2
     else if total.has_match then 0 else 1
 
 -- a word stands for bytes that aren't UTF-8: it has a NUL
 abbrev pub is_escaped : List ℕ → Bool
 is_escaped word = list_any (λ letter. letter == 0) word
+
+-- it is said what can't be read
+abbrev pub says_errors : Messages → Bool
+says_errors Full = true
+says_errors WithoutWarnings = true
+says_errors Silent = false
+
+-- it is said what is wrong with ignore files
+abbrev pub says_warnings : Messages → Bool
+says_warnings Full = true
+says_warnings WithoutWarnings = false
+says_warnings Silent = false
 
 -- an operand names standard input, unless files are listed
 abbrev pub is_input : Scope → List ℕ → Bool
@@ -110,8 +135,9 @@ module _ {E F : Type 0} (step : E → EngineCall F → E → Type 0) (scope : Sc
   -- before may fail
   abbrev pub IsSaid : E → Option Error → E → Type 0
   IsSaid old failure new =
-      MatchBool scope.is_silent ((failure ≡ None) × (new ≡ old))
+      MatchBool (says_errors scope.messages)
       ((said : Result (Unit {0}) Error) × step old (says said) new × (failure ≡ error_of said))
+      ((failure ≡ None) × (new ≡ old))
 
   -- it is said what can't be read
   abbrev pub IsReported : E → Visit → E → Type 0
@@ -121,7 +147,7 @@ module _ {E F : Type 0} (step : E → EngineCall F → E → Type 0) (scope : Sc
   -- so many texts about ignore files are written to standard error, or none if they aren't asked for
   abbrev pub AreSaid : E → ℕ → Option Error → E → Type 0
   AreSaid old count failure new =
-      AreWritten step old (if scope.is_lenient || scope.is_silent then 0 else count) failure new
+      AreWritten step old (if says_warnings scope.messages then count else 0) failure new
 
 module _ {E F : Type 0} (step : E → EngineCall F → E → Type 0) (has_failed : E → Bool)
     (scope : Scope) where

@@ -1,6 +1,6 @@
 -- What options say of a run.
 use Rattle.std.specs.Prelude.{◌≡◌, ℕ, Bool, true, false, not, ◌&&◌, ◌||◌, if◌then◌else◌, List, []}
-use Rattle.std.specs.Prelude.{◌∷◌, Option, None, Result, Ok, Err}
+use Rattle.std.specs.Prelude.{◌∷◌, Option, None, Some, Result, Ok, Err}
 use Rattle.std.specs.Borrow.{Bor}
 use Rattle.std.specs.declared.io.Error.{Error}
 use Rattle.linegrep_cli.specs.OperandRuns.{is_same}
@@ -9,13 +9,16 @@ use Rattle.linegrep_cli.specs.OptionUses.{has}
 use Rattle.linegrep_cli.specs.PrinterOptions.{counts_all, is_summary, shows_paths}
 use Rattle.linegrep_cli.specs.SearcherOptions.{is_all_searched}
 use Rattle.linegrep_files.specs.declared.file_id.FileId.{FileId}
-use Rattle.linegrep_cli.specs.declared.file_run.Scope.{Scope}
+use Rattle.linegrep_cli.specs.declared.scope.Scope.{Scope}
 use Rattle.linegrep_cli.specs.declared.option_id.OptionId.TheVariants.{Binary, Files}
 use Rattle.linegrep_cli.specs.declared.option_id.OptionId.TheVariants.{FilesWithoutMatch, Follow}
 use Rattle.linegrep_cli.specs.declared.option_id.OptionId.TheVariants.{NoIgnoreMessages}
 use Rattle.linegrep_cli.specs.declared.option_id.OptionId.TheVariants.{NoMessages, Quiet, Sort}
 use Rattle.linegrep_cli.specs.declared.option_id.OptionId.TheVariants.{Sortr}
 use Rattle.linegrep_cli.specs.declared.options.Options.{Options}
+use Rattle.linegrep_cli.specs.declared.scope.Messages.{Messages}
+use Rattle.linegrep_cli.specs.declared.scope.Messages.TheVariants.{Full, Silent, WithoutWarnings}
+use Rattle.linegrep_cli.specs.declared.scope.Quiet.{Quiet as QuietRun}
 use Rattle.linegrep_files.specs.Orders.{by_path, named_order}
 use Rattle.linegrep_files.specs.declared.order.Order.{Order}
 
@@ -32,19 +35,28 @@ abbrev pub order_for : Options → Order
 order_for options = if has options Sort then named_order options.sort false
     else if has options Sortr then named_order options.sortr true else by_path
 
+-- what is said of what goes wrong
+abbrev pub messages_of : Options → Messages
+messages_of options = if has options NoMessages then Silent
+    else if has options NoIgnoreMessages then WithoutWarnings else Full
+
+-- what is looked for, if nothing is written of what is found
+abbrev pub quiet_of : Options → Option QuietRun
+quiet_of options = if has options Quiet then Some (record {
+  seeks_unmatched = has options FilesWithoutMatch;
+  counts_all = counts_all options;
+}) else None
+
 -- what options say of a run, by whether several files may be searched
 abbrev pub scope_of : Options → Bool → Scope
 scope_of options several = record {
   searches_input = searches_input options;
   searches_binary = searches_binary options;
   route = record { follows_links = has options Follow; order = order_for options };
-  is_lenient = has options NoIgnoreMessages;
   lists_files = has options Files;
   shows_paths = shows_paths options (not (searches_input options) && several);
-  is_silent = has options NoMessages;
-  is_quiet = has options Quiet;
-  counts_all = counts_all options;
-  seeks_unmatched = has options FilesWithoutMatch && has options Quiet;
+  messages = messages_of options;
+  quiet = quiet_of options;
   left_out = left_out_of options;
   leaves_out_input = is_same (left_out_of options) options.streams.input;
 }

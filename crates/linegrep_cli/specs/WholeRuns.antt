@@ -38,7 +38,7 @@ use Rattle.linegrep_cli.specs.declared.engine.PrintingEngine.{PrintingEngine}
 use Rattle.linegrep_files.specs.FolderFacts.{FolderFacts}
 use Rattle.linegrep_files.specs.declared.choices.Choices.{Choices}
 use Rattle.linegrep_files.specs.declared.file_id.FileId.{FileId}
-use Rattle.linegrep_cli.specs.declared.file_run.Scope.{Scope}
+use Rattle.linegrep_cli.specs.declared.scope.Scope.{Scope}
 use Rattle.linegrep_cli.specs.declared.options.Options.{Options}
 
 -- a matcher finds what a regular expression means, and can be trusted

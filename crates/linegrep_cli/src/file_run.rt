@@ -1,35 +1,29 @@
 //! A run over files.
-ghost use Rattle.std.specs.Prelude.{◌≡◌, ◌≢◌, ◌⊎◌, ◌&&◌, [], true, false, not, IfErr, Some};
-ghost use Rattle.std.specs.Prelude.{◌↔◌, ℕ, length, IsTrue, Option, Result, codes, if◌then◌else◌, is_some};
+ghost use Rattle.std.specs.Prelude.{◌≡◌, ◌↔◌, ℕ, [], false, length, IsTrue, Option, Result};
 ghost use Rattle.std.specs.IoError.{error_kind};
 ghost use Rattle.std.specs.Option.{option_or};
 ghost use Rattle.std.specs.declared.io.ErrorKind.TheVariants.{BrokenPipe};
 ghost use Rattle.linegrep_cli.specs.EngineCalls.{says};
 ghost use Rattle.std.specs.declared.io.Error.{Error};
-ghost use Rattle.linegrep_cli.specs.RunScopes.{IsScopeOf, MaySearch};
-ghost use Rattle.linegrep_cli.specs.declared.visit.Visit.{Visit};
-ghost use Rattle.std.specs.Str.{bytes_eq};
 ghost use Rattle.linegrep_cli.specs.OperandRuns.{AreAllVisited, AreSaid};
 ghost use Rattle.linegrep_cli.specs.OperandRuns.{IsEntryVisited, IsFailing, IsFileVisited};
 ghost use Rattle.linegrep_cli.specs.OperandRuns.{IsFolderVisited, IsHereVisited, IsInputVisited};
 ghost use Rattle.linegrep_cli.specs.OperandRuns.{IsKept, IsListed, IsNamedVisited, IsOperandVisited};
 ghost use Rattle.linegrep_cli.specs.OperandRuns.{IsPathVisited, IsReported, IsRunEnd, IsRunOver};
-ghost use Rattle.linegrep_cli.specs.OperandRuns.{IsLeftOut, IsSaid, has_found, is_input, is_over};
-ghost use Rattle.linegrep_cli.specs.OperandRuns.{IsTreeVisited, error_of, is_same, no_visit};
-ghost use Rattle.linegrep_cli.specs.OperandRuns.{path_of, status_of};
+ghost use Rattle.linegrep_cli.specs.OperandRuns.{IsLeftOut, IsSaid, IsTreeVisited, error_of, is_over};
+ghost use Rattle.linegrep_cli.specs.OperandRuns.{no_visit};
 ghost use Rattle.linegrep_files.specs.Choices.{AreAlike, AreTakenUp, SaysTheSame};
 ghost use Rattle.linegrep_files.specs.Folders.{name_of};
 ghost use Rattle.linegrep_files.specs.Trees.{IsPassed};
 
 use crate::engine::{Engine, written_error};
 use crate::failures::{Failure, output_failure};
-use crate::option_id::OptionId;
-use crate::options::Options;
+use crate::scope::{Scope, is_same};
 use crate::system::System;
 use crate::visit::Visit;
 use crate::words::is_escaped;
 use grep_printer::Searched;
-use linegrep_files::{Choices, Entry, FileId, NOT_UTF8, Route, Walk};
+use linegrep_files::{Choices, Entry, NOT_UTF8, Walk};
 use std::fmt::Display;
 use std::io;
 
@@ -39,102 +33,6 @@ const STDIN: &str = "<stdin>";
 const NO_FILE: &str = "no file was searched: none is chosen by -g, or all are hidden or ignored";
 
 const IS_OUTPUT: &str = "input file is also the output";
-
-/// What the options say of a run.
-#[derive(Clone, Copy)]
-pub struct Scope {
-    // Whether standard input is searched if there is no path.
-    searches_input: bool,
-    // Whether the search of a file of a folder goes on after a NUL.
-    searches_binary: bool,
-    route: Route,
-    // Whether nothing is said of what is wrong with ignore files.
-    is_lenient: bool,
-    // Whether the paths of files are written, and nothing is searched.
-    lists_files: bool,
-    shows_paths: bool,
-    is_silent: bool,
-    is_quiet: bool,
-    // Whether the run goes on after a match in any case.
-    counts_all: bool,
-    seeks_unmatched: bool,
-    // The file that isn't searched, and whether it is standard input.
-    left_out: Option<FileId>,
-    leaves_out_input: bool,
-}
-
-impl Scope {
-    /// What the options say of a run over the files at their paths.
-    pub fn new<S: System>(system: &S, options: &Options<'_, '_>) -> Scope
-        ensures { IsScopeOf (S.finds system.now) options.now result }
-    {
-        let searches_input = options.searches_input();
-        Scope {
-            searches_input,
-            searches_binary: options.searches_binary(),
-            route: Route {
-                follows_links: options.has(OptionId::Follow),
-                order: options.order(),
-            },
-            is_lenient: options.has(OptionId::NoIgnoreMessages),
-            lists_files: options.has(OptionId::Files),
-            shows_paths: options.shows_paths(
-                !searches_input && searches_several(system, options.paths()),
-            ),
-            is_silent: options.has(OptionId::NoMessages),
-            is_quiet: options.has(OptionId::Quiet),
-            counts_all: options.counts_all(),
-            seeks_unmatched: options.seeks_unmatched(),
-            left_out: options.left_out(),
-            leaves_out_input: is_same(options.left_out(), options.streams.input),
-        }
-    }
-
-    // Whether a search found what is looked for.
-    fn has_found(&self, searched: &Searched) -> bool
-        ensures { result ≡ has_found self.now searched.now }
-    {
-        if self.seeks_unmatched {
-            searched.result.is_ok() && !searched.has_match
-        } else {
-            searched.has_match
-        }
-    }
-
-    // The path that is written for a haystack with a name, if paths are.
-    fn path_of<'n>(&self, name: &'n str) -> Option<&'n str>
-        ensures { result ≡ path_of self.now name.entry }
-    {
-        if self.shows_paths { Some(name) } else { None }
-    }
-
-    // Whether an operand names standard input.
-    fn is_input(&self, path: &str) -> bool
-        ensures { result ≡ is_input self.now path.now }
-    {
-        path == "-" && !self.lists_files
-    }
-
-    // Whether what is visited later makes no difference.
-    fn is_over(&self, total: &Visit) -> bool
-        ensures { result ≡ is_over self.now total.now }
-    {
-        total.failure.is_some() || self.is_quiet && total.has_match && !self.counts_all
-    }
-
-    // The status, if all was written.
-    fn status(&self, total: &Visit) -> u8
-        ensures { result ≡ status_of self.now total.now }
-    {
-        if total.has_error && !(self.is_quiet && total.has_match) {
-            2
-        } else if total.has_match {
-            0
-        } else {
-            1
-        }
-    }
-}
 
 /// A run over files: what it asks the system, and what the options say of it.
 #[derive(Drop)]
@@ -446,7 +344,7 @@ impl<'r, S: System> Run<'r, S> {
             engine.new }
     {
         let mut failure = None;
-        if self.scope.is_lenient || self.scope.is_silent {
+        if !self.scope.messages.says_warnings() {
             return failure;
         }
         for warning in warnings {
@@ -483,7 +381,7 @@ impl<'r, S: System> Run<'r, S> {
     fn say<E: Engine<S::File>>(&self, engine: &mut E, failure: &Failure) -> Option<io::Error>
         ensures { IsSaid E.step self.now.scope engine.old result engine.new }
     {
-        if self.scope.is_silent {
+        if !self.scope.messages.says_errors() {
             return None;
         }
         match engine.say(failure.text()) {
@@ -534,25 +432,4 @@ fn is_closed(error: &io::Error) -> bool
     ensures { IsTrue result ↔ (error_kind error.now ≡ BrokenPipe) }
 {
     error.kind() == io::ErrorKind::BrokenPipe
-}
-
-// Whether both are files, and the same one.
-fn is_same(one: Option<FileId>, other: Option<FileId>) -> bool
-    ensures { result ≡ is_same one other }
-{
-    match (one, other) {
-        (Some(one), Some(other)) => one.is(other),
-        _ => false,
-    }
-}
-
-// Whether several files may be searched: there isn't one path alone, or it is that of a folder.
-fn searches_several<S: System>(system: &S, paths: &[&str]) -> bool
-    ensures { MaySearch (S.finds system.now) paths.now result }
-{
-    match paths {
-        [] => true,
-        [path] => system.is_folder(path).unwrap_or(false),
-        _ => true,
-    }
 }

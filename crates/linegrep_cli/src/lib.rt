@@ -24,6 +24,7 @@ mod patterns;
 mod printers;
 mod program;
 mod refused;
+mod scope;
 mod search;
 mod separators;
 mod settings;

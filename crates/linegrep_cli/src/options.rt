@@ -341,14 +341,6 @@ impl<'m, 'w> Options<'m, 'w> {
         self.has(OptionId::Quiet) || self.counts() || self.is_summary_of_paths()
     }
 
-    /// Whether a file counts as a match if it has none.
-    pub fn seeks_unmatched(&self) -> bool
-        ensures { result
-            ≡ (has self.now OptionId.FilesWithoutMatch && has self.now OptionId.Quiet) }
-    {
-        self.has(OptionId::FilesWithoutMatch) && self.has(OptionId::Quiet)
-    }
-
     /// Whether standard input is searched, and nothing else.
     pub fn searches_input(&self) -> bool
         ensures { result ≡ searches_input self.now }

@@ -1,0 +1,210 @@
+//! What the options say of a run.
+ghost use Rattle.std.specs.Prelude.{◌≡◌};
+ghost use Rattle.linegrep_cli.specs.OperandRuns.{ends_with_match, has_found, is_input, is_over, is_same};
+ghost use Rattle.linegrep_cli.specs.OperandRuns.{path_of, says_errors, says_warnings, seeks_unmatched};
+ghost use Rattle.linegrep_cli.specs.OperandRuns.{status_of};
+ghost use Rattle.linegrep_cli.specs.RunScopes.{IsScopeOf, MaySearch, messages_of, quiet_of};
+
+use crate::option_id::OptionId;
+use crate::options::Options;
+use crate::system::System;
+use crate::visit::Visit;
+use grep_printer::Searched;
+use linegrep_files::{FileId, Route};
+
+/// What the options say of a run.
+#[derive(Clone, Copy)]
+pub struct Scope {
+    /// Whether standard input is searched if there is no path.
+    pub searches_input: bool,
+    /// Whether the search of a file of a folder goes on after a NUL.
+    pub searches_binary: bool,
+    /// How folders are walked through.
+    pub route: Route,
+    /// Whether the paths of files are written, and nothing is searched.
+    pub lists_files: bool,
+    shows_paths: bool,
+    /// What is said of what goes wrong.
+    pub messages: Messages,
+    quiet: Option<Quiet>,
+    /// The file that isn't searched.
+    pub left_out: Option<FileId>,
+    /// Whether that is standard input.
+    pub leaves_out_input: bool,
+}
+
+/// What standard error gets of what goes wrong. Why a run ends early is said in any case.
+#[derive(Clone, Copy)]
+pub enum Messages {
+    /// What can't be read, and what is wrong with ignore files.
+    Full,
+    /// What can't be read.
+    WithoutWarnings,
+    /// Nothing.
+    Silent,
+}
+
+/// What a run looks for that writes nothing of what it finds.
+#[derive(Clone, Copy)]
+struct Quiet {
+    // A file without a match, and not a match.
+    seeks_unmatched: bool,
+    // All matches, and not the first alone.
+    counts_all: bool,
+}
+
+impl Scope {
+    /// What the options say of a run over the files at their paths.
+    pub fn new<S: System>(system: &S, options: &Options<'_, '_>) -> Scope
+        ensures { IsScopeOf (S.finds system.now) options.now result }
+    {
+        let searches_input = options.searches_input();
+        Scope {
+            searches_input,
+            searches_binary: options.searches_binary(),
+            route: Route {
+                follows_links: options.has(OptionId::Follow),
+                order: options.order(),
+            },
+            lists_files: options.has(OptionId::Files),
+            shows_paths: options.shows_paths(
+                !searches_input && searches_several(system, options.paths()),
+            ),
+            messages: Messages::read(options),
+            quiet: Quiet::read(options),
+            left_out: options.left_out(),
+            leaves_out_input: is_same(options.left_out(), options.streams.input),
+        }
+    }
+
+    /// Whether a search found what is looked for.
+    pub fn has_found(&self, searched: &Searched) -> bool
+        ensures { result ≡ has_found self.now searched.now }
+    {
+        if self.seeks_unmatched() {
+            searched.result.is_ok() && !searched.has_match
+        } else {
+            searched.has_match
+        }
+    }
+
+    // Whether a file is looked for that has no match.
+    fn seeks_unmatched(&self) -> bool
+        ensures { result ≡ seeks_unmatched self.now.quiet }
+    {
+        match self.quiet {
+            Some(quiet) => quiet.seeks_unmatched,
+            None => false,
+        }
+    }
+
+    /// The path that is written for a haystack with a name, if paths are.
+    pub fn path_of<'n>(&self, name: &'n str) -> Option<&'n str>
+        ensures { result ≡ path_of self.now name.entry }
+    {
+        if self.shows_paths { Some(name) } else { None }
+    }
+
+    /// Whether an operand names standard input.
+    pub fn is_input(&self, path: &str) -> bool
+        ensures { result ≡ is_input self.now path.now }
+    {
+        path == "-" && !self.lists_files
+    }
+
+    /// Whether what is visited later makes no difference.
+    pub fn is_over(&self, total: &Visit) -> bool
+        ensures { result ≡ is_over self.now total.now }
+    {
+        total.failure.is_some() || self.ends_with_match() && total.has_match
+    }
+
+    // Whether the first match ends the run.
+    fn ends_with_match(&self) -> bool
+        ensures { result ≡ ends_with_match self.now.quiet }
+    {
+        match self.quiet {
+            Some(quiet) => !quiet.counts_all,
+            None => false,
+        }
+    }
+
+    /// The status, if all was written.
+    pub fn status(&self, total: &Visit) -> u8
+        ensures { result ≡ status_of self.now total.now }
+    {
+        if total.has_error && !(self.quiet.is_some() && total.has_match) {
+            2
+        } else if total.has_match {
+            0
+        } else {
+            1
+        }
+    }
+}
+
+impl Messages {
+    // What the options ask for.
+    fn read(options: &Options<'_, '_>) -> Messages
+        ensures { result ≡ messages_of options.now }
+    {
+        if options.has(OptionId::NoMessages) {
+            Messages::Silent
+        } else if options.has(OptionId::NoIgnoreMessages) {
+            Messages::WithoutWarnings
+        } else {
+            Messages::Full
+        }
+    }
+
+    /// Whether it is said what can't be read.
+    pub fn says_errors(self) -> bool
+        ensures { result ≡ says_errors self }
+    {
+        !matches!(self, Messages::Silent)
+    }
+
+    /// Whether it is said what is wrong with ignore files.
+    pub fn says_warnings(self) -> bool
+        ensures { result ≡ says_warnings self }
+    {
+        matches!(self, Messages::Full)
+    }
+}
+
+impl Quiet {
+    // What the options ask for, if nothing is to be written of what is found.
+    fn read(options: &Options<'_, '_>) -> Option<Quiet>
+        ensures { result ≡ quiet_of options.now }
+    {
+        if options.has(OptionId::Quiet) {
+            Some(Quiet {
+                seeks_unmatched: options.has(OptionId::FilesWithoutMatch),
+                counts_all: options.counts_all(),
+            })
+        } else {
+            None
+        }
+    }
+}
+
+/// Whether both are files, and the same one.
+pub fn is_same(one: Option<FileId>, other: Option<FileId>) -> bool
+    ensures { result ≡ is_same one other }
+{
+    match (one, other) {
+        (Some(one), Some(other)) => one.is(other),
+        _ => false,
+    }
+}
+
+// Whether several files may be searched: there isn't one path alone, or it is that of a folder.
+fn searches_several<S: System>(system: &S, paths: &[&str]) -> bool
+    ensures { MaySearch (S.finds system.now) paths.now result }
+{
+    match paths {
+        [] => true,
+        [path] => system.is_folder(path).unwrap_or(false),
+        _ => true,
+    }
+}
