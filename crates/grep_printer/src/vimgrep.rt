@@ -4,8 +4,7 @@ ghost use Rattle.grep_printer.specs.MatchedParts.{AreInOrder};
 ghost use Rattle.grep_output.specs.PendingTexts.{Adds, pending_bytes};
 ghost use Rattle.grep_printer.specs.LineTexts.{number_after};
 ghost use Rattle.grep_printer.specs.Reports.{line_kind};
-ghost use Rattle.grep_printer.specs.VimgrepTexts.{part_line, part_lines};
-ghost use Rattle.grep_printer.specs.VimgrepTexts.{vimgrep_config};
+ghost use Rattle.grep_printer.specs.VimgrepTexts.{part_line, part_lines, vimgrep_config};
 
 use crate::config::StandardBuilder;
 use crate::fields::{Layout, Place};
@@ -32,10 +31,9 @@ pub struct VimgrepFormat<'c> {
 }
 
 impl<'c> StandardBuilder<'c> {
-    /// A printer that has written nothing yet, and writes for each part that matches the line in
-    /// which it starts, after the path, the line's number, the part's column in it if `column` is
-    /// set, and its offset if `byte_offset` is. The settings `heading` and `only_matching` don't
-    /// count.
+    /// A printer, which has written nothing yet. For each part that matches it writes the line in
+    /// which that starts, after the path, the line's number, the part's column in it if `column` is
+    /// set, and its offset if `byte_offset` is. `heading` and `only_matching` don't count.
     pub fn build_vimgrep(&self, alloc: Global) -> Vimgrep<'c>
         ensures pending { pending_bytes result.pending ≡ [] }
         ensures buffer_size { result.buffer_size ≡ 65536 }
