@@ -113,7 +113,7 @@ module _ {E F : Type 0} (folders : FolderFacts) (finds : List ℕ → Result Boo
   pub operand-by : (path : Bor (List ℕ)) (old : E) (visit : Visit) (new : E)
       → IsOperandVisited folders finds opens identifies step has_failed scope choices path old visit new
       → IsOperandVisited folders finds opens identifies step has_failed scope first path old visit new
-  operand-by path old visit new visited = either (is_input scope path.now) _ _ _
+  operand-by path old visit new visited = either (is_input path.now) _ _ _
       (either (is_escaped path.now) _ _ _ (named-by path old visit new)) visited
     where
       either : (is : Bool) (P Q R : Type 0) → (Q → R) → MatchBool is P Q → MatchBool is P R
@@ -125,10 +125,10 @@ module _ {E F : Type 0} (folders : FolderFacts) (finds : List ℕ → Result Boo
     (step : E → EngineCall F → E → Type 0) (has_failed : E → Bool) (scope : Scope) (first : Choices) where
   -- an operand that names a folder or a file is visited as that
   pub named-visited : (path : Bor (List ℕ)) (old : E) (visit : Visit) (new : E)
-      → is_input scope path.now ≡ false → is_escaped path.now ≡ false
+      → is_input path.now ≡ false → is_escaped path.now ≡ false
       → IsNamedVisited folders finds opens identifies step has_failed scope first path old visit new
       → IsOperandVisited folders finds opens identifies step has_failed scope first path old visit new
-  named-visited path old visit new named text visited = other (is_input scope path.now) named _ _
+  named-visited path old visit new named text visited = other (is_input path.now) named _ _
       (other (is_escaped path.now) text _ _ visited)
     where
       other : (is : Bool) → is ≡ false → (P Q : Type 0) → Q → MatchBool is P Q

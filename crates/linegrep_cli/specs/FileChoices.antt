@@ -12,7 +12,6 @@ use Rattle.linegrep_cli.specs.declared.option_id.OptionId.TheVariants.{NoIgnore,
 use Rattle.linegrep_cli.specs.declared.option_id.OptionId.TheVariants.{NoIgnoreFiles, NoIgnoreGlobal}
 use Rattle.linegrep_cli.specs.declared.option_id.OptionId.TheVariants.{NoIgnoreParent, NoIgnoreVcs}
 use Rattle.linegrep_cli.specs.declared.option_id.OptionId.TheVariants.{NoRequireGit, OneFileSystem}
-use Rattle.linegrep_cli.specs.declared.option_id.OptionId.TheVariants.{Unrestricted}
 use Rattle.linegrep_cli.specs.declared.options.Options.{Options}
 use Rattle.linegrep_files.specs.Choices.{AreChoices}
 use Rattle.linegrep_files.specs.FolderFacts.{FolderFacts}
@@ -31,11 +30,12 @@ last_of_both options one other =
     if nat_lt (last_use options.uses one) (last_use options.uses other)
     then last_use options.uses other else last_use options.uses one
 
--- ignore files of a kind are read: what says so last, of these or of all, isn't before what says no last
+-- ignore files of a kind are read: what says so last, of these or of all, isn't before what says no
+-- last, or the first `-u`
 abbrev pub reads : Options → OptionId → OptionId → Bool
 reads options asked refused =
     nat_le (last_of_both options refused NoIgnore) (last_of_both options asked Ignore)
-    && nat_le (last_use options.uses Unrestricted) (last_of_both options asked Ignore)
+    && nat_le options.unrestricted.ignored (last_of_both options asked Ignore)
 
 -- which ignore files are read, and how
 abbrev pub sources_of : Options → Sources
@@ -53,11 +53,11 @@ sources_of options = record {
 abbrev pub ignore_files_of : Options → List (Bor (List ℕ))
 ignore_files_of options = if has options NoIgnoreFiles then [] else texts_of options.ignore_files
 
--- hidden files and folders are searched: an option says so, or `-u` does that is given twice, and
--- nothing after it says no
+-- hidden files and folders are searched: an option says so, or the second `-u` does, and nothing after
+-- it says no
 abbrev pub shows_hidden : Options → Bool
-shows_hidden options = has options Hidden || (nat_lt 1 options.unrestricted
-    && nat_lt (last_use options.uses NoHidden) (last_use options.uses Unrestricted))
+shows_hidden options = has options Hidden
+    || nat_lt (last_use options.uses NoHidden) options.unrestricted.hidden
 
 -- what options say of which files of folders are searched
 pub record AreFileOptions (options : Options) (files : FileOptions) : Type 0 where

@@ -1,7 +1,7 @@
 -- What a run over operands visits, in which order, what comes of it, and the status.
 use Rattle.std.specs.Prelude.{◌≡◌, ◌≢◌, ◌⊎◌, ℕ, Bool, true, false, not, ◌&&◌, ◌||◌, ◌==◌, if◌then◌else◌}
 use Rattle.std.specs.Prelude.{◌+◌, codes, List, [], ◌∷◌, ◌++◌, Option, None, Some, is_some, is_ok}
-use Rattle.std.specs.Prelude.{MatchBool, Result, Ok, Err, String, string_bytes}
+use Rattle.std.specs.Prelude.{MatchBool, MatchOption, Result, Ok, Err, String, string_bytes}
 use Rattle.std.specs.List.{list_any}
 use Rattle.std.specs.Borrow.{Bor}
 use Rattle.std.specs.Global.{Global}
@@ -20,6 +20,7 @@ use Rattle.linegrep_cli.specs.declared.scope.Quiet.{Quiet}
 use Rattle.linegrep_cli.specs.declared.scope.Scope.{Scope}
 use Rattle.linegrep_cli.specs.declared.visit.Visit.{Visit}
 use Rattle.grep_printer.specs.declared.printed_search.Searched.{Searched}
+use Rattle.linegrep_files.specs.Choices.{SaysTheSame}
 use Rattle.linegrep_files.specs.FileIds.{is_same_file}
 use Rattle.linegrep_files.specs.FolderFacts.{FolderFacts}
 use Rattle.linegrep_files.specs.Trees.{AreAllOf, AreFirstOf}
@@ -107,9 +108,9 @@ says_warnings Full = true
 says_warnings WithoutWarnings = false
 says_warnings Silent = false
 
--- an operand names standard input, unless files are listed
-abbrev pub is_input : Scope → List ℕ → Bool
-is_input scope path = bytes_eq path (codes "-") && not scope.lists_files
+-- an operand names standard input
+abbrev pub is_input : List ℕ → Bool
+is_input path = bytes_eq path (codes "-")
 
 -- the error, if it is one
 abbrev pub error_of : Result (Unit {0}) Error → Option Error
@@ -166,18 +167,19 @@ module _ {E F : Type 0} (step : E → EngineCall F → E → Type 0) (has_failed
     pub matched : visit.has_match ≡ has_found scope searched
     pub ended : IsEnded old searched.result visit new
 
-  -- standard input is searched, or it is the output
-  abbrev pub IsInputVisited : E → Visit → E → Type 0
-  IsInputVisited old visit new =
-      MatchBool scope.leaves_out_input (IsReported step scope old visit new)
-      ((name : Bor (List ℕ)) × (name.now ≡ codes "<stdin>") × (searched : Searched) × (mid : E)
-      × step old (searches_input (path_of scope name) searched) mid
-      × IsKept mid searched visit new)
-
   -- the path of a file is written, which isn't searched
   abbrev pub IsListed : Bor (List ℕ) → E → Visit → E → Type 0
   IsListed path old visit new = (searched : Searched) × (mid : E)
       × step old (lists path searched) mid × IsKept mid searched visit new
+
+  -- standard input is searched, unless it is the output; where files are listed its name is written
+  abbrev pub IsInputVisited : E → Visit → E → Type 0
+  IsInputVisited old visit new = MatchBool scope.lists_files
+      ((name : Bor (List ℕ)) × (name.now ≡ codes "<stdin>") × IsListed name old visit new)
+      (MatchBool scope.leaves_out_input (IsReported step scope old visit new)
+      ((name : Bor (List ℕ)) × (name.now ≡ codes "<stdin>") × (searched : Searched) × (mid : E)
+      × step old (searches_input (path_of scope name) searched) mid
+      × IsKept mid searched visit new))
 
   -- a file is searched
   abbrev pub IsFileVisited : Bor (List ℕ) → F → E → Visit → E → Type 0
@@ -292,7 +294,7 @@ module _ {E F : Type 0} (folders : FolderFacts) (finds : List ℕ → Result Boo
   -- what an operand names
   abbrev pub IsOperandVisited : Bor (List ℕ) → E → Visit → E → Type 0
   IsOperandVisited path old visit new =
-      MatchBool (is_input scope path.now) (IsInputVisited step has_failed scope old visit new)
+      MatchBool (is_input path.now) (IsInputVisited step has_failed scope old visit new)
       (MatchBool (is_escaped path.now) (IsReported step scope old visit new)
       (IsNamedVisited path old visit new))
 
@@ -314,10 +316,27 @@ module _ {E F : Type 0} (folders : FolderFacts) (finds : List ℕ → Result Boo
       × (path ∷ later ≡ done ++ rest) × AreVisited old done total new
       × ((rest ≡ []) ⊎ (is_over scope total ≡ true))
 
-  -- a run over operands
+  -- operands are visited, and the status is what comes of that
+  pub record AreOperandsSearched (paths : List (Bor (List ℕ))) (old : E) (status : ℕ) (new : E)
+      : Type 0 where
+    pub total : Visit
+    pub mid : E
+    pub visited : AreAllVisited paths old total mid
+    pub ended : IsRunEnd step has_failed scope total mid status new
+
+module _ {E F : Type 0} (folders : FolderFacts) (finds : List ℕ → Result Bool Error → Type 0)
+    (opens : List ℕ → Result F Error → Type 0) (identifies : F → Option FileId → Type 0)
+    (step : E → EngineCall F → E → Type 0) (has_failed : E → Bool) (scope : Scope)
+    (choices : Choices) where
+  -- a run over operands: first it says what is wrong with the ignore files that are named
   pub record IsRunOver (paths : List (Bor (List ℕ))) (old : E) (status : ℕ) (new : E) : Type 0
     where
-      pub total : Visit
-      pub mid : E
-      pub visited : AreAllVisited paths old total mid
-      pub ended : IsRunEnd step has_failed scope total mid status new
+      pub warnings : ℕ
+      pub failure : Option Error
+      pub begun : E
+      pub said : AreSaid step scope old warnings failure begun
+      pub left : Choices
+      pub same : SaysTheSame choices left
+      pub run : MatchOption failure (AreOperandsSearched folders finds opens identifies step
+          has_failed scope left paths begun status new)
+          (λ error. IsFailing step has_failed scope error begun status new)

@@ -53,7 +53,7 @@ use Rattle.linegrep_cli.specs.declared.options.Uses.{Uses}
 -- are written, whether patterns are about Unicode, and which lines near a match are written: of each
 -- the last option decides
 abbrev pub modes : List OptionId
-modes = Count ∷ CountMatches ∷ FilesWithMatches ∷ FilesWithoutMatch ∷ Json ∷ NoJson ∷ []
+modes = Count ∷ CountMatches ∷ FilesWithMatches ∷ FilesWithoutMatch ∷ Json ∷ []
 
 abbrev pub cases : List OptionId
 cases = CaseSensitive ∷ IgnoreCase ∷ SmartCase ∷ []
@@ -112,6 +112,7 @@ own_contraries Column = NoColumn ∷ []
 own_contraries NoColumn = Column ∷ []
 own_contraries Trim = NoTrim ∷ []
 own_contraries Stats = NoStats ∷ []
+own_contraries Json = NoJson ∷ []
 own_contraries MaxColumnsPreview = NoMaxColumnsPreview ∷ []
 own_contraries NoContextSeparator = ContextSeparator ∷ []
 own_contraries NoMessages = Messages ∷ []

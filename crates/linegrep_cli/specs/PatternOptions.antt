@@ -64,7 +64,7 @@ searched_options options patterns = record default_options {
   line_terminator = if has options Multiline then None else Some (terminator_of options);
 }
 
--- and where files are listed those of a pattern that matches everywhere, which is compiled instead
+-- and where files are listed those of the literal that is searched for each path
 abbrev pub pattern_options : Options → List (String Global) → PatternSettings
 pattern_options options patterns =
     if has options Files then default_options else searched_options options patterns
@@ -94,4 +94,4 @@ searched_texts options texts = if nat_lt 1 (length texts) && names_groups option
 
 abbrev pub pattern_texts : Options → List (String Global) → List (List ℕ)
 pattern_texts options patterns =
-    if has options Files then [] ∷ [] else searched_texts options (map string_bytes patterns)
+    if has options Files then codes "x" ∷ [] else searched_texts options (map string_bytes patterns)

@@ -75,12 +75,12 @@ module _ {F M R W X E : Type 0} (output : E → Option (List ℕ)) (facts : M �
       haystack = record { file = None; reader = left.reader };
     }
 
-  -- a path is written as that of a file with a match: a line that is empty is searched for it
+  -- a path is written as that of a file with a match: the line that files are listed by is searched
   pub record IsPathWritten (old : PrintingEngine F M R W X) (path : Option (Bor (List ℕ)))
       (searched : Searched) (new : PrintingEngine F M R W X) : Type 0 where
     pub line : Bor (List ℕ)
     pub left : Bor (List ℕ)
-    pub is_line : line.now ≡ 10 ∷ []
+    pub is_line : line.now ≡ 120 ∷ 10 ∷ []
     pub written : IsSearchWritten output facts first_at groups_at write_step (λ s. Some s.now)
         IsLineRead old.searcher old.matcher path line
         old.writer old.printer searched left new.writer new.printer

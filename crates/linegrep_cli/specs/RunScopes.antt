@@ -43,7 +43,7 @@ messages_of options = if has options NoMessages then Silent
 -- what is looked for, if nothing is written of what is found
 abbrev pub quiet_of : Options → Option QuietRun
 quiet_of options = if has options Quiet then Some (record {
-  seeks_unmatched = has options FilesWithoutMatch;
+  seeks_unmatched = has options FilesWithoutMatch && not (has options Files);
   counts_all = counts_all options;
 }) else None
 

@@ -22,7 +22,6 @@ use Rattle.linegrep_cli.specs.declared.option_id.OptionId.TheVariants.{InvertMat
 use Rattle.linegrep_cli.specs.declared.option_id.OptionId.TheVariants.{NoBinary, NoText, NullData}
 use Rattle.linegrep_cli.specs.declared.option_id.OptionId.TheVariants.{Passthru}
 use Rattle.linegrep_cli.specs.declared.option_id.OptionId.TheVariants.{StopOnNonmatch, Text}
-use Rattle.linegrep_cli.specs.declared.option_id.OptionId.TheVariants.{Unrestricted}
 use Rattle.linegrep_cli.specs.declared.option_id.OptionId.{OptionId}
 use Rattle.linegrep_cli.specs.declared.options.Options.{Options}
 
@@ -31,13 +30,12 @@ abbrev pub terminator_of : Options → LineTerminator
 terminator_of options = if has options NullData then Byte 0
     else if has options Crlf then carriage_line_feed else Byte 10
 
--- `-u` is given three times, and nothing after it about binary files
+-- `-u` is given a third time, and nothing after that about binary files
 abbrev pub is_all_searched : Options → Bool
-is_all_searched options = nat_lt 2 options.unrestricted
-    && is_before Text && is_before NoText && is_before NoBinary
+is_all_searched options = is_before Text && is_before NoText && is_before NoBinary
   where
     is_before : OptionId → Bool
-    is_before option = nat_lt (last_use options.uses option) (last_use options.uses Unrestricted)
+    is_before option = nat_lt (last_use options.uses option) options.unrestricted.binary
 
 -- what is done about a file with a NUL
 abbrev pub detection_of : Options → BinaryDetection

@@ -11,7 +11,10 @@ use grep_printer::ColorTexts;
 use std::alloc::{AllocError, Global};
 
 const MALFORMED: &str = "--colors: each is path, line, column, match or highlight with :none, \
-    :fg:COLOR, :bg:COLOR or :style:STYLE";
+    :fg:COLOR, :bg:COLOR or :style:STYLE\n\
+    COLOR is black, red, green, yellow, blue, magenta, cyan, white, a number up to 255, or three \
+    with commas between\n\
+    STYLE is bold, intense, underline or italic, or one of these with no before it";
 
 /// The escapes for the colors that the options choose, if they choose any. An error is that of one
 /// that isn't well formed, or of being out of memory.

@@ -116,6 +116,11 @@ const PATTERN_ROWS: &[Row] = &[
         letter: None,
     },
     Row {
+        id: OptionId::Engine,
+        name: "engine",
+        letter: None,
+    },
+    Row {
         id: OptionId::MaxCount,
         name: "max-count",
         letter: Some('m'),
@@ -535,6 +540,11 @@ const SEPARATOR_ROWS: &[Row] = &[
         name: "path-separator",
         letter: None,
     },
+    Row {
+        id: OptionId::HyperlinkFormat,
+        name: "hyperlink-format",
+        letter: None,
+    },
 ];
 
 // How it is written, or what in its place.
@@ -684,6 +694,18 @@ pub fn tables() -> [&'static [Row]; 7] {
     ]
 }
 
+/// The letter of the option with a name, if it has one.
+pub fn letter_of(name: &str) -> Option<char> {
+    for rows in tables() {
+        for row in rows {
+            if row.name == name {
+                return row.letter;
+            }
+        }
+    }
+    None
+}
+
 /// The command line of the program. The only error is being out of memory.
 pub fn command<'a>(alloc: Global) -> Result<Command<'a>, AllocError> {
     let mut command = Ok(empty_command(alloc));
@@ -768,6 +790,9 @@ impl Row {
             .action(kind.action())
             .value_names(kind.value_names())
             .value_parser(kind.value_parser())
+            .num_args(kind.value_range())
+            .require_equals(kind.requires_equals())
+            .default_missing_values(kind.missing_values())
             .allow_hyphen_values(true);
         let arg = match self.letter {
             Some(letter) => arg.short(letter),

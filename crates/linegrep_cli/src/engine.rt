@@ -189,7 +189,7 @@ impl<'e, F: Read + Drop, M: CapturesAt + Copy, R: Source, W: Output, E> Printing
         ensures { IsPathWritten M.Error.output M.facts M.first_at M.groups_at W.step F.remaining R.remaining
             R.step self.old (Some path.entry) result self.new }
     {
-        let mut line: &[u8] = b"\n";
+        let mut line: &[u8] = b"x\n";
         self.printer.search(
             self.rt,
             &mut self.searcher,

@@ -4,65 +4,21 @@ ghost use Rattle.grep_regex.specs.declared.error.Error.TheVariants.{Memory};
 ghost use Rattle.linegrep_cli.specs.Refusals.{IsSaid};
 ghost use Rattle.linegrep_files.specs.Failures.{has_cause};
 
-use crate::refused::reason;
-use clap::error::ErrorKind;
 use grep_output::{Output, write_all};
 pub use linegrep_files::Failure;
-use linegrep_files::shown;
 use std::alloc::{AllocError, Global};
 use std::fmt::Display;
 use std::io;
 
-/// Why the arguments can't be used, and how to get help.
-pub fn arguments_failure(alloc: Global, text: &str) -> Failure {
-    Failure::of_text(arguments_text(alloc, text, ""))
-}
+// How many characters a pattern has at most that is written whole, and how many are written of each
+// end of a longer one, or on each side of a mark.
+const LONGEST: usize = 200;
+
+const NEAR: usize = 40;
 
 /// Why nothing more can be written.
 pub fn output_failure(alloc: Global, error: &io::Error) -> Failure {
     Failure::of_cause(alloc, "standard output", error)
-}
-
-/// What the parser of the command line says: what is wrong with it, help or the version.
-pub fn usage_text(alloc: Global, error: &clap::Error) -> Result<String, AllocError> {
-    let text = format!(in alloc; "{error}")?;
-    if !error.use_stderr() {
-        return Ok(text);
-    }
-    let cause = cause_of(text.as_str());
-    match refused(cause) {
-        Some((option, reason)) => format!(in alloc; "linegrep: {option}: {reason}\n"),
-        None => arguments_text(alloc, cause, tip(error.kind())),
-    }
-}
-
-// The option that an error is about, and why it can't be used, if ripgrep has it.
-fn refused(cause: &str) -> Option<(&str, &'static str)> {
-    let (_, rest) = cause.split_once("unexpected argument '")?;
-    let (option, _) = rest.split_once('\'')?;
-    Some((option, reason(option)?))
-}
-
-// What the text of an error says is wrong: its start, up to an empty line.
-fn cause_of(text: &str) -> &str {
-    let cause = match text.split_once("\n\n") {
-        Some((cause, _)) => cause,
-        None => text.trim_end(),
-    };
-    cause.strip_prefix("error: ").unwrap_or(cause)
-}
-
-// What may help with an error.
-fn tip(kind: ErrorKind) -> &'static str {
-    match kind {
-        ErrorKind::UnknownArgument => "\nA pattern that begins with a hyphen goes after -e.",
-        _ => "",
-    }
-}
-
-fn arguments_text(alloc: Global, cause: &str, tip: &str) -> Result<String, AllocError> {
-    let cause = shown(alloc, cause)?;
-    format!(in alloc; "linegrep: {cause}{tip}\n\nFor more information, try 'linegrep --help'.\n")
 }
 
 /// Writes a text to standard error. If that fails, nobody can be told.
@@ -91,21 +47,62 @@ pub fn pattern_failure(alloc: Global, texts: &[&str], error: &grep_regex::Error)
     }
 }
 
-// What is wrong with a pattern, with a mark below a character of it, which is counted from 1.
+// What is wrong with a pattern, with a mark below a character of it, which is counted from 1. Of a long
+// one what is near the mark is written.
 fn marked<D: Display>(
     alloc: Global,
     cause: &D,
     text: &str,
     place: usize,
 ) -> Result<String, AllocError> {
-    format!(in alloc; "linegrep: {cause}\n    {text}\n    {:>1$}\n", '^', place)
+    let count = text.chars().count();
+    if count <= LONGEST {
+        return format!(in alloc; "linegrep: {cause}\n    {text}\n    {:>1$}\n", '^', place);
+    }
+    let start = place.saturating_sub(NEAR);
+    let near = characters(text, start, start.saturating_add(NEAR).saturating_add(NEAR));
+    let place_in = place.saturating_sub(start);
+    format!(in alloc;
+        "linegrep: {cause}, at character {place} of {count}\n    {near}\n    {:>1$}\n",
+        '^', place_in
+    )
 }
 
 // What is wrong with a pattern, which is written below unless it may be any of several.
 fn caused<D: Display>(alloc: Global, cause: &D, texts: &[&str]) -> Result<String, AllocError> {
     match texts {
-        [text] => format!(in alloc; "linegrep: {cause}\n    {text}\n"),
+        [text] => {
+            let text = shortened(alloc, text)?;
+            format!(in alloc; "linegrep: {cause}\n    {text}\n")
+        }
         _ => format!(in alloc; "linegrep: {cause}\n"),
+    }
+}
+
+// A text, or both ends of a long one with a count of the characters between them.
+fn shortened(alloc: Global, text: &str) -> Result<String, AllocError> {
+    let count = text.chars().count();
+    if count <= LONGEST {
+        return String::from_str(alloc, text);
+    }
+    let first = characters(text, 0, NEAR);
+    let last = characters(text, count.saturating_sub(NEAR), count);
+    let between = count.saturating_sub(NEAR).saturating_sub(NEAR);
+    format!(in alloc; "{first} .. {between} characters .. {last}")
+}
+
+// The characters of a text from one place up to another, counted from 0, as far as there are any.
+fn characters(text: &str, from: usize, to: usize) -> &str {
+    let rest = text.get(byte_at(text, from)..).unwrap_or("");
+    rest.get(..byte_at(rest, to.saturating_sub(from)))
+        .unwrap_or(rest)
+}
+
+// The byte at which a character of a text begins, or the length of a text without it.
+fn byte_at(text: &str, character: usize) -> usize {
+    match text.char_indices().nth(character) {
+        Some((start, _)) => start,
+        None => text.len(),
     }
 }
 

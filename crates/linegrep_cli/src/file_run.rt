@@ -5,7 +5,7 @@ ghost use Rattle.std.specs.Option.{option_or};
 ghost use Rattle.std.specs.declared.io.ErrorKind.TheVariants.{BrokenPipe};
 ghost use Rattle.linegrep_cli.specs.EngineCalls.{says};
 ghost use Rattle.std.specs.declared.io.Error.{Error};
-ghost use Rattle.linegrep_cli.specs.OperandRuns.{AreAllVisited, AreSaid};
+ghost use Rattle.linegrep_cli.specs.OperandRuns.{AreAllVisited, AreOperandsSearched, AreSaid};
 ghost use Rattle.linegrep_cli.specs.OperandRuns.{IsEntryVisited, IsFailing, IsFileVisited};
 ghost use Rattle.linegrep_cli.specs.OperandRuns.{IsFolderVisited, IsHereVisited, IsInputVisited};
 ghost use Rattle.linegrep_cli.specs.OperandRuns.{IsKept, IsListed, IsNamedVisited, IsOperandVisited};
@@ -21,7 +21,7 @@ use crate::failures::{Failure, output_failure};
 use crate::scope::{Scope, is_same};
 use crate::system::System;
 use crate::visit::Visit;
-use crate::words::is_escaped;
+use crate::words::{is_escaped, is_input};
 use grep_printer::Searched;
 use linegrep_files::{Choices, Entry, NOT_UTF8, Walk};
 use std::fmt::Display;
@@ -30,7 +30,8 @@ use std::io;
 // The name of standard input.
 const STDIN: &str = "<stdin>";
 
-const NO_FILE: &str = "no file was searched: none is chosen by -g, or all are hidden or ignored";
+const NO_FILE: &str = "no file was searched: none is chosen by -g or -t, or all are hidden or \
+    ignored, which -uu searches too; --files lists those that are searched";
 
 const IS_OUTPUT: &str = "input file is also the output";
 
@@ -51,8 +52,9 @@ impl<'r, S: System> Run<'r, S> {
         Run { rt, system, scope }
     }
 
-    /// Searches the files at some paths, writes what is left, and gives the status. What can't be
-    /// read is reported, and gives the status 2.
+    /// Says what is wrong with the ignore files that are named, searches the files at some paths, writes
+    /// what is left, and gives the status. What can't be read is reported, and gives the status 2,
+    /// unless it is an ignore file.
     pub fn complete<E: Engine<S::File>>(
         &self,
         engine: &mut E,
@@ -60,6 +62,24 @@ impl<'r, S: System> Run<'r, S> {
         paths: &[&str],
     ) -> u8
         ensures { IsRunOver (S.facts self.now.system.now) (S.finds self.now.system.now)
+            (S.opens self.now.system.now) (S.identifies self.now.system.now) E.step E.has_failed
+            self.now.scope choices.old paths.now engine.old result engine.new }
+    {
+        let warned = self.warn(engine, choices);
+        match &warned.failure {
+            None => self.search_operands(engine, choices, paths),
+            Some(error) => self.fail(engine, error),
+        }
+    }
+
+    // Searches the files at some paths, writes what is left, and gives the status.
+    fn search_operands<E: Engine<S::File>>(
+        &self,
+        engine: &mut E,
+        choices: &mut Choices<'r>,
+        paths: &[&str],
+    ) -> u8
+        ensures { AreOperandsSearched (S.facts self.now.system.now) (S.finds self.now.system.now)
             (S.opens self.now.system.now) (S.identifies self.now.system.now) E.step E.has_failed
             self.now.scope choices.old paths.now engine.old result engine.new }
     {
@@ -134,7 +154,7 @@ impl<'r, S: System> Run<'r, S> {
         ensures choices { is_over self.now.scope result ≡ false
             → AreAlike choices.old choices.new }
     {
-        if self.scope.is_input(path) {
+        if is_input(path) {
             return self.visit_input(engine);
         }
         if is_escaped(path) {
@@ -301,10 +321,13 @@ impl<'r, S: System> Run<'r, S> {
         self.keep(engine, path, searched)
     }
 
-    // Searches standard input.
+    // Searches standard input or, where files are listed, writes its name.
     fn visit_input<E: Engine<S::File>>(&self, engine: &mut E) -> Visit
         ensures { IsInputVisited E.step E.has_failed self.now.scope engine.old result engine.new }
     {
+        if self.scope.lists_files {
+            return self.list(engine, STDIN);
+        }
         if self.scope.leaves_out_input {
             return self.report(engine, STDIN, &IS_OUTPUT);
         }

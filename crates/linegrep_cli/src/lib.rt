@@ -30,6 +30,7 @@ mod separators;
 mod settings;
 mod system;
 mod template;
+mod usage;
 mod visit;
 mod words;
 

@@ -3,7 +3,7 @@ ghost use Rattle.std.specs.Prelude.{◌≡◌};
 ghost use Rattle.linegrep_cli.specs.OptionUses.{contraries, own_contraries};
 
 use clap::ArgAction;
-use clap::builder::ValueParser;
+use clap::builder::{ValueParser, ValueRange};
 
 /// An option of the command line.
 #[derive(Clone, Copy)]
@@ -132,6 +132,8 @@ pub enum OptionId {
     BeforeContext,
     Context,
     Encoding,
+    Engine,
+    HyperlinkFormat,
 }
 
 /// A number above that of each option.
@@ -141,7 +143,7 @@ pub const COUNT: usize = 192;
 #[derive(Clone, Copy)]
 pub enum Kind {
     Flag,
-    Count,
+    Step,
     Number,
     Size,
     Label,
@@ -155,6 +157,8 @@ pub enum Kind {
     Separator,
     Template,
     Change,
+    Engine,
+    Links,
 }
 
 const MODES: &[OptionId] = &[
@@ -163,7 +167,6 @@ const MODES: &[OptionId] = &[
     OptionId::FilesWithMatches,
     OptionId::FilesWithoutMatch,
     OptionId::Json,
-    OptionId::NoJson,
 ];
 
 const CASES: &[OptionId] = &[
@@ -206,8 +209,10 @@ impl OptionId {
             OptionId::Regexp => Kind::Pattern,
             OptionId::File | OptionId::IgnoreFile => Kind::File,
             OptionId::Glob | OptionId::Iglob => Kind::Glob,
-            OptionId::Unrestricted => Kind::Count,
+            OptionId::Unrestricted => Kind::Step,
             OptionId::Encoding => Kind::Label,
+            OptionId::Engine => Kind::Engine,
+            OptionId::HyperlinkFormat => Kind::Links,
             OptionId::ContextSeparator
             | OptionId::FieldContextSeparator
             | OptionId::FieldMatchSeparator
@@ -284,6 +289,7 @@ impl OptionId {
             OptionId::NoColumn => &[OptionId::Column],
             OptionId::Trim => &[OptionId::NoTrim],
             OptionId::Stats => &[OptionId::NoStats],
+            OptionId::Json => &[OptionId::NoJson],
             OptionId::MaxColumnsPreview => &[OptionId::NoMaxColumnsPreview],
             OptionId::NoContextSeparator => &[OptionId::ContextSeparator],
             OptionId::NoMessages => &[OptionId::Messages],
@@ -309,17 +315,12 @@ impl OptionId {
 }
 
 impl Kind {
-    /// Whether it is an option without a value.
-    pub fn is_flag(self) -> bool {
-        matches!(self, Kind::Flag)
-    }
-
     /// What `clap` does at a use.
     pub fn action(self) -> ArgAction {
         match self {
             Kind::Flag => ArgAction::SetTrue,
-            Kind::Count => ArgAction::Count,
-            Kind::Pattern
+            Kind::Step
+            | Kind::Pattern
             | Kind::File
             | Kind::Glob
             | Kind::Type
@@ -331,14 +332,16 @@ impl Kind {
             | Kind::Color
             | Kind::Order
             | Kind::Separator
-            | Kind::Template => ArgAction::Set,
+            | Kind::Template
+            | Kind::Engine
+            | Kind::Links => ArgAction::Set,
         }
     }
 
     /// What help calls the value, if there is one.
     pub fn value_names(self) -> &'static [&'static str] {
         match self {
-            Kind::Flag | Kind::Count => &[],
+            Kind::Flag | Kind::Step => &[],
             Kind::Number | Kind::Size => &["NUM"],
             Kind::Label => &["LABEL"],
             Kind::Color => &["WHEN"],
@@ -351,6 +354,30 @@ impl Kind {
             Kind::Separator => &["SEPARATOR"],
             Kind::Template => &["TEMPLATE"],
             Kind::Change => &["CHANGE"],
+            Kind::Engine => &["ENGINE"],
+            Kind::Links => &["FORMAT"],
+        }
+    }
+
+    /// How many values a use has.
+    pub fn value_range(self) -> ValueRange {
+        match self {
+            Kind::Flag => ValueRange::EMPTY,
+            Kind::Step => ValueRange::new(0..=1),
+            _ => ValueRange::SINGLE,
+        }
+    }
+
+    /// Whether a value is part of the option's own word.
+    pub fn requires_equals(self) -> bool {
+        matches!(self, Kind::Step)
+    }
+
+    /// What is kept of a use without a value, and has a place among the words.
+    pub fn missing_values(self) -> &'static [&'static str] {
+        match self {
+            Kind::Step => &[""],
+            _ => &[],
         }
     }
 
@@ -358,8 +385,10 @@ impl Kind {
     pub fn value_parser(self) -> ValueParser<'static> {
         match self {
             Kind::Flag => ValueParser::Bool,
-            Kind::Count => ValueParser::Signed(0, 255),
+            Kind::Step => ValueParser::Names(&[""]),
             Kind::Number => ValueParser::Unsigned(0, u64::MAX),
+            Kind::Engine => ValueParser::Names(&["default", "auto"]),
+            Kind::Links => ValueParser::Names(&["none"]),
             Kind::Color => ValueParser::Names(&["auto", "always", "never", "ansi"]),
             Kind::Order => {
                 ValueParser::Names(&["none", "path", "modified", "accessed", "created"])

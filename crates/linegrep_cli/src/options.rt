@@ -19,12 +19,16 @@ ghost use Rattle.linegrep_files.specs.Orders.{is_by_time};
 use crate::command::{Row, tables};
 use crate::file_options::type_options;
 use crate::option_id::{COUNT, Kind, OptionId};
-use crate::patterns::{names_patterns, reads_patterns};
+use crate::patterns::{names_patterns, pattern_inputs};
 use crate::program::Streams;
+use crate::words::is_input;
 use clap::ArgMatches;
 use grep_printer::SummaryKind;
 use grep_searcher::{BinaryDetection, LineTerminator};
 use linegrep_files::{FileId, Order, TypeOptions};
+
+// The name of `-u`.
+const UNRESTRICTED: &str = "unrestricted";
 
 // When each option was used last.
 #[derive(Clone, Copy)]
@@ -94,9 +98,40 @@ fn last_use(matches: &ArgMatches<'_>, row: &Row) -> usize {
 fn is_used(matches: &ArgMatches<'_>, row: &Row) -> bool {
     match row.id.kind() {
         Kind::Flag => matches.get_flag(row.name),
-        Kind::Count => matches.get_count(row.name) > 0,
         _ => true,
     }
+}
+
+// Where `-u` is among the words: the place of each use, from 1, or 0 if there is none.
+#[derive(Clone, Copy)]
+struct Unrestricted {
+    // The first use, which asks for ignored files.
+    ignored: usize,
+    // The second, which asks for hidden ones.
+    hidden: usize,
+    // The third, which asks for binary ones.
+    binary: usize,
+}
+
+impl Unrestricted {
+    // That of parsed arguments.
+    fn read(matches: &ArgMatches<'_>) -> Unrestricted {
+        let mut places = matches
+            .indices_of(UNRESTRICTED)
+            .unwrap_or(&[])
+            .iter()
+            .copied();
+        Unrestricted {
+            ignored: places.next().unwrap_or(0),
+            hidden: places.next().unwrap_or(0),
+            binary: places.next().unwrap_or(0),
+        }
+    }
+}
+
+/// Whether parsed arguments have `-u` more than three times, which is as often as it means something.
+pub fn repeats_unrestricted(matches: &ArgMatches<'_>) -> bool {
+    matches.indices_of(UNRESTRICTED).unwrap_or(&[]).len() > 3
 }
 
 /// What the options ask for, but for patterns, of a run with some standard streams.
@@ -139,8 +174,7 @@ pub struct Options<'m, 'w> {
     pub max_filesize: Option<&'w str>,
     sort: Option<&'w str>,
     sortr: Option<&'w str>,
-    // How often `-u` is given.
-    unrestricted: u8,
+    unrestricted: Unrestricted,
     operands: Option<&'m [&'w str]>,
     // Whether patterns are read from standard input.
     reads_patterns: bool,
@@ -177,9 +211,9 @@ impl<'m, 'w> Options<'m, 'w> {
             max_filesize: matches.get_str("max-filesize"),
             sort: matches.get_str("sort"),
             sortr: matches.get_str("sortr"),
-            unrestricted: matches.get_count("unrestricted"),
+            unrestricted: Unrestricted::read(matches),
             operands: matches.get_strs("operands"),
-            reads_patterns: reads_patterns(matches),
+            reads_patterns: pattern_inputs(matches) > 0,
             names_patterns: names_patterns(matches) || matches.get_flag("files"),
         }
     }
@@ -198,7 +232,7 @@ impl<'m, 'w> Options<'m, 'w> {
     {
         let asked = self.last_of_both(option, OptionId::Ignore);
         let refused = self.last_of_both(opposite, OptionId::NoIgnore);
-        asked >= refused && asked >= self.uses.last_of(OptionId::Unrestricted)
+        asked >= refused && asked >= self.unrestricted.ignored
     }
 
     // The place of the last use of either of two options, or 0.
@@ -239,8 +273,7 @@ impl<'m, 'w> Options<'m, 'w> {
         ensures { result ≡ shows_hidden self.now }
     {
         self.has(OptionId::Hidden)
-            || self.unrestricted > 1
-                && self.uses.last_of(OptionId::NoHidden) < self.uses.last_of(OptionId::Unrestricted)
+            || self.uses.last_of(OptionId::NoHidden) < self.unrestricted.hidden
     }
 
     /// Whether the search of a file of a folder goes on after a NUL, though it isn't searched as text.
@@ -250,15 +283,14 @@ impl<'m, 'w> Options<'m, 'w> {
         self.has(OptionId::Binary) || self.is_all_searched()
     }
 
-    // Whether `-u` is given three times, and nothing after it about binary files.
+    // Whether `-u` is given a third time, and nothing after that about binary files.
     fn is_all_searched(&self) -> bool
         ensures { result ≡ is_all_searched self.now }
     {
-        let last = self.uses.last_of(OptionId::Unrestricted);
-        self.unrestricted > 2
-            && self.uses.last_of(OptionId::Text) < last
-            && self.uses.last_of(OptionId::NoText) < last
-            && self.uses.last_of(OptionId::NoBinary) < last
+        let third = self.unrestricted.binary;
+        self.uses.last_of(OptionId::Text) < third
+            && self.uses.last_of(OptionId::NoText) < third
+            && self.uses.last_of(OptionId::NoBinary) < third
     }
 
     /// When there are colors.
@@ -347,7 +379,7 @@ impl<'m, 'w> Options<'m, 'w> {
     {
         match self.paths() {
             [] => self.streams.has_input && !self.reads_patterns && !self.has(OptionId::Files),
-            [path] => *path == "-",
+            [path] => is_input(path),
             _ => false,
         }
     }

@@ -13,9 +13,11 @@ ghost use Rattle.grep_regex.specs.declared.error.Error.{Error};
 ghost use Rattle.grep_regex.specs.declared.error.Error.TheVariants.{Memory};
 ghost use Rattle.linegrep_files.specs.Failures.{has_cause};
 
-use crate::failures::{Failure, arguments_failure, pattern_failure};
+use crate::failures::{Failure, pattern_failure};
 use crate::option_id::OptionId;
 use crate::options::Options;
+use crate::usage::no_pattern_failure;
+use crate::words::is_input;
 use clap::ArgMatches;
 use grep_regex::{Regex, RegexMatcherBuilder};
 use grep_searcher::{LineTerminator, Source};
@@ -41,11 +43,11 @@ pub fn names_patterns(matches: &ArgMatches<'_>) -> bool {
     matches.contains_id("regexp") || matches.contains_id("file")
 }
 
-/// Whether patterns are read from standard input.
-pub fn reads_patterns(matches: &ArgMatches<'_>) -> bool {
+/// How often patterns are to be read from standard input.
+pub fn pattern_inputs(matches: &ArgMatches<'_>) -> usize {
     match matches.get_strs("file") {
-        Some(files) => files.iter().any(|file| *file == "-"),
-        None => false,
+        Some(files) => files.iter().filter(|file| is_input(file)).count(),
+        None => 0,
     }
 }
 
@@ -61,7 +63,7 @@ fn add_patterns<R: Source>(
     }
     match matches.get_str("operands") {
         Some(pattern) => add_text(rt.alloc(), patterns, pattern),
-        None => Err(arguments_failure(rt.alloc(), "there is no pattern")),
+        None => Err(no_pattern_failure(rt.alloc())),
     }
 }
 
@@ -109,7 +111,7 @@ fn add_files<R: Source>(
 
 // The text of a file, of which `-` is standard input.
 fn read_file<R: Source>(rt: &HostRuntime, file: &str, input: &mut R) -> io::Result<String> {
-    if file != "-" {
+    if !is_input(file) {
         return fs::read_to_string(rt, file);
     }
     match String::from_utf8(read_input(rt.alloc(), input)?) {
@@ -150,8 +152,8 @@ fn push_text(alloc: Global, texts: &mut Vec<String>, text: &str) -> Result<(), A
     Ok(())
 }
 
-/// Compiles patterns as the options say; where files are listed one that matches everywhere, and where
-/// a template may name groups all as one, each in a group without a number. An error is that of a
+/// Compiles patterns as the options say; where files are listed the literal that is searched for each
+/// path, and where a template may name groups all as one, each in a group without a number. An error is that of a
 /// pattern, or that there is no memory.
 pub fn compile(
     alloc: Global,
@@ -170,7 +172,7 @@ pub fn compile(
         error)) }
 {
     if options.has(OptionId::Files) {
-        return compile_with(alloc, &RegexMatcherBuilder::new(), &[""]);
+        return compile_with(alloc, &RegexMatcherBuilder::new(), &["x"]);
     }
     match texts_of(alloc, patterns) {
         Ok(texts) => compile_searched(alloc, options, &builder(options, patterns), &texts),

@@ -5,14 +5,15 @@ ghost use Rattle.linegrep_cli.specs.ProgramRuns.{IsAnswered, IsProgramRun};
 ghost use Rattle.linegrep_cli.specs.WholeRuns.{IsRefused};
 
 use crate::command::command;
-use crate::failures::{Failure, output_failure, usage_text};
+use crate::failures::{Failure, output_failure};
 use crate::help::HELP;
 use crate::option_id::OptionId;
-use crate::options::Options;
-use crate::patterns::read_patterns;
+use crate::options::{Options, repeats_unrestricted};
+use crate::patterns::{pattern_inputs, read_patterns};
 use crate::search::{Ended, search_all};
 use crate::system::System;
-use crate::words::{is_escaped, words};
+use crate::usage::{arguments_failure, usage_text};
+use crate::words::{is_escaped, is_input, words};
 use clap::ArgMatches;
 use grep_output::{Output, write_all};
 use grep_searcher::Source;
@@ -68,7 +69,7 @@ pub fn run<S: System, R: Source + Drop, W: Output + Drop, E: Output>(
                 rt, system, &words, &matches, &options, input, output, errors,
             )
         }
-        Err(error) => answer(rt.alloc(), &error, input, output, errors),
+        Err(error) => answer(rt.alloc(), &words, &error, input, output, errors),
     }
 }
 
@@ -84,6 +85,7 @@ fn parse<'w>(alloc: Global, words: &'w [String]) -> Result<ArgMatches<'w>, clap:
 // the arguments.
 fn answer<R, W: Output, E: Output>(
     alloc: Global,
+    words: &[String],
     error: &clap::Error,
     input: R,
     output: W,
@@ -93,7 +95,7 @@ fn answer<R, W: Output, E: Output>(
         ⊎ ((text : List ℕ) × (result.input ≡ input)
         × IsAnswered W.step text output result.status result.output) }
 {
-    let Ok(text) = usage_text(alloc, error) else {
+    let Ok(text) = usage_text(alloc, words, error) else {
         return Ended::refused(errors, &Failure::out_of_memory(), input, output);
     };
     if error.use_stderr() {
@@ -162,8 +164,8 @@ fn run_options<S: System, R: Source + Drop, W: Output + Drop, E: Output>(
     }
 }
 
-// The patterns of parsed arguments. An error is that a word other than a path isn't UTF-8, that there
-// is no pattern or that it can't be read, or that there is no memory.
+// The patterns of parsed arguments. An error is that a word other than a path isn't UTF-8, that options
+// don't go together, that there is no pattern or that it can't be read, or that there is no memory.
 fn patterns_of<R: Source>(
     rt: &HostRuntime,
     words: &[String],
@@ -174,10 +176,27 @@ fn patterns_of<R: Source>(
     if let Some(word) = misplaced(words, options.paths()) {
         return Err(Failure::of_cause(rt.alloc(), word, &"the argument isn't UTF-8"));
     }
+    if let Some(fault) = fault_of(matches, options) {
+        return Err(arguments_failure(rt.alloc(), fault));
+    }
     if options.has(OptionId::Files) {
         Ok(Vec::new(rt.alloc()))
     } else {
         read_patterns(rt, matches, input)
+    }
+}
+
+// What is wrong with options together that each are right, if something is.
+fn fault_of(matches: &ArgMatches<'_>, options: &Options<'_, '_>) -> Option<&'static str> {
+    let searches_input = options.paths().iter().any(|path| is_input(path));
+    if repeats_unrestricted(matches) {
+        Some("-u can be given three times at most")
+    } else if pattern_inputs(matches) > 1 {
+        Some("patterns can be read from standard input once")
+    } else if pattern_inputs(matches) > 0 && searches_input && !options.has(OptionId::Files) {
+        Some("patterns are read from standard input, so that it can't be searched")
+    } else {
+        None
     }
 }
 

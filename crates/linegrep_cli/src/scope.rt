@@ -1,6 +1,6 @@
 //! What the options say of a run.
 ghost use Rattle.std.specs.Prelude.{◌≡◌};
-ghost use Rattle.linegrep_cli.specs.OperandRuns.{ends_with_match, has_found, is_input, is_over, is_same};
+ghost use Rattle.linegrep_cli.specs.OperandRuns.{ends_with_match, has_found, is_over, is_same};
 ghost use Rattle.linegrep_cli.specs.OperandRuns.{path_of, says_errors, says_warnings, seeks_unmatched};
 ghost use Rattle.linegrep_cli.specs.OperandRuns.{status_of};
 ghost use Rattle.linegrep_cli.specs.RunScopes.{IsScopeOf, MaySearch, messages_of, quiet_of};
@@ -105,13 +105,6 @@ impl Scope {
         if self.shows_paths { Some(name) } else { None }
     }
 
-    /// Whether an operand names standard input.
-    pub fn is_input(&self, path: &str) -> bool
-        ensures { result ≡ is_input self.now path.now }
-    {
-        path == "-" && !self.lists_files
-    }
-
     /// Whether what is visited later makes no difference.
     pub fn is_over(&self, total: &Visit) -> bool
         ensures { result ≡ is_over self.now total.now }
@@ -179,7 +172,8 @@ impl Quiet {
     {
         if options.has(OptionId::Quiet) {
             Some(Quiet {
-                seeks_unmatched: options.has(OptionId::FilesWithoutMatch),
+                seeks_unmatched: options.has(OptionId::FilesWithoutMatch)
+                    && !options.has(OptionId::Files),
                 counts_all: options.counts_all(),
             })
         } else {

@@ -7,9 +7,10 @@ ghost use Rattle.linegrep_cli.specs.SeparatorOptions.{IsContext, IsSeparators, a
 ghost use Rattle.linegrep_cli.specs.SeparatorOptions.{separator_text};
 ghost use Rattle.linegrep_files.specs.Failures.{has_cause};
 
-use crate::failures::{Failure, arguments_failure};
+use crate::failures::Failure;
 use crate::option_id::OptionId;
 use crate::options::Options;
+use crate::usage::arguments_failure;
 use bstr::ByteVec;
 use grep_printer::Separators;
 use std::alloc::{AllocError, Global};

@@ -31,6 +31,8 @@ use grep_replace::Template;
 use grep_searcher::{ConfigError, Encoding, Searcher, SearcherBuilder};
 use std::alloc::Global;
 
+const ENCODINGS: &str = "-E takes auto, none, utf-8, utf-16, utf-16le or utf-16be";
+
 /// The searcher that the options ask for; where files are listed any does. Lines are numbered for a
 /// terminal, if nothing else is asked for. An error is that of a label of an encoding that isn't
 /// known, or that there is no memory.
@@ -44,7 +46,7 @@ pub fn build_searcher(alloc: Global, options: &Options<'_, '_>) -> Result<Search
     match try_searcher(alloc, options) {
         Ok(searcher) => Ok(searcher),
         Err(ConfigError::Memory) => Err(Failure::out_of_memory()),
-        Err(error) => Err(Failure::new(alloc, &error)),
+        Err(error) => Err(Failure::of_text(format!(in alloc; "linegrep: {error}; {ENCODINGS}\n"))),
     }
 }
 

@@ -1,6 +1,6 @@
 //! Arguments as texts.
 ghost use Rattle.std.specs.Prelude.{◌≡◌};
-ghost use Rattle.linegrep_cli.specs.OperandRuns.{is_escaped};
+ghost use Rattle.linegrep_cli.specs.OperandRuns.{is_escaped, is_input};
 
 use linegrep_files::escape;
 use std::alloc::{AllocError, Global};
@@ -20,6 +20,13 @@ fn word(alloc: Global, argument: &[u8]) -> Result<String, AllocError> {
         Ok(text) => String::from_str(alloc, text),
         Err(_) => escape(alloc, argument),
     }
+}
+
+/// Whether an operand names standard input.
+pub fn is_input(word: &str) -> bool
+    ensures { result ≡ is_input word.now }
+{
+    word == "-"
 }
 
 /// Whether a word stands for bytes that aren't UTF-8.

@@ -1,5 +1,5 @@
 use Rattle.std.proofs.Common.{◌≡◌, ◌⊎◌, ℕ, List, [], ◌∷◌, Result, Ok, Err, false, inl, map, rules, true}
-use Rattle.std.specs.Prelude.{◌≢◌, IfErr, string_bytes}
+use Rattle.std.specs.Prelude.{◌≢◌, IfErr, codes, string_bytes}
 use Rattle.grep_regex.specs.Patterns.{default_options}
 use Rattle.grep_regex.specs.Refusals.{IsRefusal}
 use Rattle.grep_regex.specs.declared.error.Error.{Error}
@@ -25,7 +25,7 @@ these (Err failure) settings texts others refused = λ caused.
 pub returns-then-has-clause-refused : goal.returns-then-has-clause-refused
 returns-then-has-clause-refused c =
     let files : has c.args.options.now Files ≡ true = search rules in
-    rw files (these c.compile_with.result default_options ([] ∷ []) (map string_bytes c.args.patterns.now)
+    rw files (these c.compile_with.result default_options (codes "x" ∷ []) (map string_bytes c.args.patterns.now)
     (rw c.new.ensures at c.compile_with.ensures.refused))
 
 pub returns-in-Ok-clause-refused : goal.returns-in-Ok-clause-refused
