@@ -1,8 +1,6 @@
 -- What stays of choices while a walk goes on.
 use Rattle.std.proofs.Common.{◌≡◌, ℕ, Bool, true, false, ◌∙◌, List, [], ap, refl, subst, sym}
-use Rattle.std.specs.Prelude.{MatchBool, Result, Vec}
-use Rattle.std.specs.Global.{Global}
-use Rattle.std.specs.declared.io.Error.{Error}
+use Rattle.std.specs.Prelude.{MatchBool}
 use Rattle.std.proofs.lemmas.Bool.{false≢true, true≢false}
 use Rattle.linegrep_files.specs.Choices.{AreAlike, AreTakenUp, IsWithin, SaysTheSame}
 use Rattle.linegrep_files.specs.FolderFacts.{FolderFacts}
@@ -78,28 +76,28 @@ along-same old new known same = record {
     idle-same : is_idle new.ignores ≡ false → is_idle old.ignores ≡ false
     idle-same busy = rw (same.ignores.source.sources, same.ignores.source.named) at busy
 
-module _ (reads : List ℕ → Result (Vec ℕ Global) Error → Type 0) (folder below names : List ℕ) where
+module _ (folders : FolderFacts) (folder below names : List ℕ) where
   record IsInside (old new : Ignores) : Type 0 where
     same : ReadsTheSame old new
     base : base_of new.layers ≡ base_of old.layers
     known : IsKnown new
 
   inside : (old new : Ignores) (idle : Bool) → is_idle old ≡ idle → IsKnown old
-      → MatchBool idle (new ≡ old) (AreOfFolder reads folder below names old new) → IsInside old new
+      → MatchBool idle (new ≡ old) (AreOfFolder folders folder below names old new) → IsInside old new
   inside old new true is known same = record {
     same = record { sources = ap (λ i. i.sources) same; named = ap (λ i. i.has_named) same };
     base = ap (λ i. base_of i.layers) same;
     known = subst IsKnown (sym same) known;
   }
   inside old new false is known are =
-      let below_is = is-below reads folder below names old new (known is) are in
+      let below_is = is-below folders folder below names old new (known is) are in
       record {
         same = record { sources = are.source.sources; named = are.source.named };
         base = below_is.base;
         known = λ busy. below_is.rooted;
       }
 
-  within-along : (old new : Choices) → IsKnown old.ignores → IsWithin reads folder below names old new
+  within-along : (old new : Choices) → IsKnown old.ignores → IsWithin folders folder below names old new
       → AreAlong old new
   within-along old new known within =
       let is = inside old.ignores new.ignores (is_idle old.ignores) refl known within.ignores in

@@ -123,6 +123,7 @@ module _ (reads : List ℕ → Result (Vec ℕ Global) Error → Type 0) where
       ∙ maybe-base _ old read.with_exclude _ (λ (path, found, exclude). file-base _ _ depth start path _ _ deep exclude)
       read.exclude
 
+module _ (folders : FolderFacts) where
   -- so it does in a folder below, where those files count too that belong to none
   pub record IsBelow (old new : Ignores) : Type 0 where
     pub rooted : IsRooted new
@@ -143,7 +144,7 @@ module _ (reads : List ℕ → Result (Vec ℕ Global) Error → Type 0) where
   )
 
   pub is-below : (folder below names : List ℕ) (old new : Ignores) → IsRooted old
-      → AreOfFolder reads folder below names old new → IsBelow old new
+      → AreOfFolder folders folder below names old new → IsBelow old new
   is-below folder below names old new is are =
       let later = below-path is.place is.rest below in
       let path : new.path.items ≡ is.place ++ 47 ∷ later.0 = are.path
@@ -160,11 +161,10 @@ module _ (reads : List ℕ → Result (Vec ℕ Global) Error → Type 0) where
           path = path;
           root = are.source.root ∙ is.root;
         };
-        base = files-base old.sources _ (depth_in new.path.items) _ folder _ new.layers deep are.layers
+        base = files-base folders.reads old.sources _ (depth_in new.path.items) _ folder _ new.layers deep are.layers
             ∙ below-base (depth_in new.path.items) old.layers deep;
       }
 
-module _ (folders : FolderFacts) where
   parents-base : (sources : Sources) (layers : List Layer) (parents : List (List ℕ)) (new : List Layer)
       (repositories : List ℕ) → AreParentsRead folders sources layers parents new repositories
       → base_of new ≡ base_of layers

@@ -6,10 +6,11 @@ use Rattle.std.specs.List.{list_any}
 use Rattle.std.specs.Str.{bytes_eq}
 use Rattle.std.proofs.lemmas.Bool.{false≢true}
 use Rattle.grep_ignore.specs.Classes.{is_empty}
+use Rattle.linegrep_files.specs.FolderFacts.{FolderFacts}
 use Rattle.linegrep_files.specs.GitFiles.{IsExcludePath}
 use Rattle.linegrep_files.specs.IgnoreFiles.{AreFilesRead, AreWithin, HasPlace, HasSource}
-use Rattle.linegrep_files.specs.IgnoreFiles.{IsFileRead}
-use Rattle.linegrep_files.specs.IgnoreFiles.{depth_in, has_name, is_idle, is_top, marks_of}
+use Rattle.linegrep_files.specs.IgnoreFiles.{IsFileRead, IsTopAt}
+use Rattle.linegrep_files.specs.IgnoreFiles.{depth_in, has_name, is_idle, marks_of}
 use Rattle.linegrep_files.specs.IgnoreFiles.{path_below}
 use Rattle.linegrep_files.specs.IgnoreFiles.{with_mark}
 use Rattle.linegrep_files.specs.declared.ignores.Ignores.{Ignores}
@@ -125,19 +126,20 @@ module _ (reads : List ℕ → Result (Vec ℕ Global) Error → Type 0) where
             (place-then _ _ _ (place-then _ _ _ one two) three) rgignore;
       }
 
+module _ (folders : FolderFacts) where
   pub of-folder : (folder below names : List ℕ) (marks : Marks) (top : Bool)
       (first second third last : Ignores) → is_idle first ≡ false
       → second.path.items ≡ path_below first below → HasSource first second
       → second.layers ≡ first.layers → second.repositories ≡ first.repositories
-      → marks ≡ marks_of names → top ≡ is_top marks
+      → marks ≡ marks_of names → IsTopAt folders folder marks top
       → third.layers ≡ filter (λ layer. nat_lt layer.depth (depth_in second.path.items)) second.layers
       → third.repositories.items ≡ (if top
       then filter (λ top. nat_lt top (depth_in second.path.items)) second.repositories.items
       ++ depth_in second.path.items ∷ []
       else filter (λ top. nat_lt top (depth_in second.path.items)) second.repositories.items)
       → HasSource second third → third.path ≡ second.path
-      → AreFilesRead reads third.sources marks (depth_in third.path.items) (length third.path.items) folder
-      third.layers last.layers → HasPlace third last → AreWithin reads folder below names first last
+      → AreFilesRead folders.reads third.sources marks (depth_in third.path.items) (length third.path.items) folder
+      third.layers last.layers → HasPlace third last → AreWithin folders folder below names first last
   of-folder folder below names marks top first second third last busy path1 source1 layers1 tops1 marked is
       layers2 tops2 source2 path2 files place = rw busy (record {
         source = record {
@@ -147,22 +149,22 @@ module _ (reads : List ℕ → Result (Vec ℕ Global) Error → Type 0) where
           root = place.source.root ∙ source2.root ∙ source1.root;
         };
         path = ap (λ l. l.items) (place.path ∙ path2) ∙ path1;
+        is_top = top;
+        top = subst (λ m. IsTopAt folders folder m top) marked is;
         repositories =
-            subst (λ t. TopsAre t last.path.items first.repositories.items last.repositories.items)
-            (is ∙ ap is_top marked)
-            (subst (λ p. TopsAre top p.items first.repositories.items last.repositories.items)
+            subst (λ p. TopsAre top p.items first.repositories.items last.repositories.items)
             (sym (place.path ∙ path2)) (ap (λ l. l.items) place.repositories
-            ∙ subst (λ r. TopsAre top second.path.items r.items third.repositories.items) tops1 tops2));
-        layers = subst (λ m. AreFilesRead reads first.sources m (depth_in last.path.items)
+            ∙ subst (λ r. TopsAre top second.path.items r.items third.repositories.items) tops1 tops2);
+        layers = subst (λ m. AreFilesRead folders.reads first.sources m (depth_in last.path.items)
             (length last.path.items) folder (layers_above last.path.items first.layers) last.layers) marked
-            (subst (λ p. AreFilesRead reads first.sources marks (depth_in last.path.items)
+            (subst (λ p. AreFilesRead folders.reads first.sources marks (depth_in last.path.items)
             (length last.path.items) folder (layers_above p.items first.layers) last.layers)
             (sym (place.path ∙ path2))
-            (subst (λ p. AreFilesRead reads first.sources marks (depth_in p.items) (length p.items) folder
+            (subst (λ p. AreFilesRead folders.reads first.sources marks (depth_in p.items) (length p.items) folder
             (layers_above second.path.items first.layers) last.layers) (sym place.path)
-            (subst (λ l. AreFilesRead reads first.sources marks (depth_in third.path.items)
+            (subst (λ l. AreFilesRead folders.reads first.sources marks (depth_in third.path.items)
             (length third.path.items) folder l last.layers)
             (layers2 ∙ ap (layers_above second.path.items) layers1)
-            (subst (λ s. AreFilesRead reads s marks (depth_in third.path.items) (length third.path.items) folder
+            (subst (λ s. AreFilesRead folders.reads s marks (depth_in third.path.items) (length third.path.items) folder
             third.layers last.layers) (source2.sources ∙ source1.sources) files))));
       })

@@ -1,11 +1,7 @@
 -- Which of the files and folders of a folder are visited: globs decide first, then ignore files,
 -- and of files types.
 use Rattle.std.specs.Prelude.{◌≡◌, ℕ, ◌-◌, Bool, true, false, not, ◌||◌, if◌then◌else◌, List}
-use Rattle.std.specs.Prelude.{◌++◌, length, MatchBool, None, Option, Some, slice_get}
-use Rattle.std.specs.Prelude.{Result, Vec}
-use Rattle.std.specs.Global.{Global}
-use Rattle.std.specs.Option.{option_or}
-use Rattle.std.specs.declared.io.Error.{Error}
+use Rattle.std.specs.Prelude.{◌++◌, length, MatchBool, Option, Some, slice_get}
 use Rattle.grep_ignore.specs.Classes.{begins_with}
 use Rattle.grep_ignore.specs.Decisions.{is_kept}
 use Rattle.grep_ignore.specs.Layers.{IsFirst}
@@ -22,10 +18,11 @@ use Rattle.linegrep_files.specs.declared.globs.Choice.{Choice}
 use Rattle.linegrep_files.specs.declared.globs.Choice.TheVariants.{Chosen, LeftOut, Unmatched}
 use Rattle.linegrep_files.specs.declared.ignores.Ignores.{Ignores}
 
--- the depth of the repository that the folder is in, if it is in one; if none is needed it is
+-- the depth of the nearest repository that the folder is in, if it is in one. If none is needed, all
+-- folders are in one
 abbrev pub repository_of : Ignores → Option ℕ
-repository_of ignores = option_or (last_of ignores.repositories.items)
-    (if ignores.sources.needs_repository then None else Some 0)
+repository_of ignores =
+    if ignores.sources.needs_repository then last_of ignores.repositories.items else Some 0
   where
     last_of : List ℕ → Option ℕ
     last_of depths = slice_get depths (length depths - 1)
@@ -93,14 +90,14 @@ pub record AreTakenUp (folders : FolderFacts) (name : List ℕ) (old new : Choic
   pub ignores : AreBegun folders name old.ignores new.ignores
 
 -- in a folder with some names, at a path below the one that is searched, choices say the same, but
--- for the ignore files that count there, by what reading files may return
-pub record IsWithin (reads : List ℕ → Result (Vec ℕ Global) Error → Type 0)
-    (folder below names : List ℕ) (old new : Choices) : Type 0 where
+-- for the ignore files that count there, by what a system may say of files
+pub record IsWithin (folders : FolderFacts) (folder below names : List ℕ) (old new : Choices) :
+    Type 0 where
   pub globs : new.globs ≡ old.globs
   pub types : new.types ≡ old.types
   pub limits : new.limits ≡ old.limits
   pub shows_hidden : new.shows_hidden ≡ old.shows_hidden
-  pub ignores : AreWithin reads folder below names old.ignores new.ignores
+  pub ignores : AreWithin folders folder below names old.ignores new.ignores
 
 -- what options say of files may be refused: one of the globs has brackets, braces or backslashes,
 -- types are named or defined, or a size is given that is none

@@ -1,7 +1,7 @@
 -- Which ignore files count in a folder, and in which order: those of the folders that it is in,
 -- with its own, by what reading each returned.
 use Rattle.std.specs.Prelude.{◌≡◌, ◌≢◌, ℕ, ◌+◌, Bool, ◌&&◌, ◌||◌, ◌++◌, ◌∷◌, ◌==◌, [], List, length}
-use Rattle.std.specs.Prelude.{take, codes}
+use Rattle.std.specs.Prelude.{take, codes, true, false, is_ok}
 use Rattle.std.specs.Prelude.{not, if◌then◌else◌, MatchBool, Result, Ok, Err, Vec, filter, nat_lt}
 use Rattle.std.specs.Global.{Global}
 use Rattle.std.specs.List.{list_any}
@@ -16,8 +16,10 @@ use Rattle.grep_ignore.specs.declared.layers.Origin.TheVariants.{GitExclude, Git
 use Rattle.grep_ignore.specs.declared.layers.Origin.TheVariants.{RgIgnore}
 use Rattle.grep_ignore.specs.declared.rules.Misread.{Misread}
 use Rattle.grep_ignore.specs.declared.rules.Rule.{Rule}
+use Rattle.linegrep_files.specs.FolderFacts.{FolderFacts}
 use Rattle.linegrep_files.specs.GitFiles.{IsExcludePath}
 use Rattle.linegrep_files.specs.Paths.{joined, parts_of}
+use Rattle.linegrep_files.specs.declared.folders.Found.{Found}
 use Rattle.linegrep_files.specs.declared.ignores.Ignores.{Ignores}
 use Rattle.linegrep_files.specs.declared.ignores.Marks.{Marks}
 use Rattle.linegrep_files.specs.declared.ignores.Sources.{Sources}
@@ -35,10 +37,6 @@ marks_of listing = record {
   has_git = has_name (codes ".git") listing;
   has_jj = has_name (codes ".jj") listing;
 }
-
--- a folder with such names is the top of a repository
-abbrev pub is_top : Marks → Bool
-is_top marks = marks.has_git || marks.has_jj
 
 -- a name is marked too, if it is one of those
 abbrev pub with_mark : Marks → List ℕ → Marks
@@ -123,17 +121,37 @@ module _ (reads : List ℕ → Result (Vec ℕ Global) Error → Type 0) where
         (IsFileRead sources.ignores_case RgIgnore depth start (joined folder (codes ".rgignore"))
         with_ignore new) (new ≡ with_ignore)
 
+-- By what a system may say of folders and files.
+module _ (folders : FolderFacts) where
+  -- there is something with a name in a folder, or there isn't; of a link, where it leads
+  abbrev pub IsThere : List ℕ → List ℕ → Bool → Type 0
+  IsThere folder name is_there = (found : Result Found Error)
+      × folders.looks true (joined folder name) found × (is_there ≡ is_ok found)
+
+  -- and the same of a name that the folder may not have
+  abbrev pub IsMarkThere : List ℕ → List ℕ → Bool → Bool → Type 0
+  IsMarkThere folder name is_marked is_there =
+      MatchBool is_marked (IsThere folder name is_there) (is_there ≡ false)
+
+  -- a folder with some names is the top of a repository, or isn't
+  pub data IsTopAt (folder : List ℕ) (marks : Marks) : Bool → Type 0 where
+    of_git : IsMarkThere folder (codes ".git") marks.has_git true → IsTopAt folder marks true
+    of_jj : {is_top : Bool} → IsMarkThere folder (codes ".git") marks.has_git false
+        → IsMarkThere folder (codes ".jj") marks.has_jj is_top → IsTopAt folder marks is_top
+
   -- in a folder with some names, at a path below the one that is searched, the files count that did
   -- in the folders that it is in, and its own. It is in the repositories that they are in, or is
   -- one's top
   pub record AreOfFolder (folder below names : List ℕ) (old new : Ignores) : Type 0 where
     pub source : HasSource old new
     pub path : new.path.items ≡ path_below old below
-    pub repositories : new.repositories.items ≡ (if is_top (marks_of names)
+    pub is_top : Bool
+    pub top : IsTopAt folder (marks_of names) is_top
+    pub repositories : new.repositories.items ≡ (if is_top
         then filter (λ top. nat_lt top (depth_in new.path.items)) old.repositories.items
         ++ depth_in new.path.items ∷ []
         else filter (λ top. nat_lt top (depth_in new.path.items)) old.repositories.items)
-    pub layers : AreFilesRead old.sources (marks_of names) (depth_in new.path.items)
+    pub layers : AreFilesRead folders.reads old.sources (marks_of names) (depth_in new.path.items)
         (length new.path.items) folder
         (filter (λ layer. nat_lt layer.depth (depth_in new.path.items)) old.layers) new.layers
 

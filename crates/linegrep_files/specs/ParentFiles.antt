@@ -1,8 +1,8 @@
 -- Which ignore files count when a folder is taken up: those that are named, the user's own, and those of
 -- the folders that it is in, by what a system says of them.
-use Rattle.std.specs.Prelude.{◌≡◌, ◌⊎◌, ℕ, ◌+◌, Bool, true, false, ◌&&◌, ◌||◌, ◌++◌, ◌∷◌, ◌==◌, []}
+use Rattle.std.specs.Prelude.{◌≡◌, ◌⊎◌, ℕ, ◌+◌, Bool, true, ◌&&◌, ◌||◌, ◌++◌, ◌∷◌, ◌==◌, []}
 use Rattle.std.specs.Prelude.{List, codes, drop, filter, if◌then◌else◌, length, map, nat_lt, take}
-use Rattle.std.specs.Prelude.{slice_index, MatchBool, Result, Ok, Err, String, is_ok, string_bytes}
+use Rattle.std.specs.Prelude.{slice_index, MatchBool, Ok, Err, String, string_bytes}
 use Rattle.std.specs.List.{range_with_len}
 use Rattle.std.specs.Str.{bytes_eq}
 use Rattle.std.specs.Borrow.{Bor}
@@ -12,10 +12,9 @@ use Rattle.grep_ignore.specs.Classes.{begins_with, is_empty}
 use Rattle.grep_ignore.specs.declared.layers.Layer.{Layer}
 use Rattle.grep_ignore.specs.declared.layers.Origin.TheVariants.{GitGlobal, Named}
 use Rattle.linegrep_files.specs.FolderFacts.{FolderFacts}
-use Rattle.linegrep_files.specs.IgnoreFiles.{AreFilesRead, IsFileRead, ReadsTheSame, depth_in}
-use Rattle.linegrep_files.specs.IgnoreFiles.{is_idle}
-use Rattle.linegrep_files.specs.Paths.{IsRoot, joined}
-use Rattle.linegrep_files.specs.declared.folders.Found.{Found}
+use Rattle.linegrep_files.specs.IgnoreFiles.{AreFilesRead, IsFileRead, IsTopAt, ReadsTheSame}
+use Rattle.linegrep_files.specs.IgnoreFiles.{depth_in, is_idle}
+use Rattle.linegrep_files.specs.Paths.{IsRoot}
 use Rattle.linegrep_files.specs.declared.ignores.Ignores.{Ignores}
 use Rattle.linegrep_files.specs.declared.ignores.Marks.{Marks}
 use Rattle.linegrep_files.specs.declared.ignores.Sources.{Sources}
@@ -73,23 +72,12 @@ module _ (folders : FolderFacts) where
   abbrev pub IsStart : List ℕ → ℕ → Type 0
   IsStart path start = (here : List ℕ) × IsPlace (codes ".") here × (start ≡ start_in here path)
 
-  -- there is something with a name in a folder, or there isn't
-  abbrev pub IsThere : List ℕ → List ℕ → Bool → Type 0
-  IsThere folder name is_there = (found : Result Found Error)
-      × folders.looks true (joined folder name) found × (is_there ≡ is_ok found)
-
-  -- a folder is the top of a repository, or isn't
-  pub data IsTopAt (folder : List ℕ) : Bool → Type 0 where
-    of_git : IsThere folder (codes ".git") true → IsTopAt folder true
-    of_jj : {is_top : Bool} → IsThere folder (codes ".git") false
-        → IsThere folder (codes ".jj") is_top → IsTopAt folder is_top
-
   -- the files of a folder that others are in were read, the path of which is before a slash; and it may
   -- be the top of a repository that they are in
   pub record IsParentRead (sources : Sources) (above : List ℕ) (layers : List Layer)
       (repositories : List ℕ) (layers' : List Layer) (repositories' : List ℕ) : Type 0 where
     pub top : MatchBool (has_git sources)
-        ((is_top : Bool) × IsTopAt (rooted above) is_top × (repositories' ≡ (if is_top
+        ((is_top : Bool) × IsTopAt folders (rooted above) any_marks is_top × (repositories' ≡ (if is_top
         then repositories ++ depth_in (above ++ 47 ∷ []) ∷ [] else repositories)))
         (repositories' ≡ repositories)
     pub files : MatchBool sources.parents (AreFilesRead folders.reads sources any_marks

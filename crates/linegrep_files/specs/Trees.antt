@@ -41,7 +41,7 @@ module _ (folders : FolderFacts) (route : Route) (top : List ℕ) (root : ℕ) w
     is_names : {inside : Choices} (names : Vec ℕ Global) (within : Choices) (found next : List Entry)
         → allows_depth choices.limits (depth_of root folder) ≡ true
         → folders.lists (listed_path folder) (Ok names)
-        → IsWithin folders.reads folder (below_of root folder) names.items choices within
+        → IsWithin folders folder (below_of root folder) names.items choices within
         → AreFound folders.looks route.follows_links top root within.limits within folder
         (names_of names.items) found
         → IsPermutation (filter (λ entry. not (waits route.order entry)) found) next

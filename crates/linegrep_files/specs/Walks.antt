@@ -77,7 +77,7 @@ pub record AreNamesAdded {S : Type 0} (facts : S → FolderFacts) (old : Walk S)
     (folder names : List ℕ) (new : Walk S) (inside : Choices) : Type 0 where
   pub within : Choices
   pub found : List Entry
-  pub are_within : IsWithin (facts old.finder.system.now).reads folder
+  pub are_within : IsWithin (facts old.finder.system.now) folder
       (below_of old.finder.root folder) names choices within
   pub are_found : AreFound (facts old.finder.system.now).looks old.finder.follows_links
       (string_bytes old.finder.top) old.finder.root within.limits within folder (names_of names) found

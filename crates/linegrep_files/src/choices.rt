@@ -79,7 +79,7 @@ impl<'r> Choices<'r> {
         below: &[u8],
         names: &[u8],
     ) -> Result<(), AllocError>
-        ensures { OnOk result (IsWithin (S.facts system.now).reads folder.now below.now names.now self.old
+        ensures { OnOk result (IsWithin (S.facts system.now) folder.now below.now names.now self.old
             self.new) }
     {
         self.ignores.enter(system, folder, below, names)?;

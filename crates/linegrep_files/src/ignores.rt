@@ -7,7 +7,7 @@ ghost use Rattle.linegrep_files.specs.GitFiles.{IsExcludePath};
 ghost use Rattle.linegrep_files.specs.IgnoreFiles.{AreFilesRead, AreRulesAdded, AreWithin};
 ghost use Rattle.linegrep_files.specs.IgnoreFiles.{HasPlace};
 ghost use Rattle.linegrep_files.specs.IgnoreFiles.{HasSource, IsFileRead, depth_in, is_idle};
-ghost use Rattle.linegrep_files.specs.IgnoreFiles.{ReadsTheSame, is_top};
+ghost use Rattle.linegrep_files.specs.IgnoreFiles.{ReadsTheSame};
 ghost use Rattle.linegrep_files.specs.IgnoreFiles.{marks_of, path_below, with_mark};
 ghost use Rattle.linegrep_files.specs.ParentFiles.{AreBegun, AreIgnores, AreNamedRead};
 ghost use Rattle.linegrep_files.specs.ParentFiles.{IsGlobalRead, has_git};
@@ -16,6 +16,7 @@ ghost use Rattle.linegrep_files.specs.Paths.{IsRoot, joined};
 
 mod parents;
 
+use self::parents::is_top_at;
 use crate::class::{is_empty, is_same};
 use crate::failures::Failure;
 use crate::finder::{name_of, root_of};
@@ -91,13 +92,6 @@ impl Marks {
             marks.add(name);
         }
         marks
-    }
-
-    // Whether the folder is the top of a repository.
-    fn is_top(&self) -> bool
-        ensures { result ≡ is_top self.now }
-    {
-        self.has_git || self.has_jj
     }
 
     fn add(&mut self, name: &[u8])
@@ -216,7 +210,7 @@ impl<'r> Ignores<'r> {
         below: &[u8],
         names: &[u8],
     ) -> Result<(), AllocError>
-        ensures { OnOk result (AreWithin (S.facts system.now).reads folder.now below.now names.now
+        ensures { OnOk result (AreWithin (S.facts system.now) folder.now below.now names.now
             self.old self.new) }
     {
         if self.is_idle() {
@@ -224,7 +218,8 @@ impl<'r> Ignores<'r> {
         }
         self.go_below(below)?;
         let marks = Marks::read(names);
-        self.leave(marks.is_top())?;
+        let is_top = is_top_at(self.rt.alloc(), system, folder, marks)?;
+        self.leave(is_top)?;
         self.add_files(system, folder, marks)?;
         Ok(())
     }
@@ -306,14 +301,15 @@ impl<'r> Ignores<'r> {
         !self.has_named && !self.sources.has_any()
     }
 
-    // The depth of the repository that the folder is in. If none is needed it is in one.
+    // The depth of the nearest repository that the folder is in. If none is needed, all folders are in
+    // one.
     fn repository(&self) -> Option<usize>
         ensures { result ≡ repository_of self.now }
     {
-        match self.repositories.last() {
-            Some(depth) => Some(*depth),
-            None if self.sources.needs_repository => None,
-            None => Some(0),
+        if self.sources.needs_repository {
+            self.repositories.last().copied()
+        } else {
+            Some(0)
         }
     }
 

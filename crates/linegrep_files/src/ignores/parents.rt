@@ -1,10 +1,11 @@
 //! The ignore files of the folders that a searched folder is in.
 ghost use Rattle.std.specs.Prelude.{◌≡◌, ◌++◌, ◌∷◌, [], Bool, IfOk, OnOk, if◌then◌else◌, length};
 ghost use Rattle.std.specs.Prelude.{MatchBool};
-ghost use Rattle.linegrep_files.specs.IgnoreFiles.{HasSource, ReadsTheSame, depth_in};
-ghost use Rattle.linegrep_files.specs.ParentFiles.{AreParentsRead, IsParentRead, IsStart, IsThere};
-ghost use Rattle.linegrep_files.specs.ParentFiles.{IsTopAt, has_git, is_within, parents_of, rooted};
-ghost use Rattle.linegrep_files.specs.ParentFiles.{start_in};
+ghost use Rattle.linegrep_files.specs.IgnoreFiles.{HasSource, IsMarkThere, IsThere, IsTopAt};
+ghost use Rattle.linegrep_files.specs.IgnoreFiles.{ReadsTheSame, depth_in};
+ghost use Rattle.linegrep_files.specs.ParentFiles.{AreParentsRead, IsParentRead, IsStart};
+ghost use Rattle.linegrep_files.specs.ParentFiles.{any_marks, has_git, is_within, parents_of};
+ghost use Rattle.linegrep_files.specs.ParentFiles.{rooted, start_in};
 
 use super::{Ignores, Marks, without_slashes};
 use crate::class::{begins_with, is_empty};
@@ -77,7 +78,7 @@ impl Ignores<'_> {
         ensures layers { self.new.layers ≡ self.old.layers }
         ensures path { self.new.path ≡ self.old.path }
         ensures top { OnOk result (MatchBool (has_git self.old.sources) ((is_top : Bool)
-            × IsTopAt (S.facts system.now) folder.now is_top
+            × IsTopAt (S.facts system.now) folder.now any_marks is_top
             × (self.new.repositories.items ≡ (if is_top then self.old.repositories.items
             ++ depth_in self.old.path.items ∷ [] else self.old.repositories.items)))
             (self.new.repositories.items ≡ self.old.repositories.items)) }
@@ -85,7 +86,7 @@ impl Ignores<'_> {
         if !self.sources.has_git() {
             return Ok(());
         }
-        if is_top_at(self.rt.alloc(), system, folder)? {
+        if is_top_at(self.rt.alloc(), system, folder, ANY_MARKS)? {
             let depth = self.depth();
             self.repositories.push(depth)?;
         }
@@ -104,18 +105,40 @@ fn rooted(above: &str) -> &str
     }
 }
 
-// Whether a folder is the top of a repository.
-fn is_top_at<S: Folders>(alloc: Global, system: &S, folder: &str) -> Result<bool, AllocError>
-    ensures { IfOk result (IsTopAt (S.facts system.now) folder.now) }
+// Whether a folder that may have some names is the top of a repository.
+pub(super) fn is_top_at<S: Folders>(
+    alloc: Global,
+    system: &S,
+    folder: &str,
+    marks: Marks,
+) -> Result<bool, AllocError>
+    ensures { IfOk result (IsTopAt (S.facts system.now) folder.now marks) }
 {
-    if is_there(alloc, system, folder, ".git")? {
+    if is_mark_there(alloc, system, folder, ".git", marks.has_git)? {
         return Ok(true);
     }
-    let is_top = is_there(alloc, system, folder, ".jj")?;
+    let is_top = is_mark_there(alloc, system, folder, ".jj", marks.has_jj)?;
     Ok(is_top)
 }
 
-// Whether a folder has something with a name.
+// Whether a folder that may have a name has something with it.
+fn is_mark_there<S: Folders>(
+    alloc: Global,
+    system: &S,
+    folder: &str,
+    name: &str,
+    is_marked: bool,
+) -> Result<bool, AllocError>
+    ensures { IfOk result (IsMarkThere (S.facts system.now) folder.now name.now is_marked) }
+{
+    if !is_marked {
+        return Ok(false);
+    }
+    let is_there = is_there(alloc, system, folder, name)?;
+    Ok(is_there)
+}
+
+// Whether a folder has something with a name, which for a link is what it leads to.
 fn is_there<S: Folders>(
     alloc: Global,
     system: &S,
