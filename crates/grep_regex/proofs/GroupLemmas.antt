@@ -26,8 +26,9 @@ use Rattle.regex_syntax.specs.declared.Config.{Config}
 use Rattle.regex_vm.specs.Found.{group_cells, span}
 use Rattle.grep_regex.specs.Clear.{find_clear}
 use Rattle.grep_regex.specs.Groups.{group_count, group_names, group_of_cells, groups_of_cells, groups_of_match}
-use Rattle.grep_regex.specs.Groups.{names_in}
+use Rattle.grep_regex.specs.Groups.{names_in, HasOneGroup}
 use Rattle.grep_regex.specs.Patterns.{captured, excluded_bytes, written_re}
+use Rattle.grep_regex.specs.Seen.{seen_bytes}
 use Rattle.grep_regex.proofs.EngineLemmas.{engine-finds}
 use Rattle.grep_regex.specs.Views.{regex_options, regex_patterns, regex_program, regex_text_groups_at}
 use Rattle.grep_regex.specs.declared.options.Options.{Options}
@@ -87,6 +88,20 @@ pub groups-none : (size count : ℕ) (o : Option Match) → None ≡ option_map 
     → option_map_or (groups_of_match size count) o [] ≡ []
 groups-none size count None is = refl
 groups-none size count (Some m) is = absurd (none-some (span m) is)
+
+-- if there is one group, it is the match
+one-of-match : (size : ℕ) (o : Option Match) → option_map_or (groups_of_match size 1) o []
+    ≡ option_map_or (λ m. Some m ∷ []) (option_map span o) []
+unfolding group_cells
+one-of-match size None = refl
+one-of-match size (Some m) = refl
+
+pub one-group : (o : Options) (patterns : List (List ℕ)) → group_count o patterns ≡ 1 → HasOneGroup o patterns
+one-group o patterns one haystack start =
+    let seen = seen_bytes o.line_terminator haystack in
+    let found = find_clear (excluded_bytes o.line_terminator) (written_re o patterns) seen start in
+    subst (λ n. option_map_or (groups_of_match (length seen) n) found []
+    ≡ option_map_or (λ m. Some m ∷ []) (option_map span found) []) (sym one) (one-of-match (length seen) found)
 
 group-lies : (size first last : ℕ) → IfSome (group_of_cells size first last) (λ g. (g.0 ≤ g.1) × (g.1 ≤ size))
 group-lies size first last = by-test _ refl

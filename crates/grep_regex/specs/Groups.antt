@@ -49,6 +49,11 @@ abbrev pub whole_at : Options → List (List ℕ) → List ℕ → ℕ → List 
 whole_at o patterns haystack start =
     option_map_or (λ m. Some m ∷ []) (first_match_at o patterns haystack start) []
 
+-- the whole match is the only group of each match
+abbrev pub HasOneGroup : Options → List (List ℕ) → Type 0
+HasOneGroup o patterns = (haystack : List ℕ) (start : ℕ) →
+    groups_at o patterns haystack start ≡ whole_at o patterns haystack start
+
 -- the names of the groups that were read, by their numbers
 abbrev pub names_in : Option (Nested Re × Names) → Names
 names_in None = []

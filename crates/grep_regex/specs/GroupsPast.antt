@@ -6,9 +6,9 @@ use Rattle.std.specs.Option.{option_map_or}
 use Rattle.regex_hir.specs.Find.{Match}
 use Rattle.regex_vm.specs.Found.{span}
 use Rattle.grep_regex.specs.Clear.{find_clear}
-use Rattle.grep_regex.specs.Groups.{group_count, groups_at, groups_of_match, whole_at}
+use Rattle.grep_regex.specs.Groups.{group_count, groups_at, groups_of_match}
 use Rattle.grep_regex.specs.PatternFirstMatches.{none-past, seen-fits}
-use Rattle.grep_regex.specs.Patterns.{excluded_bytes, first_match_at, written_re}
+use Rattle.grep_regex.specs.Patterns.{excluded_bytes, written_re}
 use Rattle.grep_regex.specs.Seen.{seen_bytes}
 use Rattle.grep_regex.specs.declared.options.Options.{Options}
 
@@ -30,15 +30,3 @@ pub groups-past : (o : Options) (patterns : List (List ℕ)) (haystack : List �
     → groups_at o patterns haystack start ≡ []
 groups-past o patterns haystack start past =
     groups-past-seen o patterns haystack start (omega (arith, past, seen-fits o.line_terminator haystack))
-
--- nor is there a match
-whole-of-none : (found : Option (ℕ × ℕ)) → found ≡ None → option_map_or (λ m. Some m ∷ []) found [] ≡ []
-whole-of-none None none = refl
-whole-of-none (Some m) none = absurd (none-some m (sym none))
-
-pub whole-past : (o : Options) (patterns : List (List ℕ)) (haystack : List ℕ) (start : ℕ) → length haystack < start
-    → whole_at o patterns haystack start ≡ []
-whole-past o patterns haystack start past =
-    whole-of-none (first_match_at o patterns haystack start)
-    (none-past o patterns (seen_bytes o.line_terminator haystack) start
-    (omega (arith, past, seen-fits o.line_terminator haystack)))

@@ -6,7 +6,7 @@ use Rattle.regex_hir.specs.Re.{Re}
 use Rattle.regex_meta.specs.declared.program.Program.{Program}
 use Rattle.regex_meta.specs.declared.searcher.Searcher.{Searcher}
 use Rattle.grep_matcher.specs.Meanings.{Meaning}
-use Rattle.grep_regex.specs.Groups.{groups_at, text_groups_at, whole_at}
+use Rattle.grep_regex.specs.Groups.{groups_at, text_groups_at}
 use Rattle.grep_regex.specs.Patterns.{first_match_at, text_match_at, meaning_of}
 use Rattle.grep_regex.specs.declared.asked.Asked.{Asked}
 use Rattle.grep_regex.specs.declared.asked.Asked.TheVariants.{FirstMatch, AnyMatch, Start}
@@ -47,9 +47,6 @@ regex_text_groups_at r = text_groups_at (regex_options r) (regex_patterns r)
 
 abbrev pub regex_groups_at : Regex → List ℕ → ℕ → List (Option (ℕ × ℕ))
 regex_groups_at r = groups_at (regex_options r) (regex_patterns r)
-
-abbrev pub regex_whole_at : Regex → List ℕ → ℕ → List (Option (ℕ × ℕ))
-regex_whole_at r = whole_at (regex_options r) (regex_patterns r)
 
 -- the first match of a haystack
 abbrev pub regex_first : Regex → List ℕ → Option (ℕ × ℕ)

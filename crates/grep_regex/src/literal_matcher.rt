@@ -5,6 +5,7 @@ ghost use Rattle.std.specs.Arc.{arc_value};
 ghost use Rattle.regex_hir.specs.Meaning.{meaning};
 ghost use Rattle.grep_matcher.specs.FindResults.{IsFrom};
 ghost use Rattle.grep_regex.specs.AbsentBytes.{is_absent};
+ghost use Rattle.grep_regex.specs.Groups.{HasOneGroup};
 ghost use Rattle.grep_regex.specs.Locality.{is_by_line};
 ghost use Rattle.grep_regex.specs.Seen.{seen_bytes};
 ghost use Rattle.grep_regex.specs.Spelled.{IsSpelled};
@@ -31,6 +32,8 @@ pub struct LiteralRegexMatcher<'r> {
         (arc_value regex.now.shared).patterns 13) },
     ghost sees_all: { (haystack : List ℕ) →
         seen_bytes (arc_value regex.now.shared).options.line_terminator haystack ≡ haystack },
+    ghost has_one_group: { ∥ HasOneGroup (arc_value regex.now.shared).options
+        (arc_value regex.now.shared).patterns ∥₁ },
 }
 
 // Written out, so that a caller's proof sees one call.
@@ -45,13 +48,16 @@ impl<'r> Drop for LiteralRegexMatcher<'r> {
 
 impl Regex {
     ghost use Rattle.grep_regex.specs.LiteralViews.{literal_regex};
+    ghost use Rattle.grep_regex.specs.Views.{regex_options, regex_patterns};
 
-    /// A matcher of the expression, if it is a literal that isn't empty, has no byte of the line
-    /// terminator, and isn't compiled for lines that end with CRLF.
+    /// A matcher of the expression, if it is a literal that isn't empty, has no group and no byte of
+    /// the line terminator, and isn't compiled for lines that end with CRLF.
     pub fn literal_matcher(&self) -> Option<LiteralRegexMatcher<'_>>
-        ensures { IfSome result (λ m. literal_regex m ≡ self.now) }
+        ensures regex { IfSome result (λ m. literal_regex m ≡ self.now) }
+        ensures groups { IfSome result
+            (λ _. HasOneGroup (regex_options self.now) (regex_patterns self.now)) }
     {
-        if !self.is_by_line() || !self.sees_all() {
+        if !self.is_by_line() || !self.sees_all() || !self.has_one_group() {
             return None;
         }
         match matcher_of(self) {
@@ -154,16 +160,16 @@ impl FindAt for LiteralRegexMatcher<'_> {
     }
 }
 
-/// The one group is the match: a literal has no other.
+/// The one group is the match: the expression has no other.
 impl CapturesAt for LiteralRegexMatcher<'_> {
-    ghost use Rattle.grep_regex.specs.GroupsPast.{whole-past};
+    ghost use Rattle.grep_regex.specs.GroupsPast.{groups-past};
     ghost use Rattle.grep_regex.specs.LiteralViews.{literal_regex};
-    ghost use Rattle.grep_regex.specs.Views.{regex_options, regex_patterns, regex_whole_at};
+    ghost use Rattle.grep_regex.specs.Views.{regex_groups_at, regex_options, regex_patterns};
 
-    ghost groups_at = { λ m. regex_whole_at (literal_regex m) };
+    ghost groups_at = { λ m. regex_groups_at (literal_regex m) };
 
     ghost none_past = { λ m.
-        whole-past (regex_options (literal_regex m)) (regex_patterns (literal_regex m)) };
+        groups-past (regex_options (literal_regex m)) (regex_patterns (literal_regex m)) };
 
     fn captures_at(
         &self,

@@ -6,7 +6,7 @@ ghost use Rattle.regex_hir.specs.Meaning.{meaning};
 ghost use Rattle.grep_matcher.specs.FindResults.{holds_if_some};
 ghost use Rattle.grep_regex.specs.AbsentBytes.{is_absent};
 ghost use Rattle.grep_regex.specs.Choices.{items_of};
-ghost use Rattle.grep_regex.specs.Groups.{group_names};
+ghost use Rattle.grep_regex.specs.Groups.{group_names, HasOneGroup};
 ghost use Rattle.grep_regex.specs.Classes.{IsPrefix};
 ghost use Rattle.grep_regex.specs.Locality.{is_by_line};
 ghost use Rattle.grep_regex.specs.Patterns.{excluded_bytes, named_terminator, AvoidsAbsent};
@@ -202,6 +202,13 @@ impl Regex {
             IsTrue (is_absent (regex_options self.now) (regex_patterns self.now) 13) }
     {
         self.shared.is_by_line()
+    }
+
+    // Whether the whole match is the only group of each match.
+    pub(crate) fn has_one_group(&self) -> bool
+        ensures { IsTrue result → HasOneGroup (regex_options self.now) (regex_patterns self.now) }
+    {
+        self.shared.program.dfa.nfa.slot_count == 2
     }
 
     // The bytes that it knows no match to hold, if it knows of any.

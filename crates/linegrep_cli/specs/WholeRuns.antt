@@ -11,7 +11,6 @@ use Rattle.grep_printer.specs.declared.separators.Separators.{Separators}
 use Rattle.grep_regex.specs.LiteralViews.{literal_regex}
 use Rattle.grep_regex.specs.NamedViews.{named_regex}
 use Rattle.grep_regex.specs.Views.{regex_first_at, regex_groups_at, regex_meaning, regex_options, regex_patterns}
-use Rattle.grep_regex.specs.Views.{regex_whole_at}
 use Rattle.grep_regex.specs.declared.literal_matcher.LiteralRegexMatcher.{LiteralRegexMatcher}
 use Rattle.grep_regex.specs.declared.named.NamedMatcher.{NamedMatcher}
 use Rattle.grep_regex.specs.declared.named.Naming.{Ghosts}
@@ -145,7 +144,7 @@ abbrev pub literal_first_at : Literal → List ℕ → ℕ → Option (ℕ × �
 literal_first_at matcher = regex_first_at (literal_regex matcher.now)
 
 abbrev pub literal_groups_at : Literal → List ℕ → ℕ → List (Option (ℕ × ℕ))
-literal_groups_at matcher = regex_whole_at (literal_regex matcher.now)
+literal_groups_at matcher = regex_groups_at (literal_regex matcher.now)
 
 -- a whole run, by its options and patterns: they are compiled as the options say, and the run is one
 -- for what they give
