@@ -96,7 +96,7 @@ module _ {F M R W X E : Type 0} (output : E → Option (List ℕ)) (facts : M �
     pub is_matcher : IsMatcherOf facts first_at regex matcher
     pub template : Option (Bor Template)
     pub is_template : IsTemplateLent options regex template
-    pub groups : (template ≡ None) ⊎ (groups_at matcher ≡ regex_groups_at regex)
+    pub groups : groups_at matcher ≡ regex_groups_at regex
     pub run : IsRunWith options matcher template input writer errors status input' writer'
 
 -- a run that is refused: nothing is read or written

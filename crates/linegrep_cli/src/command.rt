@@ -697,13 +697,16 @@ pub fn tables() -> [&'static [Row]; 7] {
 /// The letter of the option with a name, if it has one.
 pub fn letter_of(name: &str) -> Option<char> {
     for rows in tables() {
-        for row in rows {
-            if row.name == name {
-                return row.letter;
-            }
+        if let Some(letter) = letter_in(rows, name) {
+            return Some(letter);
         }
     }
     None
+}
+
+// The letter of the option of a table with a name.
+fn letter_in(rows: &[Row], name: &str) -> Option<char> {
+    rows.iter().find(|row| row.name == name)?.letter
 }
 
 /// The command line of the program. The only error is being out of memory.
