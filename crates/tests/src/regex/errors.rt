@@ -241,8 +241,8 @@ const SIZE_ROWS: &[(&str, &str, bool)] = &[
     ("L", r"a{1000}", true),
     ("L", r"a{10}", false),
     ("L", r"((a)(b))(c)", false),
-    ("", r"a{1000}", false),
-    ("", r"a{1000000}", true),
+    ("", r"a{1000}{1000}", false),
+    ("", r"a{4000000}", true),
 ];
 
 // Whether a pattern is too big, or compiled.
