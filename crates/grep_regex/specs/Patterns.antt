@@ -157,6 +157,11 @@ leftmost_match_at re haystack start = option_map span (find re haystack start)
 abbrev pub captured : ℕ → Match → (ℕ × ℕ) × List ℕ
 captured count m = (span m, group_cells m count)
 
+-- the pattern finds in each text, from each position on, where the patterns match
+pub record FindsSpans (o : Options) (patterns : List (List ℕ)) (re : Re) : Type 0 where
+  pub at : (text : List ℕ) (start : ℕ) → All (λ x. x < 256) text → start ≤ length text →
+      leftmost_match_at re text start ≡ text_match_at o patterns text start
+
 -- the pattern finds in each text, from each position on, what the patterns find there, with the same groups
 pub record FindsAs (o : Options) (patterns : List (List ℕ)) (re : Re) : Type 0 where
   pub at : (text : List ℕ) (start : ℕ) → All (λ x. x < 256) text → start ≤ length text →

@@ -8,11 +8,13 @@ use Rattle.regex_meta.specs.declared.searcher.Searcher.{Searcher}
 use Rattle.grep_matcher.specs.Meanings.{Meaning}
 use Rattle.grep_regex.specs.Groups.{groups_at, text_groups_at}
 use Rattle.grep_regex.specs.Patterns.{first_match_at, text_match_at, meaning_of}
+use Rattle.grep_regex.specs.Programs.{capturing_program}
 use Rattle.grep_regex.specs.declared.asked.Asked.{Asked}
 use Rattle.grep_regex.specs.declared.asked.Asked.TheVariants.{FirstMatch, AnyMatch, Start}
 use Rattle.grep_regex.specs.declared.engine.Engine.{Engine}
 use Rattle.grep_regex.specs.declared.matcher.RegexMatcher.{RegexMatcher}
 use Rattle.grep_regex.specs.declared.options.Options.{Options}
+use Rattle.grep_regex.specs.declared.programs.Programs.{Programs}
 use Rattle.grep_regex.specs.declared.regex.Regex.{Regex}
 
 -- its options, and the texts of its patterns
@@ -22,16 +24,24 @@ regex_options r = (arc_value r.shared).options
 abbrev pub regex_patterns : Regex → List (List ℕ)
 regex_patterns r = (arc_value r.shared).patterns
 
--- what was compiled, and what a searcher searches for
+-- what was compiled: what finds matches, and what finds their groups
+abbrev pub regex_programs : Regex → Programs
+regex_programs r = (arc_value r.shared).programs
+
 abbrev pub regex_program : Regex → Program
-regex_program r = (arc_value r.shared).program
+regex_program r = (arc_value r.shared).programs.finding
+
+abbrev pub regex_capturing : Regex → Program
+regex_capturing r = capturing_program (arc_value r.shared).programs
+
+-- what a searcher searches for
 
 abbrev pub searcher_program : Searcher → Program
 searcher_program s = s.program.now
 
--- the pattern that was compiled
+-- the pattern of what finds matches
 abbrev pub program_re : Regex → Re
-program_re r = meaning (arc_value r.shared).program.hir
+program_re r = meaning (arc_value r.shared).programs.finding.hir
 
 -- the first match of a text, all of which is seen, that starts at a position or after it
 abbrev pub regex_text_at : Regex → List ℕ → ℕ → Option (ℕ × ℕ)

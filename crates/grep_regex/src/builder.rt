@@ -3,8 +3,8 @@ ghost use Rattle.std.specs.Prelude.{◌≡◌, if◌then◌else◌, true, [], �
 ghost use Rattle.std.specs.Prelude.{IfErr};
 ghost use Rattle.grep_regex.specs.Patterns.{default_options};
 ghost use Rattle.grep_regex.specs.Refusals.{AreAccepted, IsRefusal};
-ghost use Rattle.grep_regex.specs.Sizes.{IsSized};
-ghost use Rattle.grep_regex.specs.Views.{regex_options, regex_patterns, regex_program};
+ghost use Rattle.grep_regex.specs.Sizes.{AreSized};
+ghost use Rattle.grep_regex.specs.Views.{regex_options, regex_patterns, regex_programs};
 
 use crate::error::Error;
 use crate::options::Options;
@@ -86,7 +86,7 @@ impl RegexMatcherBuilder {
         ensures patterns { IfOk result (λ regex. regex_patterns regex ≡ pattern.now ∷ []) }
         ensures accepted { IfOk result (λ _. AreAccepted self.now (pattern.now ∷ [])) }
         ensures sized { IfOk result
-            (λ regex. IsSized self.now (pattern.now ∷ []) (regex_program regex)) }
+            (λ regex. AreSized self.now (pattern.now ∷ []) (regex_programs regex)) }
         ensures error { IfErr result (IsRefusal self.now (pattern.now ∷ [])) }
     {
         Regex::new(alloc, self.options, &[pattern])
@@ -104,7 +104,7 @@ impl RegexMatcherBuilder {
             (λ regex. regex_patterns regex ≡ map (λ p. p.now) patterns.now) }
         ensures accepted { IfOk result (λ _. AreAccepted self.now (map (λ p. p.now) patterns.now)) }
         ensures sized { IfOk result
-            (λ regex. IsSized self.now (map (λ p. p.now) patterns.now) (regex_program regex)) }
+            (λ regex. AreSized self.now (map (λ p. p.now) patterns.now) (regex_programs regex)) }
         ensures error { IfErr result (IsRefusal self.now (map (λ p. p.now) patterns.now)) }
     {
         Regex::new(alloc, self.options, patterns)
@@ -118,8 +118,8 @@ impl RegexMatcherBuilder {
             (λ regex. regex_patterns regex ≡ map (λ p. p.now) literals.now) }
         ensures accepted { IfOk result (λ _. AreAccepted (record self.now { fixed_strings = true })
             (map (λ p. p.now) literals.now)) }
-        ensures sized { IfOk result (λ regex. IsSized (record self.now { fixed_strings = true })
-            (map (λ p. p.now) literals.now) (regex_program regex)) }
+        ensures sized { IfOk result (λ regex. AreSized (record self.now { fixed_strings = true })
+            (map (λ p. p.now) literals.now) (regex_programs regex)) }
         ensures error { IfErr result
             (IsRefusal (record self.now { fixed_strings = true }) (map (λ p. p.now) literals.now)) }
     {

@@ -1,9 +1,14 @@
 //! What searches for a regular expression.
-ghost use Rattle.std.specs.Prelude.{◌≡◌, ◌≤◌, ◌-◌, length, IfOk, OnOk};
+ghost use Rattle.std.specs.Prelude.{◌≡◌, ◌≤◌, ◌-◌, length, IfOk, IfSome, MatchOption, OnOk, Some};
+ghost use Rattle.std.specs.Prelude.{option_map};
 ghost use Rattle.std.specs.Arc.{arc_value};
+ghost use Rattle.regex_meta.specs.Programs.{leftmost};
+ghost use Rattle.grep_regex.specs.Patterns.{captured};
+ghost use Rattle.grep_regex.specs.Programs.{capturing_program};
 
 use crate::asked::Asked;
 use crate::finder::Finder;
+use crate::group_finder::GroupFinder;
 use crate::groups::push_match;
 use crate::regex::Regex;
 use grep_matcher::Match;
@@ -14,7 +19,13 @@ use std::alloc::{AllocError, Global};
 pub(crate) struct Engine<'r> {
     pub(crate) regex: &'r Regex,
     searcher: Searcher<'r>,
-    ghost same: { ∥ searcher.program.now ≡ (arc_value regex.now.shared).program ∥₁ },
+    // What finds groups, if the searcher doesn't.
+    groups: Option<GroupFinder<'r>>,
+    ghost same: { ∥ searcher.program.now ≡ (arc_value regex.now.shared).programs.finding ∥₁ },
+    ghost captures: { ∥ MatchOption groups (capturing_program (arc_value regex.now.shared).programs
+        ≡ (arc_value regex.now.shared).programs.finding)
+        (λ finder. finder.program.now
+        ≡ capturing_program (arc_value regex.now.shared).programs) ∥₁ },
 }
 
 // Written out, so that a caller's proof sees one call.
@@ -23,6 +34,7 @@ impl<'r> Drop for Engine<'r> {
         let Engine {
             regex: _regex,
             searcher: _searcher,
+            groups: _groups,
         } = self;
     }
 }
@@ -31,15 +43,18 @@ impl<'r> Engine<'r> {
     ghost use Rattle.grep_matcher.specs.FindResults.{IsFrom};
     ghost use Rattle.grep_replace.specs.Groups.{IsOfMatch, LieWithin};
     ghost use Rattle.grep_regex.specs.Views.{engine_regex, regex_text_at, IsAnswer};
-    ghost use Rattle.grep_regex.specs.Views.{regex_text_groups_at};
+    ghost use Rattle.grep_regex.specs.Views.{regex_capturing, regex_text_groups_at};
 
     pub(crate) fn new(alloc: Global, regex: &'r Regex) -> Result<Engine<'r>, AllocError>
         ensures { IfOk result (λ engine. engine.regex.now ≡ regex.now) }
     {
-        match regex.searcher(alloc) {
-            Ok(searcher) => Ok(Engine { regex, searcher }),
-            Err(error) => Err(error),
-        }
+        let searcher = regex.searcher(alloc)?;
+        let groups = regex.group_finder(alloc)?;
+        Ok(Engine {
+            regex,
+            searcher,
+            groups,
+        })
     }
 
     // The first match from a position on in a haystack of which all is seen; for `AnyMatch` some
@@ -104,7 +119,7 @@ impl<'r> Engine<'r> {
         ensures within { OnOk result (LieWithin (length haystack.now) groups.new.items) }
         ensures same { self.new.regex.now ≡ self.old.regex.now }
     {
-        let slots = self.searcher.program.dfa.nfa.slot_count as usize;
+        let slots = self.regex.slot_count() as usize;
         match zeros(*groups.allocator(), slots.saturating_sub(2)) {
             Ok(mut cells) => self.captures_by(haystack, start, groups, &mut cells),
             Err(error) => Err(error),
@@ -121,7 +136,7 @@ impl<'r> Engine<'r> {
     ) -> Result<Option<Match>, AllocError>
         requires start { start ≤ length haystack.now }
         requires width { length cells.old
-            ≡ self.old.searcher.program.now.dfa.nfa.slot_count - 2 }
+            ≡ (regex_capturing (engine_regex self.old)).dfa.nfa.slot_count - 2 }
         ensures value { IfOk result (λ m.
             m ≡ regex_text_at (engine_regex self.old) haystack.now start) }
         ensures groups { OnOk result (groups.new.items
@@ -131,12 +146,41 @@ impl<'r> Engine<'r> {
         ensures same { self.new.regex.now ≡ self.old.regex.now }
     {
         groups.clear();
-        let Some((from, end)) = self.searcher.captures(haystack, start, cells) else {
+        let Some((from, end)) = self.find_cells(haystack, start, cells)? else {
             return Ok(None);
         };
         match push_match(groups, haystack.len(), from, end, cells) {
             Ok(whole) => Ok(Some(whole)),
             Err(error) => Err(error),
+        }
+    }
+
+    // The span of the first match from a position on, with the cells of its groups.
+    fn find_cells(
+        &mut self,
+        haystack: &[u8],
+        start: usize,
+        cells: &mut [usize],
+    ) -> Result<Option<(usize, usize)>, AllocError>
+        requires start { start ≤ length haystack.now }
+        requires width { length cells.old
+            ≡ (regex_capturing (engine_regex self.old)).dfa.nfa.slot_count - 2 }
+        ensures span { IfOk result (λ s.
+            s ≡ regex_text_at (engine_regex self.old) haystack.now start) }
+        ensures cells { IfOk result (λ s. IfSome s (λ span. Some (span, cells.new)
+            ≡ option_map (captured (length cells.old))
+            (leftmost (regex_capturing (engine_regex self.old)) haystack.now start))) }
+        ensures same { self.new.regex.now ≡ self.old.regex.now }
+    {
+        match &mut self.groups {
+            None => Ok(self.searcher.captures(haystack, start, cells)),
+            Some(finder) => match self.searcher.find(haystack, start) {
+                Some((from, end)) => {
+                    finder.find_at(haystack, from, end, cells)?;
+                    Ok(Some((from, end)))
+                }
+                None => Ok(None),
+            },
         }
     }
 

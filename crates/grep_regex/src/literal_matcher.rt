@@ -24,9 +24,9 @@ use std::alloc::AllocError;
 pub struct LiteralRegexMatcher<'r> {
     regex: &'r Regex,
     literal: LiteralMatcher<'r>,
-    ghost spelled: { ∥ IsSpelled (meaning (arc_value regex.now.shared).program.hir) literal ∥₁ },
+    ghost spelled: { ∥ IsSpelled (meaning (arc_value regex.now.shared).programs.finding.hir) literal ∥₁ },
     ghost by_line: { IsTrue (is_by_line (arc_value regex.now.shared).options.line_terminator
-        (meaning (arc_value regex.now.shared).program.hir)) },
+        (meaning (arc_value regex.now.shared).programs.finding.hir)) },
     ghost strips: { (arc_value regex.now.shared).options.line_terminator ≡ None →
         IsTrue (is_absent (arc_value regex.now.shared).options
         (arc_value regex.now.shared).patterns 13) },

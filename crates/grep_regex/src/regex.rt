@@ -1,5 +1,6 @@
 //! A compiled regular expression.
-ghost use Rattle.std.specs.Prelude.{◌≡◌, ℕ, IfOk, IfErr, IfSome, OnOk, IsTrue, None, map};
+ghost use Rattle.std.specs.Prelude.{◌≡◌, ℕ, IfOk, IfErr, IfSome, MatchOption, OnOk, IsTrue, None};
+ghost use Rattle.std.specs.Prelude.{map};
 ghost use Rattle.std.specs.Option.{option_copied, option_map};
 ghost use Rattle.std.specs.Prelude.{string_bytes};
 ghost use Rattle.regex_hir.specs.Meaning.{meaning};
@@ -10,10 +11,11 @@ ghost use Rattle.grep_regex.specs.Groups.{group_names, HasOneGroup};
 ghost use Rattle.grep_regex.specs.Classes.{IsPrefix};
 ghost use Rattle.grep_regex.specs.Locality.{is_by_line};
 ghost use Rattle.grep_regex.specs.Patterns.{excluded_bytes, named_terminator, AvoidsAbsent};
-ghost use Rattle.grep_regex.specs.Patterns.{FindsAs};
+ghost use Rattle.grep_regex.specs.Patterns.{FindsAs, FindsSpans};
+ghost use Rattle.grep_regex.specs.Programs.{capturing_program};
 ghost use Rattle.grep_regex.specs.Refusals.{AreAccepted, IsRefusal, IsTerminatorError};
 ghost use Rattle.grep_regex.specs.Seen.{seen_bytes};
-ghost use Rattle.grep_regex.specs.Sizes.{IsSized};
+ghost use Rattle.grep_regex.specs.Sizes.{AreSized, IsSized};
 ghost use Rattle.grep_regex.specs.Spelled.{IsSpelled};
 ghost use Rattle.grep_regex.specs.Stripped.{AreAscii};
 
@@ -21,11 +23,13 @@ use crate::absent::{absent_bytes, is_nul};
 use crate::class_tree::prefix_of;
 use crate::error::Error;
 use crate::frame::frame;
+use crate::group_finder::GroupFinder;
 use crate::literal::literal_of;
 use crate::locality::is_by_line;
 use crate::options::Options;
 use crate::parse::{Choice, read_choice, read_names};
 use crate::prefix::Prefix;
+use crate::programs::Programs;
 use crate::seen::seen_bytes;
 use crate::strip::without_terminator;
 use crate::texts::Texts;
@@ -47,17 +51,18 @@ pub(crate) struct Shared {
     options: Options,
     patterns: Texts,
     absent: Option<ByteSet>,
-    program: Program,
+    programs: Programs,
     by_line: bool,
     ghost lacks: { ∥ ((byte : ℕ) →
         is_absent options patterns byte ≡ holds_if_some absent byte) ∥₁ },
     ghost avoids: { ∥ AvoidsAbsent options patterns ∥₁ },
-    ghost finds: { ∥ FindsAs options patterns (meaning program.hir) ∥₁ },
+    ghost finds: { ∥ FindsSpans options patterns (meaning programs.finding.hir) ∥₁ },
+    ghost captures: { ∥ FindsAs options patterns (meaning (capturing_program programs).hir) ∥₁ },
     ghost confirms: { ∥ (IsTrue by_line →
-        IsTrue (is_by_line options.line_terminator (meaning program.hir))) ∥₁ },
+        IsTrue (is_by_line options.line_terminator (meaning programs.finding.hir))) ∥₁ },
     ghost strips: { ∥ (IsTrue by_line → options.line_terminator ≡ None →
         IsTrue (is_absent options patterns 13)) ∥₁ },
-    ghost sized: { ∥ IsSized options patterns program ∥₁ },
+    ghost sized: { ∥ AreSized options patterns programs ∥₁ },
 }
 
 // Written out, so that a caller's proof sees one call.
@@ -74,7 +79,7 @@ impl Drop for Shared {
             options: _options,
             patterns: _patterns,
             absent: _absent,
-            program: _program,
+            programs: _programs,
             by_line: _by_line,
         } = self;
     }
@@ -83,7 +88,8 @@ impl Drop for Shared {
 impl Shared {
     fn is_by_line(&self) -> bool
         ensures local { IsTrue result →
-            IsTrue (is_by_line self.now.options.line_terminator (meaning self.now.program.hir)) }
+            IsTrue (is_by_line self.now.options.line_terminator
+            (meaning self.now.programs.finding.hir)) }
         ensures strips { IsTrue result → self.now.options.line_terminator ≡ None →
             IsTrue (is_absent self.now.options self.now.patterns 13) }
     {
@@ -126,7 +132,8 @@ impl fmt::Debug for Regex {
 
 impl Regex {
     ghost use Rattle.grep_regex.specs.Views.{regex_options, regex_patterns, program_re};
-    ghost use Rattle.grep_regex.specs.Views.{regex_program, searcher_program};
+    ghost use Rattle.grep_regex.specs.Views.{regex_capturing, regex_program, regex_programs};
+    ghost use Rattle.grep_regex.specs.Views.{searcher_program};
 
     // Compiles the alternation of the patterns.
     pub(crate) fn new(alloc: Global, options: Options, patterns: &[&str]) -> Result<Regex, Error>
@@ -135,21 +142,21 @@ impl Regex {
         ensures accepted { IfOk result
             (λ _. AreAccepted options (map (λ p. p.now) patterns.now)) }
         ensures sized { IfOk result
-            (λ r. IsSized options (map (λ p. p.now) patterns.now) (regex_program r)) }
+            (λ r. AreSized options (map (λ p. p.now) patterns.now) (regex_programs r)) }
         ensures error { IfErr result (IsRefusal options (map (λ p. p.now) patterns.now)) }
     {
-        let program = match program_of(alloc, &options, patterns) {
-            Ok(program) => program,
+        let programs = match programs_of(alloc, &options, patterns) {
+            Ok(programs) => programs,
             Err(error) => return Err(error),
         };
         let absent = absent_bytes(&options, patterns);
-        let by_line = confirms(options.line_terminator, &absent, &program.hir);
+        let by_line = confirms(options.line_terminator, &absent, &programs.finding.hir);
         let patterns = Texts::new(alloc, patterns)?;
         let shared = Shared {
             options,
             patterns,
             absent,
-            program,
+            programs,
             by_line,
         };
         match Arc::new(alloc, shared) {
@@ -208,7 +215,17 @@ impl Regex {
     pub(crate) fn has_one_group(&self) -> bool
         ensures { IsTrue result → HasOneGroup (regex_options self.now) (regex_patterns self.now) }
     {
-        self.shared.program.dfa.nfa.slot_count == 2
+        self.slot_count() == 2
+    }
+
+    // How many ends of groups there are, two for each.
+    pub(crate) fn slot_count(&self) -> u32
+        ensures { result ≡ (regex_capturing self.now).dfa.nfa.slot_count }
+    {
+        match &self.shared.programs.capturing {
+            Some(program) => program.dfa.nfa.slot_count,
+            None => self.shared.programs.finding.dfa.nfa.slot_count,
+        }
     }
 
     // The bytes that it knows no match to hold, if it knows of any.
@@ -223,7 +240,7 @@ impl Regex {
     pub(crate) fn literal(&self) -> Option<&[u8]>
         ensures { IfSome result (λ bytes. IsSpelled (program_re self.now) bytes.now) }
     {
-        literal_of(&self.shared.program.hir)
+        literal_of(&self.shared.programs.finding.hir)
     }
 
     // The sets of bytes that decide where it matches, if there are such.
@@ -231,14 +248,26 @@ impl Regex {
         ensures { IfOk result (λ found. IfSome found
             (λ p. IsPrefix (program_re self.now) (items_of p.choices.items) p.has_sizes)) }
     {
-        prefix_of(alloc, &self.shared.program.hir)
+        prefix_of(alloc, &self.shared.programs.finding.hir)
     }
 
     // What searches for the expression.
     pub(crate) fn searcher(&self, alloc: Global) -> Result<Searcher<'_>, AllocError>
         ensures { IfOk result (λ s. searcher_program s ≡ regex_program self.now) }
     {
-        Searcher::new(alloc, &self.shared.program)
+        Searcher::new(alloc, &self.shared.programs.finding)
+    }
+
+    // What finds groups, if the searcher doesn't.
+    pub(crate) fn group_finder(&self, alloc: Global) -> Result<Option<GroupFinder<'_>>, AllocError>
+        ensures { IfOk result (λ found. MatchOption found
+            (regex_capturing self.now ≡ regex_program self.now)
+            (λ finder. finder.program.now ≡ regex_capturing self.now)) }
+    {
+        match &self.shared.programs.capturing {
+            Some(program) => Ok(Some(GroupFinder::new(alloc, program)?)),
+            None => Ok(None),
+        }
     }
 
     // Whether the options and the texts are equal.
@@ -248,6 +277,23 @@ impl Regex {
     {
         self.shared.options.is_equal(&other.shared.options)
             && self.shared.patterns.is_equal(&other.shared.patterns)
+    }
+}
+
+// What finds the matches of the patterns, and what finds their groups.
+fn programs_of(alloc: Global, options: &Options, patterns: &[&str]) -> Result<Programs, Error>
+    ensures finds { IfOk result (λ programs.
+        FindsSpans options.now (map (λ p. p.now) patterns.now) (meaning programs.finding.hir)) }
+    ensures captures { IfOk result (λ programs. FindsAs options.now (map (λ p. p.now) patterns.now)
+        (meaning (capturing_program programs).hir)) }
+    ensures accepted { IfOk result
+        (λ _. AreAccepted options.now (map (λ p. p.now) patterns.now)) }
+    ensures sized { IfOk result (AreSized options.now (map (λ p. p.now) patterns.now)) }
+    ensures error { IfErr result (IsRefusal options.now (map (λ p. p.now) patterns.now)) }
+{
+    match program_of(alloc, options, patterns) {
+        Ok(program) => Programs::new(alloc, program, options.size_limit),
+        Err(error) => Err(error),
     }
 }
 

@@ -23,9 +23,9 @@ pub(crate) struct Shortcut<'r> {
     // For an expression whose matches their first bytes decide: the sets of these.
     prefix: Option<Prefix>,
     ghost spelled: { ∥ IfSome literal
-        (IsSpelled (meaning (arc_value regex.now.shared).program.hir)) ∥₁ },
+        (IsSpelled (meaning (arc_value regex.now.shared).programs.finding.hir)) ∥₁ },
     ghost is_prefix: { ∥ IfSome prefix
-        (λ p. IsPrefix (meaning (arc_value regex.now.shared).program.hir) (items_of p.choices.items)
+        (λ p. IsPrefix (meaning (arc_value regex.now.shared).programs.finding.hir) (items_of p.choices.items)
         p.has_sizes) ∥₁ },
 }
 

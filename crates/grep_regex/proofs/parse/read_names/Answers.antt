@@ -1,4 +1,3 @@
-use Rattle.std.proofs.Common.{◌≡◌, ◌∙◌, ap, map, option_map, string_bytes, ℕ}
 use Rattle.grep_regex.proofs.GroupLemmas.{names-read}
 use Rattle.grep_regex.specs.Patterns.{config_of, text_of}
 use Rattle.grep_regex.proofs.parse.read_names.Goals as goal
