@@ -66,6 +66,18 @@ module _ {F M W : Type 0} (rules : Rules F) where
       HasParts Shown (first_at sink.matcher) settings (facts sink.matcher).meaning
       (has_match settings printed.call && rules.asks format printed.call) printed
 
+  -- the text of a call is pushed after what is pending, and nothing else has changed but the format
+  pub record IsPushed (old : PrinterSink F M W) (settings : Settings) (printed : PrintedCall)
+      (goes : Bool) (new : PrinterSink F M W) : Type 0 where
+    pub same : IsSameSink old new
+    pub writer : new.writer.now ≡ old.writer.now
+    pub before : new.printer.now.pending.before ≡ pending_bytes old.printer.now.pending
+    pub text : new.printer.now.pending.text ≡ text_of old settings printed
+    pub goes_on : goes ≡ rules.goes_on old.format (scene_of old settings) printed
+    pub format : new.format ≡ rules.next old.format (scene_of old settings) printed
+    pub has_written : new.printer.now.has_written ≡ old.printer.now.has_written
+    pub has_failed : new.printer.now.has_failed ≡ old.printer.now.has_failed
+
 module _ {F M W E : Type 0} (rules : Rules F) (output : E → Option (List ℕ))
     (facts : M → MatcherFacts E) (first_at : M → List ℕ → ℕ → Option (ℕ × ℕ))
     (write_step : W → OutputCall → W → Type 0) (Shown : Surroundings → Type 0) where

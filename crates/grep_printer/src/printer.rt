@@ -2,7 +2,9 @@
 ghost use Rattle.std.specs.Prelude.{◌≡◌, ◌⊎◌, ◌+◌, ◌<◌, ◌≤◌, ◌^◌, ◌&&◌, ◌||◌, [], true, false, IfErr};
 ghost use Rattle.std.specs.Prelude.{Err, IfNone, IfSome, MatchResult, Ok, OnErr, OnOk, ◌++◌};
 ghost use Rattle.grep_output.specs.Outputs.{Writes};
-ghost use Rattle.std.specs.Prelude.{MatchBool, if◌then◌else◌, is_ok, length};
+ghost use Rattle.std.specs.Prelude.{MatchBool, if◌then◌else◌, is_ok, length, IsOk, List, ℕ};
+ghost use Rattle.grep_matcher.specs.Lines.{byte_of};
+ghost use Rattle.grep_searcher.specs.MatchedLines.{AreTaken, calls_of_match};
 ghost use Rattle.grep_output.specs.PendingTexts.{Flushes, Puts, pending_bytes};
 ghost use Rattle.grep_report.specs.SinkReports.{match_bytes};
 ghost use Rattle.grep_searcher.specs.Plans.{reported_bytes};
@@ -13,8 +15,8 @@ ghost use Rattle.grep_printer.specs.CallParts.{FailsAtParts, around_match, has_m
 ghost use Rattle.grep_printer.specs.Formats.{is_text};
 ghost use Rattle.grep_printer.specs.MatchedParts.{AreInOrder};
 ghost use Rattle.grep_printer.specs.PartErrors.{EachErrorIs};
-ghost use Rattle.grep_printer.specs.PrinterSteps.{HasFound, IsAsBefore, IsPreparing, Prints};
-ghost use Rattle.grep_printer.specs.PrinterSteps.{PrintsCall, PrintsShown};
+ghost use Rattle.grep_printer.specs.PrinterSteps.{HasFound, IsAsBefore, IsPreparing, IsPushed};
+ghost use Rattle.grep_printer.specs.PrinterSteps.{KeepsNoMore, Prints, PrintsCall, PrintsShown};
 ghost use Rattle.grep_printer.specs.Reports.{FitsEvent, IsAround, IsShownEvent, event_call};
 ghost use Rattle.grep_printer.specs.Reports.{printed_event};
 
@@ -176,7 +178,9 @@ impl<F> Printer<F> {
 
     // Whether as much text is kept as is written at once.
     fn is_full(&self) -> bool
-        ensures { result ≡ false → 0 < self.now.buffer_size }
+        ensures some { result ≡ false → 0 < self.now.buffer_size }
+        ensures kept { result ≡ false
+            → length (pending_bytes self.now.pending) ≤ self.now.buffer_size }
     {
         self.pending.len() >= self.buffer_size
     }
@@ -417,15 +421,13 @@ impl<'s, F: Format, M: FindAt, W: Output> PrinterSink<'s, F, M, W> {
             self.new }
         ensures step { PrintsCall F.rules M.Error.output M.facts M.first_at W.step
             self.old searcher.now.settings (event_call event.now) result self.new }
+        ensures kept { OnOk result (KeepsNoMore self.new) }
     {
         if self.asks(searcher, event) {
             return self.print_with_parts(searcher, event);
         }
         self.clear_parts(searcher, event);
-        if let Some(goes_on) = self.keep_call(searcher, event) {
-            return Ok(goes_on);
-        }
-        self.print_call(searcher, event)
+        self.put_call(searcher, event)
     }
 
     // Prints a call of whose report the parts are asked for.
@@ -439,17 +441,15 @@ impl<'s, F: Format, M: FindAt, W: Output> PrinterSink<'s, F, M, W> {
         requires shown { IsShownEvent event.now }
         requires asked { (has_match searcher.now.settings (event_call event.now)
             && F.rules.asks self.old.format (event_call event.now)) ≡ true }
-        ensures { PrintsShown F.rules M.Error.output M.facts M.first_at W.step
+        ensures shown { PrintsShown F.rules M.Error.output M.facts M.first_at W.step
             (IsAround event.now) self.old searcher.now.settings (event_call event.now) result
             self.new }
+        ensures kept { OnOk result (KeepsNoMore self.new) }
     {
         if let Err(error) = self.find_parts(searcher, event) {
             return Err(search_error(*self.printer.parts.allocator(), error));
         }
-        if let Some(goes_on) = self.keep_call(searcher, event) {
-            return Ok(goes_on);
-        }
-        self.print_call(searcher, event)
+        self.put_call(searcher, event)
     }
 
     // Keeps the text of a call whose parts are at hand, if there is memory and room for it, and
@@ -487,8 +487,71 @@ impl<'s, F: Format, M: FindAt, W: Output> PrinterSink<'s, F, M, W> {
         None
     }
 
-    // Writes the text of a call whose parts are at hand, after those that are kept, and returns
-    // whether the search goes on.
+    // Puts the text of a call whose parts are at hand after those that are kept, and returns whether
+    // the search goes on. Nothing but a lack of memory has the text pushed twice.
+    #[inline(always)]
+    fn put_call<A: Allocator + Copy>(
+        &mut self,
+        searcher: &Searcher<A>,
+        event: &Event<'_>,
+    ) -> Result<bool, SearchError>
+        requires fits { FitsEvent event.now }
+        requires shown { IsShownEvent event.now }
+        requires found { HasFound F.rules (IsAround event.now) M.facts M.first_at
+            self.old searcher.now.settings self.old.format
+            (printed_event event.now self.old.printer.now.parts.items) }
+        requires ordered { AreInOrder 0 (length (reported_bytes (event_call event.now)))
+            self.old.printer.now.parts.items }
+        ensures shown { PrintsShown F.rules M.Error.output M.facts M.first_at W.step
+            (IsAround event.now) self.old searcher.now.settings (event_call event.now) result
+            self.new }
+        ensures kept { OnOk result (KeepsNoMore self.new) }
+    {
+        let Some(goes_on) = self.push_call(searcher, event) else {
+            return self.print_call(searcher, event);
+        };
+        if self.printer.keeps_text() {
+            return Ok(goes_on);
+        }
+        if let Err(error) = self.printer.end_text(self.writer) {
+            return Err(SearchError::Io(error));
+        }
+        Ok(goes_on)
+    }
+
+    // Pushes the text of a call whose parts are at hand, if there is memory for it, and returns
+    // whether the search goes on. If there isn't, nothing has changed.
+    #[inline(always)]
+    fn push_call<A: Allocator + Copy>(
+        &mut self,
+        searcher: &Searcher<A>,
+        event: &Event<'_>,
+    ) -> Option<bool>
+        requires fits { FitsEvent event.now }
+        requires shown { IsShownEvent event.now }
+        requires ordered { AreInOrder 0 (length (reported_bytes (event_call event.now)))
+            self.old.printer.now.parts.items }
+        ensures pushed { IfSome result (λ goes_on. IsPushed F.rules self.old
+            searcher.now.settings (printed_event event.now self.old.printer.now.parts.items)
+            goes_on self.new) }
+        ensures unpushed { IfNone result (IsAsBefore self.old self.new) }
+        ensures parts { self.new.printer.now.parts.items ≡ self.old.printer.now.parts.items }
+    {
+        let before = self.format;
+        let printer = &mut *self.printer;
+        printer.pending.begin();
+        let (text, parts) = (&mut printer.pending, &printer.parts);
+        let goes_on = self.format.push(text, searcher, self.path, event, parts);
+        if !printer.pending.has_failed() {
+            return Some(goes_on);
+        }
+        printer.pending.cancel();
+        self.format = before;
+        None
+    }
+
+    // The same where there was no memory for the text: it is pushed again, or written without being
+    // kept.
     #[inline(never)]
     fn print_call<A: Allocator + Copy>(
         &mut self,
@@ -502,9 +565,10 @@ impl<'s, F: Format, M: FindAt, W: Output> PrinterSink<'s, F, M, W> {
             (printed_event event.now self.old.printer.now.parts.items) }
         requires ordered { AreInOrder 0 (length (reported_bytes (event_call event.now)))
             self.old.printer.now.parts.items }
-        ensures { PrintsShown F.rules M.Error.output M.facts M.first_at W.step
+        ensures shown { PrintsShown F.rules M.Error.output M.facts M.first_at W.step
             (IsAround event.now) self.old searcher.now.settings (event_call event.now) result
             self.new }
+        ensures kept { OnOk result (KeepsNoMore self.new) }
     {
         let before = self.format;
         let printer = &mut *self.printer;
@@ -555,6 +619,7 @@ impl<'s, F: Format, M: FindAt, W: Output> Sink for PrinterSink<'s, F, M, W> {
         ensures shown { PrintsShown F.rules M.Error.output M.facts M.first_at W.step
             (λ around. around ≡ around_match found.now) self.old searcher.now.settings
             (match_call found.now) result self.new }
+        ensures kept { OnOk result (KeepsNoMore self.new) }
         ensures may_call { Unit {0} }
     {
         self.print(searcher, &Event::Report(Report::of_match(found)))
@@ -566,7 +631,21 @@ impl<'s, F: Format, M: FindAt, W: Output> Sink for PrinterSink<'s, F, M, W> {
         &mut self,
         searcher: &Searcher<A>,
         lines: &SinkMatch<'_>,
-    ) -> Result<bool, SearchError> {
+    ) -> Result<bool, SearchError>
+        requires split { lines.now.terminator ≡ byte_of searcher.now.settings.line_terminator }
+        requires numbers { IfSome lines.now.line_number
+            (λ number. number + length (match_bytes lines.now) ≤ 2 ^ 64) }
+        requires fits { lines.now.offset + length (match_bytes lines.now) < 2 ^ 64 }
+        ensures taken { AreTaken (PrintsCall F.rules M.Error.output M.facts M.first_at W.step)
+            searcher.now.settings self.old (calls_of_match lines.now) result self.new }
+        ensures succeeds { IsOk result }
+        // After them there waits at most as much as is kept, and the text of these lines.
+        ensures kept { result ≡ Ok true → KeepsNoMore self.old }
+        ensures room { result ≡ Ok true → (text : List ℕ)
+            × (pending_bytes self.new.printer.now.pending
+            ≡ pending_bytes self.old.printer.now.pending ++ text) }
+        ensures may_call { Unit {0} }
+    {
         if lines.bytes().is_empty() || self.printer.is_full() {
             return Ok(false);
         }

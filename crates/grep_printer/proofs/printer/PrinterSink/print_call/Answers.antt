@@ -9,8 +9,8 @@ use Rattle.grep_printer.specs.PrinterSteps.{scene_of}
 use Rattle.grep_printer.specs.Reports.{event_call, event_surroundings}
 use Rattle.grep_printer.proofs.printer.PrinterSink.print_call.Goals as goal
 
-pub returns-in-Err : goal.returns-in-Err
-returns-in-Err g c =
+pub returns-in-Err-clause-shown : goal.returns-in-Err-clause-shown
+returns-in-Err-clause-shown g c =
     let settings = c.args.searcher.now.settings in
     let old = c.args.self.now in
     let call = event_call c.args.event.now in

@@ -1,4 +1,4 @@
-use Rattle.std.proofs.Common.{◌<◌, length, refl, rules}
+use Rattle.std.proofs.Common.{◌<◌, ◌++◌, ap, length, refl, rules}
 use Rattle.grep_report.specs.SinkReports.{match_bytes}
 use Rattle.grep_printer.proofs.TakenCallLemmas.{match-kept}
 use Rattle.grep_printer.proofs.printer.PrinterSinkSink.matched_lines.Goals as goal
@@ -16,3 +16,9 @@ returns-clause-taken g c =
       has_written = search rules;
       has_failed = refl;
     }) (search rules)
+
+pub returns-clause-room : goal.returns-clause-room
+returns-clause-room g c = λ taken. (
+  c.push_lines.new.text.text,
+  ap (λ before. before ++ c.push_lines.new.text.text) (c.if-not-push_lines.ensures.before refl),
+)
