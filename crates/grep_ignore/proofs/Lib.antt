@@ -1,3 +1,4 @@
+pub mod ByteLemmas
 pub mod ClassLemmas
 pub mod DecisionLemmas
 pub mod GlobLemmas

@@ -1,7 +1,10 @@
+pub mod Chains
 pub mod Classes
 pub mod Decisions
+pub mod Endings
 pub mod Globs
 pub mod Layers
 pub mod Lines
 pub mod Matches
 pub mod Rows
+pub mod Tails

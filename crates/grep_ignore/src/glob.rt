@@ -5,11 +5,13 @@ ghost use Rattle.grep_matcher.specs.ByteSets.{holds};
 ghost use Rattle.grep_ignore.specs.Classes.{IsSet, begins_with, is_either, is_empty, is_name_byte};
 ghost use Rattle.grep_ignore.specs.Globs.{HasStars, IsFault, IsGlob, IsMalformed};
 ghost use Rattle.grep_ignore.specs.Globs.{IsPieceText, OnMalformed, is_name, is_special};
+ghost use Rattle.grep_ignore.specs.Tails.{are_plain, byte_pieces, is_tail};
 ghost use Rattle.grep_ignore.specs.declared.wildcards.Piece.{Piece};
 
 use crate::class::{add_range, begins_with, read_class, tail};
 use crate::wildcards::Piece;
 use grep_matcher::ByteSet;
+use std::alloc::Global;
 
 /// Why a glob isn't read.
 #[derive(Clone, Copy, Debug, Drop)]
@@ -31,15 +33,23 @@ pub struct Step<'g> {
     pub begins_name: bool,
 }
 
-/// Adds the pieces of a glob.
-pub fn add_pieces(pieces: &mut Vec<Piece>, glob: &[u8], ignores_case: bool) -> Result<(), GlobError>
-    ensures ok { IfOk result (λ _. (spelled : List Piece)
-        × (pieces.new.items ≡ pieces.old.items ++ spelled) × IsGlob ignores_case glob.now spelled) }
+/// Adds the pieces of a glob but for the bytes at its end that are returned, each of which is meant as
+/// itself.
+pub fn add_pieces(
+    alloc: Global,
+    pieces: &mut Vec<Piece>,
+    glob: &[u8],
+    ignores_case: bool,
+) -> Result<Vec<u8>, GlobError>
+    ensures ok { IfOk result (λ tail. (spelled : List Piece)
+        × (pieces.new.items ≡ pieces.old.items ++ spelled)
+        × IsGlob ignores_case glob.now (spelled ++ byte_pieces tail.items)) }
     ensures err { IfErr result (λ e. OnMalformed e (IsMalformed ignores_case glob.now)) }
 {
+    let longest = tail_len(glob, ignores_case);
     let mut rest = glob;
     let mut begins_name = true;
-    while !rest.is_empty() {
+    while !is_tail(rest, longest) {
         match read_piece(rest, begins_name, ignores_case) {
             Ok(step) => {
                 rest = step.rest;
@@ -52,7 +62,52 @@ pub fn add_pieces(pieces: &mut Vec<Piece>, glob: &[u8], ignores_case: bool) -> R
             Err(cause) => return Err(GlobError::Malformed(cause)),
         }
     }
-    Ok(())
+    match Vec::from_slice(alloc, rest) {
+        Ok(tail) => Ok(tail),
+        Err(_) => Err(GlobError::OutOfMemory),
+    }
+}
+
+/// How many bytes at the end of a glob aren't special, or none if case is ignored.
+pub fn tail_len(glob: &[u8], ignores_case: bool) -> usize
+    ensures { ignores_case ≡ true → result ≡ 0 }
+{
+    if ignores_case {
+        return 0;
+    }
+    let mut start = glob.len();
+    while start > 0 && !is_special(glob[start - 1]) {
+        start -= 1;
+    }
+    glob.len() - start
+}
+
+/// Whether nothing of a glob is left, or no more than `longest` bytes that are meant as themselves.
+pub fn is_tail(rest: &[u8], longest: usize) -> bool
+    ensures { result ≡ is_tail longest rest.now }
+{
+    is_empty(rest) || rest.len() <= longest && are_plain(rest)
+}
+
+fn is_empty(text: &[u8]) -> bool
+    ensures { result ≡ is_empty text.now }
+{
+    match text {
+        [] => true,
+        [_, ..] => false,
+    }
+}
+
+fn are_plain(text: &[u8]) -> bool
+    ensures { result ≡ are_plain text.now }
+{
+    text.iter().all(|byte| !is_special(*byte))
+}
+
+fn is_special(byte: u8) -> bool
+    ensures { result ≡ is_special byte }
+{
+    matches!(byte, b'*' | b'?' | b'[' | b'\\')
 }
 
 /// The piece that a glob begins with, which isn't empty, or why there is none. `begins_name` says

@@ -6,6 +6,8 @@ mod class;
 mod glob;
 mod layers;
 mod line;
+mod numbers;
+mod path_tests;
 mod rows;
 mod rules;
 #[cfg(test)]
@@ -13,8 +15,9 @@ mod tests;
 mod wildcards;
 
 pub use class::add_range;
-pub use glob::{GlobError, Step, read_piece};
+pub use glob::{GlobError, Step, is_tail, read_piece, tail_len};
 pub use layers::{Layer, Layers, Origin};
 pub use line::{RuleText, split_rule};
+pub use path_tests::{PathTest, PathTests};
 pub use rules::{Decision, Misread, Rules};
 pub use wildcards::{Piece, Wildcards};

@@ -11,7 +11,7 @@ use crate::class::{begins_with, tail};
 use crate::glob::{GlobError, add_pieces};
 use crate::rules::Rule;
 use crate::wildcards::{Piece, Wildcards};
-use std::alloc::Global;
+use std::alloc::{AllocError, Global};
 
 /// The contents of a file without a mark of UTF-8 at their start.
 pub fn without_mark(contents: &[u8]) -> &[u8]
@@ -146,18 +146,31 @@ pub fn read_rule(alloc: Global, text: &[u8], ignores_case: bool) -> Result<Rule,
         (IsMalformed ignores_case (path_glob (glob_of text.now)))) }
 {
     let parts = split_rule(text);
-    let mut pieces = Vec::new(alloc);
-    if !parts.is_anchored && pieces.push(Piece::Folders).is_err() {
+    let Ok(mut pieces) = folder_pieces(alloc, parts.is_anchored) else {
         return Err(GlobError::OutOfMemory);
-    }
-    match add_pieces(&mut pieces, parts.glob, ignores_case) {
-        Ok(()) => Ok(Rule {
-            wildcards: Wildcards::new(pieces),
+    };
+    match add_pieces(alloc, &mut pieces, parts.glob, ignores_case) {
+        Ok(tail) => Ok(Rule {
+            wildcards: Wildcards::new(pieces, tail),
             keeps: parts.is_marked,
             names_folders: parts.names_folders,
         }),
         Err(error) => Err(error),
     }
+}
+
+// What is before the pieces of a glob: any folders, unless it is about paths. Most globs have no more
+// room to pay for, since they are a name.
+fn folder_pieces(alloc: Global, is_anchored: bool) -> Result<Vec<Piece>, AllocError>
+    ensures { IfOk result (λ pieces. pieces.items
+        ≡ (if is_anchored then [] else Piece.Folders ∷ [])) }
+{
+    if is_anchored {
+        return Ok(Vec::new(alloc));
+    }
+    let mut pieces = Vec::with_capacity(alloc, 1)?;
+    pieces.push(Piece::Folders)?;
+    Ok(pieces)
 }
 
 // A rule without the exclamation mark at its start.

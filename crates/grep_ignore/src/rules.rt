@@ -10,6 +10,7 @@ ghost use Rattle.grep_ignore.specs.declared.rules.Rule.{Rule};
 
 use crate::glob::GlobError;
 use crate::line::{has_no_rule, read_rule, said, split_line, without_mark};
+use crate::path_tests::{PathTest, PathTests};
 use crate::wildcards::Wildcards;
 use std::alloc::{AllocError, Global};
 use std::marker::Model;
@@ -41,7 +42,7 @@ impl Decision {
 /// The rules of an ignore file, in their order.
 #[derive(Drop)]
 pub struct Rules {
-    rules: Vec<Rule>,
+    rules: PathTests<Rule>,
 }
 
 impl Model for Rules {
@@ -50,7 +51,7 @@ impl Model for Rules {
 
     ghost Value = { List Rule };
 
-    ghost view = { λ r. r.rules.items };
+    ghost view = { λ r. r.rules };
 }
 
 /// A rule: the paths that it matches, whether it keeps them, and whether it matches folders alone.
@@ -76,7 +77,7 @@ impl Rules {
         ensures { result ≡ [] }
     {
         Rules {
-            rules: Vec::new(alloc),
+            rules: PathTests::new(alloc),
         }
     }
 
@@ -162,14 +163,10 @@ impl Rules {
     ) -> Result<Decision, AllocError>
         ensures { IfOk result (IsDecided self.now path.now is_folder) }
     {
-        let mut at = self.rules.len();
-        while at > 0 {
-            at -= 1;
-            if self.rules[at].is_match(row, path, is_folder)? {
-                return Ok(self.rules[at].decision());
-            }
+        match self.rules.last_about(row, path, is_folder)? {
+            Some(rule) => Ok(rule.decision()),
+            None => Ok(Decision::Unmatched),
         }
-        Ok(Decision::Unmatched)
     }
 
     /// Whether the rules leave out what is at a path, or a folder on the way to it. `row` is room to
@@ -239,19 +236,27 @@ impl Rule {
             Decision::Ignored
         }
     }
+}
 
-    fn is_match(
+impl PathTest for Rule {
+    ghost use Rattle.grep_ignore.specs.Decisions.{IsAbout};
+
+    ghost about = { λ rule path is_folder. IsAbout path is_folder rule };
+
+    fn is_about(
         &self,
         row: &mut Vec<bool>,
         path: &[u8],
         is_folder: bool,
-    ) -> Result<bool, AllocError>
-        ensures { IfOk result (λ matches. IsTrue matches ↔ IsAbout path.now is_folder self.now) }
-    {
+    ) -> Result<bool, AllocError> {
         if self.names_folders && !is_folder {
             Ok(false)
         } else {
             self.wildcards.is_match(row, path)
         }
+    }
+
+    fn ending(&self) -> &[u8] {
+        self.wildcards.ending()
     }
 }

@@ -1,7 +1,9 @@
 //! The wildcards of a glob, which match paths.
-ghost use Rattle.std.specs.Prelude.{◌≡◌, ◌↔◌, Bool, IfOk, IfSome, IsTrue, List, MatchOption};
+ghost use Rattle.std.specs.Prelude.{◌≡◌, ◌↔◌, ◌++◌, ℕ, Bool, IfOk, IfSome, IsTrue, List, MatchOption};
 ghost use Rattle.grep_matcher.specs.ByteSets.{holds};
+ghost use Rattle.grep_ignore.specs.Endings.{EndsIn};
 ghost use Rattle.grep_ignore.specs.Matches.{Matches};
+ghost use Rattle.grep_ignore.specs.Tails.{byte_pieces};
 
 use crate::rows::match_pieces;
 use grep_matcher::ByteSet;
@@ -23,23 +25,26 @@ pub enum Piece {
 #[derive(Drop)]
 pub struct Wildcards {
     pieces: Vec<Piece>,
+    // The bytes after them, each of which is a piece too.
+    tail: Vec<u8>,
 }
 
 impl Model for Wildcards {
-    ghost use Rattle.std.specs.Prelude.{List};
+    ghost use Rattle.std.specs.Prelude.{List, ◌++◌};
+    ghost use Rattle.grep_ignore.specs.Tails.{byte_pieces};
     ghost use Rattle.grep_ignore.specs.declared.wildcards.Piece.{Piece};
 
     ghost Value = { List Piece };
 
-    ghost view = { λ w. w.pieces.items };
+    ghost view = { λ w. w.pieces.items ++ byte_pieces w.tail.items };
 }
 
 impl Wildcards {
-    /// The wildcards of some pieces.
-    pub fn new(pieces: Vec<Piece>) -> Wildcards
-        ensures { result ≡ pieces.items }
+    /// The wildcards of some pieces, and of bytes after them that are meant as themselves.
+    pub fn new(pieces: Vec<Piece>, tail: Vec<u8>) -> Wildcards
+        ensures { result ≡ pieces.items ++ byte_pieces tail.items }
     {
-        Wildcards { pieces }
+        Wildcards { pieces, tail }
     }
 
     /// Whether a path matches. `row` is room for it to work in. An error is one of being out of
@@ -47,14 +52,31 @@ impl Wildcards {
     pub fn is_match(&self, row: &mut Vec<bool>, path: &[u8]) -> Result<bool, AllocError>
         ensures { IfOk result (λ matches. IsTrue matches ↔ Matches self.now path.now) }
     {
-        match without_ends(self.pieces.as_slice(), path) {
-            Some((pieces, path)) => match_rest(pieces, row, path),
+        match path.strip_suffix(self.tail.as_slice()) {
+            Some(front) => match_front(self.pieces.as_slice(), row, front),
             None => Ok(false),
         }
+    }
+
+    /// A text that any path ends in that matches.
+    pub fn ending(&self) -> &[u8]
+        ensures { (path : List ℕ) → Matches self.now path → EndsIn path result.now }
+    {
+        self.tail.as_slice()
     }
 }
 
 // Whether a path matches some pieces.
+fn match_front(pieces: &[Piece], row: &mut Vec<bool>, path: &[u8]) -> Result<bool, AllocError>
+    ensures { IfOk result (λ matches. IsTrue matches ↔ Matches pieces.now path.now) }
+{
+    match without_ends(pieces, path) {
+        Some((pieces, path)) => match_rest(pieces, row, path),
+        None => Ok(false),
+    }
+}
+
+// The same, by rows.
 fn match_rest(pieces: &[Piece], row: &mut Vec<bool>, path: &[u8]) -> Result<bool, AllocError>
     ensures { IfOk result (λ matches. IsTrue matches ↔ Matches pieces.now path.now) }
 {

@@ -61,21 +61,6 @@ pub added-one : (ignores : Bool) (text bytes : List ℕ) (old new : List GlobRul
 added-one ignores text bytes old new rule same full is of =
     rw full (rule, is, subst (λ t. IsGlobRule ignores t rule) same of)
 
--- no glob is about what is at a path from the one before a position on
-pub last-choice : (globs : Globs) (path : List ℕ) (is_folder : Bool) (at : ℕ) (rule : GlobRule) (choice : Choice)
-    → 0 < at → at ≤ length globs.rules.items → rule ≡ get_or globs.rules.items (at - 1) rule
-    → IsAbout path is_folder rule → choice ≡ choice_of rule → NoneFrom at globs.rules.items path is_folder
-    → IsLastChoice globs path is_folder choice
-last-choice globs path is_folder at rule choice some within is about says none = inr (
-  at - 1,
-  rule,
-  omega (arith, some, within),
-  sym is,
-  about,
-  says,
-  subst (λ n. NoneFrom n globs.rules.items path is_folder) (omega (arith, some)) none,
-)
-
 -- one text more
 pub added-next : (ignores : Bool) (texts : List (Bor (List ℕ))) (at : ℕ) (d : Bor (List ℕ))
     (old mid new : List GlobRule) → at < length texts → AreAdded ignores (take at texts) old mid

@@ -16,5 +16,4 @@ pub mod ClassTextLemmas
 pub mod SizeLemmas
 pub mod TreeLemmas
 pub mod TypeDefinitionLemmas
-pub mod TypeLemmas
 pub mod WalkLemmas

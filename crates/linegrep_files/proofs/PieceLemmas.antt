@@ -2,8 +2,8 @@
 use Rattle.std.proofs.Common.{◌≡◌, ℕ, ◌<◌, Bool, true, false, ap, sym, ◌∙◌, replicate}
 use Rattle.std.proofs.Common.{List, [], ◌∷◌, ◌++◌, length, refl, subst, arith, length-append, inl}
 use Rattle.std.proofs.Common.{inr}
-use Rattle.std.proofs.Common.{append_assoc}
-use Rattle.std.proofs.lemmas.Bool.{false≢true, or_right}
+use Rattle.std.proofs.Common.{append_assoc, ◌==◌, ◌≤◌, ◌||◌, nat_le}
+use Rattle.std.proofs.lemmas.Bool.{and_parts, false≢true, leb-true, not-true, or_right}
 use Rattle.std.specs.List.{list_any}
 use Rattle.std.specs.Prelude.{Err, IfOk, MatchResult, Ok, Result}
 use Rattle.grep_ignore.specs.Classes.{begins_with}
@@ -13,7 +13,10 @@ use Rattle.grep_ignore.proofs.GlobLemmas.{piece-shorter as ignore-shorter}
 use Rattle.grep_ignore.specs.declared.glob.Step.{Step}
 use Rattle.grep_ignore.specs.declared.wildcards.Piece.{Piece}
 use Rattle.grep_ignore.specs.declared.wildcards.Piece.TheVariants.{Folders, Many, One}
-use Rattle.linegrep_files.specs.Globs.{ArePieceTexts, IsPieceText, has_brackets, has_stars}
+use Rattle.grep_ignore.specs.Globs.{is_special}
+use Rattle.grep_ignore.specs.Tails.{are_plain, byte_pieces, byte_set, is_tail}
+use Rattle.grep_ignore.proofs.ByteLemmas.{byte-set}
+use Rattle.linegrep_files.specs.Globs.{ArePieceTexts, IsGlob, IsPieceText, has_brackets, has_stars}
 use Rattle.linegrep_files.specs.Globs.{of_class, of_other, of_stars}
 
 -- the text of a piece after those of some others
@@ -99,3 +102,52 @@ ignore-step (Err e) ignores begins text class stars is = tt
 
 pub stars-begin : (text : List ℕ) → has_stars text ≡ true → begins_with 42 text ≡ true
 stars-begin text stars = grind (arith, stars)
+
+-- a byte that is meant as itself
+no-special : (a b c d : Bool) → (a || b || c || d) ≡ false → (a ≡ false) × (c ≡ false)
+no-special false false false false none = (refl, refl)
+no-special false false false true none = absurd (false≢true (sym none))
+no-special false false true d none = absurd (false≢true (sym none))
+no-special false true c d none = absurd (false≢true (sym none))
+no-special true b c d none = absurd (false≢true (sym none))
+
+plain-text : (begins : Bool) (byte : ℕ) (rest : List ℕ) → is_special byte ≡ false
+    → IsPieceText false begins (byte ∷ rest) (One (byte_set byte)) (byte == 47) rest
+plain-text begins byte rest plain =
+    let (star, bracket) = no-special (byte == 42) (byte == 63) (byte == 91) (byte == 92) plain in
+    of_other bracket (rw star refl) (inr (inl (byte, inl (plain, refl), refl, byte-set byte)))
+
+-- bytes that are meant as themselves are the text of their pieces
+plain-texts : (begins : Bool) (text : List ℕ) → are_plain text ≡ true
+    → (next : Bool) × ArePieceTexts false begins text (byte_pieces text) next []
+plain-texts begins [] plain = (begins, (refl, refl))
+plain-texts begins (byte ∷ rest) plain =
+    let both = and_parts _ (are_plain rest) plain in
+    let later = plain-texts (byte == 47) rest both.1 in
+    (later.0, (byte == 47, rest, plain-text begins byte rest (not-true (is_special byte) both.0), later.1))
+
+-- texts of some pieces, and then those of others
+texts-append : (ignores begins : Bool) (text : List ℕ) (pieces : List Piece) (middle : Bool) (mid : List ℕ)
+    (more : List Piece) (next : Bool) (rest : List ℕ) → ArePieceTexts ignores begins text pieces middle mid
+    → ArePieceTexts ignores middle mid more next rest
+    → ArePieceTexts ignores begins text (pieces ++ more) next rest
+texts-append ignores begins text [] middle mid more next rest are others =
+    subst (λ b. ArePieceTexts ignores b text more next rest) are.0
+    (subst (λ g. ArePieceTexts ignores middle g more next rest) are.1 others)
+texts-append ignores begins text (first ∷ later) middle mid more next rest (m, g, one, are) others =
+    (m, g, one, texts-append ignores m g later middle mid more next rest are others)
+
+-- a glob is the texts of some pieces and of the bytes after them, which are a tail
+pub glob-tail : (ignores : Bool) (text : List ℕ) (spelled : List Piece) (middle : Bool) (rest : List ℕ)
+    (longest : ℕ) → (ignores ≡ true → longest ≡ 0) → ArePieceTexts ignores true text spelled middle rest
+    → is_tail longest rest ≡ true → IsGlob ignores text (spelled ++ byte_pieces rest)
+glob-tail ignores text spelled middle [] longest none are tail =
+    (middle, texts-append ignores true text spelled middle [] [] middle [] are (refl, refl))
+glob-tail true text spelled middle (byte ∷ rest) longest none are tail =
+    let both = and_parts (nat_le (length (byte ∷ rest)) longest) _ tail in
+    let fits : length (byte ∷ rest) ≤ longest = leb-true _ _ both.0 in
+    absurd (omega (arith, fits, none refl))
+glob-tail false text spelled middle (byte ∷ rest) longest none are tail =
+    let both = and_parts (nat_le (length (byte ∷ rest)) longest) _ tail in
+    let later = plain-texts middle (byte ∷ rest) both.1 in
+    (later.0, texts-append false true text spelled middle (byte ∷ rest) _ later.0 [] are later.1)

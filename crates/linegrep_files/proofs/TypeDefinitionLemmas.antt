@@ -353,7 +353,7 @@ no-changes options none =
     (none-changed Clear options.cleared dropped)
 
 -- nothing is selected if options say nothing
-pub none-selected : (options : TypeOptions) (types : Types) → are_none options ≡ true → types.globs.items ≡ []
+pub none-selected : (options : TypeOptions) (types : Types) → are_none options ≡ true → types.globs ≡ []
     → types.are_asked ≡ false → AreTypes options types
 none-selected options types none globs asked = record {
   known = record { definitions = known_types; selections = [] };

@@ -34,10 +34,10 @@ NoneHasFrom start globs name = (k : ℕ) (glob : TypeGlob) → start ≤ k → k
 abbrev pub IsTypeChoice : Types → List ℕ → Choice → Type 0
 IsTypeChoice types name choice =
     ((choice ≡ (if types.are_asked then LeftOut else Unmatched))
-    × NoneHasFrom 0 types.globs.items name)
-    ⊎ ((last : ℕ) × (glob : TypeGlob) × (last < length types.globs.items)
-    × (slice_index_or types.globs.items last glob ≡ glob) × Have glob.names name
-    × (choice ≡ type_choice_of glob) × NoneHasFrom (last + 1) types.globs.items name)
+    × NoneHasFrom 0 types.globs name)
+    ⊎ ((last : ℕ) × (glob : TypeGlob) × (last < length types.globs)
+    × (slice_index_or types.globs last glob ≡ glob) × Have glob.names name
+    × (choice ≡ type_choice_of glob) × NoneHasFrom (last + 1) types.globs name)
 
 -- options say nothing about types
 abbrev pub are_none : TypeOptions → Bool
@@ -82,7 +82,7 @@ selected_globs definitions (one ∷ later) =
 pub record AreSelected (known : Known) (types : Types) : Type 0 where
   pub known_all : list_all (λ one. is_known known.definitions one.0) known.selections ≡ true
   pub asked : types.are_asked ≡ list_any (λ one. not one.1) known.selections
-  pub globs : AreTypeGlobs (selected_globs known.definitions known.selections) types.globs.items
+  pub globs : AreTypeGlobs (selected_globs known.definitions known.selections) types.globs
 
 -- types are those that options select, of what they know
 pub record AreTypes (options : TypeOptions) (types : Types) : Type 0 where

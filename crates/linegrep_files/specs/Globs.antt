@@ -60,10 +60,10 @@ unmatched_choice globs is_folder =
 -- the last glob that is about what is at a path decides
 abbrev pub IsLastChoice : Globs → List ℕ → Bool → Choice → Type 0
 IsLastChoice globs path is_folder choice =
-    ((choice ≡ unmatched_choice globs is_folder) × NoneFrom 0 globs.rules.items path is_folder)
-    ⊎ ((last : ℕ) × (rule : GlobRule) × (last < length globs.rules.items)
-    × (slice_index_or globs.rules.items last rule ≡ rule) × IsAbout path is_folder rule
-    × (choice ≡ choice_of rule) × NoneFrom (last + 1) globs.rules.items path is_folder)
+    ((choice ≡ unmatched_choice globs is_folder) × NoneFrom 0 globs.rules path is_folder)
+    ⊎ ((last : ℕ) × (rule : GlobRule) × (last < length globs.rules)
+    × (slice_index_or globs.rules last rule ≡ rule) × IsAbout path is_folder rule
+    × (choice ≡ choice_of rule) × NoneFrom (last + 1) globs.rules path is_folder)
 
 -- a path without what names the current folder at its start
 abbrev pub path_from_here : List ℕ → List ℕ
@@ -172,10 +172,10 @@ pub record AreGlobs (texts iglobs : List (Bor (List ℕ))) (ignores_case : Bool)
   where
     pub first : List GlobRule
     pub later : List GlobRule
-    pub rules : globs.rules.items ≡ first ++ later
+    pub rules : globs.rules ≡ first ++ later
     pub are_first : AreRules ignores_case texts first
     pub are_later : AreRules true iglobs later
-    pub exclusions : globs.are_exclusions ≡ list_all (λ rule. rule.is_exclusion) globs.rules.items
+    pub exclusions : globs.are_exclusions ≡ list_all (λ rule. rule.is_exclusion) globs.rules
 
 -- one of some globs may not be well formed: it has braces, brackets or backslashes
 abbrev pub may_be_malformed_in : List (Bor (List ℕ)) → Bool

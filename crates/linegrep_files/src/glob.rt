@@ -1,8 +1,10 @@
 //! A glob: the paths that it matches.
-ghost use Rattle.std.specs.Prelude.{◌≡◌, ◌≢◌, ◌↔◌, ◌++◌, ◌∷◌, [], Bool, List, true};
+ghost use Rattle.std.specs.Prelude.{◌≡◌, ◌≢◌, ◌↔◌, ◌++◌, ◌∷◌, [], ℕ, Bool, List, true};
 ghost use Rattle.std.specs.Prelude.{IfErr, IfOk, IsTrue, OnErr, OnOk};
 ghost use Rattle.grep_ignore.specs.Classes.{IsSet, begins_with, is_name_byte};
+ghost use Rattle.grep_ignore.specs.Endings.{EndsIn};
 ghost use Rattle.grep_ignore.specs.Globs.{OnMalformed};
+ghost use Rattle.grep_ignore.specs.Tails.{byte_pieces};
 ghost use Rattle.grep_ignore.specs.declared.wildcards.Piece.{Piece};
 ghost use Rattle.linegrep_files.specs.Braces.{bytes_of};
 ghost use Rattle.linegrep_files.specs.Globs.{AreOfTexts, ArePieces, IsGlob, IsGlobOf, IsPieceText};
@@ -10,7 +12,7 @@ ghost use Rattle.linegrep_files.specs.Globs.{MatchesOne, has_brackets, has_stars
 
 use crate::braces::{has_braces, texts_of};
 use crate::class::{begins_with, read_class, tail};
-use grep_ignore::{GlobError, Piece, Step, Wildcards, read_piece};
+use grep_ignore::{GlobError, Piece, Step, Wildcards, is_tail, read_piece, tail_len};
 use grep_matcher::ByteSet;
 use std::alloc::{AllocError, Global};
 
@@ -97,6 +99,16 @@ impl Glob {
         }
         Ok(false)
     }
+
+    /// A text that any path ends in that matches.
+    pub fn ending(&self) -> &[u8]
+        ensures { (path : List ℕ) → MatchesOne self.now.choices.items path → EndsIn path result.now }
+    {
+        match self.choices.as_slice() {
+            [only] => only.ending(),
+            _ => &[],
+        }
+    }
 }
 
 // The wildcards of a text without braces.
@@ -113,19 +125,27 @@ fn read_text(
     if is_of_names && pieces.push(Piece::Folders).is_err() {
         return Err(GlobError::OutOfMemory);
     }
-    add_pieces(&mut pieces, text, ignores_case)?;
-    Ok(Wildcards::new(pieces))
+    let tail = add_pieces(alloc, &mut pieces, text, ignores_case)?;
+    Ok(Wildcards::new(pieces, tail))
 }
 
-// Adds the pieces of a text without braces.
-fn add_pieces(pieces: &mut Vec<Piece>, text: &[u8], ignores_case: bool) -> Result<(), GlobError>
-    ensures ok { IfOk result (λ _. (spelled : List Piece)
-        × (pieces.new.items ≡ pieces.old.items ++ spelled) × IsGlob ignores_case text.now spelled) }
+// Adds the pieces of a text without braces but for the bytes at its end that are returned, each of
+// which is meant as itself.
+fn add_pieces(
+    alloc: Global,
+    pieces: &mut Vec<Piece>,
+    text: &[u8],
+    ignores_case: bool,
+) -> Result<Vec<u8>, GlobError>
+    ensures ok { IfOk result (λ tail. (spelled : List Piece)
+        × (pieces.new.items ≡ pieces.old.items ++ spelled)
+        × IsGlob ignores_case text.now (spelled ++ byte_pieces tail.items)) }
     ensures err { IfErr result (λ e. OnMalformed e (has_brackets text.now ≡ true)) }
 {
+    let longest = tail_len(text, ignores_case);
     let mut rest = text;
     let mut begins_name = true;
-    while !rest.is_empty() {
+    while !is_tail(rest, longest) {
         match first_piece(rest, begins_name, ignores_case) {
             Ok(step) => {
                 rest = step.rest;
@@ -138,7 +158,10 @@ fn add_pieces(pieces: &mut Vec<Piece>, text: &[u8], ignores_case: bool) -> Resul
             Err(cause) => return Err(GlobError::Malformed(cause)),
         }
     }
-    Ok(())
+    match Vec::from_slice(alloc, rest) {
+        Ok(tail) => Ok(tail),
+        Err(_) => Err(GlobError::OutOfMemory),
+    }
 }
 
 // The piece that a text begins with, or why there is none.

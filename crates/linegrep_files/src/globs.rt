@@ -12,7 +12,7 @@ ghost use Rattle.linegrep_files.specs.Globs.{said_glob};
 use crate::class::is_empty;
 use crate::failures::Failure;
 use crate::glob::Glob;
-use grep_ignore::{GlobError, split_rule};
+use grep_ignore::{GlobError, PathTest, PathTests, split_rule};
 use std::alloc::{AllocError, Global};
 
 /// What globs say of a file or a folder.
@@ -43,7 +43,7 @@ impl Choice {
 /// The globs of the arguments, in order.
 #[derive(Drop)]
 pub struct Globs {
-    rules: Vec<GlobRule>,
+    rules: PathTests<GlobRule>,
     // Whether each leaves paths out.
     are_exclusions: bool,
 }
@@ -72,7 +72,7 @@ impl Globs {
             → (may_be_malformed_in texts.now || may_be_malformed_in iglobs.now) ≡ true) }
     {
         let mut globs = Globs {
-            rules: Vec::new(alloc),
+            rules: PathTests::new(alloc),
             are_exclusions: true,
         };
         globs.add_all(alloc, texts, ignores_case)?;
@@ -83,8 +83,8 @@ impl Globs {
 
     // Adds the globs of some texts.
     fn add_all(&mut self, alloc: Global, texts: &[&str], ignores_case: bool) -> Result<(), Failure>
-        ensures ok { IfOk result (λ _. AreAdded ignores_case texts.now self.old.rules.items
-            self.new.rules.items) }
+        ensures ok { IfOk result (λ _. AreAdded ignores_case texts.now self.old.rules
+            self.new.rules) }
         ensures err { IfErr result (λ failure. has_cause failure ≡ true
             → may_be_malformed_in texts.now ≡ true) }
     {
@@ -100,8 +100,8 @@ impl Globs {
 
     // Adds the glob of a text, unless the text is empty.
     fn add(&mut self, alloc: Global, text: &str, ignores_case: bool) -> Result<(), GlobError>
-        ensures ok { IfOk result (λ _. IsAdded ignores_case text.now self.old.rules.items
-            self.new.rules.items) }
+        ensures ok { IfOk result (λ _. IsAdded ignores_case text.now self.old.rules
+            self.new.rules) }
         ensures err { IfErr result (λ e. OnMalformed e (may_be_malformed (glob_text text.now) ≡ true)) }
     {
         if is_empty(text.as_bytes()) {
@@ -139,15 +139,10 @@ impl Globs {
     ) -> Result<Choice, AllocError>
         ensures { IfOk result (IsLastChoice self.now path.now is_folder) }
     {
-        let mut at = self.rules.len();
-        while at > 0 {
-            at -= 1;
-            let rule = &self.rules[at];
-            if rule.is_about(row, path, is_folder)? {
-                return Ok(rule.choice());
-            }
+        match self.rules.last_about(row, path, is_folder)? {
+            Some(rule) => Ok(rule.choice()),
+            None => Ok(self.default_choice(is_folder)),
         }
-        Ok(self.default_choice(is_folder))
     }
 
     // What they say of what none of them matches.
@@ -174,20 +169,28 @@ impl GlobRule {
             Choice::Chosen
         }
     }
+}
+
+impl PathTest for GlobRule {
+    ghost use Rattle.linegrep_files.specs.Globs.{IsAbout};
+
+    ghost about = { λ rule path is_folder. IsAbout path is_folder rule };
 
     fn is_about(
         &self,
         row: &mut Vec<bool>,
         path: &[u8],
         is_folder: bool,
-    ) -> Result<bool, AllocError>
-        ensures { IfOk result (λ is_about. IsTrue is_about ↔ IsAbout path.now is_folder self.now) }
-    {
+    ) -> Result<bool, AllocError> {
         if self.names_folders && !is_folder {
             Ok(false)
         } else {
             self.glob.is_match(row, path)
         }
+    }
+
+    fn ending(&self) -> &[u8] {
+        self.glob.ending()
     }
 }
 

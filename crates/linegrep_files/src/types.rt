@@ -2,6 +2,7 @@
 ghost use Rattle.std.specs.Prelude.{◌≡◌, ◌↔◌, ◌++◌, ℕ, Bool, List, false, true, if◌then◌else◌};
 ghost use Rattle.std.specs.Prelude.{IfErr, IfOk, IsTrue, OnErr, OnOk, not};
 ghost use Rattle.std.specs.List.{list_any};
+ghost use Rattle.grep_ignore.specs.Endings.{EndsIn};
 ghost use Rattle.linegrep_files.specs.FileTypes.{AreNames, AreSelected, AreTypeGlobs, AreTypes, Have};
 ghost use Rattle.linegrep_files.specs.FileTypes.{IsTypeChoice, are_none, has_wildcard, is_wildcard};
 ghost use Rattle.linegrep_files.specs.FileTypes.{type_choice_of, with_choice};
@@ -13,14 +14,14 @@ use crate::file_options::TypeOptions;
 use crate::glob::Glob;
 use crate::globs::Choice;
 use crate::type_definitions::{KnownTypes, Selection, TypeError};
-use grep_ignore::GlobError;
+use grep_ignore::{GlobError, PathTest, PathTests};
 use std::alloc::{AllocError, Global};
 
 /// The types that are asked for or left out.
 #[derive(Drop)]
 pub struct Types {
     // Their globs, in the order of the options.
-    globs: Vec<TypeGlob>,
+    globs: PathTests<TypeGlob>,
     // Whether a type is asked for, so that files of no such type are left out.
     are_asked: bool,
 }
@@ -60,15 +61,10 @@ impl Types {
     pub fn choice(&self, row: &mut Vec<bool>, name: &[u8]) -> Result<Choice, AllocError>
         ensures { IfOk result (IsTypeChoice self.now name.now) }
     {
-        let mut at = self.globs.len();
-        while at > 0 {
-            at -= 1;
-            let glob = &self.globs[at];
-            if glob.names.have(row, name)? {
-                return Ok(glob.choice());
-            }
+        match self.globs.last_about(row, name, false)? {
+            Some(glob) => Ok(glob.choice()),
+            None => Ok(self.default_choice()),
         }
-        Ok(self.default_choice())
     }
 
     // Adds the globs of a selected type.
@@ -80,10 +76,10 @@ impl Types {
     ) -> Result<(), TypeError<'t>>
         ensures asked { self.new.are_asked ≡ self.old.are_asked }
         ensures globs { OnOk result ((before : List (List ℕ × Bool))
-            → AreTypeGlobs before self.old.globs.items → AreTypeGlobs (before
+            → AreTypeGlobs before self.old.globs → AreTypeGlobs (before
             ++ with_choice selection.entry.is_exclusion
             (globs_of (pairs_of known.now.definitions.items) selection.entry.name.now))
-            self.new.globs.items) }
+            self.new.globs) }
     {
         for definition in known.definitions.iter() {
             if definition.is_of(selection.name) {
@@ -123,6 +119,26 @@ impl TypeGlob {
     }
 }
 
+impl PathTest for TypeGlob {
+    ghost use Rattle.linegrep_files.specs.FileTypes.{Have};
+
+    ghost about = { λ glob name is_folder. Have glob.names name };
+
+    fn is_about(
+        &self,
+        row: &mut Vec<bool>,
+        path: &[u8],
+        is_folder: bool,
+    ) -> Result<bool, AllocError> {
+        let _ = is_folder;
+        self.names.have(row, path)
+    }
+
+    fn ending(&self) -> &[u8] {
+        self.names.ending()
+    }
+}
+
 /// The list of all types, one a line with its globs, with what options add to it or clear. An error
 /// is as in `Types::read`.
 pub fn type_list(alloc: Global, options: &TypeOptions<'_, '_>) -> Result<String, Failure> {
@@ -138,7 +154,7 @@ fn try_read<'t>(alloc: Global, options: &TypeOptions<'_, 't>) -> Result<Types, T
 {
     if options.are_none() {
         return Ok(Types {
-            globs: Vec::new(alloc),
+            globs: PathTests::new(alloc),
             are_asked: false,
         });
     }
@@ -155,7 +171,7 @@ fn build<'t>(alloc: Global, known: &KnownTypes<'t>) -> Result<Types, TypeError<'
     ensures { IfOk result (AreSelected (known_of known.now)) }
 {
     let mut types = Types {
-        globs: Vec::new(alloc),
+        globs: PathTests::new(alloc),
         are_asked: are_asked(known.selections.as_slice()),
     };
     for selection in known.selections.iter() {
@@ -183,6 +199,17 @@ impl Names {
             Names::Only(only) => Ok(name == only.as_bytes()),
             Names::EndingIn(end) => Ok(name.ends_with(end.as_bytes())),
             Names::Matching(glob) => glob.is_match(row, name),
+        }
+    }
+
+    // A text that any of these ends in.
+    fn ending(&self) -> &[u8]
+        ensures { (name : List ℕ) → Have self.now name → EndsIn name result.now }
+    {
+        match self {
+            Names::Only(only) => only.as_bytes(),
+            Names::EndingIn(end) => end.as_bytes(),
+            Names::Matching(glob) => glob.ending(),
         }
     }
 }

@@ -1,4 +1,5 @@
-use Rattle.std.proofs.Common.{◌∷◌, ◌++◌, [], ◌∙◌, ap, append_assoc}
+use Rattle.std.proofs.Common.{◌∷◌, ◌++◌, [], ◌∙◌, ap, append_assoc, sym}
+use Rattle.grep_ignore.proofs.ByteLemmas.{glob-tail}
 use Rattle.grep_ignore.proofs.GlobLemmas.{piece-shorter, texts-more}
 use Rattle.grep_ignore.proofs.glob.add_pieces.Goals as goal
 
@@ -11,4 +12,12 @@ loop-rest-preserved c = (
   c.in-Ok-push.ensures.items ∙ ap (λ l. l ++ c.in-Ok.step.piece ∷ []) c.loop-rest.invariant.1
       ∙ append_assoc c.args.pieces.now.items c.loop-rest.invariant.0 (c.in-Ok.step.piece ∷ []),
   texts-more _ _ _ _ _ _ _ _ _ c.loop-rest.invariant.2 c.in-Ok.ensures,
+)
+
+pub returns-in-Ok-from_slice-clause-ok : goal.returns-in-Ok-from_slice-clause-ok
+returns-in-Ok-from_slice-clause-ok c = (
+  c.loop-rest.invariant.0,
+  c.loop-rest.invariant.1,
+  rw c.in-Ok-from_slice.ensures.items (glob-tail _ _ _ _ _ c.tail_len-longest.result c.tail_len-longest.ensures
+      c.loop-rest.invariant.2 (sym c.is_tail.ensures ∙ c.loop-rest-test.false)),
 )

@@ -1,5 +1,5 @@
-use Rattle.std.proofs.Common.{◌∷◌, ◌++◌, [], ◌∙◌, ap, append_assoc}
-use Rattle.linegrep_files.proofs.PieceLemmas.{brackets-before, piece-shorter, texts-more}
+use Rattle.std.proofs.Common.{◌∷◌, ◌++◌, [], ◌∙◌, ap, append_assoc, sym}
+use Rattle.linegrep_files.proofs.PieceLemmas.{brackets-before, glob-tail, piece-shorter, texts-more}
 use Rattle.linegrep_files.proofs.glob.add_pieces.Goals as goal
 
 pub loop-rest-smaller : goal.loop-rest-smaller
@@ -18,3 +18,11 @@ returns-in-Err c = record {
   ok = tt;
   err = brackets-before _ _ _ _ _ _ c.loop-rest.invariant.2 c.in-Err.ensures.err;
 }
+
+pub returns-in-Ok-from_slice-clause-ok : goal.returns-in-Ok-from_slice-clause-ok
+returns-in-Ok-from_slice-clause-ok c = (
+  c.loop-rest.invariant.0,
+  c.loop-rest.invariant.1,
+  rw c.in-Ok-from_slice.ensures.items (glob-tail _ _ _ _ _ c.tail_len-longest.result c.tail_len-longest.ensures
+      c.loop-rest.invariant.2 (sym c.is_tail.ensures ∙ c.loop-rest-test.false)),
+)

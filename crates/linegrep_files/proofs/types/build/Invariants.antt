@@ -10,5 +10,5 @@ invariant-loop-selection l = record {
       (chosen_of (take l.selection-index l.known.selections.items)) ≡ true;
   asked : l.types.are_asked ≡ list_any (λ one. not one.is_exclusion) l.known.selections.items;
   globs : AreTypeGlobs (selected_globs (pairs_of l.known.definitions.items)
-      (chosen_of (take l.selection-index l.known.selections.items))) l.types.globs.items;
+      (chosen_of (take l.selection-index l.known.selections.items))) l.types.globs;
 }

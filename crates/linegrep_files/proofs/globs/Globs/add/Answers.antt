@@ -4,7 +4,7 @@ use Rattle.linegrep_files.proofs.GlobRuleLemmas.{added-one}
 use Rattle.linegrep_files.proofs.globs.Globs.add.Goals as goal
 
 pub returns-in-Ok-push-clause-ok : goal.returns-in-Ok-push-clause-ok
-returns-in-Ok-push-clause-ok c = added-one c.args.ignores_case c.args.text.now _ c.args.self.now.rules.items
-    c.push.new.self.items c.in-Ok.rule c.as_bytes-2.ensures.value
+returns-in-Ok-push-clause-ok c = added-one c.args.ignores_case c.args.text.now _ c.args.self.now.rules
+    c.push.new.self c.in-Ok.rule c.as_bytes-2.ensures.value
     (ap is_empty (sym c.as_bytes.ensures.value) ∙ sym c.is_empty.ensures ∙ c.if-is_empty.false)
-    c.in-Ok-push.ensures.items c.in-Ok.ensures.ok
+    c.in-Ok-push.ensures.ok c.in-Ok.ensures.ok

@@ -1,7 +1,7 @@
-use Rattle.linegrep_files.proofs.GlobRuleLemmas.{last-choice}
+use Rattle.std.proofs.Common.{inr}
 use Rattle.linegrep_files.proofs.globs.Globs.last_choice.Goals as goal
 
-pub returns-then-branch : goal.returns-then-branch
-returns-then-branch c = last-choice c.args.self.now c.args.path.now c.args.is_folder c.loop-at.at
-    c.index-rule.result.now c.choice.result c.loop-at-test.true c.loop-at.invariant.within c.index-rule.ensures
-    (c.in_ok-is_about.ensures.0 c.if-branch.true) c.choice.ensures c.loop-at.invariant.none
+pub returns-in-Some : goal.returns-in-Some
+returns-in-Some c =
+    let (last, within, is, about, none) = rw c.in-Some.is at c.in_ok-rule.ensures in
+    inr (last, c.in-Some.rule.now, within, is, about, c.choice.ensures, none)

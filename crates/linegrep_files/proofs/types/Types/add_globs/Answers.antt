@@ -12,5 +12,5 @@ loop-definition-preserved-then-is_of c =
       asked = c.loop-definition.invariant.asked;
       globs = λ before are. chosen-more before _ _ c.args.known.now.definitions.items c.loop-definition.definition-index
           _ c.args.selection.name.now c.args.selection.is_exclusion _ below same names refl
-          c.in_ok-push.ensures.items (c.loop-definition.invariant.globs before are);
+          c.in_ok-push.ensures.ok (c.loop-definition.invariant.globs before are);
     }

@@ -6,7 +6,7 @@ use Rattle.linegrep_files.proofs.types.Types.add_globs.Given as goal
 abbrev pub invariant-loop-definition : goal.invariant-loop-definition
 invariant-loop-definition l = record {
   asked : l.self.are_asked ≡ l.fn.self.are_asked;
-  globs : (before : List (List ℕ × Bool)) → AreTypeGlobs before l.fn.self.globs.items
+  globs : (before : List (List ℕ × Bool)) → AreTypeGlobs before l.fn.self.globs
       → AreTypeGlobs (before ++ with_choice l.selection.is_exclusion
-      (globs_of (pairs_of (take l.definition-index l.known.definitions.items)) l.selection.name.now)) l.self.globs.items;
+      (globs_of (pairs_of (take l.definition-index l.known.definitions.items)) l.selection.name.now)) l.self.globs;
 }

@@ -1,7 +1,7 @@
-use Rattle.linegrep_files.proofs.TypeLemmas.{last-choice}
+use Rattle.std.proofs.Common.{inr}
 use Rattle.linegrep_files.proofs.types.Types.choice.Goals as goal
 
-pub returns-then-branch : goal.returns-then-branch
-returns-then-branch c = last-choice c.args.self.now c.args.name.now c.loop-at.at c.index-glob.result.now c.choice.result
-    c.loop-at-test.true c.loop-at.invariant.within c.index-glob.ensures (c.in_ok-have.ensures.0 c.if-branch.true)
-    c.choice.ensures c.loop-at.invariant.none
+pub returns-in-Some : goal.returns-in-Some
+returns-in-Some c =
+    let (last, within, is, has, none) = rw c.in-Some.is at c.in_ok-glob.ensures in
+    inr (last, c.in-Some.glob.now, within, is, has, c.choice.ensures, none)
