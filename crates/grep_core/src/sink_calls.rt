@@ -52,7 +52,8 @@ pub trait SinkCalls<T: Configured> {
 
     /// Lines one after another, each of which is a match. Returns whether the sink takes them at
     /// once: then it is as if each call of `matched` returned true, or as if one of them failed; if
-    /// it doesn't, nothing has changed, and `matched` is to be called for each line.
+    /// it doesn't, nothing has changed, and `matched` is to be called for each line. They have a byte
+    /// at least, and 16 KiB at most.
     fn matched_lines<A>(
         search: &Search<'_, A, T>,
         sink: &mut Self::Sink,
@@ -61,6 +62,8 @@ pub trait SinkCalls<T: Configured> {
         requires may_call { may_call sink.old }
         requires split { lines.now.terminator ≡ byte_of search.now.config.line_terminator }
         requires numbered { is_some lines.now.line_number ≡ search.now.config.line_number }
+        requires some { 0 < length (match_bytes lines.now) }
+        requires few { length (match_bytes lines.now) ≤ 16384 }
         requires numbers { IfSome lines.now.line_number
             (λ number. number + length (match_bytes lines.now) ≤ 2 ^ 64) }
         requires fits { lines.now.offset + length (match_bytes lines.now) < 2 ^ 64 }

@@ -62,9 +62,9 @@ pub trait Sink {
     ///
     /// The lines are those of `lines`, whose number and offset are the first line's. A search gives
     /// them where it knows that lines in a row are matches and nothing else is to be reported: under
-    /// inversion those in which its matcher found nothing, else those that it confirmed. It gives
-    /// 16 KiB at most, or one line, and looks for a second confirmed one only if the sink took the
-    /// lines before. The caller ensures what `matched` asks of each line.
+    /// inversion those in which its matcher found nothing, else those that it confirmed. It gives a
+    /// line at least and 16 KiB at most, and looks for a second confirmed one only if the sink took
+    /// the lines before. The caller ensures what `matched` asks of each line.
     ///
     /// The default doesn't take them. A sink that writes lines as one text, or counts them, is
     /// faster if it does.
@@ -76,6 +76,8 @@ pub trait Sink {
         requires may_call { may_call self.old }
         requires split { lines.now.terminator ≡ byte_of searcher.now.settings.line_terminator }
         requires numbered { is_some lines.now.line_number ≡ searcher.now.settings.line_number }
+        requires some { 0 < length (match_bytes lines.now) }
+        requires few { length (match_bytes lines.now) ≤ 16384 }
         requires numbers { IfSome lines.now.line_number
             (λ number. number + length (match_bytes lines.now) ≤ 2 ^ 64) }
         requires fits { lines.now.offset + length (match_bytes lines.now) < 2 ^ 64 }

@@ -21,13 +21,13 @@ chooses_alone settings w =
     || (settings.before_context == 0 && settings.after_context == 0))
 
 -- lines of a window are chosen from a position on, by what is known there, and each makes no call
--- but its match's. They are 16 KiB at most, or the line that is known to match
+-- but its match's. They have 16 KiB at most
 pub record AreChosen {E : Type 0} (settings : Settings) (facts : MatcherFacts E) (window : List ℕ)
     (start : ℕ) (ahead : Ahead) (w : Walk) (chosen : LineRun) : Type 0 where
   pub matches : Bool
   pub hits : hits_if settings matches ≡ true
   pub run : IsRun settings facts window start ahead matches chosen
-  pub few : (chosen.end ≤ start + 16384) ⊎ (chosen.end ≡ ahead.match_end)
+  pub few : chosen.end ≤ start + 16384
   pub alone : chooses_alone settings w ≡ true
 
 -- the walk after so many bytes of such lines, which are so many

@@ -6,7 +6,7 @@ ghost use Rattle.grep_walk.specs.LookAheads.{AreAllowed, IsBounded, IsReporting}
 ghost use Rattle.grep_walk.specs.Walks.{IsOrdered};
 
 use crate::config::Config;
-use crate::line_run::LineRun;
+use crate::line_run::{LineRun, ROOM};
 use crate::look_ahead::{Ahead, Questions, Reporting};
 use crate::walk::Walk;
 use grep_matcher::Matcher;
@@ -14,9 +14,9 @@ use grep_matcher::Matcher;
 impl Config {
     /// The lines that are chosen one after another from `start` on, without a call but that of each
     /// match: under inversion lines that are known not to match; else the line that is known to
-    /// match, and those after it that do, if the matcher may be asked about many lines. They are
-    /// one line, or 16 KiB at most. `None` if there are none. The caller ensures that a line of the
-    /// window begins at `start`, and that these are the lines that this search reports.
+    /// match, and those after it that do, if the matcher may be asked about many lines. They have
+    /// 16 KiB at most. `None` if there are none, or the first is longer. The caller ensures that a
+    /// line of the window begins at `start`, and that these are the lines that this search reports.
     #[inline(always)]
     pub fn chosen_lines<M: Matcher>(
         &self,
@@ -44,6 +44,9 @@ impl Config {
         }
         if !matches {
             return self.lines_up_to_candidate(window, start, ahead);
+        }
+        if ahead.match_end - start > ROOM {
+            return None;
         }
         match questions {
             Questions::OneLine => Some(LineRun {

@@ -13,9 +13,9 @@ use crate::look_ahead::Ahead;
 use grep_lines::{line_count_in, line_of};
 use grep_matcher::Matcher;
 
-// How many bytes a run of lines has, at most, unless it is one line: what a sink makes of lines that
-// are chosen may take as much memory.
-const ROOM: usize = 16 * 1024;
+/// How many bytes lines that are chosen in a row have at most: what a sink makes of them may take as
+/// much memory.
+pub(crate) const ROOM: usize = 16 * 1024;
 
 /// Lines one after another, all of which match, or none of them, by positions in a window.
 #[derive(Clone, Copy)]

@@ -1,4 +1,4 @@
-use Rattle.std.proofs.Common.{◌≡◌, rules, None, Option, Some, arith, false, inl, inr, refl, true}
+use Rattle.std.proofs.Common.{◌≡◌, rules, None, Option, Some, arith, false, true}
 use Rattle.std.specs.Prelude.{IfSome}
 use Rattle.grep_walk.specs.LookAheads.{known_at}
 use Rattle.grep_walk.proofs.LineRunLemmas.{first-matches, is_matched}
@@ -25,7 +25,7 @@ returns-then-not-matches g c =
         bounded = bounded;
         alike = λ lawful. alike (g.M.Matcher.facts c.args.matcher.now).meaning;
       };
-      few = inl few;
+      few = few;
       alone = search rules;
     })
 
@@ -43,6 +43,6 @@ returns-in-OneLine g c =
         alike = λ lawful i here known. first-matches c.args.self.now _ _ c.args.start i
             c.args.ahead.now matches known here;
       };
-      few = inr refl;
+      few = omega (arith, c.if-ahead-start-gt-ROOM.false);
       alone = search rules;
     }
