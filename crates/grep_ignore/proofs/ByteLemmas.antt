@@ -1,7 +1,7 @@
 -- Bytes as pieces: what their sets have, which globs they are, and what they match.
 use Rattle.std.proofs.Common.{◌≡◌, ℕ, zero, suc, ◌≤◌, Bool, true, false, ◌==◌, ◌||◌, List, [], ◌∷◌, ◌++◌, refl, sym, ap}
-use Rattle.std.proofs.Common.{◌∙◌, subst, arith, append_assoc, IsTrue, ◌↔◌, inl, inr, length, drop}
-use Rattle.std.proofs.Common.{nat_le, length-append}
+use Rattle.std.proofs.Common.{◌∙◌, subst, arith, append_assoc, IsTrue, ◌↔◌, inl, inr, length, drop, replicate}
+use Rattle.std.proofs.Common.{if◌then◌else◌, nat_le, length-append}
 use Rattle.std.specs.Prelude.{◌≢◌}
 use Rattle.std.proofs.Math.Seq.{drop-append_seam}
 use Rattle.std.proofs.lemmas.Bool.{and_parts, cases_eq, eq-eqb, leb-true, ne_eqb, not-true, true≢false}
@@ -9,10 +9,11 @@ use Rattle.std.proofs.lemmas.List.{append_cancel_right}
 use Rattle.grep_matcher.specs.ByteSets.{holds}
 use Rattle.grep_ignore.specs.Classes.{IsSet, is_either}
 use Rattle.grep_ignore.specs.Endings.{EndsIn}
-use Rattle.grep_ignore.specs.Globs.{ArePieceTexts, IsGlob, is_special}
-use Rattle.grep_ignore.specs.Matches.{Matches}
-use Rattle.grep_ignore.specs.Tails.{are_plain, byte_pieces, byte_set, is_tail}
+use Rattle.grep_ignore.specs.Globs.{ArePieceTexts, IsGlob, IsPieceText, is_special}
+use Rattle.grep_ignore.specs.Matches.{AreStarted, Matches}
+use Rattle.grep_ignore.specs.Tails.{IsHead, are_plain, byte_pieces, byte_set, is_tail}
 use Rattle.grep_ignore.specs.declared.wildcards.Piece.{Piece}
+use Rattle.grep_ignore.specs.declared.wildcards.Piece.TheVariants.{Folders, Many, One}
 
 at-byte : (byte : ℕ) → holds (byte_set byte) byte ≡ true
 at-byte zero = refl
@@ -134,3 +135,89 @@ ends-in front tail path matches =
       omega (arith, ap length found.1, length-append found.0 tail),
       ap (drop (length found.0)) found.1 ∙ drop-append_seam found.0 tail,
     )
+
+-- the parts of two lists that are equal
+pub heads : (x y : ℕ) (xs ys : List ℕ) → x ∷ xs ≡ y ∷ ys → x ≡ y
+heads x y xs ys is = cc
+
+tails : (x y : ℕ) (xs ys : List ℕ) → x ∷ xs ≡ y ∷ ys → xs ≡ ys
+tails x y xs ys is = cc
+
+-- a piece of a text that begins with a byte that is meant as itself
+pub plain-piece : (begins : Bool) (byte : ℕ) (text : List ℕ) (piece : Piece) (next : Bool) (rest : List ℕ)
+    → is_special byte ≡ false → IsPieceText false begins (byte ∷ text) piece next rest
+    → (set : List Bool) × (piece ≡ One set) × (rest ≡ text) × IsSet set (is_either false (λ k. k == byte))
+plain-piece begins byte text (One set) next rest plain (inl any) =
+    absurd (true≢false (sym (ap is_special (heads byte 63 text rest any.0)) ∙ plain))
+plain-piece begins byte text (One set) next rest plain (inr (inl (other, inl itself, is, has))) =
+    let same : byte ≡ other = heads byte other text rest itself.1 in
+    (set, refl, sym (tails byte other text rest itself.1), subst (λ b. IsSet set (is_either false (λ k. k == b))) (sym same) has)
+plain-piece begins byte text (One set) next rest plain (inr (inl (other, inr escaped, is, has))) =
+    absurd (true≢false (sym (ap is_special (heads byte 92 text (other ∷ rest) escaped)) ∙ plain))
+plain-piece begins byte text (One set) next rest plain (inr (inr (class, is, other, of))) =
+    absurd (true≢false (sym (ap is_special (heads byte 91 text class is)) ∙ plain))
+plain-piece begins byte text (Many set) next rest plain (more, stars, none, other) =
+    absurd (true≢false (sym (ap is_special (heads byte 42 text (replicate more 42 ++ rest) stars.0)) ∙ plain))
+plain-piece begins byte text Folders next rest plain (more, stars, name, other) =
+    absurd (true≢false (sym (ap is_special (heads byte 42 text (replicate more 42 ++ 47 ∷ rest) stars.0)) ∙ plain))
+
+-- what pieces match, of which the first is the set of a byte
+pub matches-plain : (byte : ℕ) (set : List Bool) (later : List Piece) (path : List ℕ)
+    → IsSet set (is_either false (λ k. k == byte)) → Matches (One set ∷ later) path
+    → (rest : List ℕ) × (path ≡ byte ∷ rest) × Matches later rest
+matches-plain byte set later path has (part, rest, is, (other, alone, holds-it), more) =
+    let same : other ≡ byte = elim (cases_eq other byte) [
+      | inl here ↦ here
+      | inr apart ↦ absurd (true≢false (sym holds-it ∙ has other ∙ sym (or-false (other == byte)) ∙ ne_eqb other byte apart))
+    ] in
+    (rest, is ∙ ap (λ l. l ++ rest) (alone ∙ ap (λ b. b ∷ []) same), more)
+
+-- what the pieces of a text match begins with the bytes at its start that are meant as themselves
+head-matches : (begins : Bool) (head rest : List ℕ) (pieces : List Piece) (next : Bool) (path : List ℕ)
+    → are_plain head ≡ true → ArePieceTexts false begins (head ++ rest) pieces next [] → Matches pieces path
+    → (after : List ℕ) × (path ≡ head ++ after)
+head-matches begins [] rest pieces next path plain are matches = (path, refl)
+head-matches begins (byte ∷ head) rest [] next path plain are matches =
+    absurd (omega (arith, ap length are.1))
+head-matches begins (byte ∷ head) rest (piece ∷ later) next path plain (middle, mid, one, are) matches =
+    let both = and_parts _ (are_plain head) plain in
+    let (set, is, left, has) = plain-piece begins byte (head ++ rest) piece middle mid
+    (not-true (is_special byte) both.0) one in
+    let (more, cut, others) = matches-plain byte set later path has (subst (λ p. Matches (p ∷ later) path) is matches) in
+    let (after, there) = head-matches middle head rest later next more both.1
+    (subst (λ m. ArePieceTexts false middle m later next []) left are) others in
+    (after, cut ∙ ap (λ l. byte ∷ l) there)
+
+-- any folders may be before the head of a glob
+pub started : (is_anchored : Bool) (head : List ℕ) (pieces : List Piece)
+    → ((path : List ℕ) → Matches pieces path → (after : List ℕ) × (path ≡ head ++ after))
+    → AreStarted (if is_anchored then pieces else Folders ∷ pieces) head
+started true head pieces begins = λ path matches.
+    let (after, is) = begins path matches in ([], after, is, inl refl)
+started false head pieces begins = λ path (part, rest, is, fits, matches).
+    let (after, there) = begins rest matches in (
+      part,
+      after,
+      is ∙ ap (λ l. part ++ l) there ∙ sym (append_assoc part head after),
+      fits,
+    )
+
+-- in what a glob matches a name begins with its head
+pub glob-started : (is_anchored ignores : Bool) (glob head : List ℕ) (pieces : List Piece) → IsHead ignores glob head
+    → IsGlob ignores glob pieces → AreStarted (if is_anchored then pieces else Folders ∷ pieces) head
+glob-started is_anchored ignores glob head pieces ((rest, is), inl none) (next, are) =
+    started is_anchored head pieces (λ path matches. (path, ap (λ l. l ++ path) (sym none)))
+glob-started is_anchored ignores glob head pieces ((rest, is), inr (sees, plain)) (next, are) =
+    started is_anchored head pieces (λ path matches. head-matches true head rest pieces next path plain
+    (subst (λ g. ArePieceTexts false true g pieces next []) is
+    (subst (λ i. ArePieceTexts i true glob pieces next []) sees are)) matches)
+
+pub rule-started : (is_anchored ignores : Bool) (glob head : List ℕ) (first all spelled : List Piece) (tail : List ℕ)
+    → first ≡ (if is_anchored then [] else Folders ∷ []) → all ≡ first ++ spelled → IsHead ignores glob head
+    → IsGlob ignores glob (spelled ++ byte_pieces tail) → AreStarted (all ++ byte_pieces tail) head
+rule-started true ignores glob head first all spelled tail is are begins of =
+    subst (λ l. AreStarted (l ++ byte_pieces tail) head) (sym (are ∙ ap (λ f. f ++ spelled) is))
+    (glob-started true ignores glob head (spelled ++ byte_pieces tail) begins of)
+rule-started false ignores glob head first all spelled tail is are begins of =
+    subst (λ l. AreStarted (l ++ byte_pieces tail) head) (sym (are ∙ ap (λ f. f ++ spelled) is))
+    (glob-started false ignores glob head (spelled ++ byte_pieces tail) begins of)

@@ -7,4 +7,5 @@ pub mod LineLemmas
 pub mod LinesLemmas
 pub mod MatchLemmas
 pub mod RowLemmas
+pub mod StartLemmas
 pub mod TailLemmas

@@ -2,6 +2,7 @@
 use Rattle.std.specs.Prelude.{◌≡◌, ℕ, List, [], ◌∷◌, ◌++◌, IsTrue, ◌⊎◌}
 use Rattle.std.specs.List.{All}
 use Rattle.grep_matcher.specs.ByteSets.{holds}
+use Rattle.grep_ignore.specs.Endings.{HasStart}
 use Rattle.grep_ignore.specs.declared.wildcards.Piece.{Piece}
 use Rattle.grep_ignore.specs.declared.wildcards.Piece.TheVariants.{One, Many, Folders}
 
@@ -17,3 +18,7 @@ abbrev pub Matches : List Piece → List ℕ → Type 0
 Matches [] path = path ≡ []
 Matches (piece ∷ later) path = (part : List ℕ) × (rest : List ℕ)
     × (path ≡ part ++ rest) × Fits piece part × Matches later rest
+
+-- in any path that pieces match a name begins with a text
+abbrev pub AreStarted : List Piece → List ℕ → Type 0
+AreStarted pieces start = (path : List ℕ) → Matches pieces path → HasStart path start

@@ -1,17 +1,17 @@
 //! The pieces of a glob, by its text.
 ghost use Rattle.std.specs.Prelude.{◌≡◌, ◌≢◌, ◌++◌, ◌∷◌, [], ◌&&◌, ◌||◌, ◌==◌, nat_lt, ℕ, List};
-ghost use Rattle.std.specs.Prelude.{Bool, true, false, IfErr, IfOk, MatchResult, suc, ◌<◌, replicate};
+ghost use Rattle.std.specs.Prelude.{Bool, true, false, IfErr, IfOk, MatchResult, suc, ◌<◌, ◌≤◌, length, replicate, take};
 ghost use Rattle.grep_matcher.specs.ByteSets.{holds};
 ghost use Rattle.grep_ignore.specs.Classes.{IsSet, begins_with, is_either, is_empty, is_name_byte};
 ghost use Rattle.grep_ignore.specs.Globs.{HasStars, IsFault, IsGlob, IsMalformed};
 ghost use Rattle.grep_ignore.specs.Globs.{IsPieceText, OnMalformed, is_name, is_special};
-ghost use Rattle.grep_ignore.specs.Tails.{are_plain, byte_pieces, is_tail};
+ghost use Rattle.grep_ignore.specs.Tails.{IsHead, are_plain, byte_pieces, is_tail};
 ghost use Rattle.grep_ignore.specs.declared.wildcards.Piece.{Piece};
 
 use crate::class::{add_range, begins_with, read_class, tail};
 use crate::wildcards::Piece;
 use grep_matcher::ByteSet;
-use std::alloc::Global;
+use std::alloc::{AllocError, Global};
 
 /// Why a glob isn't read.
 #[derive(Clone, Copy, Debug, Drop)]
@@ -80,6 +80,38 @@ pub fn tail_len(glob: &[u8], ignores_case: bool) -> usize
         start -= 1;
     }
     glob.len() - start
+}
+
+/// The bytes at the start of a glob that are meant as themselves, or none if case is ignored or there
+/// are such at its end.
+pub fn head_of(
+    alloc: Global,
+    glob: &[u8],
+    tail: &[u8],
+    ignores_case: bool,
+) -> Result<Vec<u8>, AllocError>
+    ensures { IfOk result (λ head. IsHead ignores_case glob.now head.items) }
+{
+    if ignores_case {
+        return Ok(Vec::new(alloc));
+    }
+    if !tail.is_empty() {
+        return Ok(Vec::new(alloc));
+    }
+    let head = Vec::from_slice(alloc, &glob[..head_len(glob)])?;
+    Ok(head)
+}
+
+// How many bytes at the start of a glob are meant as themselves.
+fn head_len(glob: &[u8]) -> usize
+    ensures within { result ≤ length glob.now }
+    ensures plain { are_plain (take result glob.now) ≡ true }
+{
+    let mut count = 0;
+    while count < glob.len() && !is_special(glob[count]) {
+        count += 1;
+    }
+    count
 }
 
 /// Whether nothing of a glob is left, or no more than `longest` bytes that are meant as themselves.

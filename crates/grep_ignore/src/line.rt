@@ -8,7 +8,7 @@ ghost use Rattle.grep_ignore.specs.Lines.{keeps_of, marked_of, names_folders_of,
 ghost use Rattle.grep_ignore.specs.Lines.{without_last, without_mark, without_spaces};
 
 use crate::class::{begins_with, tail};
-use crate::glob::{GlobError, add_pieces};
+use crate::glob::{GlobError, add_pieces, head_of};
 use crate::rules::Rule;
 use crate::wildcards::{Piece, Wildcards};
 use std::alloc::{AllocError, Global};
@@ -150,18 +150,21 @@ pub fn read_rule(alloc: Global, text: &[u8], ignores_case: bool) -> Result<Rule,
         return Err(GlobError::OutOfMemory);
     };
     match add_pieces(alloc, &mut pieces, parts.glob, ignores_case) {
-        Ok(tail) => Ok(Rule {
-            wildcards: Wildcards::new(pieces, tail),
-            keeps: parts.is_marked,
-            names_folders: parts.names_folders,
-        }),
+        Ok(tail) => match head_of(alloc, parts.glob, tail.as_slice(), ignores_case) {
+            Ok(head) => Ok(Rule {
+                wildcards: Wildcards::new(pieces, tail, head),
+                keeps: parts.is_marked,
+                names_folders: parts.names_folders,
+            }),
+            Err(_) => Err(GlobError::OutOfMemory),
+        },
         Err(error) => Err(error),
     }
 }
 
-// What is before the pieces of a glob: any folders, unless it is about paths. Most globs have no more
-// room to pay for, since they are a name.
-fn folder_pieces(alloc: Global, is_anchored: bool) -> Result<Vec<Piece>, AllocError>
+/// What is before the pieces of a glob: any folders, unless it is about paths. There is no room for
+/// more, since most globs have no other pieces.
+pub fn folder_pieces(alloc: Global, is_anchored: bool) -> Result<Vec<Piece>, AllocError>
     ensures { IfOk result (λ pieces. pieces.items
         ≡ (if is_anchored then [] else Piece.Folders ∷ [])) }
 {

@@ -1,12 +1,14 @@
 //! Values that are about paths, of which the last that is about a path is found. Each has a text that
-//! those paths end in, so that most values aren't asked.
-ghost use Rattle.std.specs.Prelude.{◌≡◌, ◌↔◌, ◌++◌, ◌∷◌, [], ℕ, ◌≤◌, Bool, List, OnErr, OnOk};
+//! those paths end in, or that a name of them begins with, so that most values aren't asked.
+ghost use Rattle.std.specs.Prelude.{◌≡◌, ◌↔◌, ◌++◌, ◌∷◌, [], ℕ, ◌<◌, ◌≤◌, Bool, List, OnErr, OnOk};
 ghost use Rattle.std.specs.Prelude.{IfOk, IsTrue, length};
 ghost use Rattle.std.specs.Option.{option_copied};
-ghost use Rattle.grep_ignore.specs.Endings.{AreNumbered, EndsIn, IsCountTo, IsCountWith};
-ghost use Rattle.grep_ignore.specs.Endings.{IsLastAbout, mixed, number_of};
+ghost use Rattle.grep_ignore.specs.Endings.{EndsIn, HasStart, IsCountByEnds, IsCountByStarts};
+ghost use Rattle.grep_ignore.specs.Endings.{IsCountFrom, IsCountWith, IsLastAbout, IsNumberFor};
+ghost use Rattle.grep_ignore.specs.Endings.{begins_at, mixed, number_after, number_of};
 
 use crate::numbers::Numbers;
+use crate::rows::either;
 use std::alloc::{AllocError, Global};
 use std::marker::Model;
 
@@ -29,14 +31,21 @@ pub trait PathTest {
     fn ending(&self) -> &[u8]
         ensures { (path : List ℕ) (is_folder : Bool) → about self.now path is_folder
             → EndsIn path result.now };
+
+    /// A text that a name begins with, in any path that it is about.
+    fn start(&self) -> &[u8]
+        ensures { (path : List ℕ) (is_folder : Bool) → about self.now path is_folder
+            → HasStart path result.now };
 }
 
 /// Values that are about paths, in order.
 #[derive(Drop)]
 pub struct PathTests<T: PathTest> {
     items: Vec<T>,
-    // For each the number of its ending.
+    // For each the number of its ending, or if that is empty of its start.
     numbers: Numbers,
+    // Whether one has the number of a start.
+    has_starts: bool,
 }
 
 impl<T: PathTest> Model for PathTests<T> {
@@ -47,7 +56,7 @@ impl<T: PathTest> Model for PathTests<T> {
 
     ghost view = { λ tests. tests.items.items };
 
-    ghost invariant = { λ tests. AreNumbered T.about tests.items.items tests.numbers };
+    ghost invariant = { λ tests. AreNumbered T.about tests.items.items tests.numbers tests.has_starts };
 }
 
 impl<T: PathTest> PathTests<T> {
@@ -58,6 +67,7 @@ impl<T: PathTest> PathTests<T> {
         PathTests {
             items: Vec::new(alloc),
             numbers: Numbers::new(alloc),
+            has_starts: false,
         }
     }
 
@@ -86,7 +96,13 @@ impl<T: PathTest> PathTests<T> {
         ensures { IfOk result (λ found. IsLastAbout T.about self.now path.now is_folder
             (option_copied found)) }
     {
-        let count = count_to(self.items.as_slice(), &self.numbers, row, path, is_folder)?;
+        let items = self.items.as_slice();
+        let ends = count_by_ends(items, &self.numbers, row, path, is_folder)?;
+        let count = if self.has_starts {
+            count_by_starts(items, &self.numbers, row, path, is_folder, ends)?
+        } else {
+            ends
+        };
         if count == 0 {
             return Ok(None);
         }
@@ -100,26 +116,32 @@ impl<T: PathTest + Drop> PathTests<T> {
         ensures ok { OnOk result (self.new ≡ self.old ++ item ∷ []) }
         ensures err { OnErr result (self.new ≡ self.old) }
     {
-        let number = number_of(item.ending());
+        let (number, is_start) = number_for(item.ending(), item.start());
         self.items.push(item)?;
-        if self.numbers.push(number).is_err() {
-            self.items.pop();
-            return Err(AllocError);
+        match self.numbers.push(number) {
+            Ok(()) => {
+                self.has_starts = either(self.has_starts, is_start);
+                Ok(())
+            }
+            Err(error) => {
+                self.items.pop();
+                Err(error)
+            }
         }
-        Ok(())
     }
 }
 
-// How many values there are up to the last that is about what is at a path, or none.
-fn count_to<T: PathTest>(
+// How many values there are up to the last that is about what is at a path, or none, by the numbers of
+// its ends.
+fn count_by_ends<T: PathTest>(
     items: &[T],
     numbers: &Numbers,
     row: &mut Vec<bool>,
     path: &[u8],
     is_folder: bool,
 ) -> Result<usize, AllocError>
-    requires { AreNumbered T.about items.now numbers.now }
-    ensures { IfOk result (IsCountTo T.about items.now path.now is_folder) }
+    requires { length numbers.now ≡ length items.now }
+    ensures { IfOk result (IsCountByEnds T.about items.now numbers.now path.now is_folder) }
 {
     let mut number = 0;
     let mut count = count_with(items, numbers, row, path, is_folder, number, 0)?;
@@ -132,7 +154,65 @@ fn count_to<T: PathTest>(
     Ok(count)
 }
 
-// The same of those whose ending has a number, if there are more than `least`.
+// The same by the numbers of texts that its names begin with, if there are more than `least`.
+fn count_by_starts<T: PathTest>(
+    items: &[T],
+    numbers: &Numbers,
+    row: &mut Vec<bool>,
+    path: &[u8],
+    is_folder: bool,
+    least: usize,
+) -> Result<usize, AllocError>
+    requires same { length numbers.now ≡ length items.now }
+    requires least { least ≤ length items.now }
+    ensures { IfOk result (IsCountByStarts T.about items.now numbers.now path.now is_folder least) }
+{
+    let mut count = least;
+    let mut start = 0;
+    while start < path.len() {
+        if begins_at(path, start) {
+            count = count_from(items, numbers, row, path, is_folder, start, count)?;
+        }
+        start += 1;
+    }
+    Ok(count)
+}
+
+// The same of those that a name begins with that begins at a position.
+fn count_from<T: PathTest>(
+    items: &[T],
+    numbers: &Numbers,
+    row: &mut Vec<bool>,
+    path: &[u8],
+    is_folder: bool,
+    start: usize,
+    least: usize,
+) -> Result<usize, AllocError>
+    requires same { length numbers.now ≡ length items.now }
+    requires least { least ≤ length items.now }
+    requires start { start < length path.now }
+    ensures { IfOk result (IsCountFrom T.about items.now numbers.now path.now is_folder start least) }
+{
+    let mut number = 1;
+    let mut count = least;
+    let mut stop = start;
+    while stop < path.len() {
+        number = mixed(path[stop], number);
+        stop += 1;
+        count = count_with(items, numbers, row, path, is_folder, number, count)?;
+    }
+    Ok(count)
+}
+
+// Whether a name begins at a position of a path.
+fn begins_at(path: &[u8], start: usize) -> bool
+    requires { start < length path.now }
+    ensures { result ≡ begins_at path.now start }
+{
+    start == 0 || path[start - 1] == b'/'
+}
+
+// The same of those that have a number, if there are more than `least`.
 fn count_with<T: PathTest>(
     items: &[T],
     numbers: &Numbers,
@@ -165,6 +245,28 @@ fn number_of(text: &[u8]) -> u64
     while start > 0 {
         start -= 1;
         number = mixed(text[start], number);
+    }
+    number
+}
+
+// The number for an ending, or if that is empty for a start that isn't, and whether it is that of a
+// start.
+fn number_for(ending: &[u8], start: &[u8]) -> (u64, bool)
+    ensures { IsNumberFor ending.now start.now result.0 result.1 }
+{
+    if ending.is_empty() && !start.is_empty() {
+        return (number_after(start), true);
+    }
+    (number_of(ending), false)
+}
+
+// The number of a text by its first bytes.
+fn number_after(text: &[u8]) -> u64
+    ensures { result ≡ number_after 1 text.now }
+{
+    let mut number = 1;
+    for byte in text {
+        number = mixed(*byte, number);
     }
     number
 }

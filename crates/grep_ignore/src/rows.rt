@@ -101,7 +101,8 @@ fn ends_at(later: bool, byte: u8, after: bool) -> bool
     later || byte == b'/' && after
 }
 
-fn either(one: bool, other: bool) -> bool
+/// Whether one of two is.
+pub fn either(one: bool, other: bool) -> bool
     ensures { result ≡ (one || other) }
 {
     one || other

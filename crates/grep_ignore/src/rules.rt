@@ -259,4 +259,8 @@ impl PathTest for Rule {
     fn ending(&self) -> &[u8] {
         self.wildcards.ending()
     }
+
+    fn start(&self) -> &[u8] {
+        self.wildcards.start()
+    }
 }

@@ -1,8 +1,8 @@
 //! The wildcards of a glob, which match paths.
 ghost use Rattle.std.specs.Prelude.{◌≡◌, ◌↔◌, ◌++◌, ℕ, Bool, IfOk, IfSome, IsTrue, List, MatchOption};
 ghost use Rattle.grep_matcher.specs.ByteSets.{holds};
-ghost use Rattle.grep_ignore.specs.Endings.{EndsIn};
-ghost use Rattle.grep_ignore.specs.Matches.{Matches};
+ghost use Rattle.grep_ignore.specs.Endings.{EndsIn, HasStart};
+ghost use Rattle.grep_ignore.specs.Matches.{AreStarted, Matches};
 ghost use Rattle.grep_ignore.specs.Tails.{byte_pieces};
 
 use crate::rows::match_pieces;
@@ -27,24 +27,35 @@ pub struct Wildcards {
     pieces: Vec<Piece>,
     // The bytes after them, each of which is a piece too.
     tail: Vec<u8>,
+    // What a name begins with in any path that matches.
+    start: Vec<u8>,
 }
 
 impl Model for Wildcards {
     ghost use Rattle.std.specs.Prelude.{List, ◌++◌};
+    ghost use Rattle.grep_ignore.specs.Matches.{AreStarted};
     ghost use Rattle.grep_ignore.specs.Tails.{byte_pieces};
     ghost use Rattle.grep_ignore.specs.declared.wildcards.Piece.{Piece};
 
     ghost Value = { List Piece };
 
     ghost view = { λ w. w.pieces.items ++ byte_pieces w.tail.items };
+
+    ghost invariant = { λ w. AreStarted (w.pieces.items ++ byte_pieces w.tail.items) w.start.items };
 }
 
 impl Wildcards {
-    /// The wildcards of some pieces, and of bytes after them that are meant as themselves.
-    pub fn new(pieces: Vec<Piece>, tail: Vec<u8>) -> Wildcards
+    /// The wildcards of some pieces, and of bytes after them that are meant as themselves. In any path
+    /// that matches a name begins with `start`.
+    pub fn new(pieces: Vec<Piece>, tail: Vec<u8>, start: Vec<u8>) -> Wildcards
+        requires { AreStarted (pieces.items ++ byte_pieces tail.items) start.items }
         ensures { result ≡ pieces.items ++ byte_pieces tail.items }
     {
-        Wildcards { pieces, tail }
+        Wildcards {
+            pieces,
+            tail,
+            start,
+        }
     }
 
     /// Whether a path matches. `row` is room for it to work in. An error is one of being out of
@@ -63,6 +74,13 @@ impl Wildcards {
         ensures { (path : List ℕ) → Matches self.now path → EndsIn path result.now }
     {
         self.tail.as_slice()
+    }
+
+    /// A text that a name begins with, in any path that matches.
+    pub fn start(&self) -> &[u8]
+        ensures { (path : List ℕ) → Matches self.now path → HasStart path result.now }
+    {
+        self.start.as_slice()
     }
 }
 

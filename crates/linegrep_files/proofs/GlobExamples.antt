@@ -1,7 +1,7 @@
 -- Worked examples of braces.
-use Rattle.std.proofs.Common.{false, true, List, [], ◌∷◌, ℕ, refl}
+use Rattle.std.proofs.Common.{false, true, [], ◌∷◌, refl}
 use Rattle.std.specs.Prelude.{codes}
-use Rattle.linegrep_files.specs.Braces.{AreChoices, StandsFor, first_choice, next_choice, no_part, of_braces, of_byte}
+use Rattle.linegrep_files.specs.Braces.{StandsFor, first_choice, next_choice, no_part, of_braces, of_byte}
 use Rattle.linegrep_files.specs.Braces.{of_class, of_escape, of_part}
 
 -- a part in braces may have braces: x{a,b{c,d}}

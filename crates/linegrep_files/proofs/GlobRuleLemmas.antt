@@ -1,16 +1,13 @@
 -- The globs of texts, one after another.
 use Rattle.std.proofs.Common.{◌≡◌, ℕ, Bool, true, false, List, [], ◌∷◌, ◌++◌, refl, ap, sym, ◌∙◌}
 use Rattle.std.proofs.Common.{inl, inr}
-use Rattle.std.proofs.Common.{◌+◌, ◌-◌, ◌<◌, ◌≤◌, take, append_assoc, arith, get_or, length, subst}
+use Rattle.std.proofs.Common.{◌+◌, ◌<◌, take, append_assoc, get_or, length, subst}
 use Rattle.std.proofs.lemmas.Bool.{MatchBool-at_false, MatchBool-at_true, cases_Bool}
 use Rattle.std.proofs.lemmas.List.{take_more}
 use Rattle.std.specs.Borrow.{Bor}
 use Rattle.grep_ignore.specs.Classes.{is_empty}
-use Rattle.linegrep_files.specs.Globs.{AreAdded, AreRules, IsAbout, IsAdded, IsGlobRule}
-use Rattle.linegrep_files.specs.Globs.{IsLastChoice, NoneFrom, choice_of}
-use Rattle.linegrep_files.specs.declared.globs.Choice.{Choice}
+use Rattle.linegrep_files.specs.Globs.{AreAdded, AreRules, IsAdded, IsGlobRule}
 use Rattle.linegrep_files.specs.declared.globs.GlobRule.{GlobRule}
-use Rattle.linegrep_files.specs.declared.globs.Globs.{Globs}
 
 -- an empty text has none
 rules-skip : (ignores : Bool) (texts : List (Bor (List ℕ))) (rules : List GlobRule) (text : Bor (List ℕ))

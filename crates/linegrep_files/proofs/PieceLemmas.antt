@@ -2,11 +2,11 @@
 use Rattle.std.proofs.Common.{◌≡◌, ℕ, ◌<◌, Bool, true, false, ap, sym, ◌∙◌, replicate}
 use Rattle.std.proofs.Common.{List, [], ◌∷◌, ◌++◌, length, refl, subst, arith, length-append, inl}
 use Rattle.std.proofs.Common.{inr}
-use Rattle.std.proofs.Common.{append_assoc, ◌==◌, ◌≤◌, ◌||◌, nat_le}
-use Rattle.std.proofs.lemmas.Bool.{and_parts, false≢true, leb-true, not-true, or_right}
+use Rattle.std.proofs.Common.{append_assoc, ◌==◌, ◌≤◌, ◌||◌, if◌then◌else◌, nat_le, not}
+use Rattle.std.proofs.lemmas.Bool.{and_parts, false≢true, leb-true, not-true, or_right, true≢false}
 use Rattle.std.specs.List.{list_any}
 use Rattle.std.specs.Prelude.{Err, IfOk, MatchResult, Ok, Result}
-use Rattle.grep_ignore.specs.Classes.{begins_with}
+use Rattle.grep_ignore.specs.Classes.{IsSet, begins_with, is_either}
 use Rattle.grep_ignore.specs.Globs.{IsFault, IsPieceText as IsIgnoreText}
 use Rattle.grep_ignore.proofs.ClassLemmas.{begins-is}
 use Rattle.grep_ignore.proofs.GlobLemmas.{piece-shorter as ignore-shorter}
@@ -14,8 +14,9 @@ use Rattle.grep_ignore.specs.declared.glob.Step.{Step}
 use Rattle.grep_ignore.specs.declared.wildcards.Piece.{Piece}
 use Rattle.grep_ignore.specs.declared.wildcards.Piece.TheVariants.{Folders, Many, One}
 use Rattle.grep_ignore.specs.Globs.{is_special}
-use Rattle.grep_ignore.specs.Tails.{are_plain, byte_pieces, byte_set, is_tail}
-use Rattle.grep_ignore.proofs.ByteLemmas.{byte-set}
+use Rattle.grep_ignore.specs.Tails.{IsHead, are_plain, byte_pieces, byte_set, is_tail}
+use Rattle.grep_ignore.specs.Matches.{AreStarted, Matches}
+use Rattle.grep_ignore.proofs.ByteLemmas.{byte-set, heads, matches-plain, plain-piece as ignore-plain, started}
 use Rattle.linegrep_files.specs.Globs.{ArePieceTexts, IsGlob, IsPieceText, has_brackets, has_stars}
 use Rattle.linegrep_files.specs.Globs.{of_class, of_other, of_stars}
 
@@ -151,3 +152,50 @@ glob-tail false text spelled middle (byte ∷ rest) longest none are tail =
     let both = and_parts (nat_le (length (byte ∷ rest)) longest) _ tail in
     let later = plain-texts middle (byte ∷ rest) both.1 in
     (later.0, texts-append false true text spelled middle (byte ∷ rest) _ later.0 [] are later.1)
+
+-- a piece of a text that begins with a byte that is meant as itself
+plain-piece : (begins : Bool) (byte : ℕ) (text : List ℕ) (piece : Piece) (next : Bool) (rest : List ℕ)
+    → is_special byte ≡ false → IsPieceText false begins (byte ∷ text) piece next rest
+    → (set : List Bool) × (piece ≡ One set) × (rest ≡ text) × IsSet set (is_either false (λ k. k == byte))
+plain-piece begins byte text piece next rest plain (of_class set class r is closes of) =
+    absurd (true≢false (sym (ap is_special (heads byte 91 text (class ++ 93 ∷ r) is)) ∙ plain))
+plain-piece begins byte text piece next rest plain (of_stars set r stars is bytes) =
+    absurd (true≢false (sym (ap is_special (heads byte 42 text r is)) ∙ plain))
+plain-piece begins byte text piece next rest plain (of_other class stars other) =
+    ignore-plain begins byte text piece next rest plain other
+
+-- what the pieces of a text match begins with the bytes at its start that are meant as themselves
+head-matches : (begins : Bool) (head rest : List ℕ) (pieces : List Piece) (next : Bool) (path : List ℕ)
+    → are_plain head ≡ true → ArePieceTexts false begins (head ++ rest) pieces next [] → Matches pieces path
+    → (after : List ℕ) × (path ≡ head ++ after)
+head-matches begins [] rest pieces next path plain are matches = (path, refl)
+head-matches begins (byte ∷ head) rest [] next path plain are matches =
+    absurd (omega (arith, ap length are.1))
+head-matches begins (byte ∷ head) rest (piece ∷ later) next path plain (middle, mid, one, are) matches =
+    let both = and_parts _ (are_plain head) plain in
+    let (set, is, left, has) = plain-piece begins byte (head ++ rest) piece middle mid
+    (not-true (is_special byte) both.0) one in
+    let (more, cut, others) = matches-plain byte set later path has (subst (λ p. Matches (p ∷ later) path) is matches) in
+    let (after, there) = head-matches middle head rest later next more both.1
+    (subst (λ m. ArePieceTexts false middle m later next []) left are) others in
+    (after, cut ∙ ap (λ l. byte ∷ l) there)
+
+glob-started : (is_of_names ignores : Bool) (text head : List ℕ) (pieces : List Piece) → IsHead ignores text head
+    → IsGlob ignores text pieces → AreStarted (if not is_of_names then pieces else Folders ∷ pieces) head
+glob-started is_of_names ignores text head pieces ((rest, is), inl none) (next, are) =
+    started (not is_of_names) head pieces (λ path matches. (path, ap (λ l. l ++ path) (sym none)))
+glob-started is_of_names ignores text head pieces ((rest, is), inr (sees, plain)) (next, are) =
+    started (not is_of_names) head pieces (λ path matches. head-matches true head rest pieces next path plain
+    (subst (λ g. ArePieceTexts false true g pieces next []) is
+    (subst (λ i. ArePieceTexts i true text pieces next []) sees are)) matches)
+
+-- in what a text matches a name begins with its head
+pub text-started : (is_of_names ignores : Bool) (text head : List ℕ) (first all spelled : List Piece) (tail : List ℕ)
+    → first ≡ (if not is_of_names then [] else Folders ∷ []) → all ≡ first ++ spelled → IsHead ignores text head
+    → IsGlob ignores text (spelled ++ byte_pieces tail) → AreStarted (all ++ byte_pieces tail) head
+text-started true ignores text head first all spelled tail is are begins of =
+    subst (λ l. AreStarted (l ++ byte_pieces tail) head) (sym (are ∙ ap (λ f. f ++ spelled) is))
+    (glob-started true ignores text head (spelled ++ byte_pieces tail) begins of)
+text-started false ignores text head first all spelled tail is are begins of =
+    subst (λ l. AreStarted (l ++ byte_pieces tail) head) (sym (are ∙ ap (λ f. f ++ spelled) is))
+    (glob-started false ignores text head (spelled ++ byte_pieces tail) begins of)

@@ -2,7 +2,7 @@
 ghost use Rattle.std.specs.Prelude.{◌≡◌, ◌≢◌, ◌↔◌, ◌++◌, ◌∷◌, [], ℕ, Bool, List, true};
 ghost use Rattle.std.specs.Prelude.{IfErr, IfOk, IsTrue, OnErr, OnOk};
 ghost use Rattle.grep_ignore.specs.Classes.{IsSet, begins_with, is_name_byte};
-ghost use Rattle.grep_ignore.specs.Endings.{EndsIn};
+ghost use Rattle.grep_ignore.specs.Endings.{EndsIn, HasStart};
 ghost use Rattle.grep_ignore.specs.Globs.{OnMalformed};
 ghost use Rattle.grep_ignore.specs.Tails.{byte_pieces};
 ghost use Rattle.grep_ignore.specs.declared.wildcards.Piece.{Piece};
@@ -12,7 +12,9 @@ ghost use Rattle.linegrep_files.specs.Globs.{MatchesOne, has_brackets, has_stars
 
 use crate::braces::{has_braces, texts_of};
 use crate::class::{begins_with, read_class, tail};
-use grep_ignore::{GlobError, Piece, Step, Wildcards, is_tail, read_piece, tail_len};
+use grep_ignore::{
+    GlobError, Piece, Step, Wildcards, folder_pieces, head_of, is_tail, read_piece, tail_len,
+};
 use grep_matcher::ByteSet;
 use std::alloc::{AllocError, Global};
 
@@ -109,6 +111,16 @@ impl Glob {
             _ => &[],
         }
     }
+
+    /// A text that a name begins with, in any path that matches.
+    pub fn start(&self) -> &[u8]
+        ensures { (path : List ℕ) → MatchesOne self.now.choices.items path → HasStart path result.now }
+    {
+        match self.choices.as_slice() {
+            [only] => only.start(),
+            _ => &[],
+        }
+    }
 }
 
 // The wildcards of a text without braces.
@@ -121,12 +133,14 @@ fn read_text(
     ensures ok { IfOk result (ArePieces is_of_names ignores_case text.now) }
     ensures err { IfErr result (λ e. OnMalformed e (has_brackets text.now ≡ true)) }
 {
-    let mut pieces = Vec::new(alloc);
-    if is_of_names && pieces.push(Piece::Folders).is_err() {
+    let Ok(mut pieces) = folder_pieces(alloc, !is_of_names) else {
         return Err(GlobError::OutOfMemory);
-    }
+    };
     let tail = add_pieces(alloc, &mut pieces, text, ignores_case)?;
-    Ok(Wildcards::new(pieces, tail))
+    match head_of(alloc, text, tail.as_slice(), ignores_case) {
+        Ok(head) => Ok(Wildcards::new(pieces, tail, head)),
+        Err(_) => Err(GlobError::OutOfMemory),
+    }
 }
 
 // Adds the pieces of a text without braces but for the bytes at its end that are returned, each of

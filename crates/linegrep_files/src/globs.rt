@@ -192,6 +192,10 @@ impl PathTest for GlobRule {
     fn ending(&self) -> &[u8] {
         self.glob.ending()
     }
+
+    fn start(&self) -> &[u8] {
+        self.glob.start()
+    }
 }
 
 // A path without what names the current folder at its start.

@@ -2,7 +2,7 @@
 ghost use Rattle.std.specs.Prelude.{◌≡◌, ◌↔◌, ◌++◌, ℕ, Bool, List, false, true, if◌then◌else◌};
 ghost use Rattle.std.specs.Prelude.{IfErr, IfOk, IsTrue, OnErr, OnOk, not};
 ghost use Rattle.std.specs.List.{list_any};
-ghost use Rattle.grep_ignore.specs.Endings.{EndsIn};
+ghost use Rattle.grep_ignore.specs.Endings.{EndsIn, HasStart};
 ghost use Rattle.linegrep_files.specs.FileTypes.{AreNames, AreSelected, AreTypeGlobs, AreTypes, Have};
 ghost use Rattle.linegrep_files.specs.FileTypes.{IsTypeChoice, are_none, has_wildcard, is_wildcard};
 ghost use Rattle.linegrep_files.specs.FileTypes.{type_choice_of, with_choice};
@@ -137,6 +137,10 @@ impl PathTest for TypeGlob {
     fn ending(&self) -> &[u8] {
         self.names.ending()
     }
+
+    fn start(&self) -> &[u8] {
+        self.names.start()
+    }
 }
 
 /// The list of all types, one a line with its globs, with what options add to it or clear. An error
@@ -210,6 +214,17 @@ impl Names {
             Names::Only(only) => only.as_bytes(),
             Names::EndingIn(end) => end.as_bytes(),
             Names::Matching(glob) => glob.ending(),
+        }
+    }
+
+    // A text that any of these begins with.
+    fn start(&self) -> &[u8]
+        ensures { (name : List ℕ) → Have self.now name → HasStart name result.now }
+    {
+        match self {
+            Names::Only(_) => &[],
+            Names::EndingIn(_) => &[],
+            Names::Matching(glob) => glob.start(),
         }
     }
 }

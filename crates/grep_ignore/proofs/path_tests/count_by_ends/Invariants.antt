@@ -1,6 +1,6 @@
 use Rattle.std.proofs.Common.{◌≡◌, ℕ, ◌<◌, ◌≤◌, length, drop}
 use Rattle.grep_ignore.specs.Endings.{IsAboutAt, NoneWith, number_of}
-use Rattle.grep_ignore.proofs.path_tests.count_to.Given as goal
+use Rattle.grep_ignore.proofs.path_tests.count_by_ends.Given as goal
 
 abbrev pub invariant-loop-start : goal.invariant-loop-start
 invariant-loop-start g l = record {
