@@ -5,5 +5,6 @@ mod kept;
 mod large;
 mod lent;
 mod opening;
+mod pieces;
 mod printing;
 mod programs;
