@@ -40,7 +40,7 @@ default_options = record {
   octal = false;
   nest_limit = 250;
   line_terminator = None;
-  size_limit = 41943040;
+  size_limit = 50331648;
 }
 
 -- how a text is read; of a literal no white space is ignored

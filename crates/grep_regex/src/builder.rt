@@ -74,7 +74,7 @@ impl RegexMatcherBuilder {
                 octal: false,
                 nest_limit: 250,
                 line_terminator: None,
-                size_limit: 40 << 20,
+                size_limit: 48 << 20,
             },
         }
     }
@@ -269,7 +269,7 @@ impl RegexMatcherBuilder {
         self
     }
 
-    /// About how large the compiled patterns may be, in bytes; 40 MiB by default, which takes what
+    /// About how large the compiled patterns may be, in bytes; 48 MiB by default, which takes what
     /// upstream takes under its 100 MiB.
     pub fn size_limit(&mut self, bytes: usize) -> &mut RegexMatcherBuilder
         ensures reference { result.ghost_name ≡ self.entry.ghost_name }

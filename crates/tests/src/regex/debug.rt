@@ -5,7 +5,7 @@ use crate::regex::engine::has_form;
 const TEXT: &str = "Regex { options: Options { case_insensitive: true, fixed_strings: false, \
     word: false, whole_line: false, multi_line: false, dot_matches_new_line: false, \
     unicode: true, crlf: false, swap_greed: false, ignore_whitespace: false, octal: false, \
-    nest_limit: 250, line_terminator: Some(Byte(10)), size_limit: 41943040 }, \
+    nest_limit: 250, line_terminator: Some(Byte(10)), size_limit: 50331648 }, \
     patterns: [\"a+\", \"bc\"] }";
 
 #[test]
