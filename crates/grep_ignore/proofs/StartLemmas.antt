@@ -60,12 +60,13 @@ start-begins path before text after is (inr (front, ends)) =
     ends-so n m e there = or-right (n == 0) (get_or path (n - 1) 0 == 47) (eq-eqb _ 47 there)
 
 -- the number for an ending or a start is one of what has these
-pub number-in : (path ending start : List ℕ) (number : ℕ) (is_start has_starts : Bool)
+pub number-in : (path ending start : List ℕ) (number longest : ℕ) (is_start has_starts : Bool)
+    → length ending ≤ longest → length start ≤ longest
     → EndsIn path ending → HasStart path start → IsNumberFor ending start number is_start
-    → IsNumberIn (has_starts || is_start) path number
-number-in path ending start number is_start has_starts ends begins (inl (none, is)) =
-    inl (ends.0, ends.1, is ∙ ap number_of (sym ends.2))
-number-in path ending start number is_start has_starts ends (before, after, cut, at) (inr (some, full, is)) =
+    → IsNumberIn (has_starts || is_start) longest path number
+number-in path ending start number longest is_start has_starts most most' ends begins (inl (none, is)) =
+    inl (ends.0, ends.1, omega (arith, most, ap length ends.2, length-drop ends.0 path), is ∙ ap number_of (sym ends.2))
+number-in path ending start number longest is_start has_starts most most' ends (before, after, cut, at) (inr (some, full, is)) =
     inr (
       or-true has_starts is_start some,
       (
@@ -73,6 +74,7 @@ number-in path ending start number is_start has_starts ends (before, after, cut,
         length before + length start,
         omega (arith, longer start full),
         omega (arith, ap length cut, length-append (before ++ start) after, length-append before start),
+        omega (arith, most'),
         start-begins path before start after cut at,
         is ∙ ap (number_after 1) (sym (ap (λ n. take n (drop (length before) path)) (gone (length before) (length start))
             ∙ ap (λ l. take (length start) (drop (length before) l)) cut ∙ between before start after)),
@@ -91,18 +93,22 @@ number-in path ending start number is_start has_starts ends (before, after, cut,
     longer (x ∷ xs) full = omega arith
 
 -- and stays one of those that are looked for
-pub number-still : (path : List ℕ) (number : ℕ) (has_starts is_start : Bool)
-    → IsNumberIn has_starts path number → IsNumberIn (has_starts || is_start) path number
-number-still path number has_starts is_start (inl ends) = inl ends
-number-still path number has_starts is_start (inr (some, place)) = inr (rw some refl, place)
+pub number-still : (path : List ℕ) (number longest longest' : ℕ) (has_starts is_start : Bool) → longest ≤ longest'
+    → IsNumberIn has_starts longest path number → IsNumberIn (has_starts || is_start) longest' path number
+number-still path number longest longest' has_starts is_start more (inl (start, within, fits, is)) =
+    inl (start, within, omega (arith, more, fits), is)
+number-still path number longest longest' has_starts is_start more
+    (inr (some, (start, stop, less, within, fits, begins, is))) =
+    inr (rw some refl, (start, stop, less, within, omega (arith, more, fits), begins, is))
 
 -- one value more
 pub numbered-more : {T : Type 0} (about : T → List ℕ → Bool → Type 0) (items : List T) (numbers : List ℕ)
-    (has_starts : Bool) (item : T) (number : ℕ) (is_start : Bool) → AreNumbered about items numbers has_starts
+    (has_starts : Bool) (longest longest' : ℕ) (item : T) (number : ℕ) (is_start : Bool) → longest ≤ longest'
+    → AreNumbered about items numbers has_starts longest
     → ((path : List ℕ) (is_folder : Bool) → about item path is_folder
-    → IsNumberIn (has_starts || is_start) path number)
-    → AreNumbered about (items ++ item ∷ []) (numbers ++ number ∷ []) (has_starts || is_start)
-numbered-more about items numbers has_starts item number is_start are said = record {
+    → IsNumberIn (has_starts || is_start) longest' path number)
+    → AreNumbered about (items ++ item ∷ []) (numbers ++ number ∷ []) (has_starts || is_start) longest'
+numbered-more about items numbers has_starts longest longest' item number is_start more are said = record {
   same = omega (arith, are.same, length-append items (item ∷ []), length-append numbers (number ∷ []));
   ends = λ k d path is_folder below is. elim (cases_eq k (length items)) [
     | inl here ↦
@@ -116,7 +122,7 @@ numbered-more about items numbers has_starts item number is_start are said = rec
         let there : get_or (items ++ item ∷ []) k d ≡ get_or items k d = get_or_append_left items (item ∷ []) d k before in
         let same : get_or (numbers ++ number ∷ []) k 0 ≡ get_or numbers k 0 =
         get_or_append_left numbers (number ∷ []) 0 k (omega (arith, before, are.same)) in
-        rw same (number-still path (get_or numbers k 0) has_starts is_start
+        rw same (number-still path (get_or numbers k 0) longest longest' has_starts is_start more
         (are.ends k d path is_folder before (subst (λ i. about i path is_folder) there is)))
   ];
 }

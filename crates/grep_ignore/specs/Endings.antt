@@ -31,12 +31,13 @@ abbrev pub begins_at : List ℕ → ℕ → Bool
 begins_at path start = (start == 0) || (slice_index path (start - 1) == 47)
 
 -- a number is that of an end of a path, or if such are looked for that of a text that a name of it
--- begins with
-abbrev pub IsNumberIn : Bool → List ℕ → ℕ → Type 0
-IsNumberIn has_starts path number =
-    ((start : ℕ) × (start ≤ length path) × (number ≡ number_of (drop start path)))
+-- begins with, which has no more than so many bytes
+abbrev pub IsNumberIn : Bool → ℕ → List ℕ → ℕ → Type 0
+IsNumberIn has_starts longest path number =
+    ((start : ℕ) × (start ≤ length path) × (length path - start ≤ longest)
+    × (number ≡ number_of (drop start path)))
     ⊎ ((has_starts ≡ true) × ((start : ℕ) × (stop : ℕ) × (start < stop) × (stop ≤ length path)
-    × (begins_at path start ≡ true)
+    × (stop - start ≤ longest) × (begins_at path start ≡ true)
     × (number ≡ number_after 1 (take (stop - start) (drop start path)))))
 
 -- the number for an ending, or if that is empty for a start that isn't
@@ -67,11 +68,11 @@ module _ {T : Type 0} (about : T → List ℕ → Bool → Type 0) (items : List
   -- By the numbers of texts that what they are about ends in.
   module _ (numbers : List ℕ) where
     -- each has a number, that of an end or a start in any path that it is about
-    pub record AreNumbered (has_starts : Bool) : Type 0 where
+    pub record AreNumbered (has_starts : Bool) (longest : ℕ) : Type 0 where
       pub same : length numbers ≡ length items
       pub ends : (k : ℕ) (item : T) (path : List ℕ) (is_folder : Bool) → k < length items
           → about (slice_index_or items k item) path is_folder
-          → IsNumberIn has_starts path (slice_index numbers k)
+          → IsNumberIn has_starts longest path (slice_index numbers k)
 
     -- none from a position on with a number is about what is at a path
     abbrev pub NoneWith : ℕ → ℕ → List ℕ → Bool → Type 0
@@ -87,25 +88,28 @@ module _ {T : Type 0} (about : T → List ℕ → Bool → Type 0) (items : List
         pub last : least < count → (item : T) × IsAboutAt count path is_folder item
 
     -- how many there are up to the last that is about it, by the numbers of its ends
-    pub record IsCountByEnds (path : List ℕ) (is_folder : Bool) (count : ℕ) : Type 0 where
-      pub within : count ≤ length items
-      pub none : (start : ℕ) → start ≤ length path
-          → NoneWith count (number_of (drop start path)) path is_folder
-      pub last : 0 < count → (item : T) × IsAboutAt count path is_folder item
+    pub record IsCountByEnds (longest : ℕ) (path : List ℕ) (is_folder : Bool) (count : ℕ) : Type 0
+      where
+        pub within : count ≤ length items
+        pub none : (start : ℕ) → start ≤ length path → length path - start ≤ longest
+            → NoneWith count (number_of (drop start path)) path is_folder
+        pub last : 0 < count → (item : T) × IsAboutAt count path is_folder item
 
     -- by the numbers of texts where a name begins
-    pub record IsCountFrom (path : List ℕ) (is_folder : Bool) (start least count : ℕ) : Type 0 where
+    pub record IsCountFrom (longest : ℕ) (path : List ℕ) (is_folder : Bool) (start least count : ℕ) :
+        Type 0 where
       pub least_is : least ≤ count
       pub within : count ≤ length items
-      pub none : (stop : ℕ) → start < stop → stop ≤ length path
+      pub none : (stop : ℕ) → start < stop → stop ≤ length path → stop - start ≤ longest
           → NoneWith count (number_after 1 (take (stop - start) (drop start path))) path is_folder
       pub last : least < count → (item : T) × IsAboutAt count path is_folder item
 
     -- wherever one does
-    pub record IsCountByStarts (path : List ℕ) (is_folder : Bool) (least count : ℕ) : Type 0 where
+    pub record IsCountByStarts (longest : ℕ) (path : List ℕ) (is_folder : Bool) (least count : ℕ) :
+        Type 0 where
       pub least_is : least ≤ count
       pub within : count ≤ length items
-      pub none : (start stop : ℕ) → start < stop → stop ≤ length path
+      pub none : (start stop : ℕ) → start < stop → stop ≤ length path → stop - start ≤ longest
           → begins_at path start ≡ true
           → NoneWith count (number_after 1 (take (stop - start) (drop start path))) path is_folder
       pub last : least < count → (item : T) × IsAboutAt count path is_folder item

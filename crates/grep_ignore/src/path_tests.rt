@@ -46,6 +46,8 @@ pub struct PathTests<T: PathTest> {
     numbers: Numbers,
     // Whether one has the number of a start.
     has_starts: bool,
+    // How many bytes such a text has at most.
+    longest: usize,
 }
 
 impl<T: PathTest> Model for PathTests<T> {
@@ -56,7 +58,8 @@ impl<T: PathTest> Model for PathTests<T> {
 
     ghost view = { λ tests. tests.items.items };
 
-    ghost invariant = { λ tests. AreNumbered T.about tests.items.items tests.numbers tests.has_starts };
+    ghost invariant = { λ tests. AreNumbered T.about tests.items.items tests.numbers tests.has_starts
+        tests.longest };
 }
 
 impl<T: PathTest> PathTests<T> {
@@ -68,6 +71,7 @@ impl<T: PathTest> PathTests<T> {
             items: Vec::new(alloc),
             numbers: Numbers::new(alloc),
             has_starts: false,
+            longest: 0,
         }
     }
 
@@ -97,9 +101,17 @@ impl<T: PathTest> PathTests<T> {
             (option_copied found)) }
     {
         let items = self.items.as_slice();
-        let ends = count_by_ends(items, &self.numbers, row, path, is_folder)?;
+        let ends = count_by_ends(items, &self.numbers, row, path, is_folder, self.longest)?;
         let count = if self.has_starts {
-            count_by_starts(items, &self.numbers, row, path, is_folder, ends)?
+            count_by_starts(
+                items,
+                &self.numbers,
+                row,
+                path,
+                is_folder,
+                self.longest,
+                ends,
+            )?
         } else {
             ends
         };
@@ -116,11 +128,15 @@ impl<T: PathTest + Drop> PathTests<T> {
         ensures ok { OnOk result (self.new ≡ self.old ++ item ∷ []) }
         ensures err { OnErr result (self.new ≡ self.old) }
     {
-        let (number, is_start) = number_for(item.ending(), item.start());
+        let ending = item.ending();
+        let start = item.start();
+        let length = ending.len().max(start.len());
+        let (number, is_start) = number_for(ending, start);
         self.items.push(item)?;
         match self.numbers.push(number) {
             Ok(()) => {
                 self.has_starts = either(self.has_starts, is_start);
+                self.longest = self.longest.max(length);
                 Ok(())
             }
             Err(error) => {
@@ -139,14 +155,15 @@ fn count_by_ends<T: PathTest>(
     row: &mut Vec<bool>,
     path: &[u8],
     is_folder: bool,
+    longest: usize,
 ) -> Result<usize, AllocError>
     requires { length numbers.now ≡ length items.now }
-    ensures { IfOk result (IsCountByEnds T.about items.now numbers.now path.now is_folder) }
+    ensures { IfOk result (IsCountByEnds T.about items.now numbers.now longest path.now is_folder) }
 {
     let mut number = 0;
     let mut count = count_with(items, numbers, row, path, is_folder, number, 0)?;
     let mut start = path.len();
-    while start > 0 {
+    while start > 0 && path.len() - start < longest {
         start -= 1;
         number = mixed(path[start], number);
         count = count_with(items, numbers, row, path, is_folder, number, count)?;
@@ -161,17 +178,19 @@ fn count_by_starts<T: PathTest>(
     row: &mut Vec<bool>,
     path: &[u8],
     is_folder: bool,
+    longest: usize,
     least: usize,
 ) -> Result<usize, AllocError>
     requires same { length numbers.now ≡ length items.now }
     requires least { least ≤ length items.now }
-    ensures { IfOk result (IsCountByStarts T.about items.now numbers.now path.now is_folder least) }
+    ensures { IfOk result (IsCountByStarts T.about items.now numbers.now longest path.now is_folder
+        least) }
 {
     let mut count = least;
     let mut start = 0;
     while start < path.len() {
         if begins_at(path, start) {
-            count = count_from(items, numbers, row, path, is_folder, start, count)?;
+            count = count_from(items, numbers, row, path, is_folder, longest, start, count)?;
         }
         start += 1;
     }
@@ -185,18 +204,20 @@ fn count_from<T: PathTest>(
     row: &mut Vec<bool>,
     path: &[u8],
     is_folder: bool,
+    longest: usize,
     start: usize,
     least: usize,
 ) -> Result<usize, AllocError>
     requires same { length numbers.now ≡ length items.now }
     requires least { least ≤ length items.now }
     requires start { start < length path.now }
-    ensures { IfOk result (IsCountFrom T.about items.now numbers.now path.now is_folder start least) }
+    ensures { IfOk result (IsCountFrom T.about items.now numbers.now longest path.now is_folder
+        start least) }
 {
     let mut number = 1;
     let mut count = least;
     let mut stop = start;
-    while stop < path.len() {
+    while stop < path.len() && stop - start < longest {
         number = mixed(path[stop], number);
         stop += 1;
         count = count_with(items, numbers, row, path, is_folder, number, count)?;

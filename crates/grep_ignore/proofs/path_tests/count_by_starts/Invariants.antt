@@ -8,7 +8,7 @@ invariant-loop-start g l = record {
   least_is : l.least ≤ l.count;
   within : l.count ≤ length l.items;
   none : (start stop : ℕ) → start < l.start → start < stop → stop ≤ length l.path
-      → begins_at l.path start ≡ true → NoneWith g.T.PathTest.about l.items l.numbers l.count
+      → stop - start ≤ l.longest → begins_at l.path start ≡ true → NoneWith g.T.PathTest.about l.items l.numbers l.count
       (number_after 1 (take (stop - start) (drop start l.path))) l.path l.is_folder;
   last : l.least < l.count → (item : _) × IsAboutAt g.T.PathTest.about l.items l.count l.path l.is_folder item;
 }
