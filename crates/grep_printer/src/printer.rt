@@ -1,11 +1,11 @@
 //! A printer of any format, and the sink of one search after another.
 ghost use Rattle.std.specs.Prelude.{◌≡◌, ◌⊎◌, ◌+◌, ◌<◌, ◌≤◌, ◌^◌, ◌&&◌, ◌||◌, [], true, false, IfErr};
 ghost use Rattle.std.specs.Prelude.{Err, IfNone, IfSome, MatchResult, Ok, OnErr, OnOk, ◌++◌};
-ghost use Rattle.grep_output.specs.Outputs.{Writes};
+ghost use Rattle.grep_output.specs.Outputs.{FailsToWrite, Writes};
 ghost use Rattle.std.specs.Prelude.{MatchBool, if◌then◌else◌, is_ok, length, IsOk, List, ℕ};
 ghost use Rattle.grep_matcher.specs.Lines.{byte_of};
 ghost use Rattle.grep_searcher.specs.MatchedLines.{AreTaken, calls_of_match};
-ghost use Rattle.grep_output.specs.PendingTexts.{Flushes, Puts, pending_bytes};
+ghost use Rattle.grep_output.specs.PendingTexts.{Flushes, Puts, PutsAll, pending_bytes};
 ghost use Rattle.grep_report.specs.SinkReports.{match_bytes};
 ghost use Rattle.grep_searcher.specs.Plans.{reported_bytes};
 ghost use Rattle.grep_searcher.specs.SearchErrors.{IsOutOfMemory};
@@ -16,6 +16,8 @@ ghost use Rattle.grep_printer.specs.Formats.{is_text};
 ghost use Rattle.grep_printer.specs.MatchedParts.{AreInOrder};
 ghost use Rattle.grep_printer.specs.PartErrors.{EachErrorIs};
 ghost use Rattle.grep_printer.specs.PrinterSteps.{HasFound, IsAsBefore, IsPreparing, IsPushed};
+ghost use Rattle.grep_printer.specs.PrinterSteps.{IsSameSink};
+ghost use Rattle.std.specs.declared.io.Error.{Error};
 ghost use Rattle.grep_printer.specs.PrinterSteps.{KeepsNoMore, Prints, PrintsCall, PrintsShown};
 ghost use Rattle.grep_printer.specs.Reports.{FitsEvent, IsAround, IsShownEvent, event_call};
 ghost use Rattle.grep_printer.specs.Reports.{printed_event};
@@ -33,6 +35,10 @@ use std::io;
 
 // How many bytes of text a printer keeps before it writes them, unless it is told otherwise.
 const BUFFER_SIZE: usize = 64 * 1024;
+
+// With more parts than these the text of a call may be long, and isn't pushed to see whether it is
+// kept.
+const MANY_PARTS: usize = 64;
 
 /// A printer: it writes what its format makes of the calls of a search. `sink` gives the sink of
 /// one search after another, each with the writer that is lent to it.
@@ -427,7 +433,10 @@ impl<'s, F: Format, M: FindAt, W: Output> PrinterSink<'s, F, M, W> {
             return self.print_with_parts(searcher, event);
         }
         self.clear_parts(searcher, event);
-        self.put_call(searcher, event)
+        if let Some(goes_on) = self.keep_call(searcher, event) {
+            return Ok(goes_on);
+        }
+        self.print_call(searcher, event)
     }
 
     // Prints a call of whose report the parts are asked for.
@@ -449,7 +458,13 @@ impl<'s, F: Format, M: FindAt, W: Output> PrinterSink<'s, F, M, W> {
         if let Err(error) = self.find_parts(searcher, event) {
             return Err(search_error(*self.printer.parts.allocator(), error));
         }
-        self.put_call(searcher, event)
+        if self.printer.parts.len() > MANY_PARTS {
+            return self.put_call(searcher, event);
+        }
+        if let Some(goes_on) = self.keep_call(searcher, event) {
+            return Ok(goes_on);
+        }
+        self.print_call(searcher, event)
     }
 
     // Keeps the text of a call whose parts are at hand, if there is memory and room for it, and
@@ -470,6 +485,7 @@ impl<'s, F: Format, M: FindAt, W: Output> PrinterSink<'s, F, M, W> {
         ensures kept { IfSome result (λ goes_on. Prints F.rules M.Error.output M.facts M.first_at
             W.step (IsAround event.now) self.old searcher.now.settings (event_call event.now)
             goes_on self.new) }
+        ensures waits { IfSome result (λ _. KeepsNoMore self.new) }
         ensures unkept { IfNone result (IsAsBefore self.old self.new) }
         ensures parts { IfNone result
             (self.new.printer.now.parts.items ≡ self.old.printer.now.parts.items) }
@@ -489,7 +505,7 @@ impl<'s, F: Format, M: FindAt, W: Output> PrinterSink<'s, F, M, W> {
 
     // Puts the text of a call whose parts are at hand after those that are kept, and returns whether
     // the search goes on. Nothing but a lack of memory has the text pushed twice.
-    #[inline(always)]
+    #[inline(never)]
     fn put_call<A: Allocator + Copy>(
         &mut self,
         searcher: &Searcher<A>,
@@ -513,10 +529,40 @@ impl<'s, F: Format, M: FindAt, W: Output> PrinterSink<'s, F, M, W> {
         if self.printer.keeps_text() {
             return Ok(goes_on);
         }
+        if let Err(error) = self.end_call() {
+            return Err(error);
+        }
+        Ok(goes_on)
+    }
+
+    // Ends the text that is pushed: it is kept, or it and those before it are written. It isn't
+    // inlined, so that where texts are kept there is no room for an error.
+    #[inline(never)]
+    fn end_call(&mut self) -> Result<(), SearchError>
+        ensures ok { OnOk result (PutsAll W.step self.old.writer.now
+            self.old.printer.now.pending.before self.old.printer.now.pending.text
+            self.new.writer.now (pending_bytes self.new.printer.now.pending)) }
+        ensures error { IfErr result (λ e. (error : Error) × (e ≡ SearchError.Io error)
+            × FailsToWrite W.step self.old.writer.now
+            (pending_bytes self.old.printer.now.pending) error self.new.writer.now) }
+        ensures emptied { OnErr result (pending_bytes self.new.printer.now.pending ≡ []) }
+        ensures at_once { self.old.printer.now.buffer_size ≡ 0
+            → pending_bytes self.new.printer.now.pending ≡ [] }
+        ensures kept { KeepsNoMore self.new }
+        ensures unwritten { length (pending_bytes self.old.printer.now.pending)
+            ≤ self.old.printer.now.buffer_size → self.new.writer.now ≡ self.old.writer.now }
+        ensures same { IsSameSink self.old self.new }
+        ensures format { self.new.format ≡ self.old.format }
+        ensures has_written { self.new.printer.now.has_written
+            ≡ (self.old.printer.now.has_written
+            || (is_ok result && is_text self.old.printer.now.pending.text)) }
+        ensures has_failed { self.new.printer.now.has_failed
+            ≡ (if is_ok result then self.old.printer.now.has_failed else true) }
+    {
         if let Err(error) = self.printer.end_text(self.writer) {
             return Err(SearchError::Io(error));
         }
-        Ok(goes_on)
+        Ok(())
     }
 
     // Pushes the text of a call whose parts are at hand, if there is memory for it, and returns
