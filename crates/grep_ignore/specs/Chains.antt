@@ -12,7 +12,7 @@ pub record IsCountOf (numbers : List ℕ) (number end count : ℕ) : Type 0 wher
   pub others : (k : ℕ) → count ≤ k → k < end → slice_index numbers k ≢ number
   pub last : 0 < count → slice_index numbers (count - 1) ≡ number
 
--- the same of the last with some low bits
+-- how many numbers there are up to the last before an end that has some low bits, or none
 pub record IsCountOfBits (numbers : List ℕ) (size bits end count : ℕ) : Type 0 where
   pub within : count ≤ end
   pub others : (k : ℕ) → count ≤ k → k < end → bits_of size (slice_index numbers k) ≢ bits

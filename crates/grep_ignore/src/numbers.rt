@@ -81,7 +81,8 @@ impl Numbers {
         )
     }
 
-    /// The same of those before a position, for the number there.
+    /// How many numbers there are up to the last before a position that is the number there, or
+    /// none.
     pub fn count_before(&self, at: usize) -> usize
         requires { at < length self.now }
         ensures { IsCountOf self.now (slice_index self.now at) at result }

@@ -197,7 +197,8 @@ fn count_by_starts<T: PathTest>(
     Ok(count)
 }
 
-// The same of those that a name begins with that begins at a position.
+// How many values there are up to the last that is about a path and has a text that begins at a
+// position of it, or `least`.
 fn count_from<T: PathTest>(
     items: &[T],
     numbers: &Numbers,
@@ -233,7 +234,7 @@ fn begins_at(path: &[u8], start: usize) -> bool
     start == 0 || path[start - 1] == b'/'
 }
 
-// The same of those that have a number, if there are more than `least`.
+// How many values there are up to the last with a number that is about a path, or `least`.
 fn count_with<T: PathTest>(
     items: &[T],
     numbers: &Numbers,
