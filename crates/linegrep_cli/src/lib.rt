@@ -19,6 +19,7 @@ mod help;
 mod json_run;
 mod looks;
 mod option_id;
+mod option_rows;
 mod options;
 mod patterns;
 mod printers;

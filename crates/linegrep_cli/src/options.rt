@@ -16,9 +16,9 @@ ghost use Rattle.linegrep_cli.specs.RunScopes.{order_for, searches_binary};
 ghost use Rattle.linegrep_cli.specs.OptionUses.{applies, has, is_none_after, last_use};
 ghost use Rattle.linegrep_files.specs.Orders.{is_by_time};
 
-use crate::command::{Row, tables};
 use crate::file_options::type_options;
 use crate::option_id::{COUNT, Kind, OptionId};
+use crate::option_rows::{Row, tables};
 use crate::patterns::{names_patterns, pattern_inputs};
 use crate::program::Streams;
 use crate::words::is_input;

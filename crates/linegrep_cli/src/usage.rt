@@ -1,6 +1,6 @@
 //! What is said of arguments that can't be used.
-use crate::command::letter_of;
 use crate::failures::Failure;
+use crate::option_rows::letter_of;
 use crate::refused::{reason, refused_value};
 use linegrep_files::shown;
 use std::alloc::{AllocError, Global};
