@@ -36,8 +36,8 @@ use std::io;
 // How many bytes of text a printer keeps before it writes them, unless it is told otherwise.
 const BUFFER_SIZE: usize = 64 * 1024;
 
-// With more parts than these the text of a call may be long, and isn't pushed to see whether it is
-// kept.
+// The text of a call with more parts than these may be long: it is pushed once, and not first to see
+// whether it is kept.
 const MANY_PARTS: usize = 64;
 
 /// A printer: it writes what its format makes of the calls of a search. `sink` gives the sink of
@@ -503,8 +503,9 @@ impl<'s, F: Format, M: FindAt, W: Output> PrinterSink<'s, F, M, W> {
         None
     }
 
-    // Puts the text of a call whose parts are at hand after those that are kept, and returns whether
-    // the search goes on. Nothing but a lack of memory has the text pushed twice.
+    // Keeps or writes the text of a call whose parts are at hand, after those that are kept, and
+    // returns whether the search goes on. The text is pushed a second time only if there was no
+    // memory for it at first.
     #[inline(never)]
     fn put_call<A: Allocator + Copy>(
         &mut self,
@@ -596,8 +597,8 @@ impl<'s, F: Format, M: FindAt, W: Output> PrinterSink<'s, F, M, W> {
         None
     }
 
-    // The same where there was no memory for the text: it is pushed again, or written without being
-    // kept.
+    // Writes the text of a call whose parts are at hand, after those that are kept, and returns
+    // whether the search goes on.
     #[inline(never)]
     fn print_call<A: Allocator + Copy>(
         &mut self,
@@ -679,20 +680,21 @@ impl<'s, F: Format, M: FindAt, W: Output> Sink for PrinterSink<'s, F, M, W> {
         lines: &SinkMatch<'_>,
     ) -> Result<bool, SearchError>
         requires split { lines.now.terminator ≡ byte_of searcher.now.settings.line_terminator }
+        requires some { 0 < length (match_bytes lines.now) }
         requires numbers { IfSome lines.now.line_number
             (λ number. number + length (match_bytes lines.now) ≤ 2 ^ 64) }
         requires fits { lines.now.offset + length (match_bytes lines.now) < 2 ^ 64 }
         ensures taken { AreTaken (PrintsCall F.rules M.Error.output M.facts M.first_at W.step)
             searcher.now.settings self.old (calls_of_match lines.now) result self.new }
         ensures succeeds { IsOk result }
-        // After them there waits at most as much as is kept, and the text of these lines.
+        // What waits after them is what waited before, which is no more than is kept, and their text.
         ensures kept { result ≡ Ok true → KeepsNoMore self.old }
         ensures room { result ≡ Ok true → (text : List ℕ)
             × (pending_bytes self.new.printer.now.pending
             ≡ pending_bytes self.old.printer.now.pending ++ text) }
         ensures may_call { Unit {0} }
     {
-        if lines.bytes().is_empty() || self.printer.is_full() {
+        if self.printer.is_full() {
             return Ok(false);
         }
         let printer = &mut *self.printer;
