@@ -67,7 +67,8 @@ impl<'p> GroupFinder<'p> {
         }
     }
 
-    // The same by the states themselves.
+    // Writes them where the automaton gives up: by the backtracker, or if that gives up too by a machine
+    // with a cell for each group in each state.
     fn step_by_step(
         &mut self,
         haystack: &[u8],
