@@ -1,6 +1,6 @@
 -- What a run over operands visits, in which order, what comes of it, and the status.
 use Rattle.std.specs.Prelude.{◌≡◌, ◌≢◌, ◌⊎◌, ℕ, Bool, true, false, not, ◌&&◌, ◌||◌, ◌==◌, if◌then◌else◌}
-use Rattle.std.specs.Prelude.{◌+◌, codes, List, [], ◌∷◌, ◌++◌, Option, None, Some, is_some, is_ok}
+use Rattle.std.specs.Prelude.{◌+◌, codes, length, List, [], ◌∷◌, ◌++◌, Option, None, Some, is_some, is_ok}
 use Rattle.std.specs.Prelude.{MatchBool, MatchOption, Result, Ok, Err, String, string_bytes}
 use Rattle.std.specs.List.{list_any}
 use Rattle.std.specs.Borrow.{Bor}
@@ -20,7 +20,7 @@ use Rattle.linegrep_cli.specs.declared.scope.Quiet.{Quiet}
 use Rattle.linegrep_cli.specs.declared.scope.Scope.{Scope}
 use Rattle.linegrep_cli.specs.declared.visit.Visit.{Visit}
 use Rattle.grep_printer.specs.declared.printed_search.Searched.{Searched}
-use Rattle.linegrep_files.specs.Choices.{SaysTheSame}
+use Rattle.linegrep_files.specs.Choices.{SaysTheSame, warnings_of}
 use Rattle.linegrep_files.specs.FileIds.{is_same_file}
 use Rattle.linegrep_files.specs.FolderFacts.{FolderFacts}
 use Rattle.linegrep_files.specs.Trees.{AreAllOf, AreFirstOf}
@@ -331,12 +331,12 @@ module _ {E F : Type 0} (folders : FolderFacts) (finds : List ℕ → Result Boo
   -- a run over operands: first it says what is wrong with the ignore files that are named
   pub record IsRunOver (paths : List (Bor (List ℕ))) (old : E) (status : ℕ) (new : E) : Type 0
     where
-      pub warnings : ℕ
       pub failure : Option Error
       pub begun : E
-      pub said : AreSaid step scope old warnings failure begun
+      pub said : AreSaid step scope old (length (warnings_of choices)) failure begun
       pub left : Choices
       pub same : SaysTheSame choices left
+      pub none : warnings_of left ≡ []
       pub run : MatchOption failure (AreOperandsSearched folders finds opens identifies step
           has_failed scope left paths begun status new)
           (λ error. IsFailing step has_failed scope error begun status new)

@@ -12,7 +12,7 @@ ghost use Rattle.linegrep_cli.specs.OperandRuns.{IsKept, IsListed, IsNamedVisite
 ghost use Rattle.linegrep_cli.specs.OperandRuns.{IsPathVisited, IsReported, IsRunEnd, IsRunOver};
 ghost use Rattle.linegrep_cli.specs.OperandRuns.{IsLeftOut, IsSaid, IsTreeVisited, error_of, is_over};
 ghost use Rattle.linegrep_cli.specs.OperandRuns.{no_visit};
-ghost use Rattle.linegrep_files.specs.Choices.{AreAlike, AreTakenUp, SaysTheSame};
+ghost use Rattle.linegrep_files.specs.Choices.{AreAlike, AreTakenUp, SaysTheSame, warnings_of};
 ghost use Rattle.linegrep_files.specs.Folders.{name_of};
 ghost use Rattle.linegrep_files.specs.Trees.{IsPassed};
 
@@ -350,11 +350,14 @@ impl<'r, S: System> Run<'r, S> {
         visit
     }
 
-    // Says what is wrong with ignore files.
+    // Says what is wrong with ignore files, and wasn't said before.
     fn warn<E: Engine<S::File>>(&self, engine: &mut E, choices: &mut Choices<'r>) -> Visit
-        ensures said { (count : ℕ) × (failure : Option Error)
-            × AreSaid E.step self.now.scope engine.old count failure engine.new × (result ≡ record no_visit { failure = failure }) }
+        ensures said { (failure : Option Error)
+            × AreSaid E.step self.now.scope engine.old (length (warnings_of choices.old)) failure
+            engine.new
+            × (result ≡ record no_visit { failure = failure }) }
         ensures same { SaysTheSame choices.old choices.new }
+        ensures none { warnings_of choices.new ≡ [] }
     {
         let failure = self.say_all(engine, choices.warnings());
         choices.clear_warnings();

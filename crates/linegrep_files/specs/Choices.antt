@@ -14,6 +14,7 @@ use Rattle.linegrep_files.specs.Limits.{AreLimits, has_no_size}
 use Rattle.linegrep_files.specs.ParentFiles.{AreBegun, AreIgnores, base_of}
 use Rattle.linegrep_files.specs.declared.choices.Choices.{Choices}
 use Rattle.linegrep_files.specs.declared.file_options.FileOptions.{FileOptions}
+use Rattle.linegrep_files.specs.declared.failures.Failure.{Failure}
 use Rattle.linegrep_files.specs.declared.globs.Choice.{Choice}
 use Rattle.linegrep_files.specs.declared.globs.Choice.TheVariants.{Chosen, LeftOut, Unmatched}
 use Rattle.linegrep_files.specs.declared.ignores.Ignores.{Ignores}
@@ -70,6 +71,10 @@ pub record SaysTheSame (old new : Choices) : Type 0 where
   pub limits : new.limits ≡ old.limits
   pub shows_hidden : new.shows_hidden ≡ old.shows_hidden
   pub ignores : IgnoresTheSame old.ignores new.ignores
+
+-- what is wrong with ignore files that were read, and isn't said yet
+abbrev pub warnings_of : Choices → List Failure
+warnings_of choices = choices.ignores.warnings.items
 
 -- choices differ from others in the ignore files alone that belong to folders
 pub record AreAlike (one other : Choices) : Type 0 where

@@ -1,9 +1,9 @@
 //! Which of the files and folders of a folder are visited.
-ghost use Rattle.std.specs.Prelude.{◌≡◌, false, true, IfErr, IfOk, OnOk};
+ghost use Rattle.std.specs.Prelude.{◌≡◌, [], false, true, IfErr, IfOk, OnOk};
 ghost use Rattle.linegrep_files.specs.Choices.{AreChoices, AreTakenUp, IsChosen, IsUnmatchedChosen};
 ghost use Rattle.linegrep_files.specs.Choices.{IsWithin};
 ghost use Rattle.linegrep_files.specs.Folders.{name_of};
-ghost use Rattle.linegrep_files.specs.Choices.{SaysTheSame, is_shown, may_be_refused};
+ghost use Rattle.linegrep_files.specs.Choices.{SaysTheSame, is_shown, may_be_refused, warnings_of};
 ghost use Rattle.linegrep_files.specs.Failures.{has_cause};
 
 use crate::class::begins_with;
@@ -145,13 +145,16 @@ impl<'r> Choices<'r> {
     }
 
     /// What is wrong with ignore files that were read, as lines for standard error.
-    pub fn warnings(&self) -> &[Failure] {
+    pub fn warnings(&self) -> &[Failure]
+        ensures { result.now ≡ warnings_of self.now }
+    {
         self.ignores.warnings()
     }
 
     /// Forgets what was wrong.
     pub fn clear_warnings(&mut self)
-        ensures { SaysTheSame self.old self.new }
+        ensures same { SaysTheSame self.old self.new }
+        ensures none { warnings_of self.new ≡ [] }
     {
         self.ignores.clear_warnings();
     }

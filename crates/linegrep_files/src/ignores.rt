@@ -283,13 +283,16 @@ impl<'r> Ignores<'r> {
     }
 
     /// What is wrong with files that were read, as lines for standard error.
-    pub fn warnings(&self) -> &[Failure] {
+    pub fn warnings(&self) -> &[Failure]
+        ensures { result.now ≡ self.now.warnings.items }
+    {
         self.warnings.as_slice()
     }
 
     /// Forgets what was wrong.
     pub fn clear_warnings(&mut self)
-        ensures { IgnoresTheSame self.old self.new }
+        ensures same { IgnoresTheSame self.old self.new }
+        ensures none { self.new.warnings.items ≡ [] }
     {
         self.warnings.clear();
     }

@@ -12,25 +12,25 @@ by-option o v P Q is so = subst (λ x. MatchOption x P Q) (sym is) so
 pub returns-in-None : goal.returns-in-None
 returns-in-None g c =
     let said = c.warn-warned.ensures.said in
-    let is = sym (ap (λ (visit : Visit). visit.failure) said.3) ∙ c.in-None.is in record {
-      warnings = said.0;
-      failure = said.1;
+    let is = sym (ap (λ (visit : Visit). visit.failure) said.2) ∙ c.in-None.is in record {
+      failure = said.0;
       begun = c.warn-warned.new.engine;
-      said = said.2;
+      said = said.1;
       left = c.warn-warned.new.choices;
       same = c.warn-warned.ensures.same;
-      run = by-option said.1 None _ _ is c.search_operands.ensures;
+      none = c.warn-warned.ensures.none;
+      run = by-option said.0 None _ _ is c.search_operands.ensures;
     }
 
 pub returns-in-Some : goal.returns-in-Some
 returns-in-Some g c =
     let said = c.warn-warned.ensures.said in
-    let is = sym (ap (λ (visit : Visit). visit.failure) said.3) ∙ c.in-Some.is in record {
-      warnings = said.0;
-      failure = said.1;
+    let is = sym (ap (λ (visit : Visit). visit.failure) said.2) ∙ c.in-Some.is in record {
+      failure = said.0;
       begun = c.warn-warned.new.engine;
-      said = said.2;
+      said = said.1;
       left = c.warn-warned.new.choices;
       same = c.warn-warned.ensures.same;
-      run = by-option said.1 (Some c.in-Some.error) _ _ is c.fail.ensures;
+      none = c.warn-warned.ensures.none;
+      run = by-option said.0 (Some c.in-Some.error) _ _ is c.fail.ensures;
     }

@@ -12,7 +12,7 @@ returns-in-File-2-clause-visited g c = rw c.in-File-2.is
 
 pub returns-in-Folder-clause-visited : goal.returns-in-Folder-clause-visited
 returns-in-Folder-clause-visited g c = rw c.in-Folder.is
-    (let said = c.warn.ensures.said in of_warnings {text = c.in-Folder.path} said.0 said.1 said.2 said.3)
+    (let said = c.warn.ensures.said in of_warnings {text = c.in-Folder.path} _ said.0 said.1 said.2)
 
 pub returns-in-Folder-clause-passed : goal.returns-in-Folder-clause-passed
 returns-in-Folder-clause-passed g c = rw c.in-Folder.is (
