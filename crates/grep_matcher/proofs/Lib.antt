@@ -4,7 +4,6 @@ pub mod OccurrenceLemmas
 mod ResemblanceLemmas
 mod PartLemmas
 pub mod CandidateLemmas
-pub mod FromPositionLemmas
 pub mod LineLemmas
 pub mod LineStartLemmas
 pub mod LineLengthLemmas

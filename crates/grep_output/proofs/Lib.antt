@@ -1,4 +1,3 @@
 pub mod DigitLemmas
 pub mod OutputLemmas
 pub mod PendingLemmas
-pub mod ReferenceLemmas

@@ -21,18 +21,6 @@ module _ {W : Type 0} (write_step : W → OutputCall → W → Type 0) where
   pub Puts-none : (writer : W) (pending : List ℕ) → PutsAll write_step writer pending [] writer pending
   Puts-none writer pending = record { bytes = []; written = Writes-none write_step writer; split = append-nil pending }
 
-  -- what was pending is written, and then the text
-  pub Puts-through : (old mid new : W) (pending text : List ℕ) (result : Result (Unit {0}) Error)
-      → Writes write_step old pending (Ok tt) mid → Writes write_step mid text result new
-      → Puts write_step old pending text result new []
-  Puts-through old mid new pending text (Ok u) first later = record {
-    bytes = pending ++ text;
-    written = Writes-more write_step old mid new pending text (Ok tt) first later;
-    split = sym (append-nil (pending ++ text));
-  }
-  Puts-through old mid new pending text (Err e) first later = Writes-more write_step old mid new pending text (Err e)
-      first later
-
   -- a text, and then another one
   pub Puts-more : (old mid new : W) (pending xs kept ys later : List ℕ) (result : Result (Unit {0}) Error)
       → PutsAll write_step old pending xs mid kept → Puts write_step mid kept ys result new later
@@ -46,14 +34,6 @@ module _ {W : Type 0} (write_step : W → OutputCall → W → Type 0) where
   Puts-more old mid new pending xs kept ys later (Err e) first rest =
       subst (λ text. Writes write_step old text (Err e) new) (sym (both pending xs kept ys first.bytes first.split))
       (Writes-more write_step old mid new first.bytes (kept ++ ys) (Err e) first.written rest)
-
-  -- a text that isn't written whole, and one after it that isn't begun
-  pub Puts-cut : (old new : W) (pending xs ys : List ℕ) (error : Error)
-      → Writes write_step old (pending ++ xs) (Err error) new
-      → Writes write_step old (pending ++ (xs ++ ys)) (Err error) new
-  Puts-cut old new pending xs ys error fails =
-      subst (λ text. Writes write_step old text (Err error) new) (append_assoc pending xs ys)
-      (Writes-cut write_step old new (pending ++ xs) ys error fails)
 
   -- a text is put together from the start, and what is pending then is written
   pub Puts-written : (old mid new : W) (text later : List ℕ) (result : Result (Unit {0}) Error)

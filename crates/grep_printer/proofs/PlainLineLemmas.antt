@@ -292,8 +292,3 @@ ordered-by limit (part ∷ later) low high ordered none =
       grind (arith, nat_tests, within),
       rest (omega (arith, none, split ∙ ap (λ b. cond b 1 0 + count_by (ends_after limit) later) within)),
     )
-
--- one line is all of the bytes
-pub one-line : (t : ℕ) (bytes line : List ℕ) → lines t bytes ≡ line ∷ [] → lines t bytes ≡ bytes ∷ []
-one-line t bytes line is =
-    is ∙ ap (λ l. l ∷ []) (sym (append-nil line) ∙ (ap concat (sym is) ∙ lines-joined t bytes))

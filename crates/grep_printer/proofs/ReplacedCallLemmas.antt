@@ -21,25 +21,6 @@ use Rattle.grep_printer.specs.declared.report.ReportKind.TheVariants.{Match, Con
 
 module _ (template : Template) (groups_at : List ℕ → ℕ → List (Option (ℕ × ℕ))) (settings : Settings)
     (meaning : Meaning) (printed : PrintedCall) where
-  -- a call without parts stays
-  pub none-replaced : (call : Call) → replaced_by template groups_at settings meaning printed call [] ≡ printed
-  none-replaced begins = refl
-  none-replaced (matches number offset bytes) = refl
-  none-replaced (context kind number offset bytes) = refl
-  none-replaced breaks = refl
-  none-replaced (binary_data offset) = refl
-  none-replaced (finishes count binary) = refl
-
-  -- and so does one that is no report
-  pub others-stay : (call : Call) (parts : List (ℕ × ℕ)) → is_report call ≡ false
-      → replaced_by template groups_at settings meaning printed call parts ≡ printed
-  others-stay begins parts is = refl
-  others-stay (matches number offset bytes) parts is = absurd (true≢false is)
-  others-stay (context kind number offset bytes) parts is = absurd (true≢false is)
-  others-stay breaks parts is = refl
-  others-stay (binary_data offset) parts is = refl
-  others-stay (finishes count binary) parts is = refl
-
   -- a report with parts is replaced
   pub report-replaced : (kind : ReportKind) (number : Option ℕ) (offset : ℕ) (bytes : List ℕ) (part : ℕ × ℕ)
       (later : List (ℕ × ℕ))

@@ -18,15 +18,6 @@ pub record IsReplacing (text_at : ℕ → List ℕ) (bytes : List ℕ) (parts : 
   pub ordered : AreInOrder position (length bytes) rest
   pub within : position ≤ length bytes
 
-pub replacing-none : (text_at : ℕ → List ℕ) (bytes : List ℕ) (parts : List (ℕ × ℕ)) → AreInOrder 0 (length bytes) parts
-    → IsReplacing text_at bytes parts [] [] 0 parts
-replacing-none text_at bytes parts ordered = record {
-  bytes_are = refl;
-  parts_are = refl;
-  ordered = ordered;
-  within = omega arith;
-}
-
 -- one more part
 pub replacing-more : (text_at : ℕ → List ℕ) (bytes : List ℕ) (parts : List (ℕ × ℕ)) (made : List ℕ)
     (put : List (ℕ × ℕ)) (position : ℕ) (part : ℕ × ℕ) (later rest : List (ℕ × ℕ)) (between after : List ℕ)

@@ -1,11 +1,10 @@
 -- Calls for whose texts there is no memory.
-use Rattle.std.proofs.Common.{◌≡◌, ◌∙◌, ℕ, List, [], ◌++◌, ap, ap₂, arith, length, refl, subst, sym}
-use Rattle.std.proofs.lemmas.List.{append-nil, nil_from_length}
+use Rattle.std.proofs.Common.{◌≡◌, ℕ, List, [], ◌++◌, arith, length, refl}
+use Rattle.std.proofs.lemmas.List.{nil_from_length}
 use Rattle.std.specs.Prelude.{Bool, false, true, not, ◌||◌, ◌==◌, MatchResult, Result, Ok, Err}
 use Rattle.std.specs.declared.io.Error.{Error}
 use Rattle.grep_output.proofs.OutputLemmas.{Writes-more}
-use Rattle.grep_output.specs.Outputs.{FailsToWrite, OutputCall, Writes, WritesAll}
-use Rattle.grep_output.specs.PendingTexts.{PutsAll}
+use Rattle.grep_output.specs.Outputs.{OutputCall, Writes, WritesAll}
 use Rattle.grep_printer.specs.Formats.{is_text}
 
 -- memory is there for a text that needs it
@@ -29,20 +28,3 @@ module _ {W : Type 0} (write_step : W → OutputCall → W → Type 0) where
       (rest.0, Writes-more write_step old mid new kept text (Ok tt) first rest.1)
   after-kept old mid new kept text (Err error) first rest =
       Writes-more write_step old mid new kept text (Err error) first rest
-
-  -- a text that is written after what was kept is put, and nothing is kept then
-  pub put-unkept : (old new : W) (before kept text bare later : List ℕ) → kept ≡ before → text ≡ bare → later ≡ []
-      → WritesAll write_step old (kept ++ bare) new → PutsAll write_step old before text new later
-  put-unkept old new before kept text bare later same is none written = record {
-    bytes = kept ++ bare;
-    written = written;
-    split = ap₂ (λ (xs : List ℕ) ys. xs ++ ys) (sym same) is
-        ∙ (sym (append-nil (kept ++ bare)) ∙ ap (λ (xs : List ℕ). (kept ++ bare) ++ xs) (sym none));
-  }
-
-  -- and so is one that isn't written whole
-  pub fails-unkept : (old new : W) (before kept text bare : List ℕ) (error : Error) → kept ≡ before → text ≡ bare
-      → FailsToWrite write_step old (kept ++ bare) error new → FailsToWrite write_step old (before ++ text) error new
-  fails-unkept old new before kept text bare error same is fails =
-      subst (λ bytes. FailsToWrite write_step old bytes error new)
-      (ap₂ (λ (xs : List ℕ) ys. xs ++ ys) same (sym is)) fails

@@ -211,9 +211,3 @@ pub names-read : (config : Config) (text : List ℕ) (hir : Hir) (names : Names)
 unfolding Reads
 names-read config text hir names p =
     names-in (read config (chars text)) config.nest_limit (meaning hir) names p
-
--- of several patterns no group has a name
-pub names-none : (o : Options) (patterns : List (List ℕ)) → (length patterns ≡ 1 → ⊥) → group_names o patterns ≡ []
-names-none o [] several = refl
-names-none o (pattern ∷ []) several = absurd (several refl)
-names-none o (pattern ∷ (other ∷ patterns)) several = refl

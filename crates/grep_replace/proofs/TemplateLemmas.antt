@@ -57,9 +57,6 @@ module _ (names : List (Option (List ℕ))) where
         (pieces_text text_of pieces ++ slice_range t start here) ++ written_after names text_of (drop here t) 0
         ≡ written_text names t text_of
 
-  pub read-none : (t : List ℕ) → IsReadUpTo t [] 0 0
-  read-none t = record { written = λ text_of. refl }
-
   one-more : (t : List ℕ) (start here : ℕ) → start ≤ here → here < length t
       → slice_range t start (here + 1) ≡ slice_range t start here ++ get_or t here 0 ∷ []
   one-more t start here ordered inside =

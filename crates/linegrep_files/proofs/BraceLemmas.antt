@@ -174,19 +174,6 @@ read-close all new brace texts others done are is read =
           (of_braces inner.stands (choice-end inner.closed read.text _ texts inner.choices stands));
     }
 
-no-outer : (braces : List Brace) (outer : List ℕ) → AreOpen braces outer → braces ≡ [] → outer ≡ []
-no-outer braces outer none_open none = refl
-no-outer braces outer (one_open {braces = others} last opened stands choices before is) none =
-    absurd (nothing-last others last (sym none ∙ before))
-
--- all is read
-pub read-all : (braces : List Brace) (texts : List (List ℕ)) (done : List ℕ) → braces ≡ []
-    → IsRead braces texts done → StandsFor false done texts
-read-all braces texts done none read =
-    subst (λ l. StandsFor false l texts)
-    (sym (read.is ∙ ap (λ l. l ++ read.text) (no-outer braces read.outer read.is_open none)))
-    (subst (λ b. StandsFor (is_inside b) read.text texts) none read.stands)
-
 -- each text before a brace with each of its choices
 pub each-more : (texts : List (List ℕ)) (text : List ℕ) (choices : List (List ℕ))
     → each_with (texts ++ text ∷ []) choices ≡ each_with texts choices ++ map (λ choice. text ++ choice) choices

@@ -85,14 +85,6 @@ brackets-before ignores begins text (piece ∷ later) next rest (m, mid, one, ar
     subst (λ t. has_brackets t ≡ true) (sym front.1)
     (any-after _ front.0 mid (brackets-before ignores m mid later next rest are has))
 
--- a fault is one of brackets
-pub fault-brackets : (text : List ℕ) → IsFault text → has_brackets text ≡ true
-fault-brackets text (inl is) = rw is refl
-fault-brackets text (inr (class, is, unclosed)) = rw is refl
-
-pub brackets-at : (text : List ℕ) → begins_with 91 text ≡ true → has_brackets text ≡ true
-brackets-at text begins = rw (begins-is 91 text begins) refl
-
 -- a piece that is read as in an ignore file
 pub ignore-step : {E : Type 0} (result : Result Step E) (ignores begins : Bool) (text : List ℕ)
     → begins_with 91 text ≡ false → has_stars text ≡ false
