@@ -29,6 +29,8 @@ pub mod SuccessiveLemmas
 pub mod TakenCallLemmas
 pub mod TakenLineLemmas
 pub mod TextLemmas
+pub mod TextWriterLemmas
 pub mod UnkeptLemmas
+pub mod UnprintedLemmas
 pub mod VimgrepLemmas
 pub mod WalkLemmas

@@ -46,15 +46,31 @@ module _ {F M W E : Type 0} (rules : Rules F) (output : E → Option (List ℕ))
         format = writing.format;
         has_failed = writing.has_failed;
       })
-      | inr before ↦ inr (record {
-        unwritten = before.unwritten;
-        pending = before.pending;
-        format = before.format;
-        has_failed = before.has_failed;
-        cause = elim before.cause [
-          | inl memory ↦ inl memory
-          | inr found ↦ inr (found.0, (found.1.0, weaker found.1.0 found.1.1, found.1.2))
-        ];
-      })
+      | inr other ↦ inr (elim other [
+        | inl before ↦ inl (record {
+          unwritten = before.unwritten;
+          pending = before.pending;
+          format = before.format;
+          has_failed = before.has_failed;
+          cause = elim before.cause [
+            | inl memory ↦ inl memory
+            | inr found ↦ inr (found.0, (found.1.0, weaker found.1.0 found.1.1, found.1.2))
+          ];
+        })
+        | inr (printed, is_call, found, some) ↦ inr (
+          printed,
+          is_call,
+          (weaker printed.around found.0, found.1),
+          (record {
+            memory = some.memory;
+            asked = some.asked;
+            part = some.part;
+            begins = some.begins;
+            put = some.put;
+            format = some.format;
+            has_failed = some.has_failed;
+          }),
+        )
+      ])
     ];
   }

@@ -1,24 +1,28 @@
--- The lines in which the parts of a report start, pushed one after another.
-use Rattle.std.proofs.Common.{◌≡◌, ℕ, ◌+◌, List, [], ◌∷◌, ◌++◌, length, arith, ap, subst, Option}
-use Rattle.std.specs.Prelude.{◌<◌, ◌==◌, count_by, false, slice_range}
+-- The lines in which the parts of a report start, pushed or put one after another.
+use Rattle.std.proofs.Common.{◌≡◌, ◌≤◌, ◌∙◌, ℕ, ◌+◌, List, [], ◌∷◌, ◌++◌, length, arith, ap, refl, subst, sym, Option}
+use Rattle.std.specs.Prelude.{◌<◌, ◌==◌, count_by, false, if◌then◌else◌, slice_range}
 use Rattle.grep_lines.specs.Blocks.{lines_before}
-use Rattle.grep_output.specs.PendingTexts.{Adds, PendingText}
+use Rattle.grep_output.specs.Outputs.{OutputCall}
+use Rattle.grep_output.specs.PendingTexts.{pending_bytes}
 use Rattle.grep_printer.proofs.FoundPartLemmas.{ordered-from}
-use Rattle.grep_printer.proofs.PartTextLemmas.{IsWriting, writing-more}
+use Rattle.grep_printer.proofs.PartTextLemmas.{IsWriting, writing-done, writing-more}
 use Rattle.grep_printer.proofs.PassedLineLemmas.{lines-passed}
-use Rattle.grep_printer.proofs.PushLemmas.{adds-two}
+use Rattle.grep_printer.proofs.TextWriterLemmas.{HasPut}
 use Rattle.grep_printer.specs.Formats.{Scene}
 use Rattle.grep_printer.specs.LineTexts.{end_byte, number_after}
 use Rattle.grep_printer.specs.MatchedParts.{AreInOrder}
 use Rattle.grep_printer.specs.Reports.{line_kind, reporting_call}
 use Rattle.grep_printer.specs.StandardTexts.{is_hidden, layout_of, text_before}
+use Rattle.grep_printer.specs.TextWriters.{PutsText}
 use Rattle.grep_printer.specs.VimgrepTexts.{part_line, part_lines, vimgrep_text}
 use Rattle.grep_printer.specs.declared.config.Config.{Config}
 use Rattle.grep_printer.specs.declared.fields.Layout.{Layout}
+use Rattle.grep_printer.specs.declared.fields.LineKind.TheVariants as LineKind
 use Rattle.grep_printer.specs.declared.report.Report.{Report}
 use Rattle.grep_printer.specs.declared.report.ReportKind.{ReportKind}
 use Rattle.grep_printer.specs.declared.report.ReportKind.TheVariants.{Match, Context}
 use Rattle.grep_printer.specs.declared.standard.Progress.{Progress}
+use Rattle.grep_printer.specs.declared.text_writer.TextWriter.{TextWriter}
 
 module _ (layout : Layout) (report : Report) (start : List ℕ) (all : List (ℕ × ℕ)) where
   -- the line of a part of the report, before which there are so many
@@ -49,16 +53,45 @@ module _ (layout : Layout) (report : Report) (start : List ℕ) (all : List (ℕ
         ordered = ordered-from later part.1 part.0 (length report.bytes.now) ordered.1 ordered.3;
       }
 
+-- the lines of some parts are put, and no more is kept than is to be
+pub record IsPuttingLines {W : Type 0} (step : W → OutputCall → W → Type 0) (layout : Layout) (report : Report)
+    (start : List ℕ) (all : List (ℕ × ℕ)) (old now : TextWriter W) (passed position : ℕ) (rest : List (ℕ × ℕ)) : Type 0
+  where
+    pub text : List ℕ
+    pub has : HasPut step old text now
+    pub kept : length (pending_bytes now.pending.now) ≤ now.buffer_size
+    pub listing : IsListing layout report start all text passed position rest
+
+-- all of them are
+pub lines-put : {W : Type 0} (step : W → OutputCall → W → Type 0) (layout : Layout) (report : Report) (start : List ℕ)
+    (all : List (ℕ × ℕ)) (old now : TextWriter W) (passed position : ℕ) (rest : List (ℕ × ℕ))
+    → IsPuttingLines step layout report start all old now passed position rest → rest ≡ []
+    → PutsText step old
+    (start ++ part_lines layout (line_kind report.kind) report.offset report.bytes.now report.number all) now
+lines-put step layout report start all old now passed position rest putting none =
+    let whole : putting.text ≡ start ++ part_lines layout (line_kind report.kind) report.offset report.bytes.now
+    report.number all = writing-done _ (length report.bytes.now) start all putting.text rest putting.listing.writing
+    (ap (λ ps. part_lines layout (line_kind report.kind) report.offset report.bytes.now report.number ps) none) in
+    subst (λ t. PutsText step old t now) whole (record {
+      same = putting.has.same;
+      put = putting.has.put;
+      kept = putting.kept;
+      unwritten = putting.has.unwritten;
+      has_written = putting.has.has_written;
+    })
+
 -- the text of a report with parts, unless it is hidden: what comes before a report, and their lines
-pub adds-shown : (config : Config) (progress : Progress) (scene : Scene) (number : Option ℕ) (offset : ℕ)
-    (bytes : List ℕ) (kind : ReportKind) (parts : List (ℕ × ℕ)) → 0 < length parts
-    → is_hidden progress scene.settings.binary_detection ≡ false → (old mid new : PendingText)
-    → Adds old mid (text_before (layout_of config scene) progress)
-    → Adds mid new (part_lines (layout_of config scene) (line_kind kind) offset bytes number parts)
-    → Adds old new (vimgrep_text config progress scene (reporting_call kind number offset bytes) parts)
-adds-shown config progress scene number offset bytes kind [] some shown old mid new first later =
-    absurd (omega (arith, some))
-adds-shown config progress scene number offset bytes Match (part ∷ rest) some shown old mid new first later =
-    rw shown (adds-two old mid new _ _ first later)
-adds-shown config progress scene number offset bytes (Context kind) (part ∷ rest) some shown old mid new first later =
-    rw shown (adds-two old mid new _ _ first later)
+pub shown-text : (config : Config) (progress : Progress) (scene : Scene) (layout : Layout) (number : Option ℕ)
+    (offset : ℕ) (bytes : List ℕ) (kind : ReportKind) (parts : List (ℕ × ℕ)) → layout ≡ layout_of config scene
+    → 0 < length parts → is_hidden progress scene.settings.binary_detection ≡ false
+    → vimgrep_text config progress scene (reporting_call kind number offset bytes) parts
+    ≡ text_before layout progress ++ part_lines layout (line_kind kind) offset bytes number parts
+shown-text config progress scene layout number offset bytes kind [] is some shown = absurd (omega (arith, some))
+shown-text config progress scene layout number offset bytes Match (part ∷ rest) is some shown =
+    ap (λ hidden. if hidden then [] else text_before (layout_of config scene) progress
+    ++ part_lines (layout_of config scene) LineKind.Match offset bytes number (part ∷ rest)) shown
+    ∙ ap (λ l. text_before l progress ++ part_lines l LineKind.Match offset bytes number (part ∷ rest)) (sym is)
+shown-text config progress scene layout number offset bytes (Context kind) (part ∷ rest) is some shown =
+    ap (λ hidden. if hidden then [] else text_before (layout_of config scene) progress
+    ++ part_lines (layout_of config scene) LineKind.Context offset bytes number (part ∷ rest)) shown
+    ∙ ap (λ l. text_before l progress ++ part_lines l LineKind.Context offset bytes number (part ∷ rest)) (sym is)

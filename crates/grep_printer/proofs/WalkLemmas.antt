@@ -285,12 +285,20 @@ module _ {F M W E : Type 0} (rules : Rules F) (output : E → Option (List ℕ))
       found = found-same made mid writing.printed has writing.has_parts;
       cut = inl (writing.error, writing.is_io, writing.pending, writing.format, writing.has_failed, writing.failed);
     }
-    | inr before ↦ record {
-      tried = alone made.format call;
-      is_call = refl;
-      found = alone-found made.format call;
-      cut = inr before;
-    }
+    | inr other ↦ elim other [
+      | inl before ↦ record {
+        tried = alone made.format call;
+        is_call = refl;
+        found = alone-found made.format call;
+        cut = inr (inl before);
+      }
+      | inr (printed, is_call, found, some) ↦ record {
+        tried = printed;
+        is_call = is_call;
+        found = found-same made mid printed has found;
+        cut = inr (inr some);
+      }
+    ]
   ]
 
   -- a call fails after others

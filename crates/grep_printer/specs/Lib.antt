@@ -26,4 +26,5 @@ pub mod SearchMessages
 pub mod StandardTexts
 pub mod StatsSums
 pub mod SummaryTexts
+pub mod TextWriters
 pub mod VimgrepTexts

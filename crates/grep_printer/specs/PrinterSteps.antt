@@ -132,12 +132,33 @@ module _ {F M W E : Type 0} (rules : Rules F) (output : E → Option (List ℕ))
         ⊎ (((has_match settings call && rules.asks old.format call) ≡ true)
         × FailsAtParts Shown output (facts old.matcher) settings call e)
 
+  -- memory was out for the rest of the text of a call whose parts were asked for: some first bytes of
+  -- it come after what was pending
+  pub record PrintsSome (old : PrinterSink F M W) (settings : Settings) (printed : PrintedCall)
+      (e : SearchError Global) (new : PrinterSink F M W) : Type 0 where
+    pub memory : IsOutOfMemory e
+    pub asked : (has_match settings printed.call && rules.asks old.format printed.call) ≡ true
+    pub part : List ℕ
+    pub begins : Begins part (text_of rules old settings printed)
+    pub put : PutsAll write_step old.writer.now (pending_bytes old.printer.now.pending) part
+        new.writer.now (pending_bytes new.printer.now.pending)
+    pub format : new.format ≡ old.format
+    pub has_failed : new.printer.now.has_failed ≡ old.printer.now.has_failed
+
+  -- so for a call with such parts
+  abbrev pub FailsAmid : PrinterSink F M W → Settings → Call → SearchError Global
+      → PrinterSink F M W → Type 0
+  FailsAmid old settings call e new = (printed : PrintedCall) × (printed.call ≡ call)
+      × HasFound rules Shown facts first_at old settings old.format printed
+      × PrintsSome old settings printed e new
+
   -- a call fails
   pub record FailsToPrint (old : PrinterSink F M W) (settings : Settings) (call : Call)
       (e : SearchError Global) (new : PrinterSink F M W) : Type 0 where
     pub same : IsSameSink old new
     pub has_written : new.printer.now.has_written ≡ old.printer.now.has_written
     pub cause : FailsToWriteCall old settings call e new ⊎ FailsBefore old settings call e new
+        ⊎ FailsAmid old settings call e new
 
   -- what a sink does at a call, with such bytes around its report
   abbrev pub PrintsShown : PrinterSink F M W → Settings → Call → Result Bool (SearchError Global)
@@ -196,8 +217,9 @@ module _ {F M W E : Type 0} (rules : Rules F) (output : E → Option (List ℕ))
       → run.outcome ≡ all_true)
       × KeepsNoMore new
 
-  -- the call after some others isn't printed: the writer failed after some first bytes of its text,
-  -- or it had no call more, and there was no memory, or the matcher failed
+  -- the call after some others isn't printed whole: the writer failed after some first bytes of its
+  -- text, or it had no call more, and there was no memory, or the matcher failed, or memory was out
+  -- for the rest of its text
   abbrev pub IsCutShort : PrinterSink F M W → Settings → PrintedCall → SearchError Global
       → PrinterSink F M W → Type 0
   IsCutShort mid settings tried e new =
@@ -207,6 +229,7 @@ module _ {F M W E : Type 0} (rules : Rules F) (output : E → Option (List ℕ))
       × FailsToWrite write_step mid.writer.now
       (pending_bytes mid.printer.now.pending ++ text_of rules mid settings tried) error new.writer.now)
       ⊎ FailsBefore rules output facts first_at write_step Anything mid settings tried.call e new
+      ⊎ PrintsSome rules output facts first_at write_step Anything mid settings tried e new
 
   -- a run along a plan failed at a call: the texts of the calls before it come after what was
   -- pending, and its own is cut short. Its own and these begin the text of calls along the plan

@@ -10,8 +10,9 @@ use crate::format::{Event, Format};
 use crate::printer::{Printer, PrinterSink};
 use crate::report::ReportKind;
 use crate::stats::{Stats, nanoseconds};
+use crate::text_writer::{TextError, TextWriter};
 use grep_lines::line_count;
-use grep_output::Pending;
+use grep_output::{Output, Pending};
 use grep_searcher::{Match, Searcher, SinkMatch};
 use std::alloc::Allocator;
 use std::time::Duration;
@@ -178,5 +179,19 @@ impl<F: Format> Format for CountedFormat<F> {
             return false;
         }
         self.format.push_lines(text, searcher, path, lines)
+    }
+
+    fn put_in_pieces<A: Allocator + Copy, W: Output>(
+        &mut self,
+        out: &mut TextWriter<'_, W>,
+        searcher: &Searcher<A>,
+        path: Option<&str>,
+        event: &Event<'_>,
+        parts: &[Match],
+    ) -> Option<Result<bool, TextError>> {
+        if self.is_counting {
+            return None;
+        }
+        self.format.put_in_pieces(out, searcher, path, event, parts)
     }
 }

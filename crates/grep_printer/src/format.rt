@@ -1,6 +1,6 @@
 //! What a printer writes of the calls of a search.
-ghost use Rattle.std.specs.Prelude.{◌≡◌, ◌+◌, ◌<◌, ◌≤◌, ◌^◌, [], ℕ, Option, true, false, length};
-ghost use Rattle.std.specs.Prelude.{IfSome, MatchOption, not, ◌||◌};
+ghost use Rattle.std.specs.Prelude.{◌≡◌, ◌+◌, ◌<◌, ◌≤◌, ◌^◌, [], ℕ, Option, None, true, false};
+ghost use Rattle.std.specs.Prelude.{IfOk, IfSome, MatchOption, length, not, ◌||◌};
 ghost use Rattle.grep_searcher.specs.Plans.{finishes, reported_bytes};
 ghost use Rattle.grep_searcher.specs.SearchLaws.{is_report};
 ghost use Rattle.grep_report.specs.SinkReports.{match_bytes};
@@ -12,9 +12,11 @@ ghost use Rattle.grep_printer.specs.MatchedParts.{AreInOrder};
 ghost use Rattle.grep_output.specs.PendingTexts.{Adds, pending_bytes};
 ghost use Rattle.grep_printer.specs.Reports.{FitsEvent, IsShownEvent, event_call, event_has_match};
 ghost use Rattle.grep_printer.specs.Reports.{printed_event};
+ghost use Rattle.grep_printer.specs.TextWriters.{PutsInPieces, had_memory};
 
 use crate::report::Report;
-use grep_output::Pending;
+use crate::text_writer::{TextError, TextWriter};
+use grep_output::{Output, Pending};
 use grep_searcher::{Match, Searcher, SinkMatch};
 use std::alloc::Allocator;
 
@@ -138,6 +140,37 @@ pub trait Format: Copy {
         ensures same { result ≡ false → (self.new ≡ self.old) × (text.new ≡ text.old) }
     {
         false
+    }
+
+    /// Puts the text of a report with parts in pieces after the texts that are kept, so that it
+    /// needn't be kept whole, and returns whether the search goes on. If it returns `None`, nothing
+    /// has changed: the text is one for `push`.
+    ///
+    /// The default returns `None`.
+    fn put_in_pieces<A: Allocator + Copy, W: Output>(
+        &mut self,
+        out: &mut TextWriter<'_, W>,
+        searcher: &Searcher<A>,
+        path: Option<&str>,
+        event: &Event<'_>,
+        parts: &[Match],
+    ) -> Option<Result<bool, TextError>>
+        requires empty { out.old.pending.now.text ≡ [] }
+        requires fits { FitsEvent event.now }
+        requires shown { IsShownEvent event.now }
+        requires ordered { AreInOrder 0 (length (reported_bytes (event_call event.now))) parts.now }
+        ensures put { IfSome result (λ put. PutsInPieces W.step out.old (rules.text self.old
+            (record { path = path.entry; settings = searcher.now.settings })
+            (printed_event event.now parts.now)) put out.new) }
+        ensures next { IfSome result (λ put. had_memory put ≡ true → self.new ≡ rules.next self.old
+            (record { path = path.entry; settings = searcher.now.settings })
+            (printed_event event.now parts.now)) }
+        ensures goes_on { IfSome result (λ put. IfOk put (λ goes. goes ≡ rules.goes_on self.old
+            (record { path = path.entry; settings = searcher.now.settings })
+            (printed_event event.now parts.now))) }
+        ensures same { result ≡ None → (self.new ≡ self.old) × (out.new ≡ out.old) }
+    {
+        None
     }
 
     /// After the end of a search it is as if the search went on.

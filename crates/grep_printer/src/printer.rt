@@ -86,8 +86,8 @@ impl<F> Printer<F> {
         self.buffer_size = size;
     }
 
-    /// Whether there was any text. That of a call at which the writer failed doesn't count:
-    /// `has_failed` is true then.
+    /// Whether there was any text. That of a call that failed doesn't count; if it was the writer
+    /// that failed, `has_failed` is true.
     pub fn has_written(&self) -> bool
         ensures { result ≡ self.now.has_written }
     {
@@ -194,7 +194,7 @@ impl<F> Printer<F> {
     // Ends the text at hand, and returns whether it is kept: if there are more bytes than are kept,
     // they are to be written.
     #[inline(always)]
-    fn keeps_text(&mut self) -> bool
+    pub(crate) fn keeps_text(&mut self) -> bool
         ensures pending { self.new.pending ≡ self.old.pending }
         ensures format { self.new.format ≡ self.old.format }
         ensures buffer_size { self.new.buffer_size ≡ self.old.buffer_size }
@@ -503,104 +503,10 @@ impl<'s, F: Format, M: FindAt, W: Output> PrinterSink<'s, F, M, W> {
         None
     }
 
-    // Keeps or writes the text of a call whose parts are at hand, after those that are kept, and
-    // returns whether the search goes on. The text is pushed a second time only if there was no
-    // memory for it at first.
-    #[inline(never)]
-    fn put_call<A: Allocator + Copy>(
-        &mut self,
-        searcher: &Searcher<A>,
-        event: &Event<'_>,
-    ) -> Result<bool, SearchError>
-        requires fits { FitsEvent event.now }
-        requires shown { IsShownEvent event.now }
-        requires found { HasFound F.rules (IsAround event.now) M.facts M.first_at
-            self.old searcher.now.settings self.old.format
-            (printed_event event.now self.old.printer.now.parts.items) }
-        requires ordered { AreInOrder 0 (length (reported_bytes (event_call event.now)))
-            self.old.printer.now.parts.items }
-        ensures shown { PrintsShown F.rules M.Error.output M.facts M.first_at W.step
-            (IsAround event.now) self.old searcher.now.settings (event_call event.now) result
-            self.new }
-        ensures kept { OnOk result (KeepsNoMore self.new) }
-    {
-        let Some(goes_on) = self.push_call(searcher, event) else {
-            return self.print_call(searcher, event);
-        };
-        if self.printer.keeps_text() {
-            return Ok(goes_on);
-        }
-        if let Err(error) = self.end_call() {
-            return Err(error);
-        }
-        Ok(goes_on)
-    }
-
-    // Ends the text that is pushed: it is kept, or it and those before it are written. It isn't
-    // inlined, so that where texts are kept there is no room for an error.
-    #[inline(never)]
-    fn end_call(&mut self) -> Result<(), SearchError>
-        ensures ok { OnOk result (PutsAll W.step self.old.writer.now
-            self.old.printer.now.pending.before self.old.printer.now.pending.text
-            self.new.writer.now (pending_bytes self.new.printer.now.pending)) }
-        ensures error { IfErr result (λ e. (error : Error) × (e ≡ SearchError.Io error)
-            × FailsToWrite W.step self.old.writer.now
-            (pending_bytes self.old.printer.now.pending) error self.new.writer.now) }
-        ensures emptied { OnErr result (pending_bytes self.new.printer.now.pending ≡ []) }
-        ensures at_once { self.old.printer.now.buffer_size ≡ 0
-            → pending_bytes self.new.printer.now.pending ≡ [] }
-        ensures kept { KeepsNoMore self.new }
-        ensures unwritten { length (pending_bytes self.old.printer.now.pending)
-            ≤ self.old.printer.now.buffer_size → self.new.writer.now ≡ self.old.writer.now }
-        ensures same { IsSameSink self.old self.new }
-        ensures format { self.new.format ≡ self.old.format }
-        ensures has_written { self.new.printer.now.has_written
-            ≡ (self.old.printer.now.has_written
-            || (is_ok result && is_text self.old.printer.now.pending.text)) }
-        ensures has_failed { self.new.printer.now.has_failed
-            ≡ (if is_ok result then self.old.printer.now.has_failed else true) }
-    {
-        if let Err(error) = self.printer.end_text(self.writer) {
-            return Err(SearchError::Io(error));
-        }
-        Ok(())
-    }
-
-    // Pushes the text of a call whose parts are at hand, if there is memory for it, and returns
-    // whether the search goes on. If there isn't, nothing has changed.
-    #[inline(always)]
-    fn push_call<A: Allocator + Copy>(
-        &mut self,
-        searcher: &Searcher<A>,
-        event: &Event<'_>,
-    ) -> Option<bool>
-        requires fits { FitsEvent event.now }
-        requires shown { IsShownEvent event.now }
-        requires ordered { AreInOrder 0 (length (reported_bytes (event_call event.now)))
-            self.old.printer.now.parts.items }
-        ensures pushed { IfSome result (λ goes_on. IsPushed F.rules self.old
-            searcher.now.settings (printed_event event.now self.old.printer.now.parts.items)
-            goes_on self.new) }
-        ensures unpushed { IfNone result (IsAsBefore self.old self.new) }
-        ensures parts { self.new.printer.now.parts.items ≡ self.old.printer.now.parts.items }
-    {
-        let before = self.format;
-        let printer = &mut *self.printer;
-        printer.pending.begin();
-        let (text, parts) = (&mut printer.pending, &printer.parts);
-        let goes_on = self.format.push(text, searcher, self.path, event, parts);
-        if !printer.pending.has_failed() {
-            return Some(goes_on);
-        }
-        printer.pending.cancel();
-        self.format = before;
-        None
-    }
-
     // Writes the text of a call whose parts are at hand, after those that are kept, and returns
     // whether the search goes on.
     #[inline(never)]
-    fn print_call<A: Allocator + Copy>(
+    pub(crate) fn print_call<A: Allocator + Copy>(
         &mut self,
         searcher: &Searcher<A>,
         event: &Event<'_>,

@@ -1,15 +1,19 @@
 //! A format of which each part that matches is replaced.
-ghost use Rattle.std.specs.Prelude.{◌≡◌, ◌+◌, ◌<◌, ◌^◌, [], false, true, length};
+ghost use Rattle.std.specs.Prelude.{◌≡◌, ◌+◌, ◌<◌, ◌^◌, [], IfOk, false, true, length};
 ghost use Rattle.grep_output.specs.PendingTexts.{Adds, pending_bytes};
 ghost use Rattle.grep_printer.specs.MatchedParts.{AreInOrder};
 ghost use Rattle.grep_printer.specs.ReplacedTexts.{replaced_report};
-ghost use Rattle.grep_printer.specs.Reports.{IsShown, call_of, surroundings_of};
+ghost use Rattle.grep_printer.specs.Reports.{FitsEvent, IsShown, IsShownEvent, call_of, event_call};
+ghost use Rattle.grep_printer.specs.Reports.{printed_event, surroundings_of};
+ghost use Rattle.grep_printer.specs.TextWriters.{PutsInPieces, had_memory};
+ghost use Rattle.grep_searcher.specs.Plans.{reported_bytes};
 
 use crate::format::{Event, Format};
 use crate::printer::Printer;
 use crate::replaced::Replacement;
 use crate::report::Report;
-use grep_output::Pending;
+use crate::text_writer::{TextError, TextWriter};
+use grep_output::{Output, Pending};
 use grep_replace::{CapturesAt, Template};
 use grep_searcher::{Match, Searcher};
 use std::alloc::{AllocError, Allocator};
@@ -109,6 +113,22 @@ impl<'t, F: Format, M: CapturesAt + Copy> Format for ReplacedFormat<'t, F, M> {
             None => self.format.push(text, searcher, path, event, parts),
         }
     }
+
+    fn put_in_pieces<A: Allocator + Copy, W: Output>(
+        &mut self,
+        out: &mut TextWriter<'_, W>,
+        searcher: &Searcher<A>,
+        path: Option<&str>,
+        event: &Event<'_>,
+        parts: &[Match],
+    ) -> Option<Result<bool, TextError>> {
+        match event.report() {
+            Some(report) if !parts.is_empty() => {
+                Some(self.put_replaced(out, searcher, path, report, parts))
+            }
+            _ => None,
+        }
+    }
 }
 
 impl<'t, F: Format, M: CapturesAt + Copy> ReplacedFormat<'t, F, M> {
@@ -154,6 +174,87 @@ impl<'t, F: Format, M: CapturesAt + Copy> ReplacedFormat<'t, F, M> {
         let shown = Event::Report(report.with_bytes(&replaced.bytes));
         self.format
             .push(text, searcher, path, &shown, &replaced.parts)
+    }
+
+    // Puts the text of a report in which each part is replaced, and returns whether the search goes
+    // on. It is one piece if the format doesn't put it in pieces.
+    fn put_replaced<A: Allocator + Copy, W: Output>(
+        &mut self,
+        out: &mut TextWriter<'_, W>,
+        searcher: &Searcher<A>,
+        path: Option<&str>,
+        report: &Report<'_>,
+        parts: &[Match],
+    ) -> Result<bool, TextError>
+        requires empty { out.old.pending.now.text ≡ [] }
+        requires shown { IsShown report.now }
+        requires ordered { AreInOrder 0 (length report.now.bytes.now) parts.now }
+        ensures put { PutsInPieces W.step out.old (F.rules.text self.old.format
+            (record { path = path.entry; settings = searcher.now.settings })
+            (replaced_report self.old.template.now (M.groups_at self.old.matcher)
+            searcher.now.settings (M.facts self.old.matcher).meaning
+            (surroundings_of report.now) (call_of report.now) parts.now)) result out.new }
+        ensures next { had_memory result ≡ true → self.new ≡ record self.old {
+          format = F.rules.next self.old.format
+              (record { path = path.entry; settings = searcher.now.settings })
+              (replaced_report self.old.template.now (M.groups_at self.old.matcher)
+              searcher.now.settings (M.facts self.old.matcher).meaning
+              (surroundings_of report.now) (call_of report.now) parts.now);
+        } }
+        ensures goes_on { IfOk result (λ goes. goes ≡ F.rules.goes_on self.old.format
+            (record { path = path.entry; settings = searcher.now.settings })
+            (replaced_report self.old.template.now (M.groups_at self.old.matcher)
+            searcher.now.settings (M.facts self.old.matcher).meaning
+            (surroundings_of report.now) (call_of report.now) parts.now)) }
+    {
+        let replacement = Replacement::of_report(self.template, self.matcher, searcher, report);
+        let replaced = match replacement.replace(out.pending.allocator(), report.bytes, parts) {
+            Ok(replaced) if fits(report.offset, &replaced.bytes) => replaced,
+            _ => return Err(TextError::OutOfMemory),
+        };
+        let shown = Event::Report(report.with_bytes(&replaced.bytes));
+        put_report(
+            &mut self.format,
+            out,
+            searcher,
+            path,
+            &shown,
+            &replaced.parts,
+        )
+    }
+}
+
+// Puts the text of a report with parts in pieces, or as one piece if the format puts no pieces, and
+// returns whether the search goes on.
+fn put_report<F: Format, A: Allocator + Copy, W: Output>(
+    format: &mut F,
+    out: &mut TextWriter<'_, W>,
+    searcher: &Searcher<A>,
+    path: Option<&str>,
+    event: &Event<'_>,
+    parts: &[Match],
+) -> Result<bool, TextError>
+    requires empty { out.old.pending.now.text ≡ [] }
+    requires fits { FitsEvent event.now }
+    requires shown { IsShownEvent event.now }
+    requires ordered { AreInOrder 0 (length (reported_bytes (event_call event.now))) parts.now }
+    ensures put { PutsInPieces W.step out.old (F.rules.text format.old
+        (record { path = path.entry; settings = searcher.now.settings })
+        (printed_event event.now parts.now)) result out.new }
+    ensures next { had_memory result ≡ true → format.new ≡ F.rules.next format.old
+        (record { path = path.entry; settings = searcher.now.settings })
+        (printed_event event.now parts.now) }
+    ensures goes_on { IfOk result (λ goes. goes ≡ F.rules.goes_on format.old
+        (record { path = path.entry; settings = searcher.now.settings })
+        (printed_event event.now parts.now)) }
+{
+    if let Some(put) = format.put_in_pieces(out, searcher, path, event, parts) {
+        return put;
+    }
+    let goes_on = format.push(out.pending, searcher, path, event, parts);
+    match out.end_piece() {
+        Ok(()) => Ok(goes_on),
+        Err(error) => Err(error),
     }
 }
 

@@ -9,11 +9,13 @@ ghost use Rattle.grep_printer.specs.VimgrepTexts.{part_line, part_lines, vimgrep
 use crate::config::StandardBuilder;
 use crate::fields::{Layout, Place};
 use crate::format::{Event, Format};
+use crate::part_pieces::put_part_lines;
 use crate::printer::{Printer, PrinterSink};
 use crate::report::Report;
 use crate::standard::{Progress, StandardFormat};
+use crate::text_writer::{TextError, TextWriter};
 use grep_lines::{count, line_of};
-use grep_output::Pending;
+use grep_output::{Output, Pending};
 use grep_searcher::{Match, Searcher};
 use std::alloc::{Allocator, Global};
 
@@ -97,6 +99,30 @@ impl<'c> Format for VimgrepFormat<'c> {
         push_part_lines(&layout, text, report, parts);
         true
     }
+
+    fn put_in_pieces<A: Allocator + Copy, W: Output>(
+        &mut self,
+        out: &mut TextWriter<'_, W>,
+        searcher: &Searcher<A>,
+        path: Option<&str>,
+        event: &Event<'_>,
+        parts: &[Match],
+    ) -> Option<Result<bool, TextError>> {
+        let report = match event {
+            Event::Report(report) if !parts.is_empty() => report,
+            _ => return None,
+        };
+        let before = self.lines.progress;
+        if before.is_hidden(searcher.binary_detection()) {
+            return None;
+        }
+        self.lines.progress.add(report);
+        let layout = self.lines.layout(searcher, path);
+        match put_part_lines(out, &layout, &before, report, parts) {
+            Ok(()) => Some(Ok(true)),
+            Err(error) => Some(Err(error)),
+        }
+    }
 }
 
 // Pushes of each part of a report the line in which it starts.
@@ -124,7 +150,7 @@ fn push_part_lines(
 }
 
 // Pushes the line in which a part of a report starts, before which there are so many.
-fn push_part_line(
+pub(crate) fn push_part_line(
     layout: &Layout<'_, '_>,
     text: &mut Pending,
     report: &Report<'_>,

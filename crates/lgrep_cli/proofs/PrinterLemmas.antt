@@ -168,7 +168,8 @@ module _ {M W E : Type 0} (output : E → Option (List ℕ)) (facts : M → Matc
           (Writes-cut write_step begun.writer.now ended.writer.now
           (before ++ (standard_rules).text (made_by fails.before).format scene fails.tried) fails.begins.0 error own);
     }
-    cut-by (inr before) = absurd (not-before before)
+    cut-by (inr (inl before)) = absurd (not-before before)
+    cut-by (inr (inr some)) = absurd (not-asked (matched settings fails.tried.call) some.asked)
 
   -- the calls of a plan
   plan-put : (plan : Plan) (result : Result (Unit {0}) (SearchError Global)) (ended : PrinterSink StandardFormat M W)
