@@ -184,6 +184,7 @@ pub struct Options<'m, 'w> {
 
 impl<'m, 'w> Options<'m, 'w> {
     /// The options of parsed arguments, with the standard streams.
+    #[inline(never)]
     pub fn read(matches: &'m ArgMatches<'w>, streams: Streams) -> Options<'m, 'w>
         ensures { result.streams ≡ streams }
     {

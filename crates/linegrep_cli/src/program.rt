@@ -73,7 +73,9 @@ pub fn run<S: System, R: Source + Drop, W: Output + Drop, E: Output>(
     }
 }
 
-// Parses the words of the arguments.
+// Parses the words of the arguments. Neither this nor what else comes before a search is inlined, so
+// that their room on the stack is free again when files are searched.
+#[inline(never)]
 fn parse<'w>(alloc: Global, words: &'w [String]) -> Result<ArgMatches<'w>, clap::Error> {
     match command(alloc) {
         Ok(command) => command.try_get_matches_from(words),
@@ -83,6 +85,7 @@ fn parse<'w>(alloc: Global, words: &'w [String]) -> Result<ArgMatches<'w>, clap:
 
 // Writes help or the version, if that is what was asked for. Otherwise it says what is wrong with
 // the arguments.
+#[inline(never)]
 fn answer<R, W: Output, E: Output>(
     alloc: Global,
     words: &[String],
@@ -166,6 +169,7 @@ fn run_options<S: System, R: Source + Drop, W: Output + Drop, E: Output>(
 
 // The patterns of parsed arguments. An error is that a word other than a path isn't UTF-8, that options
 // don't go together, that there is no pattern or that it can't be read, or that there is no memory.
+#[inline(never)]
 fn patterns_of<R: Source>(
     rt: &HostRuntime,
     words: &[String],

@@ -184,6 +184,7 @@ fn compile_with_template(
 /// a file can't be read, which standard error says unless `--no-messages` is given. If nothing is to
 /// be written, the first match ends it with 0. It is 2 too, and nothing is read or written, for a
 /// setting, a pattern or a glob that isn't well formed, or without memory.
+#[inline(never)]
 pub fn search_all<S: System, R: Source + Drop, W: Output + Drop, E: Output>(
     rt: &HostRuntime,
     system: &S,
