@@ -99,3 +99,30 @@ set-covers sets n m hay low high at later v next within room members after long 
       (subst (MayMatch sets (suc n) hay) far one.2))))
       (next-may sets n hay (at + k) within (omega (arith, room)) may);
 }
+
+-- the lanes of a set that is passed over, by those of the sets after it: where its byte isn't ASCII, or these may follow
+pub lead-covers : (sets : List (List Bool)) (n m : ℕ) (hay : List ℕ) (at then : ℕ) (bytes later v : List ℕ) → m ≡ suc n
+    → then ≡ at + 1 → n < length sets → at + 32 ≤ length hay → HasLanes bytes (λ k. get_or hay (at + k) 0)
+    → HasLanes v (λ k. bit_or (get_or bytes k 0) (get_or later k 0)) → Covers (MayMatch sets m hay) then later
+    → Covers (MayMatch sets n hay) at v
+lead-covers sets n m hay at then bytes later v next one_on within room loaded lanes after = record {
+  long = lanes.long;
+  each = λ k below may. ⊎_elim
+      (λ big. omega (
+        arith,
+        big,
+        loaded.each k below,
+        lanes.each k below,
+        or_ge_left (get_or bytes k 0) (get_or later k 0),
+      ))
+      (λ one.
+      let far : at + k + 1 ≡ then + k = omega (arith, one_on) in
+      let same : suc n ≡ m = sym next in
+      omega (
+        arith,
+        after.each k below (subst (λ j. MayMatch sets j hay (then + k)) same (subst (MayMatch sets (suc n) hay) far one.2)),
+        lanes.each k below,
+        or_ge_right (get_or bytes k 0) (get_or later k 0),
+      ))
+      (next-may sets n hay (at + k) within (omega (arith, room)) may);
+}

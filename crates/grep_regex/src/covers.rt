@@ -7,7 +7,7 @@ use grep_matcher::ByteSet;
 use std::alloc::{AllocError, Global};
 
 // How many sets there are at most.
-const MOST: usize = 3;
+const MOST: usize = 8;
 
 // Sets that have the ASCII members of the first sets of each sequence. That they have them is
 // checked, and isn't proved of how they are made.

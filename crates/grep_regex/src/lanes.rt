@@ -80,6 +80,14 @@ pub(crate) fn either_or_both(a: u8x32, b: u8x32, c: u8x32) -> u8x32
     a | (b & c)
 }
 
+// The bits that are set in one vector or in another.
+#[inline(always)]
+pub(crate) fn either(a: u8x32, b: u8x32) -> u8x32
+    ensures { HasLanes result (λ k. bit_or (slice_index a k) (slice_index b k)) }
+{
+    a | b
+}
+
 // The highest bit of each lane.
 #[inline(always)]
 pub(crate) fn highest_bits(lanes: u8x32) -> u64

@@ -26,6 +26,7 @@ mod parse;
 mod plain;
 mod prefix;
 mod programs;
+mod rarity;
 mod regex;
 mod seen;
 mod shortcut;

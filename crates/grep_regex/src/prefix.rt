@@ -12,28 +12,33 @@ ghost use Rattle.grep_regex.specs.Tables.{HasMembers};
 use crate::asked::Asked;
 use crate::covers::cover_of;
 use crate::lanes::{
-    WIDTH, all_set, by_high_half, by_low_half, either_or_both, highest_bits, in_common, load,
+    WIDTH, all_set, by_high_half, by_low_half, either, either_or_both, highest_bits, in_common,
+    load,
 };
+use crate::rarity::lead_of;
 use crate::tables::Table;
 use grep_matcher::ByteSet;
 use std::alloc::{AllocError, Global};
 use std::simd::prelude::*;
 
 // Sequences of sets of bytes with one of which a match begins, sets that have the members of the
-// first of each, and these as tables.
+// first of each, and three of these that are rare in text as tables.
 #[derive(Drop)]
 pub(crate) struct Prefix {
     pub(crate) choices: Vec<Vec<ByteSet>>,
     // Whether a match is a byte of each set of a sequence, and nothing else.
     pub(crate) has_sizes: bool,
     cover: Vec<ByteSet>,
+    // How many of those sets come before the ones that are tables.
+    lead: usize,
     first: Table,
     second: Table,
     third: Table,
     ghost covered: { All (λ sets. AreCovered cover.items sets.items) choices.items },
-    ghost first_has: { HasMembers cover.items 0 first.low first.high },
-    ghost second_has: { HasMembers cover.items 1 second.low second.high },
-    ghost third_has: { HasMembers cover.items 2 third.low third.high },
+    ghost led: { lead ≤ length cover.items },
+    ghost first_has: { HasMembers cover.items lead first.low first.high },
+    ghost second_has: { HasMembers cover.items (lead + 1) second.low second.high },
+    ghost third_has: { HasMembers cover.items (lead + 2) third.low third.high },
 }
 
 impl Prefix {
@@ -46,13 +51,15 @@ impl Prefix {
         ensures has_sizes { IfOk result (λ p. p.has_sizes ≡ has_sizes) }
     {
         let cover = cover_of(alloc, &choices)?;
-        let first = Table::new(&cover, 0);
-        let second = Table::new(&cover, 1);
-        let third = Table::new(&cover, 2);
+        let lead = lead_of(&cover);
+        let first = Table::new(&cover, lead);
+        let second = Table::new(&cover, lead + 1);
+        let third = Table::new(&cover, lead + 2);
         Ok(Prefix {
             choices,
             has_sizes,
             cover,
+            lead,
             first,
             second,
             third,
@@ -75,7 +82,7 @@ impl Prefix {
         ensures passed { IsPassed (any_decision (items_of self.now.choices.items) haystack.now)
             start result }
     {
-        match self.cover.len() {
+        match self.cover.len() - self.lead {
             0 => start,
             1 => self.skip_by::<1>(haystack, start),
             2 => self.skip_by::<2>(haystack, start),
@@ -83,21 +90,22 @@ impl Prefix {
         }
     }
 
-    // The same by the sets that cover the others, in windows of a vector's width. The last one ends with the
-    // haystack, and may begin before the position that it is looked at from.
+    // A position up to which the sets that cover the others decide it, in windows of a vector's width.
+    // The last one ends with the haystack, and may begin before the position that it is looked at from.
     #[inline(always)]
     fn skip_by<const SETS: usize>(&self, haystack: &[u8], start: usize) -> usize
         requires start { start ≤ length haystack.now }
-        requires sets { SETS ≤ length self.now.cover.items }
+        requires sets { self.now.lead + SETS ≤ length self.now.cover.items }
         requires few { (1 ≤ SETS) × (SETS ≤ 3) }
         ensures low { start ≤ result }
         ensures within { result ≤ length haystack.now }
         ensures passed { IsPassed (decision self.now.cover.items haystack.now) start result }
     {
-        if haystack.len() - start < SETS || haystack.len() < WIDTH + SETS {
+        let size = self.lead + SETS;
+        if haystack.len() - start < size || haystack.len() < WIDTH + size {
             return start;
         }
-        let last = haystack.len() - SETS - (WIDTH - 1);
+        let last = haystack.len() - size - (WIDTH - 1);
         let mut from = start;
         'windows: loop {
             let position = from.min(last);
@@ -117,24 +125,42 @@ impl Prefix {
     // vector has.
     #[inline(always)]
     fn marks_from<const SETS: usize>(&self, haystack: &[u8], position: usize, from: usize) -> u64
-        requires room { position + SETS + WIDTH ≤ length haystack.now + 1 }
-        requires sets { SETS ≤ length self.now.cover.items }
+        requires room { position + self.now.lead + SETS + WIDTH ≤ length haystack.now + 1 }
+        requires sets { self.now.lead + SETS ≤ length self.now.cover.items }
         requires few { (1 ≤ SETS) × (SETS ≤ 3) }
         requires low { position ≤ from }
         requires high { from < position + 64 }
         ensures { (k : ℕ) → from ≤ k → k < position + WIDTH
             → MayMatch self.now.cover.items 0 haystack.now k → bit_at result (k - from) ≡ 1 }
     {
-        highest_bits(self.first_lanes::<SETS>(haystack, position)) >> (from - position)
+        highest_bits(self.lanes::<SETS>(haystack, position)) >> (from - position)
     }
 
-    // For each position of a vector, whether the sets decide that there is no match.
+    // For each position of a vector, whether there may be a match: by the sets that are tables, where
+    // all bytes before them are ASCII.
+    #[inline(always)]
+    fn lanes<const SETS: usize>(&self, haystack: &[u8], at: usize) -> u8x32
+        requires room { at + self.now.lead + SETS + WIDTH ≤ length haystack.now + 1 }
+        requires sets { self.now.lead + SETS ≤ length self.now.cover.items }
+        requires few { (1 ≤ SETS) × (SETS ≤ 3) }
+        ensures { Covers (MayMatch self.now.cover.items 0 haystack.now) at result }
+    {
+        let mut left = self.lead;
+        let mut lanes = self.first_lanes::<SETS>(haystack, at + left);
+        'sets: while left > 0 {
+            left -= 1;
+            lanes = either(load(haystack, at + left), lanes);
+        }
+        lanes
+    }
+
+    // For each position of a vector, whether there may be a match of the sets from the first table on.
     #[inline(always)]
     fn first_lanes<const SETS: usize>(&self, haystack: &[u8], at: usize) -> u8x32
         requires room { at + SETS + WIDTH ≤ length haystack.now + 1 }
-        requires sets { SETS ≤ length self.now.cover.items }
+        requires sets { self.now.lead + SETS ≤ length self.now.cover.items }
         requires few { (1 ≤ SETS) × (SETS ≤ 3) }
-        ensures { Covers (MayMatch self.now.cover.items 0 haystack.now) at result }
+        ensures { Covers (MayMatch self.now.cover.items self.now.lead haystack.now) at result }
     {
         lanes_of(
             &self.first,
@@ -144,13 +170,13 @@ impl Prefix {
         )
     }
 
-    // The same of the sets after the first.
+    // Whether there may be one of the sets from the second table on.
     #[inline(always)]
     fn second_lanes<const SETS: usize>(&self, haystack: &[u8], at: usize) -> u8x32
         requires room { at + SETS + WIDTH ≤ length haystack.now + 2 }
-        requires sets { SETS ≤ length self.now.cover.items }
+        requires sets { self.now.lead + SETS ≤ length self.now.cover.items }
         requires few { SETS ≤ 3 }
-        ensures { Covers (MayMatch self.now.cover.items 1 haystack.now) at result }
+        ensures { Covers (MayMatch self.now.cover.items (self.now.lead + 1) haystack.now) at result }
     {
         if SETS < 2 {
             return all_set();
@@ -163,13 +189,13 @@ impl Prefix {
         )
     }
 
-    // The same of the sets after the second.
+    // Whether there may be one of the sets from the third table on.
     #[inline(always)]
     fn third_lanes<const SETS: usize>(&self, haystack: &[u8], at: usize) -> u8x32
         requires room { at + SETS + WIDTH ≤ length haystack.now + 3 }
-        requires sets { SETS ≤ length self.now.cover.items }
+        requires sets { self.now.lead + SETS ≤ length self.now.cover.items }
         requires few { SETS ≤ 3 }
-        ensures { Covers (MayMatch self.now.cover.items 2 haystack.now) at result }
+        ensures { Covers (MayMatch self.now.cover.items (self.now.lead + 2) haystack.now) at result }
     {
         if SETS < 3 {
             return all_set();

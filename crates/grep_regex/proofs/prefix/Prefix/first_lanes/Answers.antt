@@ -1,12 +1,12 @@
-use Rattle.std.proofs.Common.{refl, arith}
+use Rattle.std.proofs.Common.{◌+◌, arith}
 use Rattle.grep_regex.proofs.PrefixLemmas.{set-covers}
 use Rattle.grep_regex.proofs.prefix.Prefix.first_lanes.Goals as goal
 
 pub returns : goal.returns
 returns g c =
     let s = c.args.self.now in
-    set-covers s.cover.items 0 1 c.args.haystack.now s.first.low s.first.high c.args.at c.second_lanes.result
-    c.lanes_of.result refl
+    set-covers s.cover.items s.lead (s.lead + 1) c.args.haystack.now s.first.low s.first.high c.args.at c.second_lanes.result
+    c.lanes_of.result (omega arith)
     (omega (arith, c.requires.few, c.requires.sets))
     (omega (arith, c.requires.few, c.requires.room)) s.first_has
     c.second_lanes.ensures c.lanes_of.ensures.long c.lanes_of.ensures.high c.lanes_of.ensures.member

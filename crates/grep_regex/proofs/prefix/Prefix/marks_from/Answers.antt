@@ -8,7 +8,7 @@ returns g c = λ k low high may.
     let position = c.args.position in
     let lane = k - position in
     let same : k ≡ position + lane = omega arith in
-    let marked = c.first_lanes.ensures.each lane (omega arith)
+    let marked = c.lanes.ensures.each lane (omega arith)
     (subst (MayMatch c.args.self.now.cover.items 0 c.args.haystack.now) same may) in
     let sum : lane ≡ (c.args.from - position) + (k - c.args.from) = omega arith in
     ap (λ n. n % 2) (shr-shr c.highest_bits.result (c.args.from - position) (k - c.args.from)

@@ -6,9 +6,9 @@ use Rattle.grep_regex.proofs.prefix.Prefix.third_lanes.Goals as goal
 pub returns : goal.returns
 returns g c =
     let s = c.args.self.now in
-    set-covers s.cover.items 2 3 c.args.haystack.now s.third.low s.third.high c.args.at c.all_set-2.result
-    c.lanes_of.result refl
+    set-covers s.cover.items (s.lead + 2) (s.lead + 3) c.args.haystack.now s.third.low s.third.high c.args.at c.all_set-2.result
+    c.lanes_of.result (omega arith)
     (omega (arith, c.if-this-lt3.false, c.requires.sets))
     (omega (arith, c.if-this-lt3.false, c.requires.room)) s.third_has
-    (all-cover (MayMatch s.cover.items 3 c.args.haystack.now) (c.args.at + 1) c.all_set-2.result c.all_set-2.ensures)
+    (all-cover (MayMatch s.cover.items (s.lead + 3) c.args.haystack.now) (c.args.at + 1) c.all_set-2.result c.all_set-2.ensures)
     c.lanes_of.ensures.long c.lanes_of.ensures.high c.lanes_of.ensures.member
