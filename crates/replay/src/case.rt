@@ -435,8 +435,8 @@ impl Options {
     }
 }
 
-// Sets the option of a letter.
-fn express(expression: &mut RegexMatcherBuilder, letter: char) -> Result<(), CaseError> {
+/// Sets the option of a letter.
+pub(crate) fn express(expression: &mut RegexMatcherBuilder, letter: char) -> Result<(), CaseError> {
     match letter {
         'i' => expression.case_insensitive(true),
         'F' => expression.fixed_strings(true),
@@ -447,6 +447,23 @@ fn express(expression: &mut RegexMatcherBuilder, letter: char) -> Result<(), Cas
         'a' => expression.unicode(false),
         'n' => expression.line_terminator(Some(b'\n')),
         'r' => expression.crlf(true),
+        _ => return express_syntax(expression, letter),
+    };
+    Ok(())
+}
+
+// Sets an option that is rarer.
+fn express_syntax(expression: &mut RegexMatcherBuilder, letter: char) -> Result<(), CaseError> {
+    match letter {
+        'k' => expression.crlf(true).line_terminator(None),
+        'z' => expression.line_terminator(Some(0)),
+        'T' => expression.line_terminator(Some(200)),
+        'L' => expression.size_limit(1000),
+        'U' => expression.swap_greed(true),
+        'v' => expression.ignore_whitespace(true),
+        'o' => expression.octal(true),
+        'd' => expression.nest_limit(2),
+        'D' => expression.nest_limit(0),
         _ => return Err(CaseError::Malformed),
     };
     Ok(())

@@ -7,23 +7,15 @@ use grep_printer::{Format, Json, Stats};
 use grep_regex::Regex;
 use grep_searcher::{FindAt, SearchError, Searcher, Sink};
 use std::alloc::Global;
+use std::io;
 use std::time::Duration;
-use std::{io, str};
 
 // How long each search takes, in nanoseconds, in place of what a clock would say.
 const ELAPSED: u64 = 1_023_456_789;
 
-/// Makes the search of a line, and writes the line and what a printer makes of the search. A line
-/// that is no row, and a search that fails, are reported in what is written.
-pub(crate) fn print<W: io::Write>(alloc: Global, line: &[u8], output: &mut W) -> io::Result<()> {
-    match str::from_utf8(line) {
-        Ok(line) => print_line(alloc, line, output),
-        Err(_) => writeln!(output, "err case"),
-    }
-}
-
-fn print_line<W: io::Write>(alloc: Global, line: &str, output: &mut W) -> io::Result<()> {
-    writeln!(output, "== {line}")?;
+/// Makes the search of a row, and writes what a printer makes of it. A line that is no row, and a
+/// search that fails, are reported in what is written.
+pub(crate) fn print<W: io::Write>(alloc: Global, line: &str, output: &mut W) -> io::Result<()> {
     match Row::read(line) {
         Some(row) => print_row(alloc, &row, output),
         None => writeln!(output, "err case"),
@@ -40,9 +32,9 @@ fn print_row<W: io::Write>(alloc: Global, row: &Row<'_>, output: &mut W) -> io::
     }
 }
 
-// Writes a text. Of a byte that is there more often than 80 times in a row it writes one, and how
-// many there are.
-fn write_shortened<W: io::Write>(text: &[u8], output: &mut W) -> io::Result<()> {
+/// Writes a text. Of a byte that is there more often than 80 times in a row it writes one, and how
+/// many there are.
+pub(crate) fn write_shortened<W: io::Write>(text: &[u8], output: &mut W) -> io::Result<()> {
     for run in text.chunk_by(|byte, next| byte == next) {
         write_run(run, output)?;
     }

@@ -2,9 +2,7 @@
 //! `uses`.
 mod filtered;
 mod kept;
-mod large;
 mod lent;
-mod opening;
 mod pieces;
 mod printing;
 mod programs;

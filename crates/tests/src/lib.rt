@@ -1,5 +1,5 @@
-//! Tests with values worked by hand: of the crates below a search, of regular expressions, of
-//! decoding, of searches that cases of `replay` can't show, and of what is built on a search.
+//! Tests with values worked by hand: of the crates below a search, of decoding, of searches that
+//! cases of `replay` can't show, and of what is built on a search.
 //!
 //! Each call of theirs that needs memory succeeds at least once, here, in `replay` or in `faults`,
 //! which no contract can promise.
@@ -11,8 +11,6 @@ mod callers;
 mod decode;
 #[cfg(test)]
 mod paths;
-#[cfg(test)]
-mod regex;
 #[cfg(test)]
 mod search;
 #[cfg(test)]
