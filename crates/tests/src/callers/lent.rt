@@ -209,42 +209,31 @@ fn reported(rt: HostRuntime) {
     assert!(rt; reports_errors(rt.alloc()));
 }
 
-// How many lines of the file at a path have `Doctor Watson`.
-fn count_names(rt: &HostRuntime, path: Path<'_>) -> Result<u64, SearchError> {
-    let mut searcher = Searcher::new(rt.alloc())?;
-    count_in_path(rt, &mut searcher, name(), path)
-}
-
-// How many lines of the file at a path have `Doctor Watson`, if it is searched twice.
-fn count_names_twice(rt: &HostRuntime, path: Path<'_>) -> Result<u64, SearchError> {
-    let mut searcher = Searcher::new(rt.alloc())?;
-    count_in_paths(rt, &mut searcher, name(), &[path, path])
-}
-
-// Whether a line of the file at a path has `Doctor Watson`.
-fn has_name(rt: &HostRuntime, path: Path<'_>) -> Result<bool, SearchError> {
-    let mut searcher = Searcher::new(rt.alloc())?;
-    has_match(rt, &mut searcher, name(), path)
+// Whether two lines of the file at a path have `Doctor Watson`, four if it is searched twice.
+fn has_names(rt: &HostRuntime, searcher: &mut Searcher, path: Path<'_>) -> bool {
+    matches!(count_in_path(rt, searcher, name(), path), Ok(2))
+        && matches!(count_in_paths(rt, searcher, name(), &[path, path]), Ok(4))
+        && matches!(has_match(rt, searcher, name(), path), Ok(true))
 }
 
 // Whether such lines are found in a file at a path, and none once it is gone.
-fn has_names(rt: &HostRuntime, path: Path<'_>) -> bool {
-    let agrees = fs::write(rt, path, SHERLOCK).is_ok()
-        && matches!(count_names(rt, path), Ok(2))
-        && matches!(count_names_twice(rt, path), Ok(4))
-        && matches!(has_name(rt, path), Ok(true));
-    fs::remove_file(rt, path).is_ok() && agrees && is_unopened(rt, path)
+fn finds_names_at(rt: &HostRuntime, searcher: &mut Searcher, path: Path<'_>) -> bool {
+    let is_found = fs::write(rt, path, SHERLOCK).is_ok() && has_names(rt, searcher, path);
+    fs::remove_file(rt, path).is_ok() && is_found && is_unopened(rt, searcher, path)
 }
 
-fn is_unopened(rt: &HostRuntime, path: Path<'_>) -> bool {
-    matches!(count_names(rt, path), Err(SearchError::Io(_)))
+fn is_unopened(rt: &HostRuntime, searcher: &mut Searcher, path: Path<'_>) -> bool {
+    matches!(
+        count_in_path(rt, searcher, name(), path),
+        Err(SearchError::Io(_))
+    )
 }
 
 // Whether such lines are found in a file at a temporary path, and none once it is gone.
 fn finds_names(rt: &HostRuntime) -> bool {
-    match temporary_path(rt, "counted") {
-        Ok(path) => has_names(rt, path.as_path()),
-        Err(_) => false,
+    match (Searcher::new(rt.alloc()), temporary_path(rt, "counted")) {
+        (Ok(mut searcher), Ok(path)) => finds_names_at(rt, &mut searcher, path.as_path()),
+        _ => false,
     }
 }
 

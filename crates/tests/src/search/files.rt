@@ -9,74 +9,94 @@ use std::io::{ErrorKind, Read};
 use std::path::Path;
 use std::{fs, io};
 
+// How a search ends, after the calls of its sink that are expected.
+#[derive(Clone, Copy)]
+enum End {
+    Done,
+    // the file can't be opened or read, by an error of this kind, which has the system's number
+    Unread(ErrorKind, Option<i32>),
+    Refused,
+    // the matcher names another terminator
+    Mismatched,
+    Otherwise,
+}
+
+fn how_ended(ended: Result<(), SearchError>) -> End {
+    match ended {
+        Ok(()) => End::Done,
+        Err(SearchError::Io(error)) => End::Unread(error.kind(), error.raw_os_error()),
+        Err(SearchError::Config(ConfigError::SearchUnavailable)) => End::Refused,
+        Err(SearchError::Config(ConfigError::MismatchedLineTerminators { .. })) => End::Mismatched,
+        _ => End::Otherwise,
+    }
+}
+
+// The end of a search of a path, if its sink has these calls.
+fn end_at<M: Matcher + Drop>(
+    rt: &HostRuntime,
+    searcher: &mut Searcher,
+    matcher: M,
+    path: Path<'_>,
+    calls: &str,
+) -> End {
+    let mut recorder = Recorder::new(rt.alloc(), None, None);
+    let end = how_ended(searcher.search_path(rt, matcher, path, &mut recorder));
+    if recorder.text() == calls {
+        end
+    } else {
+        End::Otherwise
+    }
+}
+
+// The end of a search of a file, if its sink has these calls.
+fn end_in<M: Matcher + Drop, F: Read>(
+    alloc: Global,
+    searcher: &mut Searcher,
+    matcher: M,
+    file: &mut F,
+    calls: &str,
+) -> End {
+    let mut recorder = Recorder::new(alloc, None, None);
+    let end = how_ended(searcher.search_file(matcher, file, &mut recorder));
+    if recorder.text() == calls {
+        end
+    } else {
+        End::Otherwise
+    }
+}
+
+// The matcher of the literal `a`.
+fn letter() -> LiteralMatcher<'static> {
+    LiteralMatcher::borrowed(b"a")
+}
+
 const INPUT: &[u8] = b"a\nx\nx\nx\na\n";
 
 const CALLS: &str = "begin;match 1 0 610a;after 2 2 780a;break;match 5 8 610a;finish 10 -;";
 
-// Searches a path for the literal `a`. The contract isn't passed on, here and below.
-fn search_path(
-    rt: &HostRuntime,
-    searcher: &mut Searcher,
-    path: Path<'_>,
-    recorder: &mut Recorder,
-) -> Result<(), SearchError> {
-    searcher.search_path(rt, LiteralMatcher::borrowed(b"a"), path, recorder)
-}
-
-// Searches a file.
-fn search_file<M: Matcher + Drop, F: Read>(
-    searcher: &mut Searcher,
-    matcher: M,
-    file: &mut F,
-    recorder: &mut Recorder,
-) -> Result<(), SearchError> {
-    searcher.search_file(matcher, file, recorder)
-}
-
-// Searches a file for the literal `a`.
-fn search_file_for_a<F: Read>(
-    searcher: &mut Searcher,
-    file: &mut F,
-    recorder: &mut Recorder,
-) -> Result<(), SearchError> {
-    search_file(searcher, LiteralMatcher::borrowed(b"a"), file, recorder)
-}
-
-// Whether a search of a path makes the calls.
-fn finds_by_path(rt: &HostRuntime, searcher: &mut Searcher, path: Path<'_>) -> bool {
-    let mut recorder = Recorder::new(rt.alloc(), None, None);
-    match search_path(rt, searcher, path, &mut recorder) {
-        Ok(()) => recorder.text() == CALLS,
-        Err(_) => false,
-    }
-}
-
-// Whether a search of a file makes these calls.
-fn makes_calls<F: Read>(alloc: Global, searcher: &mut Searcher, file: &mut F, calls: &str) -> bool {
-    let mut recorder = Recorder::new(alloc, None, None);
-    match search_file_for_a(searcher, file, &mut recorder) {
-        Ok(()) => recorder.text() == calls,
-        Err(_) => false,
-    }
-}
-
 // Whether a search of an open file makes the calls, and one at the file's end makes none but the
 // first and the last.
 fn finds_by_file(rt: &HostRuntime, searcher: &mut Searcher, path: Path<'_>) -> bool {
-    match File::open(rt, path) {
-        Ok(mut file) => {
-            makes_calls(rt.alloc(), searcher, &mut file, CALLS)
-                && makes_calls(rt.alloc(), searcher, &mut file, "begin;finish 0 -;")
-        }
-        Err(_) => false,
-    }
+    let Ok(mut file) = File::open(rt, path) else {
+        return false;
+    };
+    let first = end_in(rt.alloc(), searcher, letter(), &mut file, CALLS);
+    let second = end_in(
+        rt.alloc(),
+        searcher,
+        letter(),
+        &mut file,
+        "begin;finish 0 -;",
+    );
+    matches!(first, End::Done) && matches!(second, End::Done)
 }
 
 // Whether searches that report a line after each match do, of a path and of an open file.
 fn finds(rt: &HostRuntime, path: Path<'_>) -> bool {
     match SearcherBuilder::new().after_context(1).build(rt.alloc()) {
         Ok(mut searcher) => {
-            finds_by_path(rt, &mut searcher, path) && finds_by_file(rt, &mut searcher, path)
+            matches!(end_at(rt, &mut searcher, letter(), path, CALLS), End::Done)
+                && finds_by_file(rt, &mut searcher, path)
         }
         Err(_) => false,
     }
@@ -101,42 +121,11 @@ fn files(rt: HostRuntime) {
     assert!(rt; finds_in_files(&rt));
 }
 
-// How a search ends that is refused.
-#[derive(Clone, Copy)]
-enum End {
-    // the file can't be opened or read, by this error of the system
-    Unread(Option<i32>),
-    Refused,
-    // the matcher names another terminator
-    Mismatched,
-    Otherwise,
-}
-
 // The end of a search of a path whose searcher refuses each search.
 fn end_of(rt: &HostRuntime, path: Path<'_>) -> End {
     match SearcherBuilder::new().heap_limit(Some(0)).build(rt.alloc()) {
-        Ok(mut searcher) => end_by(rt, &mut searcher, path),
+        Ok(mut searcher) => end_at(rt, &mut searcher, letter(), path, ""),
         Err(_) => End::Otherwise,
-    }
-}
-
-// That end, if the sink had no call.
-fn end_by(rt: &HostRuntime, searcher: &mut Searcher, path: Path<'_>) -> End {
-    let mut recorder = Recorder::new(rt.alloc(), None, None);
-    let end = how_ended(search_path(rt, searcher, path, &mut recorder));
-    if recorder.text().is_empty() {
-        end
-    } else {
-        End::Otherwise
-    }
-}
-
-fn how_ended(ended: Result<(), SearchError>) -> End {
-    match ended {
-        Err(SearchError::Io(error)) => End::Unread(error.raw_os_error()),
-        Err(SearchError::Config(ConfigError::SearchUnavailable)) => End::Refused,
-        Err(SearchError::Config(ConfigError::MismatchedLineTerminators { .. })) => End::Mismatched,
-        _ => End::Otherwise,
     }
 }
 
@@ -144,7 +133,9 @@ fn how_ended(ended: Result<(), SearchError>) -> End {
 fn opens(rt: &HostRuntime, path: Path<'_>) -> bool {
     let is_refused = matches!(end_of(rt, path), End::Refused);
     match path.join(rt.alloc(), "below") {
-        Ok(below) => { is_refused && matches!(end_of(rt, below.as_path()), End::Unread(Some(20))) }
+        Ok(below) => {
+            is_refused && matches!(end_of(rt, below.as_path()), End::Unread(_, Some(20)))
+        }
         Err(_) => false,
     }
 }
@@ -152,7 +143,7 @@ fn opens(rt: &HostRuntime, path: Path<'_>) -> bool {
 // Whether it opens no file before there is one. The system's error 2 is that of a path that doesn't
 // exist, and 20 that of one below a file.
 fn opens_first(rt: &HostRuntime, path: Path<'_>) -> bool {
-    let is_missing = matches!(end_of(rt, path), End::Unread(Some(2)));
+    let is_missing = matches!(end_of(rt, path), End::Unread(_, Some(2)));
     let is_opened = fs::write(rt, path, INPUT).is_ok() && opens(rt, path);
     fs::remove_file(rt, path).is_ok() && is_missing && is_opened
 }
@@ -173,52 +164,44 @@ fn opens_before_anything_else(rt: HostRuntime) {
 // A matcher of the literal `a` that names another terminator than a searcher has by default.
 fn naming() -> Naming<LiteralMatcher<'static>> {
     Naming {
-        matcher: LiteralMatcher::borrowed(b"a"),
+        matcher: letter(),
         terminator: LineTerminator::byte(b'z'),
     }
 }
 
-// The end of a search of a path with that matcher, if the sink had no call.
-fn mismatched_end_of(rt: &HostRuntime, path: Path<'_>) -> End {
-    let mut recorder = Recorder::new(rt.alloc(), None, None);
-    let end = match Searcher::new(rt.alloc()) {
-        Ok(mut searcher) => how_ended(searcher.search_path(rt, naming(), path, &mut recorder)),
-        Err(_) => End::Otherwise,
-    };
-    if recorder.text().is_empty() {
-        end
-    } else {
-        End::Otherwise
-    }
-}
-
-// Whether such a search opens the file first, too: `/` is a folder, which can be opened.
-#[test]
-fn opens_before_it_looks_at_terminators(rt: HostRuntime) {
-    let missing = mismatched_end_of(&rt, Path::new("/missing"));
-    let folder = mismatched_end_of(&rt, Path::new("/"));
-    assert!(rt; matches!(missing, End::Unread(Some(2))) && matches!(folder, End::Mismatched));
+// Whether a search with that matcher opens the file first, too: `/` is a folder, which can be
+// opened.
+fn opens_before_terminators(rt: &HostRuntime, searcher: &mut Searcher) -> bool {
+    let missing = end_at(rt, searcher, naming(), Path::new("/missing"), "");
+    let folder = end_at(rt, searcher, naming(), Path::new("/"), "");
+    matches!(missing, End::Unread(_, Some(2))) && matches!(folder, End::Mismatched)
 }
 
 // Whether a search of a folder ends in the error of reading it, the system's 21, after `begin`.
-fn reads_no_folder(rt: &HostRuntime) -> bool {
-    let mut recorder = Recorder::new(rt.alloc(), None, None);
-    let end = match Searcher::new(rt.alloc()) {
-        Ok(mut searcher) => how_ended(search_path(
-            rt,
-            &mut searcher,
-            Path::new("/"),
-            &mut recorder,
-        )),
-        Err(_) => End::Otherwise,
-    };
-    matches!(end, End::Unread(Some(21))) && recorder.text() == "begin;"
+fn reads_no_folder(rt: &HostRuntime, searcher: &mut Searcher) -> bool {
+    let folder = end_at(rt, searcher, letter(), Path::new("/"), "begin;");
+    matches!(folder, End::Unread(_, Some(21)))
+}
+
+// Whether both are so.
+fn opens_folders(rt: &HostRuntime) -> bool {
+    match Searcher::new(rt.alloc()) {
+        Ok(mut searcher) => {
+            opens_before_terminators(rt, &mut searcher) && reads_no_folder(rt, &mut searcher)
+        }
+        Err(_) => false,
+    }
+}
+
+#[test]
+fn opens_before_it_looks_at_terminators_and_reads(rt: HostRuntime) {
+    assert!(rt; opens_folders(&rt));
 }
 
 // Whether a search of a file that can't be opened ends in the error of opening it.
 fn passes_on_error(rt: &HostRuntime, path: Path<'_>) -> bool {
     match (File::open(rt, path), end_of(rt, path)) {
-        (Err(error), End::Unread(found)) => found == error.raw_os_error(),
+        (Err(error), End::Unread(_, found)) => found == error.raw_os_error(),
         (Err(_), _) => false,
         (Ok(_), _) => true,
     }
@@ -228,8 +211,7 @@ fn passes_on_error(rt: &HostRuntime, path: Path<'_>) -> bool {
 #[test]
 fn what_cannot_be_read(rt: HostRuntime) {
     assert!(rt;
-        reads_no_folder(&rt)
-            && matches!(end_of(&rt, Path::new("/")), End::Refused)
+        matches!(end_of(&rt, Path::new("/")), End::Refused)
             && passes_on_error(&rt, Path::new("/proc/1/environ"))
     );
 }
@@ -238,16 +220,13 @@ fn what_cannot_be_read(rt: HostRuntime) {
 // before any call and any read.
 fn is_mismatched(alloc: Global) -> bool {
     match SearcherBuilder::new().multi_line(true).build(alloc) {
-        Ok(mut searcher) => is_mismatched_by(alloc, &mut searcher),
+        Ok(mut searcher) => {
+            let mut file = Pieces::new(b"a\n", 0, None);
+            let end = end_in(alloc, &mut searcher, naming(), &mut file, "");
+            matches!(end, End::Mismatched) && file.reads() == 0
+        }
         Err(_) => false,
     }
-}
-
-fn is_mismatched_by(alloc: Global, searcher: &mut Searcher) -> bool {
-    let mut file = Pieces::new(b"a\n", 0, None);
-    let mut recorder = Recorder::new(alloc, None, None);
-    let end = how_ended(search_file(searcher, naming(), &mut file, &mut recorder));
-    matches!(end, End::Mismatched) && file.reads() == 0 && recorder.text().is_empty()
 }
 
 #[test]
@@ -255,64 +234,50 @@ fn refuses_another_terminator(rt: HostRuntime) {
     assert!(rt; is_mismatched(rt.alloc()));
 }
 
-// A searcher that reads no byte ahead to look for a mark.
-fn reading(alloc: Global) -> Result<Searcher, ConfigError> {
-    SearcherBuilder::new().bom_sniffing(false).build(alloc)
-}
-
 // Whether a search of 131,072 bytes, whose lines end where the line buffer does, reads them in two
 // reads, and is at the end at the third.
-fn has_large_reads(alloc: Global) -> bool {
-    match vec![in alloc; b'\n'; 1 << 17] {
-        Ok(input) => has_three_reads(alloc, &input),
-        Err(_) => false,
-    }
-}
-
-fn has_three_reads(alloc: Global, input: &[u8]) -> bool {
-    match reading(alloc) {
-        Ok(mut searcher) => has_three_reads_by(alloc, &mut searcher, input),
-        Err(_) => false,
-    }
-}
-
-fn has_three_reads_by(alloc: Global, searcher: &mut Searcher, input: &[u8]) -> bool {
-    let mut file = Pieces::new(input, 0, None);
-    makes_calls(alloc, searcher, &mut file, "begin;finish 131072 -;") && file.reads() == 3
+fn has_large_reads(alloc: Global, searcher: &mut Searcher) -> bool {
+    let Ok(input) = vec![in alloc; b'\n'; 1 << 17] else {
+        return false;
+    };
+    let mut file = Pieces::new(&input, 0, None);
+    let end = end_in(
+        alloc,
+        searcher,
+        letter(),
+        &mut file,
+        "begin;finish 131072 -;",
+    );
+    matches!(end, End::Done) && file.reads() == 3
 }
 
 // Whether a search of a file whose second read fails reports the line before, and then ends in the
 // file's error, without another read.
-fn is_cut(alloc: Global, kind: ErrorKind) -> bool {
-    match reading(alloc) {
-        Ok(mut searcher) => is_cut_by(alloc, &mut searcher, kind),
+fn is_cut(alloc: Global, searcher: &mut Searcher, kind: ErrorKind) -> bool {
+    let mut file = Pieces::new(b"a\n", 0, Some((2, io::Error::from(kind))));
+    let end = end_in(
+        alloc,
+        searcher,
+        letter(),
+        &mut file,
+        "begin;match 1 0 610a;",
+    );
+    matches!(end, End::Unread(found, _) if found == kind) && file.reads() == 2
+}
+
+// Whether both are so of a searcher that reads no byte ahead to look for a mark.
+fn reads_files(alloc: Global) -> bool {
+    match SearcherBuilder::new().bom_sniffing(false).build(alloc) {
+        Ok(mut searcher) => {
+            has_large_reads(alloc, &mut searcher)
+                && is_cut(alloc, &mut searcher, ErrorKind::Interrupted)
+                && is_cut(alloc, &mut searcher, ErrorKind::WouldBlock)
+        }
         Err(_) => false,
     }
 }
 
-fn is_cut_by(alloc: Global, searcher: &mut Searcher, kind: ErrorKind) -> bool {
-    let mut file = Pieces::new(b"a\n", 0, Some((2, io::Error::from(kind))));
-    let mut recorder = Recorder::new(alloc, None, None);
-    let ended = search_file_for_a(searcher, &mut file, &mut recorder);
-    is_error(ended, kind) && file.reads() == 2 && recorder.text() == "begin;match 1 0 610a;"
-}
-
-// Whether a search ended in an error of a reader of this kind.
-fn is_error(ended: Result<(), SearchError>, kind: ErrorKind) -> bool {
-    match ended {
-        Err(SearchError::Io(error)) => error.kind() == kind,
-        _ => false,
-    }
-}
-
 #[test]
-fn large_reads(rt: HostRuntime) {
-    assert!(rt; has_large_reads(rt.alloc()));
-}
-
-#[test]
-fn faults(rt: HostRuntime) {
-    assert!(rt;
-        is_cut(rt.alloc(), ErrorKind::Interrupted) && is_cut(rt.alloc(), ErrorKind::WouldBlock)
-    );
+fn reads(rt: HostRuntime) {
+    assert!(rt; reads_files(rt.alloc()));
 }
