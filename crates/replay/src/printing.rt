@@ -124,7 +124,7 @@ fn print_texts<M: FindAt, P: Printer, W: Output>(
     let mut searcher = row.search.build(alloc)?;
     if let Searched::Long = row.searched {
         let text = long_text(alloc)?;
-        printer.print(&mut searcher, matcher, LONG_PATH, &text, writer)?;
+        return printer.print(&mut searcher, matcher, LONG_PATH, &text, writer);
     }
     for (path, text) in texts(row.searched) {
         printer.print(&mut searcher, matcher, path, text, writer)?;

@@ -86,7 +86,15 @@ fn finds_in_each(alloc: Global) -> Result<bool, SearchError> {
     let mut searcher = Searcher::new(alloc)?;
     let letter = LiteralMatcher::borrowed(b"b");
     let firsts = first_in_each(alloc, &mut searcher, &letter, INPUT)?;
-    Ok(matches!(firsts.as_slice(), [at_end, at_start] if at_end.end() == 2 && at_start.end() == 1))
+    Ok(are_firsts(&firsts))
+}
+
+// Whether the first is at the end of `ab`, and the second at the start of `ba`.
+fn are_firsts(firsts: &[Match]) -> bool {
+    match firsts {
+        [at_end, at_start] => at_end.end() == 2 && at_start.end() == 1,
+        _ => false,
+    }
 }
 
 #[test]
