@@ -1,11 +1,11 @@
 -- The lines in which the parts of a report start, pushed or put one after another.
-use Rattle.std.proofs.Common.{◌≡◌, ◌≤◌, ◌∙◌, ℕ, ◌+◌, List, [], ◌∷◌, ◌++◌, length, arith, ap, refl, subst, sym, Option}
+use Rattle.std.proofs.Common.{◌≡◌, ◌≤◌, ◌∙◌, ℕ, ◌+◌, List, [], ◌∷◌, ◌++◌, length, arith, ap, subst, sym, Option}
 use Rattle.std.specs.Prelude.{◌<◌, ◌==◌, count_by, false, if◌then◌else◌, slice_range}
 use Rattle.grep_lines.specs.Blocks.{lines_before}
 use Rattle.grep_output.specs.Outputs.{OutputCall}
 use Rattle.grep_output.specs.PendingTexts.{pending_bytes}
 use Rattle.grep_printer.proofs.FoundPartLemmas.{ordered-from}
-use Rattle.grep_printer.proofs.PartTextLemmas.{IsWriting, writing-done, writing-more}
+use Rattle.grep_printer.proofs.PartTextLemmas.{IsWriting, writing-more}
 use Rattle.grep_printer.proofs.PassedLineLemmas.{lines-passed}
 use Rattle.grep_printer.proofs.TextWriterLemmas.{HasPut}
 use Rattle.grep_printer.specs.Formats.{Scene}
@@ -13,7 +13,6 @@ use Rattle.grep_printer.specs.LineTexts.{end_byte, number_after}
 use Rattle.grep_printer.specs.MatchedParts.{AreInOrder}
 use Rattle.grep_printer.specs.Reports.{line_kind, reporting_call}
 use Rattle.grep_printer.specs.StandardTexts.{is_hidden, layout_of, text_before}
-use Rattle.grep_printer.specs.TextWriters.{PutsText}
 use Rattle.grep_printer.specs.VimgrepTexts.{part_line, part_lines, vimgrep_text}
 use Rattle.grep_printer.specs.declared.config.Config.{Config}
 use Rattle.grep_printer.specs.declared.fields.Layout.{Layout}
@@ -61,24 +60,6 @@ pub record IsPuttingLines {W : Type 0} (step : W → OutputCall → W → Type 0
     pub has : HasPut step old text now
     pub kept : length (pending_bytes now.pending.now) ≤ now.buffer_size
     pub listing : IsListing layout report start all text passed position rest
-
--- all of them are
-pub lines-put : {W : Type 0} (step : W → OutputCall → W → Type 0) (layout : Layout) (report : Report) (start : List ℕ)
-    (all : List (ℕ × ℕ)) (old now : TextWriter W) (passed position : ℕ) (rest : List (ℕ × ℕ))
-    → IsPuttingLines step layout report start all old now passed position rest → rest ≡ []
-    → PutsText step old
-    (start ++ part_lines layout (line_kind report.kind) report.offset report.bytes.now report.number all) now
-lines-put step layout report start all old now passed position rest putting none =
-    let whole : putting.text ≡ start ++ part_lines layout (line_kind report.kind) report.offset report.bytes.now
-    report.number all = writing-done _ (length report.bytes.now) start all putting.text rest putting.listing.writing
-    (ap (λ ps. part_lines layout (line_kind report.kind) report.offset report.bytes.now report.number ps) none) in
-    subst (λ t. PutsText step old t now) whole (record {
-      same = putting.has.same;
-      put = putting.has.put;
-      kept = putting.kept;
-      unwritten = putting.has.unwritten;
-      has_written = putting.has.has_written;
-    })
 
 -- the text of a report with parts, unless it is hidden: what comes before a report, and their lines
 pub shown-text : (config : Config) (progress : Progress) (scene : Scene) (layout : Layout) (number : Option ℕ)
