@@ -61,10 +61,10 @@ fn compile(
     words: &Words<'_>,
 ) -> Result<Regex, Error> {
     let patterns = patterns(alloc, words)?;
-    if are_literals {
-        builder.build_literals(alloc, &patterns)
-    } else {
-        builder.build_many(alloc, &patterns)
+    match patterns.as_slice() {
+        literals if are_literals => builder.build_literals(alloc, literals),
+        [pattern] => builder.build(alloc, pattern),
+        many => builder.build_many(alloc, many),
     }
 }
 
@@ -98,8 +98,8 @@ fn write_answer<W: io::Write>(
     }
 }
 
-// Whether the expression has a matcher of a literal, or `differs` if another matcher than that which
-// answered this does.
+// Whether the expression has a matcher of a literal, or `differs` if another matcher than the one
+// that has answered this answers otherwise.
 fn others_answer(alloc: Global, regex: &Regex, words: &Words<'_>, text: &[u8]) -> &'static str {
     if !named_answers(alloc, regex, words, text) {
         return "differs";
