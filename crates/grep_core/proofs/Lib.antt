@@ -3,6 +3,7 @@ pub mod ReaderSearchLemmas
 pub mod OrderLemmas
 pub mod QuittingLemmas
 pub mod ReadingLemmas
+pub mod ReportedLineLemmas
 pub mod ResultLemmas
 pub mod RollingLemmas
 pub mod StreamSearchLemmas

@@ -1,5 +1,6 @@
 pub mod BinaryCalls
 pub mod HeldViews
 pub mod QuittingSinks
+pub mod ReportedLines
 pub mod Rolls
 pub mod SearchBuffers

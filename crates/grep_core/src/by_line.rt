@@ -16,6 +16,7 @@ ghost use Rattle.grep_walk.specs.Windows.{HasSearched, HasPassed};
 ghost use Rattle.grep_walk.specs.Origins.{IsMadeToFrom, Origin};
 ghost use Rattle.grep_report.specs.ErrorMakers.{makers_of};
 
+use crate::chosen_lines::Offered;
 use crate::search::{Configured, Search};
 use crate::sink_calls::SinkCalls;
 use grep_matcher::Matcher;
@@ -127,39 +128,76 @@ impl<'c, A: Allocator + Copy, T: Configured> Search<'c, A, T> {
         let reporting = self.config.reporting();
         let mut start = start;
         let mut ahead = NOTHING_AHEAD;
-        // What is asked of the lines after one that matches: nothing until the sink has taken lines
-        // at once, since it may take none.
+        // What is asked about the lines after a chosen one: nothing unless the sink took the last lines
+        // that it was offered, since it may take none.
         let mut further = Questions::OneLine;
+        let many = self.config.questions_after_chosen(questions);
+        // The matcher's error at a question about lines that the walk hasn't come to.
+        let mut failure = None;
         'lines: loop {
-            ahead = match self
-                .config
-                .look_ahead(matcher, questions, window, start, walk, ahead)
-            {
+            ahead = match self.config.look_ahead(
+                matcher,
+                questions,
+                window,
+                start,
+                walk,
+                ahead,
+                &mut failure,
+            ) {
                 Ok(ahead) => ahead,
                 Err(error) => return Err(C::Error::error_message(self.alloc, error)),
             };
             start = self
                 .config
                 .skip_unmatched(reporting, window, start, &ahead, walk);
-            if let Some(lines) = self.sink_chosen_lines::<M, C>(
-                matcher, reporting, further, window, start, walk, &ahead, sink,
+            match self.sink_chosen_lines::<M, C>(
+                matcher,
+                reporting,
+                further,
+                window,
+                start,
+                walk,
+                &ahead,
+                &mut failure,
+                sink,
             )? {
-                *walk = self.config.after_chosen(walk, start, &lines);
-                start = lines.end;
-                ahead = lines.ahead;
-                further = questions;
-                continue;
+                Offered::Nothing => {}
+                Offered::Taken(lines) => {
+                    *walk = self.config.after_chosen(walk, start, &lines);
+                    start = lines.end;
+                    ahead = lines.ahead;
+                    further = many;
+                    continue;
+                }
+                Offered::Declined(lines) => {
+                    let end = lines.end;
+                    if let Some(offset) = self.sink_one_by_one::<C>(
+                        window, start, end, *walk, sink,
+                    )? {
+                        walk.offset = offset;
+                        return Ok(false);
+                    }
+                    *walk = self.config.after_chosen(walk, start, &lines);
+                    start = end;
+                    ahead = lines.ahead;
+                    further = Questions::OneLine;
+                    continue;
+                }
             }
-            if let Some(lines) = self
-                .config
-                .passed_lines(matcher, questions, window, start, walk, &ahead)
-            {
+            if let Some(lines) = self.config.passed_lines(
+                matcher,
+                questions,
+                window,
+                start,
+                walk,
+                &ahead,
+                &mut failure,
+            ) {
                 *walk = walk.after_passed(start, &lines);
                 start = lines.end;
                 ahead = lines.ahead;
                 continue;
             }
-            further = Questions::OneLine;
             let Some(end) = ahead.line_end(window, start, terminator) else {
                 return Ok(true);
             };

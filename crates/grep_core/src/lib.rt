@@ -4,6 +4,7 @@
 
 mod buffers;
 mod by_line;
+mod chosen_lines;
 mod contents;
 mod multi_line;
 mod quitting;

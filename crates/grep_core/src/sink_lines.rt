@@ -1,25 +1,21 @@
 //! What a walk reports of a line: the lines before a match, the match, a line after one, or any
 //! line under `passthru`.
 ghost use Rattle.std.specs.Prelude.{◌≡◌, ◌≤◌, ◌<◌, ◌+◌, ◌-◌, ◌^◌, ℕ, true, List, length, IsOk};
-ghost use Rattle.std.specs.Prelude.{IfErr, IfNone, IfOk, IfSome, slice_range};
+ghost use Rattle.std.specs.Prelude.{slice_range};
 ghost use Rattle.grep_definitions.specs.CallOrder.{HasCalled};
-ghost use Rattle.grep_definitions.specs.Plans.{context, AreMade, NeverFails, all_true, failed};
+ghost use Rattle.grep_definitions.specs.Plans.{context, AreMade, NeverFails};
 ghost use Rattle.grep_definitions.specs.LineCalls.{break_calls, after_calls};
 ghost use Rattle.grep_definitions.specs.SearchLaws.{number_of};
 ghost use Rattle.grep_definitions.specs.LineCalls.{before_calls, pending_calls, selected_calls};
 ghost use Rattle.grep_definitions.specs.SinkRuns.{outcome_of};
-ghost use Rattle.grep_walk.specs.ChosenLines.{AreChosen, chosen_calls};
-ghost use Rattle.grep_walk.specs.declared.line_run.LineRun.{LineRun};
-ghost use Rattle.grep_walk.specs.LookAheads.{AreAllowed, IsBounded, IsReporting};
-ghost use Rattle.grep_walk.specs.Walks.{IsOrdered, chooses, counts_lines, line_calls, line_end};
+ghost use Rattle.grep_walk.specs.Walks.{chooses, counts_lines, line_calls, line_end};
 ghost use Rattle.grep_walk.specs.Walks.{trails};
 ghost use Rattle.grep_walk.specs.Windows.{IsInWindow, IsLineIn};
 
 use crate::search::{Configured, Search};
 use crate::sink_calls::SinkCalls;
-use grep_matcher::Matcher;
 use grep_report::{SinkContext, SinkContextKind, SinkMatch};
-use grep_walk::{Ahead, LineRun, Questions, Reporting, Verdict, Walk};
+use grep_walk::{Verdict, Walk};
 use std::alloc::Allocator;
 
 // What each line goes through is inlined into the loops: called, it made a search that reports
@@ -276,59 +272,6 @@ impl<'c, A: Allocator + Copy, T: Configured> Search<'c, A, T> {
         match C::matched(self, sink, &found) {
             Ok(goes_on) => return Ok(goes_on),
             Err(error) => return Err(error),
-        }
-    }
-
-    // Reports lines from `start` on that are chosen one after another, if there are some and the
-    // sink takes them at once, and returns them; `None` if nothing was reported.
-    #[inline(always)]
-    pub(crate) fn sink_chosen_lines<M: Matcher, C: SinkCalls<T>>(
-        &self,
-        matcher: &M,
-        reporting: Reporting,
-        questions: Questions,
-        window: &[u8],
-        start: usize,
-        walk: &Walk,
-        ahead: &Ahead,
-        sink: &mut C::Sink,
-    ) -> Result<Option<LineRun>, C::Error>
-        requires reporting { IsReporting self.now.config reporting }
-        requires allowed { AreAllowed self.now.config (M.facts matcher.now).meaning questions }
-        requires bounded { IsBounded window.now ahead.now }
-        requires inside { start ≤ length window.now }
-        requires fits { walk.now.offset + (length window.now - start) < 2 ^ 64 }
-        requires ordered { IsOrdered walk.now }
-        requires may_call { C.may_call sink.old }
-        ensures none { IfOk result (λ lines. IfNone lines (sink.new ≡ sink.old)) }
-        ensures some { IfOk result (λ lines. IfSome lines (λ lines.
-            AreChosen self.now.config (M.facts matcher.now) window.now start ahead.now walk.now
-            lines
-            × AreMade C.step self.now.config sink.old
-            (chosen_calls self.now.config window.now start lines.end walk.now) all_true
-            sink.new)) }
-        ensures error { IfErr result (λ e. (lines : LineRun)
-            × AreChosen self.now.config (M.facts matcher.now) window.now start ahead.now walk.now
-            lines
-            × AreMade C.step self.now.config sink.old
-            (chosen_calls self.now.config window.now start lines.end walk.now) (failed e)
-            sink.new) }
-        ensures succeeds { NeverFails C.step C.may_call → IsOk result }
-        ensures may_call { C.may_call sink.new }
-    {
-        let chosen = self
-            .config
-            .chosen_lines(matcher, reporting, questions, window, start, walk, ahead);
-        let Some(lines) = chosen else {
-            return Ok(None);
-        };
-        let number = self.config.number(walk.line);
-        let range = start..lines.end;
-        let found = SinkMatch::new(self.terminator(), number, walk.offset, window, range);
-        match C::matched_lines(self, sink, &found) {
-            Ok(true) => Ok(Some(lines)),
-            Ok(false) => Ok(None),
-            Err(error) => Err(error),
         }
     }
 

@@ -580,6 +580,7 @@ impl<'s, F: Format, M: FindAt, W: Output> Sink for PrinterSink<'s, F, M, W> {
 
     /// Keeps the texts of lines, if the format pushes them at once, where there is memory for them
     /// and less text is kept than is written at once. It writes nothing.
+    #[inline(always)]
     fn matched_lines<A: Allocator + Copy>(
         &mut self,
         searcher: &Searcher<A>,

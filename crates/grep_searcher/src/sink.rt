@@ -58,7 +58,8 @@ pub trait Sink {
     /// Lines one after another, each of which is a match. Returns whether the sink takes them at
     /// once: then it is as if `matched` were called for each, and returned true, or as if one of
     /// these calls failed, with an error that is the sink's own. If it doesn't take them, nothing
-    /// has changed, and the search calls `matched` for each line.
+    /// has changed, and the search calls `matched` for each line, or for the first ones until it
+    /// takes those that are left.
     ///
     /// The lines are those of `lines`, whose number and offset are the first line's. A search gives
     /// them where it knows that lines in a row are matches and nothing else is to be reported: under

@@ -24,6 +24,7 @@ use Rattle.grep_walk.specs.declared.line_run.LineRun.{LineRun}
 use Rattle.grep_walk.specs.declared.walk.Walk.{Walk}
 use Rattle.grep_walk.specs.ChosenLines.{after_chosen, chooses_alone, chosen_calls}
 use Rattle.grep_walk.specs.LineRuns.{AreAlike}
+use Rattle.grep_walk.specs.LookAheads.{MayAskAhead, MayAskOn}
 use Rattle.grep_walk.specs.Origins.{AreMadeFrom, IsMadeToFrom, Origin}
 use Rattle.grep_walk.specs.Walks.{IsDecided, after_line, is_over, line_calls, line_end}
 use Rattle.grep_walk.specs.Windows.{HasSearched}
@@ -42,6 +43,15 @@ is_alone k w is = record {
   close = ⊎_elim (λ same. inl (grind (arith, nat_tests)))
       (λ other. inr (grind (arith, nat_tests), grind (arith, nat_tests)))
       (cases_eq w.next_unreported w.line);
+}
+
+-- many lines may be asked about after such lines, if that is allowed at all
+pub may-ask-after : (k : Settings) (meaning : Meaning) (w after : Walk) → chooses_alone k w ≡ true
+    → MayAskOn k meaning → MayAskAhead k meaning after
+may-ask-after k meaning w after is may = record {
+  allowed = may.allowed;
+  room = grind (arith, (is_alone k w is).unlimited);
+  unstopped = grind (arith, may.unstopped);
 }
 
 -- nothing is reported before such a line

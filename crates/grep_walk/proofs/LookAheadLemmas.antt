@@ -23,16 +23,8 @@ use Rattle.grep_lines.proofs.LineStepLemmas.{IsAt-start, IsStep-line, lines-at-m
 use Rattle.grep_definitions.specs.LineCalls.{matches_line}
 use Rattle.grep_definitions.specs.Plans.{Settings}
 use Rattle.grep_matcher.proofs.LineStartLemmas.{line_start-last, line_start-le}
-use Rattle.grep_walk.specs.LookAheads.{AreAllowed, AreQuestions, IsKnown}
-use Rattle.grep_walk.specs.declared.look_ahead.Questions.{Questions}
-use Rattle.grep_walk.specs.declared.look_ahead.Questions.TheVariants.{ManyLines, OneLine}
+use Rattle.grep_walk.specs.LookAheads.{IsKnown}
 use Rattle.grep_lines.proofs.LineRangeLemmas.{end-start, line-from, start-same}
-
--- what a search may ask is allowed
-pub are-allowed : (k : Settings) (meaning : Meaning) (questions : Questions)
-    → AreQuestions k meaning questions → AreAllowed k meaning questions
-are-allowed k meaning OneLine are = tt
-are-allowed k meaning ManyLines are = are
 
 -- the line of a position extends from one position up to another
 pub record IsLocated (t : ℕ) (bytes : List ℕ) (position : ℕ) (line : ℕ × ℕ) : Type 0 where

@@ -1,14 +1,14 @@
 -- A walk that may have skipped lines uncounted, against the calls that are defined for the input:
 -- where lines aren't counted, no call depends on their count.
 use Rattle.std.proofs.Common.{◌≡◌, ℕ, ◌+◌, ◌-◌, ◌<◌, ◌≤◌, min, Bool, true, false, if◌then◌else◌}
-use Rattle.std.proofs.Common.{List, [], ◌++◌, length, drop, None, Option, refl, sym, ◌∙◌, ap, ap₂}
+use Rattle.std.proofs.Common.{List, [], ◌++◌, length, drop, Option, refl, sym, ◌∙◌, ap, ap₂}
 use Rattle.std.proofs.Common.{arith, subst, ⊎_elim}
 use Rattle.std.proofs.lemmas.Bool.Decides.{nat_tests}
 use Rattle.std.proofs.lemmas.Bool.{cases_lt}
-use Rattle.std.specs.Prelude.{IfSome, nat_lt, slice_range}
+use Rattle.std.specs.Prelude.{IfSome, slice_range}
 use Rattle.grep_lines.specs.Positions.{IsLine, IsLineStart}
 use Rattle.grep_matcher.specs.Lines.{lines, strip, byte_of}
-use Rattle.grep_definitions.specs.Plans.{joined_from, Settings, Steps, Outcome, AreMade, all_true}
+use Rattle.grep_definitions.specs.Plans.{joined_from, Settings, Steps, Outcome, AreMade}
 use Rattle.grep_definitions.specs.Plans.{IsLawful}
 use Rattle.grep_definitions.specs.LineCalls.{listed_calls, selected_calls, matches_line}
 use Rattle.grep_definitions.specs.LineCalls.{pending_calls}

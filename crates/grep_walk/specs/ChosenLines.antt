@@ -1,6 +1,6 @@
 -- A walk over lines one after another that are chosen, where none of them makes another call than
 -- that of its match. No contract of grep_searcher cites these definitions.
-use Rattle.std.specs.Prelude.{◌≡◌, ◌+◌, ◌≤◌, ◌⊎◌, ◌&&◌, ◌||◌, ◌==◌, Bool, true, List, ℕ}
+use Rattle.std.specs.Prelude.{◌≡◌, ◌+◌, ◌≤◌, ◌&&◌, ◌||◌, ◌==◌, Bool, true, List, ℕ}
 use Rattle.std.specs.Prelude.{is_none, slice_range}
 use Rattle.grep_definitions.specs.MatchedLines.{calls_of_lines}
 use Rattle.grep_definitions.specs.Plans.{Planned, Settings, hits_if}

@@ -1,7 +1,7 @@
 -- Lines of a window one after another, all of which match, or none of them. No contract of
 -- grep_searcher cites these definitions.
 use Rattle.std.specs.Prelude.{◌≡◌, ◌+◌, ◌-◌, ◌<◌, ◌≤◌, Bool, true, false, List, ℕ}
-use Rattle.std.specs.Prelude.{length, slice_range}
+use Rattle.std.specs.Prelude.{drop, length, slice_range}
 use Rattle.grep_definitions.specs.LineCalls.{matches_line}
 use Rattle.grep_definitions.specs.Plans.{IsLawful, Settings, hits_if}
 use Rattle.grep_lines.specs.Positions.{IsLine, IsLineStart}
@@ -33,6 +33,13 @@ pub record IsRun {E : Type 0} (settings : Settings) (facts : MatcherFacts E) (wi
       → (i : ℕ) → IsLineStart (byte_of settings.line_terminator) window start i
       → IsKnown settings facts.meaning window start ahead
       → AreAlike settings facts.meaning window start i matches run
+
+-- the matcher failed at the lines after them, of which nothing is known
+pub record HasFailed {E : Type 0} (facts : MatcherFacts E) (window : List ℕ) (run : LineRun)
+    (error : E) : Type 0 where
+  pub inside : run.end < length window
+  pub unknown : run.ahead.match_end ≤ run.end
+  pub fails : facts.fails (drop run.end window) error
 
 -- a walk passes lines that match, since none of them is chosen under inversion
 pub record ArePassed {E : Type 0} (settings : Settings) (facts : MatcherFacts E) (window : List ℕ)

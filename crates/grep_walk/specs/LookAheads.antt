@@ -1,9 +1,10 @@
 -- What a walk knows of the lines from its line on, and which of them it may skip. No contract of
 -- grep_searcher cites these definitions.
 use Rattle.std.specs.Prelude.{◌≡◌, ℕ, ◌<◌, ◌≤◌, Bool, true, false, not, ◌&&◌, ◌||◌, ◌==◌}
-use Rattle.std.specs.Prelude.{if◌then◌else◌, nat_lt, List, length, Option, Some, None, slice_range}
+use Rattle.std.specs.Prelude.{if◌then◌else◌, drop, nat_lt, List, length, Option, Some, None}
+use Rattle.std.specs.Prelude.{slice_range}
 use Rattle.grep_lines.specs.Positions.{IsLine, IsLineStart}
-use Rattle.grep_matcher.specs.Meanings.{Meaning}
+use Rattle.grep_matcher.specs.Meanings.{MatcherFacts, Meaning}
 use Rattle.grep_matcher.specs.Lines.{byte_of}
 use Rattle.grep_definitions.specs.Plans.{has_room, hits_if, AsksAhead, is_declared, Settings}
 use Rattle.grep_definitions.specs.Plans.{stops_next}
@@ -58,16 +59,30 @@ abbrev pub AreQuestions : Settings → Meaning → Questions → Type 0
 AreQuestions settings meaning OneLine = AsksAhead settings meaning → ⊥
 AreQuestions settings meaning ManyLines = AsksAhead settings meaning
 
--- the settings and the matcher allow these questions
+-- many lines may be asked about at once after lines that are chosen
+pub record MayAskOn (settings : Settings) (meaning : Meaning) : Type 0 where
+  pub allowed : AsksAhead settings meaning
+  pub straight : settings.invert_match ≡ false
+  pub unstopped : settings.stop_on_nonmatch ≡ false
+
+-- the settings and the matcher allow these questions about the lines after a chosen one
 abbrev pub AreAllowed : Settings → Meaning → Questions → Type 0
 AreAllowed settings meaning OneLine = Unit {0}
-AreAllowed settings meaning ManyLines = AsksAhead settings meaning
+AreAllowed settings meaning ManyLines = MayAskOn settings meaning
 
 -- a walk may ask about many lines at once
 pub record MayAskAhead (settings : Settings) (meaning : Meaning) (w : Walk) : Type 0 where
   pub allowed : AsksAhead settings meaning
   pub room : has_room settings w.match_count ≡ true
   pub unstopped : stops_next settings (nat_lt 0 w.match_count) ≡ false
+
+-- the matcher failed at the lines from where a walk is on, of which nothing is known
+pub record HasFailedAt {E : Type 0} (settings : Settings) (facts : MatcherFacts E)
+    (window : List ℕ) (start : ℕ) (w : Walk) (ahead : Ahead) (error : E) : Type 0 where
+  pub may_ask : MayAskAhead settings facts.meaning w
+  pub inside : start < length window
+  pub unknown : ahead.match_end ≤ start
+  pub fails : facts.fails (drop start window) error
 
 -- a search reports the lines that match, and no others
 pub record ReportsMatchesAlone (settings : Settings) : Type 0 where

@@ -1,9 +1,11 @@
 //! Lines one after another that are chosen, of which no call is made but that of each match.
 ghost use Rattle.std.specs.Prelude.{◌≡◌, ◌≤◌, ◌<◌, ◌+◌, ◌-◌, ◌^◌, length};
-ghost use Rattle.std.specs.Prelude.{IfSome};
+ghost use Rattle.std.specs.Prelude.{IfSome, IsSomeAnd, None};
 ghost use Rattle.grep_walk.specs.ChosenLines.{AreChosen, after_chosen, chooses_alone};
-ghost use Rattle.grep_walk.specs.LookAheads.{AreAllowed, IsBounded, IsReporting};
+ghost use Rattle.grep_walk.specs.LineRuns.{HasFailed};
+ghost use Rattle.grep_walk.specs.LookAheads.{AreAllowed, IsBounded, IsReporting, MayAskOn};
 ghost use Rattle.grep_walk.specs.Walks.{IsOrdered};
+ghost use Rattle.grep_walk.specs.declared.look_ahead.Questions.TheVariants.{OneLine};
 
 use crate::config::Config;
 use crate::line_run::{LineRun, ROOM};
@@ -15,8 +17,10 @@ impl Config {
     /// The lines that are chosen one after another from `start` on, without a call but that of each
     /// match: under inversion lines that are known not to match; else the line that is known to
     /// match, and those after it that do, if the matcher may be asked about many lines. They have
-    /// 16 KiB at most. `None` if there are none, or the first is longer. The caller ensures that a
-    /// line of the window begins at `start`, and that these are the lines that this search reports.
+    /// 16 KiB at most. `None` if there are none, or the first is longer. An error of the matcher is
+    /// kept in `failure`. The caller ensures that a line of the window begins at `start`, that these
+    /// are the lines that this search reports, and that these questions may be asked about the lines
+    /// after a chosen one.
     #[inline(always)]
     pub fn chosen_lines<M: Matcher>(
         &self,
@@ -27,13 +31,18 @@ impl Config {
         start: usize,
         walk: &Walk,
         ahead: &Ahead,
+        failure: &mut Option<M::Error>,
     ) -> Option<LineRun>
         requires reporting { IsReporting self.now reporting }
         requires allowed { AreAllowed self.now (M.facts matcher.now).meaning questions }
         requires bounded { IsBounded window.now ahead.now }
         requires inside { start ≤ length window.now }
-        ensures { IfSome result (AreChosen self.now (M.facts matcher.now) window.now start ahead.now
-            walk.now) }
+        requires unfailed { failure.old ≡ None }
+        ensures chosen { IfSome result (AreChosen self.now (M.facts matcher.now) window.now start
+            ahead.now walk.now) }
+        ensures unasked { questions ≡ OneLine → failure.new ≡ None }
+        ensures failed { IfSome failure.new (λ error. MayAskOn self.now (M.facts matcher.now).meaning
+            × IsSomeAnd result (λ lines. HasFailed (M.facts matcher.now) window.now lines error)) }
     {
         if !self.chooses_alone(reporting, walk) {
             return None;
@@ -54,7 +63,9 @@ impl Config {
                 count: 1,
                 ahead: *ahead,
             }),
-            Questions::ManyLines => Some(self.matching_lines(matcher, window, start, ahead)),
+            Questions::ManyLines => Some(self.matching_lines(
+                matcher, window, start, ahead, failure,
+            )),
         }
     }
 

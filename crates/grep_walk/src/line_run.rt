@@ -1,11 +1,11 @@
 //! Lines of a window one after another, all of which match, or none of them.
-ghost use Rattle.std.specs.Prelude.{◌≡◌, ◌⊎◌, ◌≤◌, ◌<◌, ◌+◌, ◌-◌, ℕ, true, false, length, Some};
+ghost use Rattle.std.specs.Prelude.{◌≡◌, ◌⊎◌, ◌≤◌, ◌<◌, ◌+◌, ◌-◌, ℕ, true, false, length, None, Some};
 ghost use Rattle.std.specs.Prelude.{IfSome};
 ghost use Rattle.grep_definitions.specs.Plans.{AsksAhead};
 ghost use Rattle.grep_lines.specs.Positions.{IsLineStart};
 ghost use Rattle.grep_matcher.specs.Lines.{byte_of};
 ghost use Rattle.grep_matcher.specs.Meanings.{Meaning};
-ghost use Rattle.grep_walk.specs.LineRuns.{AreAlike, IsRun};
+ghost use Rattle.grep_walk.specs.LineRuns.{AreAlike, HasFailed, IsRun};
 ghost use Rattle.grep_walk.specs.LookAheads.{IsBounded, IsKnown, known_at};
 
 use crate::config::Config;
@@ -84,7 +84,8 @@ impl Config {
     }
 
     // The lines from `start` on that match, the first of which is known to: that one, or 16 KiB of
-    // them at most. The matcher is asked about many lines.
+    // them at most. The matcher is asked about many lines, up to its first error, which is kept in
+    // `failure`.
     #[inline(always)]
     pub(crate) fn matching_lines<M: Matcher>(
         &self,
@@ -92,12 +93,15 @@ impl Config {
         window: &[u8],
         start: usize,
         ahead: &Ahead,
+        failure: &mut Option<M::Error>,
     ) -> LineRun
         requires allowed { AsksAhead self.now (M.facts matcher.now).meaning }
+        requires none { failure.old ≡ None }
         requires bounded { IsBounded window.now ahead.now }
         requires matched { known_at ahead.now start ≡ Some true }
         ensures run { IsRun self.now (M.facts matcher.now) window.now start ahead.now true result }
         ensures few { (result.end ≤ start + 16384) ⊎ (result.end ≡ ahead.now.match_end) }
+        ensures failed { IfSome failure.new (HasFailed (M.facts matcher.now) window.now result) }
     {
         let mut lines = LineRun {
             end: ahead.match_end,
@@ -108,8 +112,12 @@ impl Config {
             if lines.end == window.len() || lines.end - start >= ROOM {
                 return lines;
             }
-            let Ok(found) = matcher.find_candidate_line(&window[lines.end..]) else {
-                return lines;
+            let found = match matcher.find_candidate_line(&window[lines.end..]) {
+                Ok(found) => found,
+                Err(error) => {
+                    *failure = Some(error);
+                    return lines;
+                }
             };
             lines.ahead = self.ahead_of(window, lines.end, found);
             let Some(true) = lines.ahead.known_at(lines.end) else {

@@ -1,13 +1,14 @@
 //! What a walk knows of the lines from its line on: what a matcher found in many lines at once, and
 //! which of them the walk skips.
 ghost use Rattle.std.specs.Prelude.{◌≡◌, ◌≤◌, ◌<◌, ◌+◌, ◌-◌, ◌^◌, ℕ, true, if◌then◌else◌, length};
-ghost use Rattle.std.specs.Prelude.{drop, IfOk, IfErr, IfSome, IfNone, slice_range};
+ghost use Rattle.std.specs.Prelude.{drop, Err, IfOk, IfErr, IfSome, IfNone, None, false, slice_range};
 ghost use Rattle.grep_lines.specs.Positions.{IsLine, IsLineStart};
 ghost use Rattle.grep_matcher.specs.Lines.{lines, byte_of};
 ghost use Rattle.grep_matcher.specs.Lawful.{IsInside, IsLawfulResult};
 ghost use Rattle.grep_matcher.specs.Meanings.{Meaning};
 ghost use Rattle.grep_definitions.specs.Plans.{IsLawful};
 ghost use Rattle.grep_walk.specs.LookAheads.{known_at, AreQuestions, IsBounded, IsExact, IsKnown};
+ghost use Rattle.grep_walk.specs.LookAheads.{AreAllowed, HasFailedAt};
 ghost use Rattle.grep_walk.specs.LookAheads.{IsReporting};
 ghost use Rattle.grep_walk.specs.LookAheads.{can_skip, passes_unchosen, skips, MayAskAhead};
 ghost use Rattle.grep_walk.specs.Walks.{skip_unmatched, IsOrdered};
@@ -101,6 +102,19 @@ impl Config {
         }
     }
 
+    /// What may be asked about the lines after a chosen one, by what this matcher may be asked: each
+    /// alone, if that is one that doesn't match, or if the next that isn't chosen ends the search.
+    pub fn questions_after_chosen(&self, questions: Questions) -> Questions
+        ensures { (meaning : Meaning) → AreQuestions self.now meaning questions
+            → AreAllowed self.now meaning result }
+    {
+        if self.invert_match || self.stop_on_nonmatch {
+            Questions::OneLine
+        } else {
+            questions
+        }
+    }
+
     /// Which lines a search by line reports: what its steps ask for, so that they look at the settings
     /// once.
     pub fn reporting(&self) -> Reporting
@@ -118,7 +132,8 @@ impl Config {
     /// Learns more if nothing is known of the line at `start`, and the matcher may be asked about
     /// many lines at once. The caller ensures that a line of the window begins there, and that
     /// these are the questions for this matcher. What is learnt is true of a matcher that is lawful
-    /// for the terminator. The error is the matcher's.
+    /// for the terminator. The error is the matcher's: `failure`, if it failed at these lines
+    /// before, and it isn't asked again.
     #[inline(always)]
     pub fn look_ahead<M: Matcher>(
         &self,
@@ -128,10 +143,15 @@ impl Config {
         start: usize,
         walk: &Walk,
         ahead: Ahead,
+        failure: &mut Option<M::Error>,
     ) -> Result<Ahead, M::Error>
         requires questions { AreQuestions self.now (M.facts matcher.now).meaning questions }
         requires inside { start ≤ length window.now }
         requires bounded { IsBounded window.now ahead }
+        requires failed { IfSome failure.old (HasFailedAt self.now (M.facts matcher.now) window.now
+            start walk.now ahead) }
+        ensures failed { IfSome failure.old (λ error. result ≡ Err error) }
+        ensures unfailed { IfOk result (λ next. failure.new ≡ None) }
         ensures bounded { IfOk result (IsBounded window.now) }
         ensures known { IfOk result (λ next.
             IsLawful (M.facts matcher.now) self.now
@@ -147,6 +167,9 @@ impl Config {
         if start < ahead.match_end || start == window.len() || !self.asks_ahead(questions, walk) {
             return Ok(ahead);
         }
+        if let Some(error) = failure.take() {
+            return Err(error);
+        }
         match matcher.find_candidate_line(&window[start..]) {
             Ok(found) => Ok(self.ahead_of(window, start, found)),
             Err(error) => Err(error),
@@ -154,9 +177,11 @@ impl Config {
     }
 
     // Whether a walk may ask about many lines at once.
-    fn asks_ahead(&self, questions: Questions, walk: &Walk) -> bool
-        ensures { result ≡ true → (meaning : Meaning) → AreQuestions self.now meaning questions
+    pub(crate) fn asks_ahead(&self, questions: Questions, walk: &Walk) -> bool
+        ensures yes { result ≡ true → (meaning : Meaning) → AreQuestions self.now meaning questions
             → MayAskAhead self.now meaning walk.now }
+        ensures no { result ≡ false → (meaning : Meaning) → AreQuestions self.now meaning questions
+            → MayAskAhead self.now meaning walk.now → ⊥ }
     {
         matches!(questions, Questions::ManyLines) && !self.is_full(walk) && !self.stops_next(walk)
     }

@@ -1,7 +1,8 @@
 //! Lines one after another that match, and that a walk passes under inversion.
-ghost use Rattle.std.specs.Prelude.{◌≡◌, ◌≤◌, ◌<◌, ◌+◌, ◌-◌, ◌^◌, IfSome};
-ghost use Rattle.grep_walk.specs.LineRuns.{ArePassed, after_passed};
-ghost use Rattle.grep_walk.specs.LookAheads.{AreAllowed, IsBounded};
+ghost use Rattle.std.specs.Prelude.{◌≡◌, ◌≤◌, ◌<◌, ◌+◌, ◌-◌, ◌^◌, IfSome, IsSomeAnd};
+ghost use Rattle.std.specs.Prelude.{None};
+ghost use Rattle.grep_walk.specs.LineRuns.{ArePassed, HasFailed, after_passed};
+ghost use Rattle.grep_walk.specs.LookAheads.{AreQuestions, IsBounded, MayAskAhead};
 ghost use Rattle.grep_walk.specs.Walks.{IsOrdered};
 
 use crate::config::Config;
@@ -13,8 +14,9 @@ use grep_matcher::Matcher;
 impl Config {
     /// The lines from `start` on that the walk passes: under inversion those that match are neither
     /// reported nor end the search. They are one line, or 16 KiB at most. `None` if the first isn't
-    /// known to match, or isn't passed. The caller ensures that a line of the window begins at
-    /// `start`.
+    /// known to match, or isn't passed. An error of the matcher is kept in `failure`. The caller
+    /// ensures that a line of the window begins at `start`, and that these are the questions for
+    /// this matcher.
     #[inline(always)]
     pub fn passed_lines<M: Matcher>(
         &self,
@@ -24,22 +26,24 @@ impl Config {
         start: usize,
         walk: &Walk,
         ahead: &Ahead,
+        failure: &mut Option<M::Error>,
     ) -> Option<LineRun>
-        requires allowed { AreAllowed self.now (M.facts matcher.now).meaning questions }
+        requires questions { AreQuestions self.now (M.facts matcher.now).meaning questions }
         requires bounded { IsBounded window.now ahead.now }
-        ensures { IfSome result (ArePassed self.now (M.facts matcher.now) window.now start ahead.now
-            walk.now) }
+        requires unfailed { failure.old ≡ None }
+        ensures passed { IfSome result (ArePassed self.now (M.facts matcher.now) window.now start
+            ahead.now walk.now) }
+        ensures failed { IfSome failure.new (λ error.
+            MayAskAhead self.now (M.facts matcher.now).meaning walk.now
+            × IsSomeAnd result (λ lines. HasFailed (M.facts matcher.now) window.now lines error)) }
     {
-        let Questions::ManyLines = questions else {
-            return None;
-        };
-        if self.hits_if(true) || !self.passes_unchosen(walk) {
+        if self.hits_if(true) || !self.asks_ahead(questions, walk) || !self.passes_unchosen(walk) {
             return None;
         }
         let Some(true) = ahead.known_at(start) else {
             return None;
         };
-        Some(self.matching_lines(matcher, window, start, ahead))
+        Some(self.matching_lines(matcher, window, start, ahead, failure))
     }
 }
 

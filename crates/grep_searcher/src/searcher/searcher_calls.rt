@@ -54,6 +54,9 @@ impl<A: Allocator + Copy, S: Sink> SinkCalls<Searcher<A>> for SearcherCalls<S> {
         }
     }
 
+    // A search offers lines at two places. Inlined only where it costs little, a call of it made a
+    // search that reports every tenth line 5 to 8 percent slower.
+    #[inline(always)]
     fn matched_lines<B>(
         search: &Search<'_, B, Searcher<A>>,
         sink: &mut S,

@@ -69,6 +69,7 @@ impl<E> Sink for Count<E> {
         Ok(true)
     }
 
+    #[inline(always)]
     fn matched_lines<A: Allocator + Copy>(
         &mut self,
         searcher: &Searcher<A>,

@@ -1,21 +1,20 @@
-use Rattle.std.proofs.Common.{rules, ◌≡◌, ◌≤◌, ◌∙◌, ℕ, length, refl, ap, sym, subst, arith, true, false}
+use Rattle.std.proofs.Common.{Err, None, Ok, Some, rules, ◌≡◌, ◌∙◌, ℕ, length, refl, ap, sym, subst, arith, true, false}
 use Rattle.std.proofs.Common.{length-take, length-drop, ◌-◌, drop, ◌+◌, List}
 use Rattle.std.proofs.lemmas.Bool.{false≢true}
 use Rattle.std.proofs.lemmas.Result.{err_from_is_err_and}
-use Rattle.std.specs.Prelude.{slice_range}
+use Rattle.std.specs.Prelude.{IfSome, slice_range}
 use Rattle.grep_lines.specs.Positions.{IsLineStart}
 use Rattle.grep_matcher.specs.Lines.{lines}
 use Rattle.grep_definitions.specs.Plans.{IsLawful, all_true, failed, stopped, counted}
 use Rattle.grep_walk.specs.Origins.{Origin}
 use Rattle.grep_walk.specs.Windows.{HasSearched}
 use Rattle.grep_walk.specs.Walks.{chooses, is_over, line_end, after_line}
-use Rattle.grep_walk.proofs.LookAheadLemmas.{are-allowed}
 use Rattle.grep_walk.proofs.SkipLemmas as skips
 use Rattle.grep_walk.proofs.WindowSearchLemmas as search
 use Rattle.grep_walk.proofs.WindowSearchLemmas.{ordered-next}
 use Rattle.grep_walk.proofs.UncountedLemmas as uncounted
 use Rattle.grep_walk.specs.WalkFaults.{at_call}
-use Rattle.grep_walk.specs.LookAheads.{IsKnown}
+use Rattle.grep_walk.specs.LookAheads.{HasFailedAt, IsKnown}
 use Rattle.grep_walk.specs.declared.line_run.LineRun.{LineRun}
 use Rattle.grep_walk.specs.declared.walk.Walk.{Walk}
 use Rattle.grep_walk.specs.ChosenLines.{AreChosen, after_chosen, chosen_calls}
@@ -29,6 +28,11 @@ use Rattle.grep_definitions.proofs.CallOrderLemmas.{called-none, called-then}
 use Rattle.grep_core.proofs.search.Search.search_window.Goals as goal
 use Rattle.grep_core.proofs.search.Search.search_window.Goals.{After-known_at-known}
 use Rattle.grep_core.proofs.search.Search.search_window.Goals.{After-sink_chosen_lines}
+use Rattle.grep_core.proofs.search.Search.search_window.Goals.{After-sink_one_by_one, In-Declined}
+use Rattle.grep_core.proofs.search.Search.search_window.Goals.{In-Taken}
+use Rattle.grep_core.proofs.ReportedLineLemmas.{failed-after, failed-past}
+use Rattle.grep_core.specs.ReportedLines.{IsOffered, outcome_at}
+use Rattle.grep_core.specs.declared.chosen_lines.Offered.TheVariants.{Declined, Taken}
 
 -- lines that weren't taken at once have had no call
 untaken : (g : Over) (c : goal.After-known_at-known g)
@@ -120,6 +124,7 @@ lines-init g c = record {
   ahead = omega arith;
   ordered = c.requires.ordered;
   bounded = record { ordered = omega arith; within = omega arith };
+  pending = tt;
   further = tt;
   known = λ lawful gone input first so_far. skips.known-nothing _ _ _ _;
   searched = λ lawful gone input first so_far. so_far;
@@ -252,7 +257,8 @@ lines-preserved g c =
           (chooses c.in-Ok-judge.verdict) c.in-Some-line_end.ensures.within.0 c.in-Some-line_end.ensures.within.1
           c.skip_unmatched-start.ensures.ordered;
       bounded = c.in-Ok.ensures.bounded;
-      further = tt;
+      pending = search rules;
+      further = c.lines.invariant.further;
       known = λ lawful gone input first so_far.
           let now = c.lines.invariant.searched lawful gone input first so_far in
           skips.known-later _ _ _ _
@@ -306,40 +312,116 @@ returns-then-is_over-clause-in_order g c =
       called = called-then _ _ _ _ _ _ (called g (goal.at.returns-then-is_over-clause-in_order g c).After-known_at-known) (here 0);
     }
 
-pub returns-in_err-lines-clause-fault : goal.returns-in_err-lines-clause-fault
-returns-in_err-lines-clause-fault g c =
+pub returns-in_err-sink_chosen_lines-clause-fault :
+    goal.returns-in_err-sink_chosen_lines-clause-fault
+returns-in_err-sink_chosen_lines-clause-fault g c =
     let p = err_from_is_err_and c.from_residual.result c.from_residual.ensures.1 in
-    let failed-at = c.in_err-lines.ensures.error in
+    let failed-at = c.in_err-sink_chosen_lines.ensures.error in
     rw (p.1, p.2) (λ lawful gone input first so_far. at_call (chosen g
-    (goal.at.returns-in_err-lines-clause-fault g c).After-sink_chosen_lines lawful gone
+    (goal.at.returns-in_err-sink_chosen_lines-clause-fault g c).After-sink_chosen_lines lawful gone
     input first so_far failed-at.0 failed-at.1 (failed _) _ failed-at.2))
 
-pub returns-in_err-lines-clause-in_order : goal.returns-in_err-lines-clause-in_order
-returns-in_err-lines-clause-in_order g c =
+pub returns-in_err-sink_chosen_lines-clause-in_order :
+    goal.returns-in_err-sink_chosen_lines-clause-in_order
+returns-in_err-sink_chosen_lines-clause-in_order g c =
     let p = err_from_is_err_and c.from_residual.result c.from_residual.ensures.1 in
     rw (p.1, p.2) (of_call (called-then _ _ _ _ _ _ c.lines.invariant.called
-    (called-matches _ _ _ _ _ _ _ _ _ c.in_err-lines.ensures.error.2)))
+    (called-matches _ _ _ _ _ _ _ _ _ c.in_err-sink_chosen_lines.ensures.error.2)))
 
-pub lines-preserved-in-Some : goal.lines-preserved-in-Some
-lines-preserved-in-Some g c =
-    let some : AreChosen c.args.self.now.config (g.M.Matcher.facts c.args.matcher.now)
-    c.args.window.now c.skip_unmatched-start.result c.in-Ok.ahead
-    c.skip_unmatched-start.new.walk c.in-Some.lines
-    × AreMade g.C.SinkCalls.step c.args.self.now.config c.lines.sink
+-- the lines that the sink took
+taken : (g : Over) (c : In-Taken g)
+    → IsOffered c.args.self.now.config (g.M.Matcher.facts c.args.matcher.now) c.args.window.now
+    c.skip_unmatched-start.result c.in-Ok.ahead c.skip_unmatched-start.new.walk
+    c.sink_chosen_lines.new.failure g.C.SinkCalls.step c.lines.sink (Taken c.in-Taken.lines)
+    c.sink_chosen_lines.new.sink
+taken g c = subst (λ offered. IsOffered c.args.self.now.config
+    (g.M.Matcher.facts c.args.matcher.now) c.args.window.now c.skip_unmatched-start.result
+    c.in-Ok.ahead c.skip_unmatched-start.new.walk c.sink_chosen_lines.new.failure
+    g.C.SinkCalls.step c.lines.sink offered c.sink_chosen_lines.new.sink) c.in-Taken.is
+    c.in_ok-sink_chosen_lines.ensures.offered
+
+-- those that it declined
+declined : (g : Over) (c : In-Declined g)
+    → IsOffered c.args.self.now.config (g.M.Matcher.facts c.args.matcher.now) c.args.window.now
+    c.skip_unmatched-start.result c.in-Ok.ahead c.skip_unmatched-start.new.walk
+    c.sink_chosen_lines.new.failure g.C.SinkCalls.step c.lines.sink (Declined c.in-Declined.lines)
+    c.sink_chosen_lines.new.sink
+declined g c = subst (λ offered. IsOffered c.args.self.now.config
+    (g.M.Matcher.facts c.args.matcher.now) c.args.window.now c.skip_unmatched-start.result
+    c.in-Ok.ahead c.skip_unmatched-start.new.walk c.sink_chosen_lines.new.failure
+    g.C.SinkCalls.step c.lines.sink offered c.sink_chosen_lines.new.sink) c.in-Declined.is
+    c.in_ok-sink_chosen_lines.ensures.offered
+
+-- the calls that report these one by one
+one-by-one : (g : Over) (c : After-sink_one_by_one g)
+    → AreMade g.C.SinkCalls.step c.args.self.now.config c.lines.sink
     (chosen_calls c.args.self.now.config c.args.window.now c.skip_unmatched-start.result
-    c.in-Some.lines.end c.skip_unmatched-start.new.walk) all_true c.sink_chosen_lines.new.sink =
-    search rules in
-    let size = length-take (c.in-Some.lines.end - c.skip_unmatched-start.result)
+    c.in-Declined.lines.end c.skip_unmatched-start.new.walk)
+    (outcome_at c.sink_one_by_one.result) c.sink_one_by_one.new.sink
+one-by-one g c =
+    let same : c.sink_chosen_lines.new.sink ≡ c.lines.sink = search rules in
+    rw same at c.sink_one_by_one.ensures.reported
+
+pub returns-in_err-offset-in-Declined-clause-fault : goal.returns-in_err-offset-in-Declined-clause-fault
+returns-in_err-offset-in-Declined-clause-fault g c =
+    let there = goal.at.returns-in_err-offset-in-Declined-clause-fault g c in
+    let p = err_from_is_err_and c.from_residual-in_err-offset-in-Declined.result
+    c.from_residual-in_err-offset-in-Declined.ensures.1 in
+    let told = declined g there.In-Declined in
+    let fails : c.sink_one_by_one.result ≡ Err c.in_err-offset-in-Declined.field-0.0 = search rules in
+    let made = rw fails at (one-by-one g there.After-sink_one_by_one) in
+    rw (p.1, p.2) (λ lawful gone input first so_far. at_call (chosen g there.After-sink_chosen_lines
+    lawful gone input first so_far c.in-Declined.lines told.0.chosen (failed _) _ made))
+
+pub returns-in_err-offset-in-Declined-clause-in_order :
+    goal.returns-in_err-offset-in-Declined-clause-in_order
+returns-in_err-offset-in-Declined-clause-in_order g c =
+    let there = goal.at.returns-in_err-offset-in-Declined-clause-in_order g c in
+    let p = err_from_is_err_and c.from_residual-in_err-offset-in-Declined.result
+    c.from_residual-in_err-offset-in-Declined.ensures.1 in
+    let fails : c.sink_one_by_one.result ≡ Err c.in_err-offset-in-Declined.field-0.0 = search rules in
+    let made = rw fails at (one-by-one g there.After-sink_one_by_one) in
+    rw (p.1, p.2) (of_call (called-then _ _ _ _ _ _ c.lines.invariant.called
+    (called-matches _ _ _ _ _ _ _ _ _ made)))
+
+pub returns-in-Some-clause-ends : goal.returns-in-Some-clause-ends
+returns-in-Some-clause-ends g c = λ lawful ends.
+    let there = goal.at.returns-in-Some-clause-ends g c in
+    let told = declined g there.In-Declined in
+    let stops : c.sink_one_by_one.result ≡ Ok (Some c.in-Some.offset) = search rules in
+    let made = rw stops at (one-by-one g there.After-sink_one_by_one) in (
+      stopped (counted c.in-Some.offset),
+      λ gone input first so_far. chosen g there.After-sink_chosen_lines lawful gone input first so_far
+          c.in-Declined.lines told.0.chosen (stopped (counted c.in-Some.offset)) _ made,
+    )
+
+pub returns-in-Some-clause-in_order : goal.returns-in-Some-clause-in_order
+returns-in-Some-clause-in_order g c =
+    let there = goal.at.returns-in-Some-clause-in_order g c in
+    let stops : c.sink_one_by_one.result ≡ Ok (Some c.in-Some.offset) = search rules in
+    let made = rw stops at (one-by-one g there.After-sink_one_by_one) in record {
+      outcome = stopped (counted c.in-Some.offset);
+      ends = refl;
+      called = called-then _ _ _ _ _ _ c.lines.invariant.called
+          (called-matches _ _ _ _ _ _ _ _ _ made);
+    }
+
+pub lines-preserved-in-Taken : goal.lines-preserved-in-Taken
+lines-preserved-in-Taken g c =
+    let there = goal.at.lines-preserved-in-Taken g c in
+    let told = taken g there.In-Taken in
+    let some = told.0.chosen in
+    let size = length-take (c.in-Taken.lines.end - c.skip_unmatched-start.result)
     (drop c.skip_unmatched-start.result c.args.window.now) in
-    let at = (goal.at.lines-preserved-in-Some g c).After-sink_chosen_lines in
+    let at = there.After-sink_chosen_lines in
     record {
-      within = some.0.run.within;
+      within = some.run.within;
       same = omega (
         arith,
         size,
         length-drop c.skip_unmatched-start.result c.args.window.now,
-        some.0.run.some,
-        some.0.run.within,
+        some.run.some,
+        some.run.within,
         c.skip_unmatched-start.ensures.moved,
         c.lines.invariant.same,
         ap (λ (w : Walk). w.offset) c.after_chosen.ensures.walk,
@@ -348,27 +430,74 @@ lines-preserved-in-Some g c =
         arith,
         c.lines.invariant.ahead,
         c.skip_unmatched-start.ensures.low,
-        some.0.run.some,
+        some.run.some,
       );
       ordered = c.after_chosen.ensures.ordered;
-      bounded = some.0.run.bounded;
-      further = are-allowed _ _ _ c.requires.questions;
+      bounded = some.run.bounded;
+      pending = failed-after _ _ _ _ _ _ c.after_chosen.result _ _ told.0;
+      further = c.questions_after_chosen-many.ensures (g.M.Matcher.facts c.args.matcher.now).meaning
+          c.requires.questions;
       known = λ lawful gone input first so_far.
           let now = here g at lawful gone input first so_far in
-          (some.0.run.alike lawful _ now.0.walked.inside.line.begins now.1).known;
+          (some.run.alike lawful _ now.0.walked.inside.line.begins now.1).known;
       searched = λ lawful gone input first so_far. subst (λ w. HasSearched g.C.SinkCalls.step
           c.args.self.now.config (g.M.Matcher.facts c.args.matcher.now).meaning gone
-          c.args.window.now input first c.in-Some.lines.end w c.sink_chosen_lines.new.sink)
+          c.args.window.now input first c.in-Taken.lines.end w c.sink_chosen_lines.new.sink)
           (sym c.after_chosen.ensures.walk)
-          (chosen g at lawful gone input first so_far c.in-Some.lines some.0 all_true _ some.1);
+          (chosen g at lawful gone input first so_far c.in-Taken.lines some all_true _ told.1);
       called = called-then _ _ _ _ _ _ c.lines.invariant.called
-          (called-matches _ _ _ _ _ _ _ _ _ some.1);
-      may_call = c.in_ok-lines.ensures.may_call;
+          (called-matches _ _ _ _ _ _ _ _ _ told.1);
+      may_call = c.sink_chosen_lines.ensures.may_call;
+    }
+
+pub lines-preserved-in-Declined : goal.lines-preserved-in-Declined
+lines-preserved-in-Declined g c =
+    let there = goal.at.lines-preserved-in-Declined g c in
+    let told = declined g there.In-Declined in
+    let all : c.sink_one_by_one.result ≡ Ok None = search rules in
+    let made = rw all at (one-by-one g there.After-sink_one_by_one) in
+    let some = told.0.chosen in
+    let size = length-take (c.in-Declined.lines.end - c.skip_unmatched-start.result)
+    (drop c.skip_unmatched-start.result c.args.window.now) in
+    let at = there.After-sink_chosen_lines in
+    record {
+      within = some.run.within;
+      same = omega (
+        arith,
+        size,
+        length-drop c.skip_unmatched-start.result c.args.window.now,
+        some.run.some,
+        some.run.within,
+        c.skip_unmatched-start.ensures.moved,
+        c.lines.invariant.same,
+        ap (λ (w : Walk). w.offset) c.after_chosen-in-Declined.ensures.walk,
+      );
+      ahead = omega (
+        arith,
+        c.lines.invariant.ahead,
+        c.skip_unmatched-start.ensures.low,
+        some.run.some,
+      );
+      ordered = c.after_chosen-in-Declined.ensures.ordered;
+      bounded = some.run.bounded;
+      pending = failed-after _ _ _ _ _ _ c.after_chosen-in-Declined.result _ _ told.0;
+      further = tt;
+      known = λ lawful gone input first so_far.
+          let now = here g at lawful gone input first so_far in
+          (some.run.alike lawful _ now.0.walked.inside.line.begins now.1).known;
+      searched = λ lawful gone input first so_far. subst (λ w. HasSearched g.C.SinkCalls.step
+          c.args.self.now.config (g.M.Matcher.facts c.args.matcher.now).meaning gone
+          c.args.window.now input first c.in-Declined.lines.end w c.sink_one_by_one.new.sink)
+          (sym c.after_chosen-in-Declined.ensures.walk)
+          (chosen g at lawful gone input first so_far c.in-Declined.lines some all_true _ made);
+      called = called-then _ _ _ _ _ _ c.lines.invariant.called
+          (called-matches _ _ _ _ _ _ _ _ _ made);
+      may_call = c.sink_one_by_one.ensures.may_call;
     }
 
 pub lines-preserved-in-Some-passed_lines : goal.lines-preserved-in-Some-passed_lines
 lines-preserved-in-Some-passed_lines g c =
-    let passed = c.in-Some-passed_lines.ensures in
+    let passed = c.in-Some-passed_lines.ensures.passed in
     let at = (goal.at.lines-preserved-in-Some-passed_lines g c).After-sink_chosen_lines in
     let untaken : c.sink_chosen_lines.new.sink ≡ c.lines.sink = search rules in
     rw untaken (record {
@@ -389,6 +518,11 @@ lines-preserved-in-Some-passed_lines g c =
       );
       ordered = c.after_passed.ensures.ordered;
       bounded = passed.run.bounded;
+      pending = subst (λ w. IfSome c.passed_lines.new.failure
+          (HasFailedAt c.args.self.now.config (g.M.Matcher.facts c.args.matcher.now)
+          c.args.window.now c.in-Some-passed_lines.lines.end w c.in-Some-passed_lines.lines.ahead))
+          (sym c.after_passed.ensures.walk)
+          (failed-past _ _ _ c.skip_unmatched-start.new.walk _ _ _ _ c.in-Some-passed_lines.ensures.failed);
       further = c.lines.invariant.further;
       known = λ lawful gone input first so_far.
           let now = here g at lawful gone input first so_far in

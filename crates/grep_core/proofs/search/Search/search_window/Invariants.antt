@@ -1,7 +1,8 @@
 use Rattle.std.proofs.Common.{◌≡◌, ◌≤◌, ◌+◌, ◌-◌, ℕ, List, length}
 use Rattle.grep_definitions.specs.CallOrder.{HasCalled}
 use Rattle.grep_definitions.specs.Plans.{all_true, IsLawful}
-use Rattle.grep_walk.specs.LookAheads.{AreAllowed, IsBounded, IsKnown}
+use Rattle.std.specs.Prelude.{IfSome}
+use Rattle.grep_walk.specs.LookAheads.{AreAllowed, HasFailedAt, IsBounded, IsKnown}
 use Rattle.grep_walk.specs.Origins.{Origin}
 use Rattle.grep_walk.specs.Walks.{IsOrdered}
 use Rattle.grep_walk.specs.Windows.{HasSearched}
@@ -14,6 +15,8 @@ invariant-lines g l = record {
   ahead : l.fn.start ≤ l.start;
   ordered : IsOrdered l.walk;
   bounded : IsBounded l.window l.ahead;
+  pending : IfSome l.failure (HasFailedAt l.self.config (g.M.Matcher.facts l.matcher) l.window
+      l.start l.walk l.ahead);
   further : AreAllowed l.self.config (g.M.Matcher.facts l.matcher).meaning l.further;
   known : IsLawful (g.M.Matcher.facts l.matcher) l.self.config
       → (gone input : List ℕ) (first : Origin g.row.C-Sink.Denot)

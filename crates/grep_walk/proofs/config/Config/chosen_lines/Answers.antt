@@ -11,8 +11,8 @@ each : {X : Type 0} {A B C D E F G : X → Type 0} (o : Option X) → IfSome o A
 each None a b c d e f gives = tt
 each (Some x) a b c d e f gives = gives x a b c d e f
 
-pub returns-then-not-matches : goal.returns-then-not-matches
-returns-then-not-matches g c =
+pub returns-then-not-matches-clause-chosen : goal.returns-then-not-matches-clause-chosen
+returns-then-not-matches-clause-chosen g c =
     let found = c.lines_up_to_candidate.ensures in
     each c.lines_up_to_candidate.result found.some found.within found.few found.counted
     found.bounded found.alike (λ lines some within few counted bounded alike. record {
@@ -29,8 +29,8 @@ returns-then-not-matches g c =
       alone = search rules;
     })
 
-pub returns-in-OneLine : goal.returns-in-OneLine
-returns-in-OneLine g c =
+pub returns-in-OneLine-clause-chosen : goal.returns-in-OneLine-clause-chosen
+returns-in-OneLine-clause-chosen g c =
     let matches : known_at c.args.ahead.now c.args.start ≡ Some true = search rules in
     let first = is_matched c.args.ahead.now c.args.start matches in record {
       matches = true;

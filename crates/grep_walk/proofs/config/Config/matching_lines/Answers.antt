@@ -45,13 +45,13 @@ kept g c =
           record { all = lines.all; at = lines.at; known = learnt g c lawful _ lines.at };
     }
 
-pub returns-in_default-known_at-clause-run : goal.returns-in_default-known_at-clause-run
-returns-in_default-known_at-clause-run g c =
-    kept g (goal.at.returns-in_default-known_at-clause-run g c).After-ahead_of-lines
+pub returns-in_default-clause-run : goal.returns-in_default-clause-run
+returns-in_default-clause-run g c =
+    kept g (goal.at.returns-in_default-clause-run g c).After-ahead_of-lines
 
-pub returns-in_default-known_at-2-clause-run : goal.returns-in_default-known_at-2-clause-run
-returns-in_default-known_at-2-clause-run g c =
-    kept g (goal.at.returns-in_default-known_at-2-clause-run g c).After-ahead_of-lines
+pub returns-in_default-2-clause-run : goal.returns-in_default-2-clause-run
+returns-in_default-2-clause-run g c =
+    kept g (goal.at.returns-in_default-2-clause-run g c).After-ahead_of-lines
 
 pub returns-then-lines-start-gt-ROOM-clause-run : goal.returns-then-lines-start-gt-ROOM-clause-run
 returns-then-lines-start-gt-ROOM-clause-run g c =
@@ -68,6 +68,8 @@ lines-init g c =
         alike = λ lawful i here known. first-matches c.args.self.now _ _ c.args.start i
             c.args.ahead.now c.requires.matched known here;
       };
+      unfailed = c.requires.none;
+      unknown = omega arith;
       few = inr refl;
     }
 
@@ -85,5 +87,7 @@ lines-preserved g c =
             next-matches _ _ _ _ i c.lines.lines.end _ _ _ (search rules) lines
             (learnt g (goal.at.lines-preserved g c).After-ahead_of-lines lawful _ lines.at);
       };
+      unfailed = c.lines.invariant.unfailed;
+      unknown = omega arith;
       few = inl (omega (arith, c.if-lines-start-gt-ROOM.false));
     }
