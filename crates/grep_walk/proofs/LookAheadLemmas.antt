@@ -165,6 +165,7 @@ module _ (k : Settings) (meaning : Meaning) (window : List ℕ) (start first : �
       → IsKnown k meaning window start (record {
         candidate = length window;
         match_end = length window;
+        asked_end = length window;
       })
   known-none lawful = record {
     index = length (lines t window);
@@ -202,11 +203,12 @@ module _ (k : Settings) (meaning : Meaning) (window : List ℕ) (start first : �
         )
 
     -- if it isn't known whether it matches
-    pub known-candidate : IsKnown k meaning window start (record {
+    pub known-candidate : (asked_end : ℕ) → IsKnown k meaning window start (record {
       candidate = candidate;
       match_end = candidate;
+      asked_end = asked_end;
     })
-    known-candidate = record {
+    known-candidate asked_end = record {
       index = first + located;
       at = start-located;
       exact = λ some. absurd (omega arith);
@@ -216,7 +218,8 @@ module _ (k : Settings) (meaning : Meaning) (window : List ℕ) (start first : �
 
     -- if it matches
     pub known-confirmed : is_confirmed found ≡ true → (match_end : ℕ) → match_end ≡ start + line.1
-        → IsKnown k meaning window start (record { candidate = candidate; match_end = match_end })
+        → IsKnown k meaning window start
+        (record { candidate = candidate; match_end = match_end; asked_end = match_end })
     known-confirmed confirmed match_end ends = record {
       index = first + located;
       at = start-located;

@@ -37,7 +37,7 @@ is_passing k w passes = grind arith
 
 module _ (k : Settings) (meaning : Meaning) (window : List ℕ) where
   -- at first nothing is known
-  pub known-nothing : (p : ℕ) → IsKnown k meaning window p (record { candidate = 0; match_end = 0 })
+  pub known-nothing : (p : ℕ) → IsKnown k meaning window p (record { candidate = 0; match_end = 0; asked_end = 0 })
   known-nothing p = grind arith
 
   -- what is known from a position on is known from a later one on

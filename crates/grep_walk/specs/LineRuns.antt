@@ -34,11 +34,11 @@ pub record IsRun {E : Type 0} (settings : Settings) (facts : MatcherFacts E) (wi
       → IsKnown settings facts.meaning window start ahead
       → AreAlike settings facts.meaning window start i matches run
 
--- the matcher failed at the lines after them, of which nothing is known
+-- the matcher failed at the lines after them, about which nothing else was asked
 pub record HasFailed {E : Type 0} (facts : MatcherFacts E) (window : List ℕ) (run : LineRun)
     (error : E) : Type 0 where
   pub inside : run.end < length window
-  pub unknown : run.ahead.match_end ≤ run.end
+  pub unknown : run.ahead.asked_end ≤ run.end
   pub fails : facts.fails (drop run.end window) error
 
 -- a walk passes lines that match, since none of them is chosen under inversion

@@ -26,6 +26,9 @@ known_at ahead start =
 pub record IsBounded (window : List ℕ) (ahead : Ahead) : Type 0 where
   pub ordered : ahead.candidate ≤ ahead.match_end
   pub within : ahead.match_end ≤ length window
+  -- the line that surely matches was asked about
+  pub asked : ahead.match_end ≤ ahead.asked_end
+  pub sure : ahead.candidate < ahead.match_end → ahead.asked_end ≡ ahead.match_end
 
 -- if it has a line that matches, that is the line which begins there
 abbrev pub IsExact : ℕ → List ℕ → Ahead → Type 0
@@ -76,12 +79,12 @@ pub record MayAskAhead (settings : Settings) (meaning : Meaning) (w : Walk) : Ty
   pub room : has_room settings w.match_count ≡ true
   pub unstopped : stops_next settings (nat_lt 0 w.match_count) ≡ false
 
--- the matcher failed at the lines from where a walk is on, of which nothing is known
+-- the matcher failed at the lines from where a walk is on, about which nothing else was asked
 pub record HasFailedAt {E : Type 0} (settings : Settings) (facts : MatcherFacts E)
     (window : List ℕ) (start : ℕ) (w : Walk) (ahead : Ahead) (error : E) : Type 0 where
   pub may_ask : MayAskAhead settings facts.meaning w
   pub inside : start < length window
-  pub unknown : ahead.match_end ≤ start
+  pub unknown : ahead.asked_end ≤ start
   pub fails : facts.fails (drop start window) error
 
 -- a search reports the lines that match, and no others

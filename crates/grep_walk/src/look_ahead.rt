@@ -44,12 +44,15 @@ pub struct Ahead {
     pub candidate: usize,
     /// Where that line ends, if it surely matches; if not, a position that isn't after its start.
     pub match_end: usize,
+    /// Where that line ends: many lines are asked about again only from there on.
+    pub asked_end: usize,
 }
 
 /// Nothing is known.
 pub const NOTHING_AHEAD: Ahead = Ahead {
     candidate: 0,
     match_end: 0,
+    asked_end: 0,
 };
 
 impl Ahead {
@@ -129,7 +132,7 @@ impl Config {
         Reporting::MatchesAlone
     }
 
-    /// Learns more if nothing is known of the line at `start`, and the matcher may be asked about
+    /// Learns more if the matcher wasn't asked about the line at `start`, and may be asked about
     /// many lines at once. The caller ensures that a line of the window begins there, and that
     /// these are the questions for this matcher. What is learnt is true of a matcher that is lawful
     /// for the terminator. The error is the matcher's: `failure`, if it failed at these lines
@@ -159,12 +162,12 @@ impl Config {
             → IsKnown self.now (M.facts matcher.now).meaning window.now start ahead
             → IsKnown self.now (M.facts matcher.now).meaning window.now start next) }
         ensures some { IfErr result (λ e. start < length window.now) }
-        ensures unknown { IfErr result (λ e. ahead.match_end ≤ start) }
+        ensures unasked { IfErr result (λ e. ahead.asked_end ≤ start) }
         ensures allowed { IfErr result
             (λ e. MayAskAhead self.now (M.facts matcher.now).meaning walk.now) }
         ensures fault { IfErr result ((M.facts matcher.now).fails (drop start window.now)) }
     {
-        if start < ahead.match_end || start == window.len() || !self.asks_ahead(questions, walk) {
+        if start < ahead.asked_end || start == window.len() || !self.asks_ahead(questions, walk) {
             return Ok(ahead);
         }
         if let Some(error) = failure.take() {
@@ -206,18 +209,21 @@ impl Config {
             return Ahead {
                 candidate: window.len(),
                 match_end: window.len(),
+                asked_end: window.len(),
             };
         };
         let terminator = self.line_terminator.as_byte();
         let line = line_of(&window[start..], terminator, found.position());
         let candidate = start + line.start();
+        let asked_end = start + line.end();
         Ahead {
             candidate,
             match_end: if found.is_confirmed() {
-                start + line.end()
+                asked_end
             } else {
                 candidate
             },
+            asked_end,
         }
     }
 

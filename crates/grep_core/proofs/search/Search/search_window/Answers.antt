@@ -123,7 +123,12 @@ lines-init g c = record {
   same = refl;
   ahead = omega arith;
   ordered = c.requires.ordered;
-  bounded = record { ordered = omega arith; within = omega arith };
+  bounded = record {
+    ordered = omega arith;
+    within = omega arith;
+    asked = omega arith;
+    sure = λ some. absurd (omega arith);
+  };
   pending = tt;
   further = tt;
   known = λ lawful gone input first so_far. skips.known-nothing _ _ _ _;

@@ -51,3 +51,4 @@ returns-else-is_confirmed-clause-known c = λ meaning i here lawful.
     (subst (IsLawfulResult settings.line_terminator meaning rest) c.in-Some.is lawful)
     c.line_of-line.result located
     (c.args.start + c.start.result) (ap (λ n. c.args.start + n) c.start.ensures.value)
+    (c.args.start + c.end.result)

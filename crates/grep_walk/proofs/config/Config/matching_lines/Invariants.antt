@@ -6,7 +6,7 @@ abbrev pub invariant-lines : goal.invariant-lines
 invariant-lines g l = record {
   run : IsRun l.self (g.M.Matcher.facts l.matcher) l.window l.start l.ahead true l.lines;
   unfailed : l.failure ≡ None;
-  unknown : l.lines.ahead.match_end ≤ l.lines.end;
+  unknown : l.lines.ahead.asked_end ≤ l.lines.end;
   few : (l.lines.end ≤ l.start + 16384) ⊎ (l.lines.end ≡ l.ahead.match_end);
 }
 
