@@ -39,6 +39,36 @@ impl<M: Matcher> Matcher for CandidatesOnly<M> {
     }
 }
 
+/// Another matcher, which is sure of none of the lines that it finds among many.
+#[derive(Drop)]
+pub struct Unsure<M>(pub M);
+
+impl<M: Matcher> Matcher for Unsure<M> {
+    type Error = M::Error;
+
+    ghost facts = { λ m. M.facts m.0 };
+
+    fn find(&self, haystack: &[u8]) -> Result<Option<Match>, M::Error> {
+        self.0.find(haystack)
+    }
+
+    fn find_candidate_line(&self, haystack: &[u8]) -> Result<Option<LineMatchKind>, M::Error> {
+        match self.0.find_candidate_line(haystack) {
+            Ok(Some(found)) => Ok(Some(LineMatchKind::Candidate(found.position()))),
+            Ok(None) => Ok(None),
+            Err(error) => Err(error),
+        }
+    }
+
+    fn line_terminator(&self) -> Option<LineTerminator> {
+        self.0.line_terminator()
+    }
+
+    fn non_matching_bytes(&self) -> Option<&ByteSet> {
+        self.0.non_matching_bytes()
+    }
+}
+
 /// Matches nothing, and declares a line feed. Of lines that end in one it confirms the position at
 /// their end, which is in no line. It never fails.
 #[derive(Drop)]

@@ -12,7 +12,7 @@ mod pieces;
 mod recorder;
 mod rows;
 
-pub use candidates::{CandidatesOnly, ConfirmsEnd, Contrary};
+pub use candidates::{CandidatesOnly, ConfirmsEnd, Contrary, Unsure};
 pub use comparison::{Comparison, Failed};
 pub use counting::{Counting, Counts};
 pub use matchers::{AtEnd, Either, Empty, FAILING_MESSAGE, Failing, Naming};

@@ -2,7 +2,7 @@
 use crate::search::searches::{search_reader, search_slice};
 use grep_matcher::{LiteralMatcher, Matcher, Plain};
 use grep_searcher::{ConfigError, SearchError, Searcher, SearcherBuilder};
-use grep_testing::{Counting, Offers, Pieces, Taking};
+use grep_testing::{Counting, Offers, Pieces, Taking, Unsure};
 use std::alloc::Global;
 use std::io;
 use std::io::ErrorKind;
@@ -14,6 +14,8 @@ struct Row {
     pieces: &'static [Option<usize>],
     // whether the matcher has a byte set, so that it may be asked about many lines at once
     has_byte_set: bool,
+    // whether it confirms that a line among many matches, and isn't asked again about that line
+    is_sure: bool,
     multi_line: bool,
     invert: bool,
     stop: bool,
@@ -37,6 +39,7 @@ const AHEAD: Row = Row {
     input: b"b\na\nb\na\n",
     pieces: &[None, Some(0)],
     has_byte_set: true,
+    is_sure: true,
     multi_line: false,
     invert: false,
     stop: false,
@@ -108,6 +111,31 @@ const AHEAD_ROWS: &[Row] = &[
         offers: 1,
         asked: &[b"b\n", b"a\n", b"b\n", b"a\n"],
         ..AHEAD
+    },
+];
+
+// A search whose matcher isn't sure of any line that it finds among many.
+const UNSURE: Row = Row {
+    is_sure: false,
+    offers: 0,
+    asked: &[b"b\na\nb\na\n", b"a", b"b\na\n", b"a"],
+    ..AHEAD
+};
+
+// Each such line is asked about alone, and not among many again, also after lines of a context.
+const UNSURE_ROWS: &[Row] = &[
+    UNSURE,
+    Row { near: 1, ..UNSURE },
+    Row {
+        input: b"a\nb\nb\na\n",
+        near: 2,
+        asked: &[b"a\nb\nb\na\n", b"a", b"b\nb\na\n", b"a"],
+        ..UNSURE
+    },
+    Row {
+        invert: true,
+        offers: 2,
+        ..UNSURE
     },
 ];
 
@@ -342,8 +370,10 @@ fn asks_of(alloc: Global, row: &Row, piece: Option<usize>, failing: Option<u64>)
         return false;
     };
     let literal = LiteralMatcher::borrowed(b"a");
-    if row.has_byte_set {
+    if row.has_byte_set && row.is_sure {
         asks(&mut searcher, row, literal, piece, failing)
+    } else if row.has_byte_set {
+        asks(&mut searcher, row, Unsure(literal), piece, failing)
     } else {
         asks(&mut searcher, row, Plain(literal), piece, failing)
     }
@@ -375,6 +405,11 @@ fn ask_rows(alloc: Global, rows: &[Row]) -> Result<(), usize> {
 #[test]
 fn many_lines_at_once(rt: HostRuntime) -> Result<(), usize> {
     ask_rows(rt.alloc(), AHEAD_ROWS)
+}
+
+#[test]
+fn lines_that_may_match(rt: HostRuntime) -> Result<(), usize> {
+    ask_rows(rt.alloc(), UNSURE_ROWS)
 }
 
 #[test]
