@@ -27,7 +27,7 @@ pub(crate) fn lead_of(sets: &[ByteSet]) -> usize
     lead.min(sets.len())
 }
 
-// How often the sets from one on come together in text, by no scale.
+// How often the sets from one on come one after another in text: a number to compare with others.
 fn frequency_from(sets: &[ByteSet], at: usize) -> u64 {
     let mut frequency = 1u64;
     for k in at..sets.len() {
@@ -38,7 +38,7 @@ fn frequency_from(sets: &[ByteSet], at: usize) -> u64 {
     frequency
 }
 
-// How often a byte of a set comes in text: that of its ASCII members.
+// How often the ASCII members of a set come in text.
 fn frequency_of(set: &ByteSet) -> u64 {
     let mut frequency = 0u64;
     for byte in 0..128u8 {
