@@ -29,8 +29,8 @@ pub(crate) enum Offered {
 
 impl<'c, A: Allocator + Copy, T: Configured> Search<'c, A, T> {
     // Offers the sink the lines from `start` on that are chosen one after another, if there are some.
-    // It may be offered a line that it doesn't take as if it was offered nothing: of the lines after
-    // that nothing was asked.
+    // If it declines and nothing was asked about the lines after the first, it counts as offered
+    // nothing.
     #[inline(always)]
     pub(crate) fn sink_chosen_lines<M: Matcher, C: SinkCalls<T>>(
         &self,

@@ -1,7 +1,8 @@
 -- Values that are about paths, each of which has a text that those paths end in, or that a name of them
 -- begins with. The texts are compared by numbers, the same for the same text.
 use Rattle.std.specs.Prelude.{◌≡◌, ◌≢◌, ◌⊎◌, ℕ, ◌+◌, ◌-◌, ◌*◌, ◌%◌, ◌^◌, ◌<◌, ◌≤◌, ◌==◌, ◌||◌, ◌++◌}
-use Rattle.std.specs.Prelude.{Bool, true, false, List, [], ◌∷◌, drop, length, slice_index, slice_index_or, take, None, Option, Some}
+use Rattle.std.specs.Prelude.{Bool, true, false, List, [], ◌∷◌, drop, length, slice_index}
+use Rattle.std.specs.Prelude.{slice_index_or, take, None, Option, Some}
 
 -- a path ends in a text
 abbrev pub EndsIn : List ℕ → List ℕ → Type 0

@@ -1,6 +1,7 @@
 //! The pieces of a glob, by its text.
 ghost use Rattle.std.specs.Prelude.{◌≡◌, ◌≢◌, ◌++◌, ◌∷◌, [], ◌&&◌, ◌||◌, ◌==◌, nat_lt, ℕ, List};
-ghost use Rattle.std.specs.Prelude.{Bool, true, false, IfErr, IfOk, MatchResult, suc, ◌<◌, ◌≤◌, length, replicate, take};
+ghost use Rattle.std.specs.Prelude.{Bool, true, false, IfErr, IfOk, MatchResult, suc, ◌<◌, ◌≤◌};
+ghost use Rattle.std.specs.Prelude.{length, replicate, take};
 ghost use Rattle.grep_matcher.specs.ByteSets.{holds};
 ghost use Rattle.grep_ignore.specs.Classes.{IsSet, begins_with, is_either, is_empty, is_name_byte};
 ghost use Rattle.grep_ignore.specs.Globs.{HasStars, IsFault, IsGlob, IsMalformed};

@@ -1,5 +1,6 @@
 //! The rules of several ignore files, of which the first that says something of a path decides.
-ghost use Rattle.std.specs.Prelude.{◌≡◌, ◌↔◌, ◌<◌, ◌≤◌, ℕ, slice_index_or, filter, nat_lt, drop, IfOk, IsTrue, OnErr, OnOk, [], length};
+ghost use Rattle.std.specs.Prelude.{◌≡◌, ◌↔◌, ◌<◌, ◌≤◌, ℕ, slice_index_or, filter, nat_lt, drop};
+ghost use Rattle.std.specs.Prelude.{IfOk, IsTrue, OnErr, OnOk, [], length};
 ghost use Rattle.grep_ignore.specs.declared.layers.Layer.{Layer};
 ghost use Rattle.grep_ignore.specs.Layers.{IsFirst, IsInserted, Says, counts_from, rank_of, start_of};
 

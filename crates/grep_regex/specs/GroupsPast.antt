@@ -1,5 +1,5 @@
--- From a position past a haystack there are no groups. This is the proof of a law of `CapturesAt`, which may cite `specs`
--- alone.
+-- From a position past a haystack there are no groups. This is the proof of a law of `CapturesAt`,
+-- which may cite `specs` alone.
 use Rattle.std.proofs.Common.{◌≡◌, ℕ, ◌<◌, List, [], length, Option, Some, None, option_map, refl, sym, arith}
 use Rattle.std.proofs.lemmas.Option.{none-some}
 use Rattle.std.specs.Option.{option_map_or}
@@ -26,7 +26,7 @@ groups-past-seen o patterns haystack start past =
     (find_clear (excluded_bytes o.line_terminator) (written_re o patterns) seen start)
     (none-past o patterns seen start past)
 
-pub groups-past : (o : Options) (patterns : List (List ℕ)) (haystack : List ℕ) (start : ℕ) → length haystack < start
-    → groups_at o patterns haystack start ≡ []
+pub groups-past : (o : Options) (patterns : List (List ℕ)) (haystack : List ℕ) (start : ℕ)
+    → length haystack < start → groups_at o patterns haystack start ≡ []
 groups-past o patterns haystack start past =
     groups-past-seen o patterns haystack start (omega (arith, past, seen-fits o.line_terminator haystack))

@@ -44,7 +44,7 @@ pub struct Ahead {
     pub candidate: usize,
     /// Where that line ends, if it surely matches; if not, a position that isn't after its start.
     pub match_end: usize,
-    /// Where that line ends: many lines are asked about again only from there on.
+    /// Where that line ends. The next question about many lines begins there, or later.
     pub asked_end: usize,
 }
 
@@ -105,8 +105,9 @@ impl Config {
         }
     }
 
-    /// What may be asked about the lines after a chosen one, by what this matcher may be asked: each
-    /// alone, if that is one that doesn't match, or if the next that isn't chosen ends the search.
+    /// What may be asked about the lines after a chosen one, by what this matcher may be asked. Each
+    /// of them is asked about alone if those that don't match are chosen, or if the next line that
+    /// isn't chosen ends the search.
     pub fn questions_after_chosen(&self, questions: Questions) -> Questions
         ensures { (meaning : Meaning) → AreQuestions self.now meaning questions
             → AreAllowed self.now meaning result }
@@ -135,8 +136,8 @@ impl Config {
     /// Learns more if the matcher wasn't asked about the line at `start`, and may be asked about
     /// many lines at once. The caller ensures that a line of the window begins there, and that
     /// these are the questions for this matcher. What is learnt is true of a matcher that is lawful
-    /// for the terminator. The error is the matcher's: `failure`, if it failed at these lines
-    /// before, and it isn't asked again.
+    /// for the terminator. The error is the matcher's. If the matcher failed at these lines before,
+    /// it is that error, `failure`, and the matcher isn't asked again.
     #[inline(always)]
     pub fn look_ahead<M: Matcher>(
         &self,

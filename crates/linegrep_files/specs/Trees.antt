@@ -160,6 +160,7 @@ module _ {S : Type 0} (facts : S → FolderFacts) where
   abbrev pub WalksBegin : Type 0
   WalksBegin = (system : Bor S) (route : Route) (folder : List ℕ) (begun walk new : Walk S)
       (first choices inside : Choices) (visited : List Entry) (entry : Entry)
-      → AreTakenUp (facts system.now) (name_of folder) first choices → IsBegun system route folder begun → IsWalked begun choices visited walk inside
+      → AreTakenUp (facts system.now) (name_of folder) first choices
+      → IsBegun system route folder begun → IsWalked begun choices visited walk inside
       → IsPopped walk (Some entry) new
       → AreFirstOf (facts system.now) route first folder (visited ++ entry ∷ [])

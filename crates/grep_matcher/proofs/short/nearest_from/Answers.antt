@@ -30,7 +30,13 @@ returns-then-marks-ne0 c =
       passed = Nowhere-then c.windows.invariant.passed
           (window-first occurs c.windows.from (c.windows.from + 32) marks.result covers some fits
           (c.windows.from + first) (omega (arith, marks.ensures.few first set)) (omega arith));
-      known = (rw (c.new-bytes.ensures.haystack, c.new-bytes.ensures.literal, c.new-bytes.ensures.first, c.new-bytes.ensures.second, c.new-bytes.ensures.third) at marks.ensures.exact) first set;
+      known = (rw (
+        c.new-bytes.ensures.haystack,
+        c.new-bytes.ensures.literal,
+        c.new-bytes.ensures.first,
+        c.new-bytes.ensures.second,
+        c.new-bytes.ensures.third,
+      ) at marks.ensures.exact) first set;
     }
 
 -- the last position of the last vector, and one more
@@ -62,5 +68,11 @@ returns c =
       passed = Nowhere-then c.windows.invariant.passed
           (window-first occurs c.windows.from end left.result covers some fits
           (c.windows.from + first) (omega (arith, left.ensures.few first set)) (omega arith));
-      known = (rw (c.new-bytes.ensures.haystack, c.new-bytes.ensures.literal, c.new-bytes.ensures.first, c.new-bytes.ensures.second, c.new-bytes.ensures.third) at left.ensures.exact) first set;
+      known = (rw (
+        c.new-bytes.ensures.haystack,
+        c.new-bytes.ensures.literal,
+        c.new-bytes.ensures.first,
+        c.new-bytes.ensures.second,
+        c.new-bytes.ensures.third,
+      ) at left.ensures.exact) first set;
     }
