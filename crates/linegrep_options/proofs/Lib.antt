@@ -1,0 +1,4 @@
+pub mod NumberLemmas
+pub mod ReadingLemmas
+pub mod RowLemmas
+pub mod UseLemmas

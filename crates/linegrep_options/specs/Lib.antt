@@ -1,0 +1,4 @@
+pub mod CommandLines
+pub mod OptionUses
+pub mod ParsedWords
+pub mod Rows
