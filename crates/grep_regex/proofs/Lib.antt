@@ -27,4 +27,5 @@ pub mod StartLemmas
 pub mod PrefixLemmas
 pub mod UnionLemmas
 pub mod ChoiceLemmas
+pub mod BucketLemmas
 pub mod SizeLemmas

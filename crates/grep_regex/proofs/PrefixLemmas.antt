@@ -19,7 +19,7 @@ pub all-cover : (P : ℕ → Type 0) (at : ℕ) (v : List ℕ) → HasLanes v (�
 all-cover P at v lanes = record { long = lanes.long; each = λ k l p. omega (arith, lanes.each k l) }
 
 -- a decision that isn't against a match
-not-false : (d : Option Bool) → ¬ (d ≢ Some false) → d ≡ Some false
+pub not-false : (d : Option Bool) → ¬ (d ≢ Some false) → d ≡ Some false
 not-false None other = absurd (other (λ e. grind (arith, e)))
 not-false (Some true) other = absurd (other (λ e. grind (arith, e)))
 not-false (Some false) other = refl
@@ -30,7 +30,7 @@ pub nowhere-passed : (sets : List (List Bool)) (hay : List ℕ) (from to : ℕ)
 nowhere-passed sets hay from to none i low below = not-false (decision sets hay i) (none i low below)
 
 -- of a position at which there may be a match: its byte is no ASCII byte, or it is in the set and there may be more
-next-may : (sets : List (List Bool)) (n : ℕ) (hay : List ℕ) (p : ℕ) → n < length sets → p < length hay
+pub next-may : (sets : List (List Bool)) (n : ℕ) (hay : List ℕ) (p : ℕ) → n < length sets → p < length hay
     → MayMatch sets n hay p → (128 ≤ get_or hay p 0)
     ⊎ ((get_or hay p 0 < 128) × (holds (get_or sets n []) (get_or hay p 0) ≡ true) × MayMatch sets (suc n) hay (p + 1))
 next-may sets n hay p within inside may = ⊎_elim

@@ -1,5 +1,5 @@
 //! Vectors of 32 bytes, lane by lane.
-ghost use Rattle.std.specs.Prelude.{◌≡◌, ◌↔◌, ◌≤◌, ◌+◌, ◌/◌, ◌%◌, ℕ, length, slice_index};
+ghost use Rattle.std.specs.Prelude.{◌≡◌, ◌↔◌, ◌≤◌, ◌+◌, ◌/◌, ◌%◌, ◌++◌, ℕ, length, slice_index};
 ghost use Rattle.std.specs.Prelude.{bit_and, bit_or};
 ghost use Rattle.std.specs.Int.{bit_at};
 ghost use Rattle.regex_literal.specs.Lanes.{HasLanes, all_or_none};
@@ -63,7 +63,7 @@ pub(crate) fn in_common(a: u8x32, b: u8x32) -> u8x32
 
 // All bits of the lanes that aren't 0.
 #[inline(always)]
-fn nonzero(lanes: u8x32) -> u8x32
+pub(crate) fn nonzero(lanes: u8x32) -> u8x32
     ensures { HasLanes result (λ k. all_or_none (slice_index lanes k)) }
 {
     lanes
@@ -80,6 +80,14 @@ pub(crate) fn either_or_both(a: u8x32, b: u8x32, c: u8x32) -> u8x32
     a | (b & c)
 }
 
+// The bits that are set in both.
+#[inline(always)]
+pub(crate) fn both(a: u8x32, b: u8x32) -> u8x32
+    ensures { HasLanes result (λ k. bit_and (slice_index a k) (slice_index b k)) }
+{
+    a & b
+}
+
 // The bits that are set in one vector or in another.
 #[inline(always)]
 pub(crate) fn either(a: u8x32, b: u8x32) -> u8x32
@@ -88,10 +96,34 @@ pub(crate) fn either(a: u8x32, b: u8x32) -> u8x32
     a | b
 }
 
+// In each lane no bit.
+#[inline(always)]
+pub(crate) fn none_set() -> u8x32
+    ensures { HasLanes result (λ k. 0) }
+{
+    u8x32::splat(0)
+}
+
 // The highest bit of each lane.
 #[inline(always)]
 pub(crate) fn highest_bits(lanes: u8x32) -> u64
     ensures { (k : ℕ) → (bit_at result k ≡ 1) ↔ (128 ≤ slice_index lanes k) }
 {
     lanes.simd_ge(u8x32::splat(128)).to_bitmask()
+}
+
+// The highest bits of the lanes of one vector, and then those of another.
+#[inline(always)]
+pub(crate) fn highest_bits_of_two(a: u8x32, b: u8x32) -> u64
+    ensures { (k : ℕ) → (bit_at result k ≡ 1) ↔ (128 ≤ slice_index (a ++ b) k) }
+{
+    let lanes: u8x64 = a.shuffle(
+        b,
+        [
+            0, 1, 2, 3, 4, 5, 6, 7, 8, 9, 10, 11, 12, 13, 14, 15, 16, 17, 18, 19, 20, 21, 22, 23,
+            24, 25, 26, 27, 28, 29, 30, 31, 32, 33, 34, 35, 36, 37, 38, 39, 40, 41, 42, 43, 44, 45,
+            46, 47, 48, 49, 50, 51, 52, 53, 54, 55, 56, 57, 58, 59, 60, 61, 62, 63,
+        ],
+    );
+    lanes.simd_ge(u8x64::splat(128)).to_bitmask()
 }

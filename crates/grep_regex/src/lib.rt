@@ -3,6 +3,7 @@
 
 mod absent;
 mod asked;
+mod buckets;
 mod builder;
 mod class_tree;
 mod classes;
@@ -35,6 +36,7 @@ mod tables;
 mod texts;
 mod ungrouped;
 mod unions;
+mod windows;
 
 pub use crate::regex::Regex;
 pub use builder::RegexMatcherBuilder;

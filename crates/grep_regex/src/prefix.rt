@@ -1,8 +1,8 @@
 //! A search for the positions at which sets of bytes may decide that a pattern matches.
 ghost use Rattle.std.specs.Prelude.{◌≡◌, ◌≤◌, ◌<◌, ◌+◌, ◌-◌, ℕ, length, slice_index, All, IfOk};
-ghost use Rattle.std.specs.Int.{bit_at};
 ghost use Rattle.regex_literal.specs.Lanes.{Covers};
 ghost use Rattle.regex_literal.specs.Nibbles.{buckets_of};
+ghost use Rattle.grep_regex.specs.Buckets.{AreAtLeast, AreInBuckets, AreMarked, MayFollow};
 ghost use Rattle.grep_regex.specs.Choices.{items_of};
 ghost use Rattle.grep_regex.specs.Classes.{any_decision, decision};
 ghost use Rattle.grep_regex.specs.Covers.{AreCovered};
@@ -10,19 +10,21 @@ ghost use Rattle.grep_regex.specs.Decisions.{IsPassed, MayMatch};
 ghost use Rattle.grep_regex.specs.Tables.{HasMembers};
 
 use crate::asked::Asked;
+use crate::buckets::Buckets;
 use crate::covers::cover_of;
 use crate::lanes::{
-    WIDTH, all_set, by_high_half, by_low_half, either, either_or_both, highest_bits, in_common,
-    load,
+    WIDTH, all_set, by_high_half, by_low_half, either, either_or_both, in_common, load, none_set,
+    nonzero,
 };
 use crate::rarity::lead_of;
 use crate::tables::Table;
+use crate::windows::{Target, skip};
 use grep_matcher::ByteSet;
 use std::alloc::{AllocError, Global};
 use std::simd::prelude::*;
 
-// Sequences of sets of bytes with one of which a match begins, sets that have the members of the
-// first of each, and three of these that are rare in text as tables.
+// Sequences of sets of bytes with one of which a match begins. If there is one, three of its sets
+// that are rare in text are tables; if there are several, their first sets are in buckets.
 #[derive(Drop)]
 pub(crate) struct Prefix {
     pub(crate) choices: Vec<Vec<ByteSet>>,
@@ -34,11 +36,18 @@ pub(crate) struct Prefix {
     first: Table,
     second: Table,
     third: Table,
+    buckets: Buckets,
     ghost covered: { All (λ sets. AreCovered cover.items sets.items) choices.items },
     ghost led: { lead ≤ length cover.items },
     ghost first_has: { HasMembers cover.items lead first.low first.high },
     ghost second_has: { HasMembers cover.items (lead + 1) second.low second.high },
     ghost third_has: { HasMembers cover.items (lead + 2) third.low third.high },
+    ghost few: { buckets.size ≤ 3 },
+    ghost sized: { AreAtLeast (items_of choices.items) buckets.size },
+    ghost first_in_buckets: { AreInBuckets (items_of choices.items) 0 buckets.first.low buckets.first.high },
+    ghost second_in_buckets: { AreInBuckets (items_of choices.items) 1 buckets.second.low
+        buckets.second.high },
+    ghost third_in_buckets: { AreInBuckets (items_of choices.items) 2 buckets.third.low buckets.third.high },
 }
 
 impl Prefix {
@@ -55,6 +64,7 @@ impl Prefix {
         let first = Table::new(&cover, lead);
         let second = Table::new(&cover, lead + 1);
         let third = Table::new(&cover, lead + 2);
+        let buckets = Buckets::new(&choices);
         Ok(Prefix {
             choices,
             has_sizes,
@@ -63,6 +73,7 @@ impl Prefix {
             first,
             second,
             third,
+            buckets,
         })
     }
 
@@ -82,6 +93,23 @@ impl Prefix {
         ensures passed { IsPassed (any_decision (items_of self.now.choices.items) haystack.now)
             start result }
     {
+        match self.buckets.size {
+            0 => self.skip_by_tables(haystack, start),
+            1 => self.skip_by_buckets::<1>(haystack, start),
+            2 => self.skip_by_buckets::<2>(haystack, start),
+            _ => self.skip_by_buckets::<3>(haystack, start),
+        }
+    }
+
+    // The same by the sets that are tables.
+    #[inline(always)]
+    fn skip_by_tables(&self, haystack: &[u8], start: usize) -> usize
+        requires { start ≤ length haystack.now }
+        ensures low { start ≤ result }
+        ensures within { result ≤ length haystack.now }
+        ensures passed { IsPassed (any_decision (items_of self.now.choices.items) haystack.now)
+            start result }
+    {
         match self.cover.len() - self.lead {
             0 => start,
             1 => self.skip_by::<1>(haystack, start),
@@ -90,8 +118,7 @@ impl Prefix {
         }
     }
 
-    // A position up to which the sets that cover the others decide it, in windows of a vector's width.
-    // The last one ends with the haystack, and may begin before the position that it is looked at from.
+    // A position up to which the sets that cover the others decide it.
     #[inline(always)]
     fn skip_by<const SETS: usize>(&self, haystack: &[u8], start: usize) -> usize
         requires start { start ≤ length haystack.now }
@@ -101,39 +128,29 @@ impl Prefix {
         ensures within { result ≤ length haystack.now }
         ensures passed { IsPassed (decision self.now.cover.items haystack.now) start result }
     {
-        let size = self.lead + SETS;
-        if haystack.len() - start < size || haystack.len() < WIDTH + size {
-            return start;
-        }
-        let last = haystack.len() - size - (WIDTH - 1);
-        let mut from = start;
-        'windows: loop {
-            let position = from.min(last);
-            let marks = self.marks_from::<SETS>(haystack, position, from);
-            if marks != 0 {
-                let at = from + marks.trailing_zeros() as usize;
-                return at.min(position + WIDTH);
-            }
-            if from >= last {
-                return last + WIDTH;
-            }
-            from += WIDTH;
-        }
+        let rare = RareSets::<SETS> {
+            prefix: self,
+            haystack,
+        };
+        skip(&rare, haystack, self.lead + SETS, start)
     }
 
-    // Bit k is set if a match may begin at `from + k`: of the positions from `position` on that a
-    // vector has.
+    // A position up to which no sequence follows, by the buckets of their first sets.
     #[inline(always)]
-    fn marks_from<const SETS: usize>(&self, haystack: &[u8], position: usize, from: usize) -> u64
-        requires room { position + self.now.lead + SETS + WIDTH ≤ length haystack.now + 1 }
-        requires sets { self.now.lead + SETS ≤ length self.now.cover.items }
-        requires few { (1 ≤ SETS) × (SETS ≤ 3) }
-        requires low { position ≤ from }
-        requires high { from < position + 64 }
-        ensures { (k : ℕ) → from ≤ k → k < position + WIDTH
-            → MayMatch self.now.cover.items 0 haystack.now k → bit_at result (k - from) ≡ 1 }
+    fn skip_by_buckets<const SETS: usize>(&self, haystack: &[u8], start: usize) -> usize
+        requires start { start ≤ length haystack.now }
+        requires sets { SETS ≤ self.now.buckets.size }
+        requires some { 1 ≤ SETS }
+        ensures low { start ≤ result }
+        ensures within { result ≤ length haystack.now }
+        ensures passed { IsPassed (any_decision (items_of self.now.choices.items) haystack.now)
+            start result }
     {
-        highest_bits(self.lanes::<SETS>(haystack, position)) >> (from - position)
+        let first = FirstSets::<SETS> {
+            prefix: self,
+            haystack,
+        };
+        skip(&first, haystack, SETS, start)
     }
 
     // For each position of a vector, whether there may be a match: by the sets that are tables, where
@@ -201,6 +218,98 @@ impl Prefix {
             return all_set();
         }
         lanes_of(&self.third, haystack, at, all_set())
+    }
+
+    // For each position of a vector, which bytes aren't ASCII, and the buckets whose sequences may
+    // follow.
+    #[inline(always)]
+    fn first_marks<const SETS: usize>(&self, haystack: &[u8], at: usize) -> (u8x32, u8x32)
+        requires room { at + SETS + WIDTH ≤ length haystack.now + 1 }
+        requires sets { SETS ≤ self.now.buckets.size }
+        requires some { 1 ≤ SETS }
+        ensures { AreMarked (items_of self.now.choices.items) 0 haystack.now at result.0 result.1 }
+    {
+        let bytes = load(haystack, at);
+        let (signs, later) = self.second_marks::<SETS>(haystack, at + 1);
+        (either(bytes, signs), self.buckets.first.lanes(bytes, later))
+    }
+
+    // The same of the sets from the second one on.
+    #[inline(always)]
+    fn second_marks<const SETS: usize>(&self, haystack: &[u8], at: usize) -> (u8x32, u8x32)
+        requires room { at + SETS + WIDTH ≤ length haystack.now + 2 }
+        requires sets { SETS ≤ self.now.buckets.size }
+        ensures { AreMarked (items_of self.now.choices.items) 1 haystack.now at result.0 result.1 }
+    {
+        if SETS < 2 {
+            return (none_set(), all_set());
+        }
+        let bytes = load(haystack, at);
+        let (signs, later) = self.third_marks::<SETS>(haystack, at + 1);
+        (
+            either(bytes, signs),
+            self.buckets.second.lanes(bytes, later),
+        )
+    }
+
+    // The same of the sets from the third one on.
+    #[inline(always)]
+    fn third_marks<const SETS: usize>(&self, haystack: &[u8], at: usize) -> (u8x32, u8x32)
+        requires room { at + SETS + WIDTH ≤ length haystack.now + 3 }
+        requires sets { SETS ≤ self.now.buckets.size }
+        ensures { AreMarked (items_of self.now.choices.items) 2 haystack.now at result.0 result.1 }
+    {
+        if SETS < 3 {
+            return (none_set(), all_set());
+        }
+        let bytes = load(haystack, at);
+        (bytes, self.buckets.third.lanes(bytes, all_set()))
+    }
+}
+
+// The sets of a prefix from its first table on, as they are looked for.
+#[derive(Drop)]
+struct RareSets<'a, const SETS: usize> {
+    prefix: &'a Prefix,
+    haystack: &'a [u8],
+    ghost sets: { prefix.now.lead + SETS ≤ length prefix.now.cover.items },
+    ghost some: { 1 ≤ SETS },
+    ghost few: { SETS ≤ 3 },
+}
+
+impl<const SETS: usize> Target for RareSets<'_, SETS> {
+    ghost haystack = { λ s. s.haystack.now };
+
+    ghost size = { λ s. s.prefix.now.lead + SETS };
+
+    ghost may_follow = { λ s. MayMatch s.prefix.now.cover.items 0 s.haystack.now };
+
+    #[inline(always)]
+    fn lanes(&self, at: usize) -> u8x32 {
+        self.prefix.lanes::<SETS>(self.haystack, at)
+    }
+}
+
+// The first sets of each sequence of a prefix, as they are looked for.
+#[derive(Drop)]
+struct FirstSets<'a, const SETS: usize> {
+    prefix: &'a Prefix,
+    haystack: &'a [u8],
+    ghost sets: { SETS ≤ prefix.now.buckets.size },
+    ghost some: { 1 ≤ SETS },
+}
+
+impl<const SETS: usize> Target for FirstSets<'_, SETS> {
+    ghost haystack = { λ s. s.haystack.now };
+
+    ghost size = { λ _. SETS };
+
+    ghost may_follow = { λ s. MayFollow (items_of s.prefix.now.choices.items) s.haystack.now };
+
+    #[inline(always)]
+    fn lanes(&self, at: usize) -> u8x32 {
+        let (signs, buckets) = self.prefix.first_marks::<SETS>(self.haystack, at);
+        either(signs, nonzero(buckets))
     }
 }
 

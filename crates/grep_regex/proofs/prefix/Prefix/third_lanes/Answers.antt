@@ -1,4 +1,4 @@
-use Rattle.std.proofs.Common.{refl, arith, ◌+◌}
+use Rattle.std.proofs.Common.{arith, ◌+◌}
 use Rattle.grep_regex.specs.Decisions.{MayMatch}
 use Rattle.grep_regex.proofs.PrefixLemmas.{all-cover, set-covers}
 use Rattle.grep_regex.proofs.prefix.Prefix.third_lanes.Goals as goal

@@ -1,5 +1,5 @@
 use Rattle.grep_regex.proofs.ChoiceLemmas.{passed-covered}
-use Rattle.grep_regex.proofs.prefix.Prefix.skip.Goals as goal
+use Rattle.grep_regex.proofs.prefix.Prefix.skip_by_tables.Goals as goal
 
 pub returns-in-1-clause-passed : goal.returns-in-1-clause-passed
 returns-in-1-clause-passed c =
