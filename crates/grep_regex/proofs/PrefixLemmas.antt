@@ -7,11 +7,9 @@ use Rattle.std.proofs.lemmas.Nat.{and_mask}
 use Rattle.memchr.proofs.lemmas.BitLemmas.{or_ge_left, or_ge_right}
 use Rattle.memchr.specs.Find.{Nowhere}
 use Rattle.regex_literal.specs.Lanes.{Covers, HasLanes, all_or_none}
-use Rattle.regex_literal.specs.Nibbles.{buckets_of}
 use Rattle.grep_matcher.specs.ByteSets.{holds}
 use Rattle.grep_regex.specs.Classes.{decision, decision_by}
 use Rattle.grep_regex.specs.Decisions.{IsPassed, MayMatch}
-use Rattle.grep_regex.specs.Tables.{HasMembers}
 use Rattle.grep_regex.proofs.DecisionLemmas.{decision-cons, decision-member, decision-other}
 
 -- in lanes that are all set each position has what is looked for
@@ -80,22 +78,22 @@ module _ (v bytes later members : List ℕ)
   )
 
 -- the lanes of a set, by those of the sets after it
-pub set-covers : (sets : List (List Bool)) (n m : ℕ) (hay low high : List ℕ) (at : ℕ) (later v : List ℕ) → m ≡ suc n
-    → n < length sets → at + 32 ≤ length hay → HasMembers sets n low high
-    → Covers (MayMatch sets m hay) (at + 1) later → length v ≡ 32
+pub set-covers : (P : ℕ → Type 0) (sets : List (List Bool)) (n m : ℕ) (hay : List ℕ) (at then : ℕ) (later v : List ℕ)
+    → m ≡ suc n → then ≡ at + 1 → n < length sets → at + 32 ≤ length hay
+    → ((byte : ℕ) → byte < 128 → holds (get_or sets n []) byte ≡ true → P byte)
+    → Covers (MayMatch sets m hay) then later → length v ≡ 32
     → ((k : ℕ) → k < 32 → 128 ≤ get_or hay (at + k) 0 → 128 ≤ get_or v k 0)
-    → ((k : ℕ) → k < 32 → 0 < buckets_of low high (get_or hay (at + k) 0) → 128 ≤ get_or later k 0
-    → 128 ≤ get_or v k 0)
+    → ((k : ℕ) → k < 32 → P (get_or hay (at + k) 0) → 128 ≤ get_or later k 0 → 128 ≤ get_or v k 0)
     → Covers (MayMatch sets n hay) at v
-set-covers sets n m hay low high at later v next within room members after long over member = record {
+set-covers P sets n m hay at then later v next one_on within room members after long over member = record {
   long = long;
   each = λ k below may. ⊎_elim
       (λ big. over k below big)
       (λ one.
-      let far : at + k + 1 ≡ at + 1 + k = omega arith in
+      let far : at + k + 1 ≡ then + k = omega (arith, one_on) in
       let same : suc n ≡ m = sym next in
       member k below (members (get_or hay (at + k) 0) one.0 one.1)
-      (after.each k below (subst (λ j. MayMatch sets j hay (at + 1 + k)) same
+      (after.each k below (subst (λ j. MayMatch sets j hay (then + k)) same
       (subst (MayMatch sets (suc n) hay) far one.2))))
       (next-may sets n hay (at + k) within (omega (arith, room)) may);
 }

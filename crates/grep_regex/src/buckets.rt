@@ -1,5 +1,7 @@
-//! Several sequences of sets of bytes in buckets: vectors look up the first sets of all of them at once.
-ghost use Rattle.std.specs.Prelude.{◌≡◌, ◌≤◌, ◌<◌, ℕ, [], length, slice_index, slice_index_or, bit_and, IsTrue};
+//! Several sequences of sets of bytes in buckets: vectors look up the first sets of all of them at
+//! once.
+ghost use Rattle.std.specs.Prelude.{◌≡◌, ◌≤◌, ◌<◌, ℕ, [], length, slice_index, slice_index_or};
+ghost use Rattle.std.specs.Prelude.{bit_and, IsTrue};
 ghost use Rattle.std.specs.Int.{bit_at};
 ghost use Rattle.regex_literal.specs.Lanes.{HasLanes};
 ghost use Rattle.regex_literal.specs.Nibbles.{buckets_of};
@@ -30,7 +32,8 @@ impl Buckets {
         ensures few { result.size ≤ MOST }
         ensures size { AreAtLeast (items_of choices.now) result.size }
         ensures first { AreInBuckets (items_of choices.now) 0 result.first.low result.first.high }
-        ensures second { AreInBuckets (items_of choices.now) 1 result.second.low result.second.high }
+        ensures second { AreInBuckets (items_of choices.now) 1 result.second.low
+            result.second.high }
         ensures third { AreInBuckets (items_of choices.now) 2 result.third.low result.third.high }
     {
         Buckets {
@@ -65,8 +68,8 @@ pub(crate) struct BucketTable {
 }
 
 impl BucketTable {
-    // The table of the sets at a position. That it has them is checked, and isn't proved of how it is
-    // made.
+    // The table of the sets at a position. That it has them is checked, and isn't proved of how it
+    // is made.
     fn new(choices: &[Vec<ByteSet>], position: usize) -> BucketTable
         ensures { AreInBuckets (items_of choices.now) position result.low result.high }
     {
@@ -112,7 +115,8 @@ impl BucketTable {
 
     // Whether the buckets have the members of the sets at a position.
     fn has_all(&self, choices: &[Vec<ByteSet>], position: usize) -> bool
-        ensures { IsTrue result → AreInBuckets (items_of choices.now) position self.now.low self.now.high }
+        ensures { IsTrue result
+            → AreInBuckets (items_of choices.now) position self.now.low self.now.high }
     {
         for i in 0..choices.len() {
             if !self.has_at(&choices[i], position, i % COUNT) {
@@ -155,7 +159,8 @@ impl BucketTable {
         (buckets >> bucket) & 1 == 1
     }
 
-    // For each byte of a vector the buckets that have it, of those that may have the bytes after it.
+    // For each byte of a vector the buckets that have it, of those that may have the bytes after
+    // it.
     #[inline(always)]
     pub(crate) fn lanes(&self, bytes: u8x32, later: u8x32) -> u8x32
         ensures { HasLanes result (λ k. bit_and

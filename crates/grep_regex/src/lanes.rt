@@ -1,6 +1,6 @@
 //! Vectors of 32 bytes, lane by lane.
-ghost use Rattle.std.specs.Prelude.{◌≡◌, ◌↔◌, ◌≤◌, ◌+◌, ◌/◌, ◌%◌, ◌++◌, ℕ, length, slice_index};
-ghost use Rattle.std.specs.Prelude.{bit_and, bit_or};
+ghost use Rattle.std.specs.Prelude.{◌≡◌, ◌↔◌, ◌≤◌, ◌+◌, ◌/◌, ◌%◌, ◌++◌, ◌==◌, ℕ, length};
+ghost use Rattle.std.specs.Prelude.{bit_and, bit_or, if◌then◌else◌, slice_index};
 ghost use Rattle.std.specs.Int.{bit_at};
 ghost use Rattle.regex_literal.specs.Lanes.{HasLanes, all_or_none};
 
@@ -102,6 +102,24 @@ pub(crate) fn none_set() -> u8x32
     ensures { HasLanes result (λ k. 0) }
 {
     u8x32::splat(0)
+}
+
+// The bits that are set in one vector or in a byte.
+#[inline(always)]
+pub(crate) fn either_byte(a: u8x32, byte: u8) -> u8x32
+    ensures { HasLanes result (λ k. bit_or (slice_index a k) byte) }
+{
+    a | u8x32::splat(byte)
+}
+
+// All bits of the lanes that are a byte.
+#[inline(always)]
+pub(crate) fn equal(lanes: u8x32, byte: u8) -> u8x32
+    ensures { HasLanes result (λ k. if slice_index lanes k == byte then 255 else 0) }
+{
+    lanes
+        .simd_eq(u8x32::splat(byte))
+        .select(u8x32::splat(255), u8x32::splat(0))
 }
 
 // The highest bit of each lane.

@@ -11,6 +11,7 @@ mod covers;
 mod engine;
 mod error;
 mod finder;
+mod folds;
 mod frame;
 mod group_finder;
 mod groups;

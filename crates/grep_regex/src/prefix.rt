@@ -1,5 +1,5 @@
 //! A search for the positions at which sets of bytes may decide that a pattern matches.
-ghost use Rattle.std.specs.Prelude.{◌≡◌, ◌≤◌, ◌<◌, ◌+◌, ◌-◌, ℕ, length, slice_index, All, IfOk};
+ghost use Rattle.std.specs.Prelude.{◌≡◌, ◌≤◌, ◌<◌, ◌+◌, ℕ, bit_or, length, slice_index, All, IfOk};
 ghost use Rattle.regex_literal.specs.Lanes.{Covers};
 ghost use Rattle.regex_literal.specs.Nibbles.{buckets_of};
 ghost use Rattle.grep_regex.specs.Buckets.{AreAtLeast, AreInBuckets, AreMarked, MayFollow};
@@ -7,11 +7,12 @@ ghost use Rattle.grep_regex.specs.Choices.{items_of};
 ghost use Rattle.grep_regex.specs.Classes.{any_decision, decision};
 ghost use Rattle.grep_regex.specs.Covers.{AreCovered};
 ghost use Rattle.grep_regex.specs.Decisions.{IsPassed, MayMatch};
-ghost use Rattle.grep_regex.specs.Tables.{HasMembers};
+ghost use Rattle.grep_regex.specs.Tables.{HasFold, HasMembers};
 
 use crate::asked::Asked;
 use crate::buckets::Buckets;
 use crate::covers::cover_of;
+use crate::folds::Fold;
 use crate::lanes::{
     WIDTH, all_set, by_high_half, by_low_half, either, either_or_both, in_common, load, none_set,
     nonzero,
@@ -36,18 +37,25 @@ pub(crate) struct Prefix {
     first: Table,
     second: Table,
     third: Table,
+    // The same three sets, if each has one byte or two.
+    folds: (Fold, Fold, Fold),
     buckets: Buckets,
     ghost covered: { All (λ sets. AreCovered cover.items sets.items) choices.items },
     ghost led: { lead ≤ length cover.items },
     ghost first_has: { HasMembers cover.items lead first.low first.high },
     ghost second_has: { HasMembers cover.items (lead + 1) second.low second.high },
     ghost third_has: { HasMembers cover.items (lead + 2) third.low third.high },
+    ghost first_fold: { HasFold cover.items lead folds.0.mask folds.0.value },
+    ghost second_fold: { HasFold cover.items (lead + 1) folds.1.mask folds.1.value },
+    ghost third_fold: { HasFold cover.items (lead + 2) folds.2.mask folds.2.value },
     ghost few: { buckets.size ≤ 3 },
     ghost sized: { AreAtLeast (items_of choices.items) buckets.size },
-    ghost first_in_buckets: { AreInBuckets (items_of choices.items) 0 buckets.first.low buckets.first.high },
+    ghost first_in_buckets: { AreInBuckets (items_of choices.items) 0 buckets.first.low
+        buckets.first.high },
     ghost second_in_buckets: { AreInBuckets (items_of choices.items) 1 buckets.second.low
         buckets.second.high },
-    ghost third_in_buckets: { AreInBuckets (items_of choices.items) 2 buckets.third.low buckets.third.high },
+    ghost third_in_buckets: { AreInBuckets (items_of choices.items) 2 buckets.third.low
+        buckets.third.high },
 }
 
 impl Prefix {
@@ -64,6 +72,9 @@ impl Prefix {
         let first = Table::new(&cover, lead);
         let second = Table::new(&cover, lead + 1);
         let third = Table::new(&cover, lead + 2);
+        let first_fold = Fold::new(&cover, lead);
+        let second_fold = Fold::new(&cover, lead + 1);
+        let third_fold = Fold::new(&cover, lead + 2);
         let buckets = Buckets::new(&choices);
         Ok(Prefix {
             choices,
@@ -73,6 +84,7 @@ impl Prefix {
             first,
             second,
             third,
+            folds: (first_fold, second_fold, third_fold),
             buckets,
         })
     }
@@ -114,11 +126,32 @@ impl Prefix {
             0 => start,
             1 => self.skip_by::<1>(haystack, start),
             2 => self.skip_by::<2>(haystack, start),
-            _ => self.skip_by::<3>(haystack, start),
+            _ => self.skip_by_three(haystack, start),
         }
     }
 
-    // A position up to which the sets that cover the others decide it.
+    // A position up to which three of the sets that cover the others decide it.
+    #[inline(always)]
+    fn skip_by_three(&self, haystack: &[u8], start: usize) -> usize
+        requires start { start ≤ length haystack.now }
+        requires sets { self.now.lead + 3 ≤ length self.now.cover.items }
+        ensures low { start ≤ result }
+        ensures within { result ≤ length haystack.now }
+        ensures passed { IsPassed (decision self.now.cover.items haystack.now) start result }
+    {
+        if self.has_exact_folds() {
+            return self.skip_by_folds(haystack, start);
+        }
+        self.skip_by::<3>(haystack, start)
+    }
+
+    // Whether each of the three has one byte or two.
+    #[inline(always)]
+    fn has_exact_folds(&self) -> bool {
+        self.folds.0.is_exact() && self.folds.1.is_exact() && self.folds.2.is_exact()
+    }
+
+    // A position up to which so many of the sets that cover the others decide it, by tables.
     #[inline(always)]
     fn skip_by<const SETS: usize>(&self, haystack: &[u8], start: usize) -> usize
         requires start { start ≤ length haystack.now }
@@ -133,6 +166,22 @@ impl Prefix {
             haystack,
         };
         skip(&rare, haystack, self.lead + SETS, start)
+    }
+
+    // The same by folds.
+    #[inline(always)]
+    fn skip_by_folds(&self, haystack: &[u8], start: usize) -> usize
+        requires start { start ≤ length haystack.now }
+        requires sets { self.now.lead + 3 ≤ length self.now.cover.items }
+        ensures low { start ≤ result }
+        ensures within { result ≤ length haystack.now }
+        ensures passed { IsPassed (decision self.now.cover.items haystack.now) start result }
+    {
+        let folded = FoldedSets {
+            prefix: self,
+            haystack,
+        };
+        skip(&folded, haystack, self.lead + 3, start)
     }
 
     // A position up to which no sequence follows, by the buckets of their first sets.
@@ -153,17 +202,17 @@ impl Prefix {
         skip(&first, haystack, SETS, start)
     }
 
-    // For each position of a vector, whether there may be a match: by the sets that are tables, where
-    // all bytes before them are ASCII.
+    // For each position of a vector, whether there may be a match: by the lanes of the sets that
+    // are looked up, where all bytes before them are ASCII.
     #[inline(always)]
-    fn lanes<const SETS: usize>(&self, haystack: &[u8], at: usize) -> u8x32
-        requires room { at + self.now.lead + SETS + WIDTH ≤ length haystack.now + 1 }
-        requires sets { self.now.lead + SETS ≤ length self.now.cover.items }
-        requires few { (1 ≤ SETS) × (SETS ≤ 3) }
+    fn lanes_with(&self, haystack: &[u8], at: usize, rare: u8x32) -> u8x32
+        requires room { at + self.now.lead + WIDTH ≤ length haystack.now }
+        requires rare { Covers (MayMatch self.now.cover.items self.now.lead haystack.now)
+            (at + self.now.lead) rare }
         ensures { Covers (MayMatch self.now.cover.items 0 haystack.now) at result }
     {
         let mut left = self.lead;
-        let mut lanes = self.first_lanes::<SETS>(haystack, at + left);
+        let mut lanes = rare;
         'sets: while left > 0 {
             left -= 1;
             lanes = either(load(haystack, at + left), lanes);
@@ -171,7 +220,21 @@ impl Prefix {
         lanes
     }
 
-    // For each position of a vector, whether there may be a match of the sets from the first table on.
+    // For each position of a vector, whether there may be a match of the sets from the first fold
+    // on.
+    #[inline(always)]
+    fn fold_lanes(&self, haystack: &[u8], at: usize) -> u8x32
+        requires room { at + 3 + WIDTH ≤ length haystack.now + 1 }
+        requires sets { self.now.lead + 3 ≤ length self.now.cover.items }
+        ensures { Covers (MayMatch self.now.cover.items self.now.lead haystack.now) at result }
+    {
+        let third = lanes_by(&self.folds.2, haystack, at + 2, all_set());
+        let second = lanes_by(&self.folds.1, haystack, at + 1, third);
+        lanes_by(&self.folds.0, haystack, at, second)
+    }
+
+    // For each position of a vector, whether there may be a match of the sets from the first table
+    // on.
     #[inline(always)]
     fn first_lanes<const SETS: usize>(&self, haystack: &[u8], at: usize) -> u8x32
         requires room { at + SETS + WIDTH ≤ length haystack.now + 1 }
@@ -193,7 +256,8 @@ impl Prefix {
         requires room { at + SETS + WIDTH ≤ length haystack.now + 2 }
         requires sets { self.now.lead + SETS ≤ length self.now.cover.items }
         requires few { SETS ≤ 3 }
-        ensures { Covers (MayMatch self.now.cover.items (self.now.lead + 1) haystack.now) at result }
+        ensures { Covers (MayMatch self.now.cover.items (self.now.lead + 1) haystack.now) at
+            result }
     {
         if SETS < 2 {
             return all_set();
@@ -212,7 +276,8 @@ impl Prefix {
         requires room { at + SETS + WIDTH ≤ length haystack.now + 3 }
         requires sets { self.now.lead + SETS ≤ length self.now.cover.items }
         requires few { SETS ≤ 3 }
-        ensures { Covers (MayMatch self.now.cover.items (self.now.lead + 2) haystack.now) at result }
+        ensures { Covers (MayMatch self.now.cover.items (self.now.lead + 2) haystack.now) at
+            result }
     {
         if SETS < 3 {
             return all_set();
@@ -286,7 +351,32 @@ impl<const SETS: usize> Target for RareSets<'_, SETS> {
 
     #[inline(always)]
     fn lanes(&self, at: usize) -> u8x32 {
-        self.prefix.lanes::<SETS>(self.haystack, at)
+        let rare = self
+            .prefix
+            .first_lanes::<SETS>(self.haystack, at + self.prefix.lead);
+        self.prefix.lanes_with(self.haystack, at, rare)
+    }
+}
+
+// The same sets, as they are looked for by their folds.
+#[derive(Drop)]
+struct FoldedSets<'a> {
+    prefix: &'a Prefix,
+    haystack: &'a [u8],
+    ghost sets: { prefix.now.lead + 3 ≤ length prefix.now.cover.items },
+}
+
+impl Target for FoldedSets<'_> {
+    ghost haystack = { λ s. s.haystack.now };
+
+    ghost size = { λ s. s.prefix.now.lead + 3 };
+
+    ghost may_follow = { λ s. MayMatch s.prefix.now.cover.items 0 s.haystack.now };
+
+    #[inline(always)]
+    fn lanes(&self, at: usize) -> u8x32 {
+        let rare = self.prefix.fold_lanes(self.haystack, at + self.prefix.lead);
+        self.prefix.lanes_with(self.haystack, at, rare)
     }
 }
 
@@ -331,4 +421,20 @@ fn lanes_of(table: &Table, haystack: &[u8], at: usize, later: u8x32) -> u8x32
         by_high_half(&table.high, bytes),
     );
     either_or_both(bytes, later, members)
+}
+
+// For each position from one on, whether its byte isn't ASCII, or is in a fold and a vector has a
+// set lane for the bytes after it.
+#[inline(always)]
+fn lanes_by(fold: &Fold, haystack: &[u8], at: usize, later: u8x32) -> u8x32
+    requires { at + WIDTH ≤ length haystack.now }
+    ensures long { length result ≡ WIDTH }
+    ensures high { (k : ℕ) → k < WIDTH → 128 ≤ slice_index haystack.now (at + k)
+        → 128 ≤ slice_index result k }
+    ensures member { (k : ℕ) → k < WIDTH
+        → bit_or (slice_index haystack.now (at + k)) fold.now.mask ≡ fold.now.value
+        → 128 ≤ slice_index later k → 128 ≤ slice_index result k }
+{
+    let bytes = load(haystack, at);
+    either_or_both(bytes, later, fold.lanes(bytes))
 }

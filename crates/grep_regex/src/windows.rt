@@ -23,8 +23,8 @@ pub(crate) trait Target {
         ensures { Covers (may_follow self.now) at result };
 }
 
-// A position up to which it follows nowhere, in windows of a vector's width and then of two. The last
-// one ends with the haystack, and may begin before the position that it is looked at from.
+// A position up to which it follows nowhere, in windows of a vector's width and then of two. The
+// last one ends with the haystack, and may begin before the position that it is looked at from.
 #[inline(always)]
 pub(crate) fn skip<T: Target>(target: &T, haystack: &[u8], size: usize, start: usize) -> usize
     requires haystack { T.haystack target.now ≡ haystack.now }
@@ -75,7 +75,8 @@ fn skip_pairs<T: Target>(target: &T, from: usize, last: usize) -> usize
     at
 }
 
-// Bit k is set if it may follow at `from + k`: of the positions from `position` on that a vector has.
+// Bit k is set if it may follow at `from + k`: of the positions from `position` on that a vector
+// has.
 #[inline(always)]
 fn marks_from<T: Target>(target: &T, position: usize, from: usize) -> u64
     requires room { position + T.size target.now + WIDTH ≤ length (T.haystack target.now) + 1 }

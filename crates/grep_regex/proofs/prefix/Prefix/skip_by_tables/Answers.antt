@@ -16,5 +16,5 @@ returns-in-2-clause-passed c =
 pub returns-in_default-clause-passed : goal.returns-in_default-clause-passed
 returns-in_default-clause-passed c =
     let s = c.args.self.now in
-    passed-covered s.cover.items s.choices.items s.covered c.args.haystack.now c.args.start c.skip_by-in_default.result
-    c.skip_by-in_default.ensures.passed
+    passed-covered s.cover.items s.choices.items s.covered c.args.haystack.now c.args.start c.skip_by_three.result
+    c.skip_by_three.ensures.passed
