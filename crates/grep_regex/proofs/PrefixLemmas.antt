@@ -1,16 +1,18 @@
 -- What vectors find of the positions at which sets may decide for a match.
-use Rattle.std.proofs.Common.{◌≡◌, ◌≢◌, ◌⊎◌, inl, inr, ℕ, suc, ◌+◌, ◌<◌, ◌≤◌, Bool, true, false, List, []}
+use Rattle.std.proofs.Common.{◌≡◌, ◌≢◌, ◌⊎◌, inl, inr, ℕ, zero, suc, ◌-◌, ◌+◌, ◌<◌, ◌≤◌, Bool, true, false, List, []}
 use Rattle.std.proofs.Common.{length, get_or, drop, Option, Some, None, sym, ap, ◌∙◌, subst, ⊎_elim, arith, drop-cons}
 use Rattle.std.proofs.Common.{bit_and, bit_or, eqb, refl, ◌%◌}
 use Rattle.std.proofs.lemmas.Bool.{cases_Bool, cases_lt, cond-false}
 use Rattle.std.proofs.lemmas.Nat.{and_mask}
+use Rattle.std.proofs.lemmas.Option.{none-some}
 use Rattle.memchr.proofs.lemmas.BitLemmas.{or_ge_left, or_ge_right}
 use Rattle.memchr.specs.Find.{Nowhere}
 use Rattle.regex_literal.specs.Lanes.{Covers, HasLanes, all_or_none}
 use Rattle.grep_matcher.specs.ByteSets.{holds}
 use Rattle.grep_regex.specs.Classes.{decision, decision_by}
 use Rattle.grep_regex.specs.Decisions.{IsPassed, MayMatch}
-use Rattle.grep_regex.proofs.DecisionLemmas.{decision-cons, decision-member, decision-other}
+use Rattle.grep_regex.proofs.DecisionLemmas.{AreLow, decision-cons, decision-high, decision-member}
+use Rattle.grep_regex.proofs.DecisionLemmas.{decision-other}
 
 -- in lanes that are all set each position has what is looked for
 pub all-cover : (P : ℕ → Type 0) (at : ℕ) (v : List ℕ) → HasLanes v (λ k. 255) → Covers P at v
@@ -124,3 +126,53 @@ lead-covers sets n m hay at then bytes later v next one_on within room loaded la
       ))
       (next-may sets n hay (at + k) within (omega (arith, room)) may);
 }
+
+-- where a byte isn't ASCII, sets may follow
+high-may : (sets : List (List Bool)) (n : ℕ) (hay : List ℕ) (p : ℕ) → n < length sets → p < length hay
+    → 128 ≤ get_or hay p 0 → MayMatch sets n hay p
+high-may sets n hay p within inside high lacks =
+    let split = ap (λ xs. decision xs hay p) (drop-cons sets n [] within)
+    ∙ (decision-cons (get_or sets n []) (drop (suc n) sets) hay p inside
+    ∙ decision-high (get_or sets n []) (decision (drop (suc n) sets) hay (p + 1)) (get_or hay p 0) high) in
+    none-some false (sym split ∙ lacks)
+
+-- where ASCII bytes come first, the sets after them may follow
+walk-may : (sets : List (List Bool)) (hay : List ℕ) (p m : ℕ) → m ≤ length sets → p + m ≤ length hay
+    → AreLow hay p (p + m) → MayMatch sets 0 hay p → MayMatch sets m hay (p + m)
+walk-may sets hay p zero within inside low may =
+    let none : p ≡ p + 0 = omega arith in subst (MayMatch sets 0 hay) none may
+walk-may sets hay p (suc m) within inside low may =
+    let before = walk-may sets hay p m (omega arith) (omega arith) (λ q from to. low q from (omega arith)) may in
+    let next : p + m + 1 ≡ p + suc m = omega arith in
+    ⊎_elim
+    (λ (big : 128 ≤ get_or hay (p + m) 0). absurd (omega (arith, big, low (p + m) (omega arith) (omega arith))))
+    (λ one. subst (MayMatch sets (suc m) hay) next one.2)
+    (next-may sets m hay (p + m) (omega arith) (omega arith) before)
+
+-- where all bytes are ASCII, the lanes are those of the sets that are looked up
+pub low-covers : (sets : List (List Bool)) (lead : ℕ) (hay : List ℕ) (at : ℕ) (rare : List ℕ) → lead ≤ 32
+    → lead < length sets → at + lead + 32 ≤ length hay → Covers (MayMatch sets lead hay) (at + lead) rare
+    → ((k : ℕ) → k < 32 → (get_or hay (at + k) 0 < 128) × (get_or rare k 0 < 128))
+    → Covers (MayMatch sets 0 hay) at rare
+low-covers sets lead hay at rare near within room covers low = record {
+  long = covers.long;
+  each = λ k below may.
+      let same : at + k + lead ≡ at + lead + k = omega arith in
+      covers.each k below (subst (MayMatch sets lead hay) same
+      (walk-may sets hay (at + k) lead (omega arith) (omega arith) (λ q from to. all q (omega arith) (omega arith)) may));
+}
+  where
+    all : (q : ℕ) → at ≤ q → q < at + lead + 32 → get_or hay q 0 < 128
+    all q from to = ⊎_elim
+        (λ (first : q < at + 32).
+        let same : at + (q - at) ≡ q = omega arith in
+        subst (λ x. get_or hay x 0 < 128) same (low (q - at) (omega arith)).0)
+        (λ (last : at + 32 ≤ q). ⊎_elim
+        (λ (is_low : get_or hay q 0 < 128). is_low)
+        (λ high.
+        let same : q ≡ at + lead + (q - (at + lead)) = omega arith in
+        let set = covers.each (q - (at + lead)) (omega arith)
+        (subst (MayMatch sets lead hay) same (high-may sets lead hay q within (omega arith) high)) in
+        absurd (omega (arith, set, (low (q - (at + lead)) (omega arith)).1)))
+        (cases_lt (get_or hay q 0) 128))
+        (cases_lt q (at + 32))

@@ -1,5 +1,5 @@
 //! A search for the positions at which sets of bytes may decide that a pattern matches.
-ghost use Rattle.std.specs.Prelude.{◌≡◌, ◌≤◌, ◌<◌, ◌+◌, ℕ, bit_or, length, slice_index, All, IfOk};
+ghost use Rattle.std.specs.Prelude.{◌≡◌, ◌≤◌, ◌<◌, ◌+◌, ℕ, bit_or, length, slice_index, All, IfOk, IsTrue};
 ghost use Rattle.regex_literal.specs.Lanes.{Covers};
 ghost use Rattle.regex_literal.specs.Nibbles.{buckets_of};
 ghost use Rattle.grep_regex.specs.Buckets.{AreAtLeast, AreInBuckets, AreMarked, MayFollow};
@@ -14,8 +14,8 @@ use crate::buckets::Buckets;
 use crate::covers::cover_of;
 use crate::folds::Fold;
 use crate::lanes::{
-    WIDTH, all_set, by_high_half, by_low_half, either, either_or_both, in_common, load, none_set,
-    nonzero,
+    WIDTH, all_set, by_high_half, by_low_half, either, either_or_both, highest_bits, in_common,
+    load, none_set, nonzero,
 };
 use crate::rarity::lead_of;
 use crate::tables::Table;
@@ -207,10 +207,14 @@ impl Prefix {
     #[inline(always)]
     fn lanes_with(&self, haystack: &[u8], at: usize, rare: u8x32) -> u8x32
         requires room { at + self.now.lead + WIDTH ≤ length haystack.now }
+        requires sets { self.now.lead < length self.now.cover.items }
         requires rare { Covers (MayMatch self.now.cover.items self.now.lead haystack.now)
             (at + self.now.lead) rare }
         ensures { Covers (MayMatch self.now.cover.items 0 haystack.now) at result }
     {
+        if self.lead > 0 && self.lead <= WIDTH && are_low(haystack, at, rare) {
+            return rare;
+        }
         let mut left = self.lead;
         let mut lanes = rare;
         'sets: while left > 0 {
@@ -437,4 +441,14 @@ fn lanes_by(fold: &Fold, haystack: &[u8], at: usize, later: u8x32) -> u8x32
 {
     let bytes = load(haystack, at);
     either_or_both(bytes, later, fold.lanes(bytes))
+}
+
+// Whether the bytes from a position on that a vector has are ASCII, and no lane of another is set.
+#[inline(always)]
+fn are_low(haystack: &[u8], at: usize, lanes: u8x32) -> bool
+    requires { at + WIDTH ≤ length haystack.now }
+    ensures { IsTrue result → (k : ℕ) → k < WIDTH
+        → (slice_index haystack.now (at + k) < 128) × (slice_index lanes k < 128) }
+{
+    highest_bits(either(load(haystack, at), lanes)) == 0
 }
