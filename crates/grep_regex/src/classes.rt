@@ -1,8 +1,8 @@
 //! A search for bytes of some sets, one after another.
-ghost use Rattle.std.specs.Prelude.{◌≡◌, ◌≤◌, ◌+◌, length, All, false, Some, IfSome};
+ghost use Rattle.std.specs.Prelude.{◌≡◌, ◌≤◌, ◌<◌, ◌+◌, length, All, false, Some, IfSome};
 ghost use Rattle.grep_matcher.specs.ByteSets.{holds};
 ghost use Rattle.grep_regex.specs.Classes.{any_decision, decision, first_size};
-ghost use Rattle.grep_regex.specs.Decisions.{IsStart, IsVerdict};
+ghost use Rattle.grep_regex.specs.Decisions.{IsPassed, IsStart, IsVerdict};
 ghost use Rattle.grep_regex.specs.Choices.{items_of};
 
 use crate::prefix::Prefix;
@@ -42,8 +42,26 @@ pub(crate) fn find_start(prefix: &Prefix, haystack: &[u8], start: usize) -> Star
     ensures { IsStart (any_decision (items_of prefix.now.choices.items) haystack.now)
         (length haystack.now) start result }
 {
-    let mut from = start;
-    let mut tried = 0;
+    match decide_choices(&prefix.choices, haystack, start) {
+        Verdict::Matches => Start::Match(start),
+        Verdict::Unknown => Start::From(start),
+        Verdict::Passes(next) if next > haystack.len() => Start::Nowhere,
+        Verdict::Passes(next) => find_later(prefix, haystack, start, next),
+    }
+}
+
+// The same where none starts before a later position. It isn't inlined: most matches are near.
+#[inline(never)]
+fn find_later(prefix: &Prefix, haystack: &[u8], start: usize, next: usize) -> Start
+    requires low { start < next }
+    requires within { next ≤ length haystack.now }
+    requires passed { IsPassed (any_decision (items_of prefix.now.choices.items) haystack.now)
+        start next }
+    ensures { IsStart (any_decision (items_of prefix.now.choices.items) haystack.now)
+        (length haystack.now) start result }
+{
+    let mut from = prefix.skip(haystack, next);
+    let mut tried = 1;
     'positions: loop {
         match decide_choices(&prefix.choices, haystack, from) {
             Verdict::Matches => return Start::Match(from),

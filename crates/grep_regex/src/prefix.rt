@@ -24,6 +24,9 @@ use grep_matcher::ByteSet;
 use std::alloc::{AllocError, Global};
 use std::simd::prelude::*;
 
+// So many bytes before the sets that are looked up are looked at as fast as whether all are ASCII.
+const FEW: usize = 2;
+
 // Sequences of sets of bytes with one of which a match begins. If there is one, three of its sets
 // that are rare in text are tables; if there are several, their first sets are in buckets.
 #[derive(Drop)]
@@ -212,7 +215,7 @@ impl Prefix {
             (at + self.now.lead) rare }
         ensures { Covers (MayMatch self.now.cover.items 0 haystack.now) at result }
     {
-        if self.lead > 0 && self.lead <= WIDTH && are_low(haystack, at, rare) {
+        if self.lead > FEW && self.lead <= WIDTH && are_low(haystack, at, rare) {
             return rare;
         }
         let mut left = self.lead;

@@ -50,29 +50,37 @@ pub(crate) fn skip<T: Target>(target: &T, haystack: &[u8], size: usize, start: u
         if from >= last {
             return last + WIDTH;
         }
-        from = skip_pairs(target, from + WIDTH, last);
+        let (next, is_found) = skip_pairs(target, from + WIDTH, last);
+        if is_found {
+            return next;
+        }
+        from = next;
     }
 }
 
-// The same in windows of two vectors, as long as there is room for one.
+// The same in windows of two vectors, as long as there is room for one, and whether it may follow
+// there.
 #[inline(always)]
-fn skip_pairs<T: Target>(target: &T, from: usize, last: usize) -> usize
+fn skip_pairs<T: Target>(target: &T, from: usize, last: usize) -> (usize, bool)
     requires room { last + T.size target.now + WIDTH ≤ length (T.haystack target.now) + 1 }
     requires fits { last + 2 * WIDTH < 2 ^ 64 }
     requires near { from < last + WIDTH }
-    ensures low { from ≤ result }
-    ensures near { result < last + WIDTH }
-    ensures passed { Nowhere (T.may_follow target.now) from result }
+    ensures low { from ≤ result.0 }
+    ensures near { result.0 < last + WIDTH }
+    ensures passed { Nowhere (T.may_follow target.now) from result.0 }
 {
     let mut at = from;
     'pairs: while at + WIDTH < last {
         let marks = marks_of_two(target, at);
         if marks != 0 {
-            return at + (marks.trailing_zeros() as usize).min(2 * WIDTH - 1);
+            return (
+                at + (marks.trailing_zeros() as usize).min(2 * WIDTH - 1),
+                true,
+            );
         }
         at += 2 * WIDTH;
     }
-    at
+    (at, false)
 }
 
 // Bit k is set if it may follow at `from + k`: of the positions from `position` on that a vector

@@ -27,10 +27,17 @@ returns-then-from-last-clause-passed g c =
 
 pub windows-preserved : goal.windows-preserved
 windows-preserved g c = record {
-  low = omega (arith, c.windows.invariant.low, c.skip_pairs-from.ensures.low);
-  near = c.skip_pairs-from.ensures.near;
+  low = omega (arith, c.windows.invariant.low, c.skip_pairs-next.ensures.low);
+  near = c.skip_pairs-next.ensures.near;
   passed = Nowhere-then c.windows.invariant.passed (Nowhere-then (λ k low below.
       window-none (g.T.Target.may_follow c.args.target.now) c.windows.from (c.min-position.result + 32)
       c.marks_from-marks.result c.marks_from-marks.ensures c.if-marks-ne0.false k low
-      (omega (arith, c.min-position.ensures, c.if-from-last.false, below))) c.skip_pairs-from.ensures.passed);
+      (omega (arith, c.min-position.ensures, c.if-from-last.false, below))) c.skip_pairs-next.ensures.passed);
 }
+
+pub returns-then-is_found-clause-passed : goal.returns-then-is_found-clause-passed
+returns-then-is_found-clause-passed g c =
+    Nowhere-then c.windows.invariant.passed (Nowhere-then (λ k low below.
+    window-none (g.T.Target.may_follow c.args.target.now) c.windows.from (c.min-position.result + 32)
+    c.marks_from-marks.result c.marks_from-marks.ensures c.if-marks-ne0.false k low
+    (omega (arith, c.min-position.ensures, c.if-from-last.false, below))) c.skip_pairs-next.ensures.passed)

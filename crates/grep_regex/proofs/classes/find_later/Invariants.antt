@@ -2,7 +2,7 @@ use Rattle.std.proofs.Common.{◌+◌, ◌-◌, ◌≤◌, length}
 use Rattle.grep_regex.specs.Choices.{items_of}
 use Rattle.grep_regex.specs.Classes.{any_decision}
 use Rattle.grep_regex.specs.Decisions.{IsPassed}
-use Rattle.grep_regex.proofs.classes.find_start.Given as goal
+use Rattle.grep_regex.proofs.classes.find_later.Given as goal
 
 abbrev pub invariant-positions : goal.invariant-positions
 invariant-positions l = record {
