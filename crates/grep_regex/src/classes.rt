@@ -1,5 +1,5 @@
 //! A search for bytes of some sets, one after another.
-ghost use Rattle.std.specs.Prelude.{◌≡◌, ◌≤◌, ◌<◌, ◌+◌, length, All, false, Some, IfSome};
+ghost use Rattle.std.specs.Prelude.{◌≡◌, ◌≤◌, ◌+◌, length, All, false, Some, IfSome};
 ghost use Rattle.grep_matcher.specs.ByteSets.{holds};
 ghost use Rattle.grep_regex.specs.Classes.{any_decision, decision, first_size};
 ghost use Rattle.grep_regex.specs.Decisions.{IsPassed, IsStart, IsVerdict};
@@ -42,6 +42,9 @@ pub(crate) fn find_start(prefix: &Prefix, haystack: &[u8], start: usize) -> Star
     ensures { IsStart (any_decision (items_of prefix.now.choices.items) haystack.now)
         (length haystack.now) start result }
 {
+    if prefix.choices.len() != 1 {
+        return find_later(prefix, haystack, start, start);
+    }
     match decide_choices(&prefix.choices, haystack, start) {
         Verdict::Matches => Start::Match(start),
         Verdict::Unknown => Start::From(start),
@@ -50,10 +53,11 @@ pub(crate) fn find_start(prefix: &Prefix, haystack: &[u8], start: usize) -> Star
     }
 }
 
-// The same where none starts before a later position. It isn't inlined: most matches are near.
+// The same where none starts before a later position. It isn't inlined, so that the first look of
+// one sequence stays short.
 #[inline(never)]
 fn find_later(prefix: &Prefix, haystack: &[u8], start: usize, next: usize) -> Start
-    requires low { start < next }
+    requires low { start ≤ next }
     requires within { next ≤ length haystack.now }
     requires passed { IsPassed (any_decision (items_of prefix.now.choices.items) haystack.now)
         start next }
@@ -61,7 +65,7 @@ fn find_later(prefix: &Prefix, haystack: &[u8], start: usize, next: usize) -> St
         (length haystack.now) start result }
 {
     let mut from = prefix.skip(haystack, next);
-    let mut tried = 1;
+    let mut tried = 0;
     'positions: loop {
         match decide_choices(&prefix.choices, haystack, from) {
             Verdict::Matches => return Start::Match(from),
