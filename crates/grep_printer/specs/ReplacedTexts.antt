@@ -11,8 +11,8 @@ use Rattle.grep_printer.specs.Formats.{PrintedCall, Rules, Surroundings, nothing
 use Rattle.grep_printer.specs.declared.replaced.Replacement.{Replacement}
 use Rattle.grep_printer.specs.declared.replaced_format.ReplacedFormat.{ReplacedFormat}
 
--- what is written in place of the part at a position of a report: what the template makes of the groups of the match
--- there, in the bytes about which the matcher was asked
+-- what is written in place of the part at a position of a report: what the template makes of the
+-- groups of the match there, in the bytes about which the matcher was asked
 abbrev pub replacement_at : {M : Type 0} → (M → List ℕ → ℕ → List (Option (ℕ × ℕ))) → Replacement M → ℕ → List ℕ
 replacement_at groups_at r position = template_text r.template.now
     (group_text r.asked.now (groups_at r.matcher r.asked.now (r.start + position)))
@@ -32,8 +32,8 @@ module _ (text_at : ℕ → List ℕ) where
       (count + (part.0 - position), count + (part.0 - position) + length (text_at part.0))
       ∷ replaced_parts (count + (part.0 - position) + length (text_at part.0)) part.1 later
 
--- what ends a line that replacing has emptied, if anything does: by line the last byte of the terminator, across lines
--- nothing
+-- what ends a line that replacing has emptied, if anything does: by line the last byte of the
+-- terminator, across lines nothing
 abbrev pub end_of_line : Settings → Meaning → Option ℕ
 end_of_line settings meaning =
     if is_across settings meaning then None else Some (byte_of settings.line_terminator)
@@ -53,12 +53,13 @@ with_bytes call bytes = call
 -- By a template, and the groups of the first match of a haystack from a position on.
 module _ (template : Template) (groups_at : List ℕ → ℕ → List (Option (ℕ × ℕ))) (settings : Settings)
     (meaning : Meaning) where
-  -- what is written in place of the part at a position of a report: what the template makes of the groups of the match
-  -- there, in the bytes about which the matcher was asked
+  -- what is written in place of the part at a position of a report: what the template makes of the
+  -- groups of the match there, in the bytes about which the matcher was asked
   abbrev pub text_in_place : Surroundings → Call → ℕ → List ℕ
   text_in_place around call position =
       template_text template (group_text (asked_bytes settings meaning around call)
-      (groups_at (asked_bytes settings meaning around call) (asked_start settings meaning around call + position)))
+      (groups_at (asked_bytes settings meaning around call)
+      (asked_start settings meaning around call + position)))
 
   -- a report in which each part is replaced
   abbrev pub replaced_report : Surroundings → Call → List (ℕ × ℕ) → PrintedCall

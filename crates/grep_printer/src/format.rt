@@ -144,7 +144,8 @@ pub trait Format: Copy {
 
     /// Puts the text of a report with parts in pieces after the texts that are kept, so that it
     /// needn't be kept whole, and returns whether the search goes on. If it returns `None`, nothing
-    /// has changed: the text is one for `push`.
+    /// has changed: the text is one for `push`. An error is the writer's, after some first bytes of
+    /// what was kept and of the text, or there is no memory for the rest of the text.
     ///
     /// The default returns `None`.
     fn put_in_pieces<A: Allocator + Copy, W: Output>(

@@ -2,3 +2,5 @@ pub mod CapitalLemmas
 pub mod DigitLemmas
 pub mod FolderLemmas
 pub mod OperandLemmas
+pub mod PatternLemmas
+pub mod RunLemmas

@@ -3,15 +3,15 @@ use Rattle.std.specs.Prelude.{◌≡◌, ℕ, Bool, ◌&&◌, ◌||◌, not, if�
 use Rattle.std.specs.Prelude.{nat_le, nat_lt}
 use Rattle.std.specs.Borrow.{Bor}
 use Rattle.linegrep_cli.specs.OptionUses.{has, last_use}
-use Rattle.linegrep_cli.specs.declared.option_id.OptionId.{OptionId}
-use Rattle.linegrep_cli.specs.declared.option_id.OptionId.TheVariants.{GlobCaseInsensitive, Hidden, Ignore}
-use Rattle.linegrep_cli.specs.declared.option_id.OptionId.TheVariants.{IgnoreDot, IgnoreExclude}
-use Rattle.linegrep_cli.specs.declared.option_id.OptionId.TheVariants.{IgnoreFileCaseInsensitive, IgnoreGlobal}
-use Rattle.linegrep_cli.specs.declared.option_id.OptionId.TheVariants.{IgnoreParent, IgnoreVcs, NoHidden}
-use Rattle.linegrep_cli.specs.declared.option_id.OptionId.TheVariants.{NoIgnore, NoIgnoreDot, NoIgnoreExclude}
-use Rattle.linegrep_cli.specs.declared.option_id.OptionId.TheVariants.{NoIgnoreFiles, NoIgnoreGlobal}
-use Rattle.linegrep_cli.specs.declared.option_id.OptionId.TheVariants.{NoIgnoreParent, NoIgnoreVcs}
-use Rattle.linegrep_cli.specs.declared.option_id.OptionId.TheVariants.{NoRequireGit, OneFileSystem}
+use Rattle.linegrep_options.specs.declared.option_id.OptionId.{OptionId}
+use Rattle.linegrep_options.specs.declared.option_id.OptionId.TheVariants.{GlobCaseInsensitive, Hidden, Ignore}
+use Rattle.linegrep_options.specs.declared.option_id.OptionId.TheVariants.{IgnoreDot, IgnoreExclude}
+use Rattle.linegrep_options.specs.declared.option_id.OptionId.TheVariants.{IgnoreFileCaseInsensitive, IgnoreGlobal}
+use Rattle.linegrep_options.specs.declared.option_id.OptionId.TheVariants.{IgnoreParent, IgnoreVcs, NoHidden}
+use Rattle.linegrep_options.specs.declared.option_id.OptionId.TheVariants.{NoIgnore, NoIgnoreDot, NoIgnoreExclude}
+use Rattle.linegrep_options.specs.declared.option_id.OptionId.TheVariants.{NoIgnoreFiles, NoIgnoreGlobal}
+use Rattle.linegrep_options.specs.declared.option_id.OptionId.TheVariants.{NoIgnoreParent, NoIgnoreVcs}
+use Rattle.linegrep_options.specs.declared.option_id.OptionId.TheVariants.{NoRequireGit, OneFileSystem}
 use Rattle.linegrep_cli.specs.declared.options.Options.{Options}
 use Rattle.linegrep_files.specs.Choices.{AreChoices}
 use Rattle.linegrep_files.specs.FolderFacts.{FolderFacts}
@@ -27,8 +27,8 @@ texts_of (Some texts) = texts.now
 -- the place of the last use of either of two options, or 0
 abbrev pub last_of_both : Options → OptionId → OptionId → ℕ
 last_of_both options one other =
-    if nat_lt (last_use options.uses one) (last_use options.uses other)
-    then last_use options.uses other else last_use options.uses one
+    if nat_lt (last_use options one) (last_use options other)
+    then last_use options other else last_use options one
 
 -- ignore files of a kind are read: what says so last, of these or of all, isn't before what says no
 -- last, or the first `-u`
@@ -57,7 +57,7 @@ ignore_files_of options = if has options NoIgnoreFiles then [] else texts_of opt
 -- it says no
 abbrev pub shows_hidden : Options → Bool
 shows_hidden options = has options Hidden
-    || nat_lt (last_use options.uses NoHidden) options.unrestricted.hidden
+    || nat_lt (last_use options NoHidden) options.unrestricted.hidden
 
 -- what options say of which files of folders are searched
 pub record AreFileOptions (options : Options) (files : FileOptions) : Type 0 where

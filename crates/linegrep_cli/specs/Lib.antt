@@ -6,9 +6,12 @@ pub mod EngineSteps
 pub mod FileChoices
 pub mod Haystacks
 pub mod JsonRuns
+pub mod NamedPatterns
 pub mod OperandRuns
+pub mod OperandTexts
 pub mod OptionMeanings
 pub mod OptionUses
+pub mod OptionValues
 pub mod PathSeparators
 pub mod PatternOptions
 pub mod PreparedRuns

@@ -230,7 +230,8 @@ module _ {E F : Type 0} (opens : List ℕ → Result F Error → Type 0)
     of_unread : {visit : Visit} {new : E} {text : String Global} {error : Error}
         → IsReported step scope old visit new → IsEntryVisited old (Unread text error) visit new
     of_warnings : {visit : Visit} {new : E} {text : String Global} (count : ℕ)
-        (failure : Option Error) → AreSaid step scope old count failure new → visit ≡ record no_visit { failure = failure }
+        (failure : Option Error) → AreSaid step scope old count failure new
+        → visit ≡ record no_visit { failure = failure }
         → IsEntryVisited old (Folder text) visit new
 
   -- such are visited in order, none of which ended the run but the last

@@ -5,13 +5,13 @@ use Rattle.std.specs.Borrow.{Bor}
 use Rattle.std.specs.Option.{option_or}
 use Rattle.std.specs.Str.{bytes_eq}
 use Rattle.linegrep_cli.specs.OptionUses.{has}
-use Rattle.linegrep_cli.specs.declared.option_id.OptionId.{OptionId}
-use Rattle.linegrep_cli.specs.declared.option_id.OptionId.TheVariants.{AfterContext}
-use Rattle.linegrep_cli.specs.declared.option_id.OptionId.TheVariants.{BeforeContext, Column}
-use Rattle.linegrep_cli.specs.declared.option_id.OptionId.TheVariants.{Context, Files, Json}
-use Rattle.linegrep_cli.specs.declared.option_id.OptionId.TheVariants.{LineNumber}
-use Rattle.linegrep_cli.specs.declared.option_id.OptionId.TheVariants.{NoColumn, NoLineNumber}
-use Rattle.linegrep_cli.specs.declared.option_id.OptionId.TheVariants.{Passthru, Pretty, Vimgrep}
+use Rattle.linegrep_options.specs.declared.option_id.OptionId.{OptionId}
+use Rattle.linegrep_options.specs.declared.option_id.OptionId.TheVariants.{AfterContext}
+use Rattle.linegrep_options.specs.declared.option_id.OptionId.TheVariants.{BeforeContext, Column}
+use Rattle.linegrep_options.specs.declared.option_id.OptionId.TheVariants.{Context, Files, Json}
+use Rattle.linegrep_options.specs.declared.option_id.OptionId.TheVariants.{LineNumber}
+use Rattle.linegrep_options.specs.declared.option_id.OptionId.TheVariants.{NoColumn, NoLineNumber}
+use Rattle.linegrep_options.specs.declared.option_id.OptionId.TheVariants.{Passthru, Pretty, Vimgrep}
 use Rattle.linegrep_cli.specs.declared.options.Options.{Options}
 
 -- the value of an option, if it applies
@@ -35,13 +35,13 @@ abbrev pub without_first : {T : Type 0} → List T → List T
 without_first [] = []
 without_first (first ∷ later) = later
 
+abbrev pub operands_of : Option (Bor (List (Bor (List ℕ)))) → List (Bor (List ℕ))
+operands_of None = []
+operands_of (Some texts) = texts.now
+
 abbrev pub paths_of : Options → List (Bor (List ℕ))
-paths_of options = if options.names_patterns then operands options.operands
-    else without_first (operands options.operands)
-  where
-    operands : Option (Bor (List (Bor (List ℕ)))) → List (Bor (List ℕ))
-    operands None = []
-    operands (Some texts) = texts.now
+paths_of options = if options.names_patterns then operands_of options.operands
+    else without_first (operands_of options.operands)
 
 -- standard input is all that is searched: it is the only path or, where there is none, it has
 -- something to give besides patterns, and files aren't listed

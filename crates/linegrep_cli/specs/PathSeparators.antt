@@ -5,7 +5,7 @@ use Rattle.std.specs.Borrow.{Bor}
 use Rattle.std.specs.Str.{chars}
 use Rattle.linegrep_cli.specs.OptionUses.{has}
 use Rattle.linegrep_cli.specs.SeparatorOptions.{separator_text}
-use Rattle.linegrep_cli.specs.declared.option_id.OptionId.TheVariants.{Files, Json}
+use Rattle.linegrep_options.specs.declared.option_id.OptionId.TheVariants.{Files, Json}
 use Rattle.linegrep_cli.specs.declared.options.Options.{Options}
 
 -- bytes are one of ASCII, or none

@@ -11,13 +11,13 @@ use Rattle.grep_regex.specs.Patterns.{default_options}
 use Rattle.grep_regex.specs.declared.options.Options.{Options as PatternSettings}
 use Rattle.linegrep_cli.specs.OptionUses.{has}
 use Rattle.linegrep_cli.specs.SearcherOptions.{terminator_of}
-use Rattle.linegrep_cli.specs.declared.option_id.OptionId.TheVariants.{Crlf, Files}
-use Rattle.linegrep_cli.specs.declared.option_id.OptionId.TheVariants.{FixedStrings}
-use Rattle.linegrep_cli.specs.declared.option_id.OptionId.TheVariants.{IgnoreCase, LineRegexp}
-use Rattle.linegrep_cli.specs.declared.option_id.OptionId.TheVariants.{Multiline, MultilineDotall}
-use Rattle.linegrep_cli.specs.declared.option_id.OptionId.TheVariants.{NoPcre2Unicode, NoUnicode}
-use Rattle.linegrep_cli.specs.declared.option_id.OptionId.TheVariants.{NullData}
-use Rattle.linegrep_cli.specs.declared.option_id.OptionId.TheVariants.{SmartCase, WordRegexp}
+use Rattle.linegrep_options.specs.declared.option_id.OptionId.TheVariants.{Crlf, Files}
+use Rattle.linegrep_options.specs.declared.option_id.OptionId.TheVariants.{FixedStrings}
+use Rattle.linegrep_options.specs.declared.option_id.OptionId.TheVariants.{IgnoreCase, LineRegexp}
+use Rattle.linegrep_options.specs.declared.option_id.OptionId.TheVariants.{Multiline, MultilineDotall}
+use Rattle.linegrep_options.specs.declared.option_id.OptionId.TheVariants.{NoPcre2Unicode, NoUnicode}
+use Rattle.linegrep_options.specs.declared.option_id.OptionId.TheVariants.{NullData}
+use Rattle.linegrep_options.specs.declared.option_id.OptionId.TheVariants.{SmartCase, WordRegexp}
 use Rattle.linegrep_cli.specs.declared.options.Options.{Options}
 
 -- a letter that takes its meaning from the one after it: a backslash, but in a literal

@@ -28,18 +28,18 @@ use Rattle.grep_replace.specs.declared.template.Template.{Template}
 use Rattle.linegrep_cli.specs.OptionMeanings.{after_lines, before_lines, shows_columns}
 use Rattle.linegrep_cli.specs.OptionUses.{has}
 use Rattle.linegrep_cli.specs.declared.counted_run.CountedRun.{CountedRun}
-use Rattle.linegrep_cli.specs.declared.option_id.OptionId.TheVariants.{BlockBuffered, ByteOffset}
-use Rattle.linegrep_cli.specs.declared.option_id.OptionId.TheVariants.{Color, Count}
-use Rattle.linegrep_cli.specs.declared.option_id.OptionId.TheVariants.{CountMatches}
-use Rattle.linegrep_cli.specs.declared.option_id.OptionId.TheVariants.{Files, FilesWithMatches}
-use Rattle.linegrep_cli.specs.declared.option_id.OptionId.TheVariants.{FilesWithoutMatch, Heading}
-use Rattle.linegrep_cli.specs.declared.option_id.OptionId.TheVariants.{IncludeZero, InvertMatch, Json}
-use Rattle.linegrep_cli.specs.declared.option_id.OptionId.TheVariants.{LineBuffered, MaxColumnsPreview}
-use Rattle.linegrep_cli.specs.declared.option_id.OptionId.TheVariants.{NoFilename}
-use Rattle.linegrep_cli.specs.declared.option_id.OptionId.TheVariants.{NoHeading, Null}
-use Rattle.linegrep_cli.specs.declared.option_id.OptionId.TheVariants.{OnlyMatching, Pretty, Quiet}
-use Rattle.linegrep_cli.specs.declared.option_id.OptionId.TheVariants.{Stats}
-use Rattle.linegrep_cli.specs.declared.option_id.OptionId.TheVariants.{Trim, Vimgrep, WithFilename}
+use Rattle.linegrep_options.specs.declared.option_id.OptionId.TheVariants.{BlockBuffered, ByteOffset}
+use Rattle.linegrep_options.specs.declared.option_id.OptionId.TheVariants.{Color, Count}
+use Rattle.linegrep_options.specs.declared.option_id.OptionId.TheVariants.{CountMatches}
+use Rattle.linegrep_options.specs.declared.option_id.OptionId.TheVariants.{Files, FilesWithMatches}
+use Rattle.linegrep_options.specs.declared.option_id.OptionId.TheVariants.{FilesWithoutMatch, Heading}
+use Rattle.linegrep_options.specs.declared.option_id.OptionId.TheVariants.{IncludeZero, InvertMatch, Json}
+use Rattle.linegrep_options.specs.declared.option_id.OptionId.TheVariants.{LineBuffered, MaxColumnsPreview}
+use Rattle.linegrep_options.specs.declared.option_id.OptionId.TheVariants.{NoFilename}
+use Rattle.linegrep_options.specs.declared.option_id.OptionId.TheVariants.{NoHeading, Null}
+use Rattle.linegrep_options.specs.declared.option_id.OptionId.TheVariants.{OnlyMatching, Pretty, Quiet}
+use Rattle.linegrep_options.specs.declared.option_id.OptionId.TheVariants.{Stats}
+use Rattle.linegrep_options.specs.declared.option_id.OptionId.TheVariants.{Trim, Vimgrep, WithFilename}
 use Rattle.linegrep_cli.specs.declared.options.Options.{Options}
 use Rattle.linegrep_cli.specs.declared.printers.Printer.{Printer}
 use Rattle.linegrep_cli.specs.declared.printers.Printer.TheVariants.{Lines, Parts, ReplacedLines, ReplacedParts}

@@ -25,7 +25,8 @@ use Rattle.grep_printer.specs.declared.printed_search.Searched.{Searched}
 
 module _ {M W E : Type 0} (output : E → Option (List ℕ)) (facts : M → MatcherFacts E)
     (first_at : M → List ℕ → ℕ → Option (ℕ × ℕ)) (groups_at : M → List ℕ → ℕ → List (Option (ℕ × ℕ)))
-    (write_step : W → OutputCall → W → Type 0) {R : Type 0} (remaining : R → Option (List ℕ)) (read_step : R → ReadResult → R → Type 0)
+    (write_step : W → OutputCall → W → Type 0) {R : Type 0} (remaining : R → Option (List ℕ))
+    (read_step : R → ReadResult → R → Type 0)
     (state : SearcherState) (matcher : M) (path : Option (Bor (List ℕ))) where
   -- what a search of a source writes, by what is written of searches
   abbrev pub IsSearchWritten : R → W → Printer M → Searched → R → W → Printer M → Type 0
@@ -37,7 +38,8 @@ module _ {M W E : Type 0} (output : E → Option (List ℕ)) (facts : M → Matc
       matcher path reader writer old searched reader' writer' new
   IsSearchWritten reader writer (ReplacedLines old) searched reader' writer' (ReplacedLines new) =
       IsCountedSearch (replaced_rules standard_rules groups_at (λ m. (facts m).meaning)) output
-      facts first_at write_step remaining read_step state matcher path reader writer old searched reader' writer' new
+      facts first_at write_step remaining read_step state matcher path reader writer old searched
+      reader' writer' new
   IsSearchWritten reader writer (ReplacedParts old) searched reader' writer' (ReplacedParts new) =
       IsCountedSearch (replaced_rules vimgrep_rules groups_at (λ m. (facts m).meaning)) output facts
       first_at write_step remaining read_step state matcher path reader writer old searched reader' writer' new
@@ -52,12 +54,18 @@ module _ {M W E : Type 0} (output : E → Option (List ℕ)) (facts : M → Matc
 module _ {M W : Type 0} (write_step : W → OutputCall → W → Type 0) where
   -- so does the printer of a run
   abbrev pub IsFlushed : W → Printer M → Result (Unit {0}) Error → W → Printer M → Type 0
-  IsFlushed writer (Lines old) result writer' (Lines new) = IsRunFlushed write_step writer old result writer' new
-  IsFlushed writer (Parts old) result writer' (Parts new) = IsRunFlushed write_step writer old result writer' new
-  IsFlushed writer (ReplacedLines old) result writer' (ReplacedLines new) = IsRunFlushed write_step writer old result writer' new
-  IsFlushed writer (ReplacedParts old) result writer' (ReplacedParts new) = IsRunFlushed write_step writer old result writer' new
-  IsFlushed writer (Summary old) result writer' (Summary new) = IsRunFlushed write_step writer old result writer' new
-  IsFlushed writer (Json old) result writer' (Json new) = IsWriterFlushed write_step writer old.printer result writer' new.printer
+  IsFlushed writer (Lines old) result writer' (Lines new) =
+      IsRunFlushed write_step writer old result writer' new
+  IsFlushed writer (Parts old) result writer' (Parts new) =
+      IsRunFlushed write_step writer old result writer' new
+  IsFlushed writer (ReplacedLines old) result writer' (ReplacedLines new) =
+      IsRunFlushed write_step writer old result writer' new
+  IsFlushed writer (ReplacedParts old) result writer' (ReplacedParts new) =
+      IsRunFlushed write_step writer old result writer' new
+  IsFlushed writer (Summary old) result writer' (Summary new) =
+      IsRunFlushed write_step writer old result writer' new
+  IsFlushed writer (Json old) result writer' (Json new) =
+      IsWriterFlushed write_step writer old.printer result writer' new.printer
       × (new ≡ record old { printer = new.printer })
   IsFlushed writer old result writer' new = ⊥
 
@@ -68,9 +76,12 @@ module _ {M W : Type 0} (write_step : W → OutputCall → W → Type 0) where
       × (new ≡ record old { printer = new.printer })
   HasTotals writer (Lines old) result writer' (Lines new) = AreStatsPut write_step writer old result writer' new
   HasTotals writer (Parts old) result writer' (Parts new) = AreStatsPut write_step writer old result writer' new
-  HasTotals writer (ReplacedLines old) result writer' (ReplacedLines new) = AreStatsPut write_step writer old result writer' new
-  HasTotals writer (ReplacedParts old) result writer' (ReplacedParts new) = AreStatsPut write_step writer old result writer' new
-  HasTotals writer (Summary old) result writer' (Summary new) = AreStatsPut write_step writer old result writer' new
+  HasTotals writer (ReplacedLines old) result writer' (ReplacedLines new) =
+      AreStatsPut write_step writer old result writer' new
+  HasTotals writer (ReplacedParts old) result writer' (ReplacedParts new) =
+      AreStatsPut write_step writer old result writer' new
+  HasTotals writer (Summary old) result writer' (Summary new) =
+      AreStatsPut write_step writer old result writer' new
   HasTotals writer old result writer' new = ⊥
 
   -- the totals of all searches come, and all is written and flushed

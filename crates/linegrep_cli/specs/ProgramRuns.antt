@@ -1,18 +1,40 @@
--- What the program does, whatever its arguments are.
-use Rattle.std.specs.Prelude.{◌≡◌, ◌≢◌, ◌⊎◌, ℕ, Bool, List, Option, Result, Ok, Err, String}
+-- What the program does, by its arguments.
+use Rattle.std.specs.Prelude.{◌≡◌, ◌≢◌, ◌⊎◌, ℕ, Bool, true, false, not, ◌&&◌, ◌||◌, if◌then◌else◌, List, []}
+use Rattle.std.specs.Prelude.{length, map, nat_lt, slice_get, Option, None, Some, Result, Ok, Err, String}
+use Rattle.std.specs.Prelude.{string_bytes, Vec}
+use Rattle.std.specs.Borrow.{Bor}
 use Rattle.std.specs.Global.{Global}
 use Rattle.std.specs.IoError.{error_kind}
+use Rattle.std.specs.List.{count_by, list_any}
 use Rattle.std.specs.declared.alloc.AllocError.{AllocError}
 use Rattle.std.specs.declared.io.Error.{Error}
 use Rattle.std.specs.declared.io.ErrorKind.TheVariants.{BrokenPipe}
 use Rattle.grep_output.specs.Outputs.{OutputCall}
 use Rattle.grep_output.specs.PendingTexts.{Flushes}
 use Rattle.grep_searcher.specs.Source.{ReadResult}
+use Rattle.linegrep_options.specs.CommandLines.{Refusal, Refused, reading_of}
+use Rattle.linegrep_options.specs.OptionUses.{places_of, values_of}
+use Rattle.linegrep_options.specs.ParsedWords.{AreRead, texts}
+use Rattle.linegrep_options.specs.declared.command_line.Parsed.{Parsed}
+use Rattle.linegrep_options.specs.declared.option_id.OptionId.TheVariants.{File, Files, Help, ShortHelp}
+use Rattle.linegrep_options.specs.declared.option_id.OptionId.TheVariants.{TypeList, Unrestricted, Version}
+use Rattle.linegrep_options.specs.declared.uses.Use.{Use}
+use Rattle.linegrep_cli.specs.NamedPatterns.{ArePatterns, name_patterns, names_files}
+use Rattle.linegrep_cli.specs.OperandRuns.{is_escaped, is_input}
+use Rattle.linegrep_cli.specs.OperandTexts.{AreTexts}
+use Rattle.linegrep_cli.specs.OptionMeanings.{operands_of, paths_of}
+use Rattle.linegrep_cli.specs.OptionUses.{has}
+use Rattle.linegrep_cli.specs.OptionValues.{AreLists, AreOptions}
+use Rattle.linegrep_cli.specs.Refusals.{IsRefusedFor, IsSaid}
 use Rattle.linegrep_cli.specs.WholeRuns.{IsRefused, IsWholeRun}
-use Rattle.linegrep_files.specs.FolderFacts.{FolderFacts}
-use Rattle.linegrep_files.specs.declared.file_id.FileId.{FileId}
+use Rattle.linegrep_cli.specs.declared.help.TheConstants.{HELP, SHORT_HELP, VERSION}
+use Rattle.linegrep_cli.specs.declared.lists.Lists.{Lists}
 use Rattle.linegrep_cli.specs.declared.options.Options.{Options}
 use Rattle.linegrep_cli.specs.declared.program.Streams.{Streams}
+use Rattle.linegrep_files.specs.Failures.{has_cause, text_of}
+use Rattle.linegrep_files.specs.FolderFacts.{FolderFacts}
+use Rattle.linegrep_files.specs.declared.failures.Failure.{Failure}
+use Rattle.linegrep_files.specs.declared.file_id.FileId.{FileId}
 
 -- the status after a text is written, which is 0 too if nobody reads it
 abbrev pub HasAnswerStatus : Result (Unit {0}) Error → ℕ → Type 0
@@ -25,23 +47,126 @@ abbrev pub IsAnswered : {W : Type 0} → (W → OutputCall → W → Type 0) →
 IsAnswered write_step text writer status writer' = (written : Result (Unit {0}) Error)
     × Flushes write_step writer text written writer' × HasAnswerStatus written status
 
+-- the texts of help
+unfoldable pub help : List ℕ
+help = HELP.now
+
+unfoldable pub short_help : List ℕ
+short_help = SHORT_HELP.now
+
+unfoldable pub version : List ℕ
+version = VERSION.now
+
+-- the text that options ask for in place of a search, if they ask for one
+abbrev pub text_asked : Options → Option (List ℕ)
+text_asked options = if has options Help then Some help
+    else if has options ShortHelp then Some short_help
+    else if has options Version then Some version else None
+
+-- the patterns that are searched for: none, where files are listed
+abbrev pub ArePatternsFor : Options → List (List ℕ) → Type 0
+ArePatternsFor options patterns = by_list (has options Files)
+  where
+    by_list : Bool → Type 0
+    by_list true = patterns ≡ []
+    by_list false = ArePatterns options patterns
+
+-- how many of the files of patterns are standard input
+abbrev pub inputs_named : List Use → ℕ
+inputs_named uses = count_by (λ file. is_input file.now) (values_of File uses)
+
+-- options don't go together: `-u` is given more than three times, or standard input is asked for
+-- twice
+abbrev pub exclude_each_other : Options → Bool
+exclude_each_other options = nat_lt 3 (length (places_of Unrestricted 1 options.uses.now))
+    || nat_lt 1 (inputs_named options.uses.now)
+    || (nat_lt 0 (inputs_named options.uses.now)
+    && list_any (λ path. is_input path.now) (paths_of options) && not (has options Files))
+
+-- there may be no pattern: files of them are read, or there is no first operand that is a text
+abbrev pub may_lack_patterns : Options → Bool
+may_lack_patterns options = names_files options.uses.now
+    || (not (name_patterns options.uses.now)
+    && is_no_text (slice_get (operands_of options.operands) 0))
+  where
+    is_no_text : Option (Bor (List ℕ)) → Bool
+    is_no_text None = true
+    is_no_text (Some first) = is_escaped first.now
+
+-- why options may be refused before anything is searched for
+abbrev pub may_be_refused : Options → Bool
+may_be_refused options =
+    has options TypeList || exclude_each_other options || may_lack_patterns options
+
+-- a run that is refused, which is said
+pub record IsRefusal {R W X : Type 0} (say_step : X → OutputCall → X → Type 0) (input : R)
+    (writer : W) (errors : X) (failure : Failure) (status : ℕ) (input' : R) (writer' : W)
+    (errors' : X) : Type 0 where
+  pub refused : IsRefused input writer status input' writer'
+  pub said : IsSaid say_step (text_of failure) errors errors'
+
 module _ {F R W X : Type 0} (output : AllocError → Option (List ℕ))
-    (write_step : W → OutputCall → W → Type 0) (file_remaining : F → Option (List ℕ))
-    (remaining : R → Option (List ℕ)) (read_step : R → ReadResult → R → Type 0)
-    (folders : FolderFacts) (finds : List ℕ → Result Bool Error → Type 0) (opens : List ℕ → Result F Error → Type 0)
+    (write_step : W → OutputCall → W → Type 0) (say_step : X → OutputCall → X → Type 0)
+    (file_remaining : F → Option (List ℕ)) (remaining : R → Option (List ℕ))
+    (read_step : R → ReadResult → R → Type 0) (folders : FolderFacts)
+    (finds : List ℕ → Result Bool Error → Type 0) (opens : List ℕ → Result F Error → Type 0)
     (identifies : F → Option FileId → Type 0) where
-  -- what the program does: nothing is written, and the status is 2; or a text is the answer; or it is
-  -- a whole run by some options and patterns, over what is left of the input once they are read
-  pub data IsProgramRun (streams : Streams) (input : R) (writer : W) (errors : X) : ℕ → R → W → Type 0
-    where
-      of_refusal : {status : ℕ} {input' : R} {writer' : W} (mid : R)
-          → IsRefused mid writer status input' writer'
-          → IsProgramRun streams input writer errors status input' writer'
-      of_answer : {status : ℕ} {input' : R} {writer' : W} (text : List ℕ) → input' ≡ input
-          → IsAnswered write_step text writer status writer'
-          → IsProgramRun streams input writer errors status input' writer'
-      of_run : {status : ℕ} {input' : R} {writer' : W} (options : Options)
-          (patterns : List (String Global)) (mid : R) → options.streams ≡ streams
-          → IsWholeRun output write_step file_remaining remaining read_step folders finds opens
-          identifies options patterns mid writer errors status input' writer'
-          → IsProgramRun streams input writer errors status input' writer'
+  -- what the program does by its options: a text that is asked for is written; else the list of
+  -- types is, if it is asked for; else the patterns are searched for, or the run is refused
+  pub data IsOptionsRun (options : Options) (input : R) (writer : W) (errors : X)
+      : ℕ → R → W → X → Type 0 where
+    of_text : {status : ℕ} {input' : R} {writer' : W} {errors' : X} (text : List ℕ)
+        → text_asked options ≡ Some text → input' ≡ input
+        → IsAnswered write_step text writer status writer'
+        → IsOptionsRun options input writer errors status input' writer' errors'
+    of_types : {status : ℕ} {input' : R} {writer' : W} {errors' : X} (text : List ℕ)
+        → text_asked options ≡ None → has options TypeList ≡ true → input' ≡ input
+        → IsAnswered write_step text writer status writer'
+        → IsOptionsRun options input writer errors status input' writer' errors'
+    of_refusal : {status : ℕ} {input' : R} {writer' : W} {errors' : X} (mid : R) (failure : Failure)
+        → text_asked options ≡ None → (names_files options.uses.now ≡ false → mid ≡ input)
+        → (has_cause failure ≡ true → may_be_refused options ≡ true)
+        → IsRefusal say_step mid writer errors failure status input' writer' errors'
+        → IsOptionsRun options input writer errors status input' writer' errors'
+    of_search : {status : ℕ} {input' : R} {writer' : W} {errors' : X}
+        (patterns : List (String Global)) (mid : R)
+        → text_asked options ≡ None → has options TypeList ≡ false
+        → ArePatternsFor options (map string_bytes patterns)
+        → (names_files options.uses.now ≡ false → mid ≡ input)
+        → IsRefusedFor say_step options patterns mid writer errors status input' writer' errors'
+        ⊎ IsWholeRun output write_step file_remaining remaining read_step folders finds opens
+        identifies options patterns mid writer errors status input' writer'
+        → IsOptionsRun options input writer errors status input' writer' errors'
+
+  -- what the program does by what is parsed: as the options say, unless memory is out
+  pub data IsParsedRun (parsed : Parsed) (streams : Streams) (input : R) (writer : W) (errors : X)
+      : ℕ → R → W → X → Type 0 where
+    out_of_memory : {status : ℕ} {input' : R} {writer' : W} {errors' : X} (failure : Failure)
+        → has_cause failure ≡ false
+        → IsRefusal say_step input writer errors failure status input' writer' errors'
+        → IsParsedRun parsed streams input writer errors status input' writer' errors'
+    of_options : {status : ℕ} {input' : R} {writer' : W} {errors' : X} (options : Options)
+        (uses : Bor (List Use)) (operands : List (Bor (List ℕ))) (lists : Lists)
+        → uses.now ≡ parsed.uses.items
+        → AreTexts (map (λ operand. operand.now) parsed.operands.items)
+        (map (λ operand. operand.now) operands)
+        → AreLists uses.now operands lists → AreOptions uses lists streams options
+        → IsOptionsRun options input writer errors status input' writer' errors'
+        → IsParsedRun parsed streams input writer errors status input' writer' errors'
+
+  -- what the program does: if its arguments aren't a command line, that is said; otherwise it does
+  -- what they say, unless memory is out
+  pub data IsProgramRun (words : List (Vec ℕ Global)) (streams : Streams) (input : R) (writer : W)
+      (errors : X) : ℕ → R → W → X → Type 0 where
+    of_fault : {status : ℕ} {input' : R} {writer' : W} {errors' : X} (refusal : Refusal)
+        (failure : Failure) → reading_of (texts words) ≡ Refused refusal
+        → IsRefusal say_step input writer errors failure status input' writer' errors'
+        → IsProgramRun words streams input writer errors status input' writer' errors'
+    no_memory : {status : ℕ} {input' : R} {writer' : W} {errors' : X} (failure : Failure)
+        → has_cause failure ≡ false
+        → IsRefusal say_step input writer errors failure status input' writer' errors'
+        → IsProgramRun words streams input writer errors status input' writer' errors'
+    of_parsed : {status : ℕ} {input' : R} {writer' : W} {errors' : X} (parsed : Parsed)
+        → AreRead words parsed
+        → IsParsedRun parsed streams input writer errors status input' writer' errors'
+        → IsProgramRun words streams input writer errors status input' writer' errors'

@@ -14,7 +14,7 @@ use Rattle.linegrep_cli.specs.PathSeparators.{refuses_path_separator}
 use Rattle.linegrep_cli.specs.PatternOptions.{pattern_options, pattern_texts}
 use Rattle.linegrep_cli.specs.SearcherOptions.{refuses_label}
 use Rattle.linegrep_cli.specs.WholeRuns.{IsRefused}
-use Rattle.linegrep_cli.specs.declared.option_id.OptionId.TheVariants.{Sort, Sortr}
+use Rattle.linegrep_options.specs.declared.option_id.OptionId.TheVariants.{Sort, Sortr}
 use Rattle.linegrep_cli.specs.declared.options.Options.{Options}
 use Rattle.linegrep_files.specs.Choices.{may_be_refused}
 use Rattle.linegrep_files.specs.Failures.{has_cause, text_of}

@@ -17,12 +17,12 @@ use Rattle.grep_searcher.specs.declared.LineTerminator.TheVariants.{Byte}
 use Rattle.grep_searcher.specs.declared.LineTerminator.TheVariants.{Crlf as carriage_line_feed}
 use Rattle.linegrep_cli.specs.OptionMeanings.{after_lines, before_lines, shows_numbers}
 use Rattle.linegrep_cli.specs.OptionUses.{has, last_use}
-use Rattle.linegrep_cli.specs.declared.option_id.OptionId.TheVariants.{Crlf, Encoding, Files}
-use Rattle.linegrep_cli.specs.declared.option_id.OptionId.TheVariants.{InvertMatch, Multiline}
-use Rattle.linegrep_cli.specs.declared.option_id.OptionId.TheVariants.{NoBinary, NoText, NullData}
-use Rattle.linegrep_cli.specs.declared.option_id.OptionId.TheVariants.{Passthru}
-use Rattle.linegrep_cli.specs.declared.option_id.OptionId.TheVariants.{StopOnNonmatch, Text}
-use Rattle.linegrep_cli.specs.declared.option_id.OptionId.{OptionId}
+use Rattle.linegrep_options.specs.declared.option_id.OptionId.TheVariants.{Crlf, Encoding, Files}
+use Rattle.linegrep_options.specs.declared.option_id.OptionId.TheVariants.{InvertMatch, Multiline}
+use Rattle.linegrep_options.specs.declared.option_id.OptionId.TheVariants.{NoBinary, NoText, NullData}
+use Rattle.linegrep_options.specs.declared.option_id.OptionId.TheVariants.{Passthru}
+use Rattle.linegrep_options.specs.declared.option_id.OptionId.TheVariants.{StopOnNonmatch, Text}
+use Rattle.linegrep_options.specs.declared.option_id.OptionId.{OptionId}
 use Rattle.linegrep_cli.specs.declared.options.Options.{Options}
 
 -- what ends a line
@@ -35,7 +35,7 @@ abbrev pub is_all_searched : Options → Bool
 is_all_searched options = is_before Text && is_before NoText && is_before NoBinary
   where
     is_before : OptionId → Bool
-    is_before option = nat_lt (last_use options.uses option) options.unrestricted.binary
+    is_before option = nat_lt (last_use options option) options.unrestricted.binary
 
 -- what is done about a file with a NUL
 abbrev pub detection_of : Options → BinaryDetection

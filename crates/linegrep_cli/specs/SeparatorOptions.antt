@@ -8,7 +8,7 @@ use Rattle.std.specs.Str.{chars}
 use Rattle.bstr.specs.Escape.{unescaped}
 use Rattle.grep_printer.specs.declared.separators.Separators.{Separators}
 use Rattle.linegrep_cli.specs.OptionUses.{has}
-use Rattle.linegrep_cli.specs.declared.option_id.OptionId.TheVariants.{NoContextSeparator}
+use Rattle.linegrep_options.specs.declared.option_id.OptionId.TheVariants.{NoContextSeparator}
 use Rattle.linegrep_cli.specs.declared.options.Options.{Options}
 
 -- an option about separators is used

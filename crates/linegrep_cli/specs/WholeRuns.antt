@@ -49,13 +49,13 @@ pub record IsMatcherOf {M E : Type 0} (facts : M → MatcherFacts E)
 
 module _ {F M R W X E : Type 0} (output : E → Option (List ℕ)) (facts : M → MatcherFacts E)
     (first_at : M → List ℕ → ℕ → Option (ℕ × ℕ)) (groups_at : M → List ℕ → ℕ → List (Option (ℕ × ℕ)))
-    (write_step : W → OutputCall → W → Type 0) (file_remaining : F → Option (List ℕ)) (remaining : R → Option (List ℕ))
-    (read_step : R → ReadResult → R → Type 0) (folders : FolderFacts)
-    (finds : List ℕ → Result Bool Error → Type 0) (opens : List ℕ → Result F Error → Type 0)
-    (identifies : F → Option FileId → Type 0) where
+    (write_step : W → OutputCall → W → Type 0) (file_remaining : F → Option (List ℕ))
+    (remaining : R → Option (List ℕ)) (read_step : R → ReadResult → R → Type 0)
+    (folders : FolderFacts) (finds : List ℕ → Result Bool Error → Type 0)
+    (opens : List ℕ → Result F Error → Type 0) (identifies : F → Option FileId → Type 0) where
   -- the engine that options ask for: it has written nothing yet, and has no file open
-  pub record IsEngineFor (options : Options) (matcher : M) (template : Option (Bor Template)) (input : R) (writer : W)
-      (errors : X) (engine : PrintingEngine F M R W X) : Type 0 where
+  pub record IsEngineFor (options : Options) (matcher : M) (template : Option (Bor Template))
+      (input : R) (writer : W) (errors : X) (engine : PrintingEngine F M R W X) : Type 0 where
     pub settings : engine.searcher.settings ≡ searcher_settings options
     pub asks : engine.matcher ≡ matcher
     pub separators : Option (Bor Separators)
@@ -74,8 +74,8 @@ module _ {F M R W X E : Type 0} (output : E → Option (List ℕ)) (facts : M �
 
   -- a run with a matcher and a template: over the operands that options have, with the choices and the
   -- engine that they ask for
-  pub record IsRunWith (options : Options) (matcher : M) (template : Option (Bor Template)) (input : R) (writer : W)
-      (errors : X) (status : ℕ) (input' : R) (writer' : W) : Type 0 where
+  pub record IsRunWith (options : Options) (matcher : M) (template : Option (Bor Template))
+      (input : R) (writer : W) (errors : X) (status : ℕ) (input' : R) (writer' : W) : Type 0 where
     pub scope : Scope
     pub first : PrintingEngine F M R W X
     pub last : PrintingEngine F M R W X
@@ -151,16 +151,17 @@ literal_groups_at matcher = regex_groups_at (literal_regex matcher.now)
 pub record IsWholeRun {F R W X : Type 0} (output : AllocError → Option (List ℕ))
     (write_step : W → OutputCall → W → Type 0) (file_remaining : F → Option (List ℕ))
     (remaining : R → Option (List ℕ)) (read_step : R → ReadResult → R → Type 0)
-    (folders : FolderFacts) (finds : List ℕ → Result Bool Error → Type 0) (opens : List ℕ → Result F Error → Type 0)
-    (identifies : F → Option FileId → Type 0) (options : Options)
+    (folders : FolderFacts) (finds : List ℕ → Result Bool Error → Type 0)
+    (opens : List ℕ → Result F Error → Type 0) (identifies : F → Option FileId → Type 0)
+    (options : Options)
     (patterns : List (String Global)) (input : R) (writer : W) (errors : X) (status : ℕ)
     (input' : R) (writer' : W) : Type 0 where
   pub regex : Regex
   pub has_options : regex_options regex ≡ pattern_options options patterns
   pub has_patterns : regex_patterns regex ≡ pattern_texts options patterns
-  pub run : IsRunFor {M = Literal} output literal_facts literal_first_at literal_groups_at write_step file_remaining
-      remaining read_step folders finds opens identifies options regex input writer errors status input'
-      writer'
+  pub run : IsRunFor {M = Literal} output literal_facts literal_first_at literal_groups_at write_step
+      file_remaining remaining read_step folders finds opens identifies options regex input writer errors
+      status input' writer'
       ⊎ IsRunFor {M = Named (naming_of regex)} output named_facts named_first_at named_groups_at write_step
       file_remaining remaining read_step folders finds opens identifies options regex input writer errors
       status input' writer'

@@ -2,28 +2,9 @@
 ghost use Rattle.std.specs.Prelude.{◌≡◌};
 ghost use Rattle.linegrep_cli.specs.FileChoices.{AreFileOptions, sources_of, texts_of};
 
-use crate::option_id::OptionId;
 use crate::options::Options;
-use clap::ArgMatches;
-use linegrep_files::{FileOptions, Sources, TypeOptions, Values};
-
-/// What parsed arguments say of types of files.
-pub fn type_options<'m, 'w>(matches: &'m ArgMatches<'w>) -> TypeOptions<'m, 'w> {
-    TypeOptions {
-        asked: values(matches, "type"),
-        left_out: values(matches, "type-not"),
-        added: values(matches, "type-add"),
-        cleared: values(matches, "type-clear"),
-    }
-}
-
-// The texts of an option with a name, and the place of each among the words.
-fn values<'m, 'w>(matches: &'m ArgMatches<'w>, name: &str) -> Values<'m, 'w> {
-    Values {
-        texts: texts_of(matches.get_strs(name)),
-        places: places_of(matches.indices_of(name)),
-    }
-}
+use linegrep_files::{FileOptions, Sources};
+use linegrep_options::OptionId;
 
 // The texts of an option, if it is used.
 fn texts_of<'m, 'w>(texts: Option<&'m [&'w str]>) -> &'m [&'w str]
@@ -31,13 +12,6 @@ fn texts_of<'m, 'w>(texts: Option<&'m [&'w str]>) -> &'m [&'w str]
 {
     match texts {
         Some(texts) => texts,
-        None => &[],
-    }
-}
-
-fn places_of(places: Option<&[usize]>) -> &[usize] {
-    match places {
-        Some(places) => places,
         None => &[],
     }
 }

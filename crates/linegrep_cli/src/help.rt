@@ -1,7 +1,9 @@
 //! The texts of help.
+ghost use Rattle.std.specs.Prelude.{◌≡◌};
+ghost use Rattle.linegrep_cli.specs.ProgramRuns.{help, short_help, version};
 
-/// What `-h` writes.
-pub const SHORT_HELP: &str = "\
+// What `-h` writes.
+const SHORT_HELP: &str = "\
 Usage: linegrep [OPTIONS] PATTERN [PATH ...]
 
 Searches files for the lines that match a pattern. Without a path it searches
@@ -20,8 +22,8 @@ Instead:  -c, --count-matches, -l, --files-without-match, -q
 --help says more of each.
 ";
 
-/// What `--help` writes.
-pub const HELP: &str = "\
+// What `--help` writes.
+const HELP: &str = "\
 Searches files, folders or standard input for the lines that match a pattern.
 
 Usage: linegrep [OPTIONS] PATTERN [PATH ...]
@@ -170,3 +172,30 @@ folders the nearest. A path that is named is searched, whatever they say.
 The status is 0 if a line matches, 1 if none does, and 2 if something can't be
 read or written, or the arguments are wrong.
 ";
+
+// What `--version` writes.
+const VERSION: &str = "linegrep 0.1.0\n";
+
+/// What `--help` writes.
+#[tactic(auto, unfolding(crate::specs::ProgramRuns::help))]
+pub fn long_text() -> &'static str
+    ensures { result.now ≡ help }
+{
+    HELP
+}
+
+/// What `-h` writes.
+#[tactic(auto, unfolding(crate::specs::ProgramRuns::short_help))]
+pub fn short_text() -> &'static str
+    ensures { result.now ≡ short_help }
+{
+    SHORT_HELP
+}
+
+/// What `--version` writes.
+#[tactic(auto, unfolding(crate::specs::ProgramRuns::version))]
+pub fn version_text() -> &'static str
+    ensures { result.now ≡ version }
+{
+    VERSION
+}

@@ -8,7 +8,6 @@
 mod clock;
 mod color_options;
 mod colors;
-mod command;
 mod counted_run;
 mod engine;
 mod failures;
@@ -17,9 +16,8 @@ mod file_run;
 mod haystacks;
 mod help;
 mod json_run;
+mod lists;
 mod looks;
-mod option_id;
-mod option_rows;
 mod options;
 mod patterns;
 mod printers;

@@ -1,9 +1,10 @@
 //! The options of the command line.
 ghost use Rattle.std.specs.Prelude.{◌≡◌, ◌&&◌, None, if◌then◌else◌, option_map};
+ghost use Rattle.std.specs.Prelude.{slice_get, slice_index};
 ghost use Rattle.linegrep_cli.specs.FileChoices.{ignore_files_of, last_of_both, reads, shows_hidden};
 ghost use Rattle.linegrep_cli.specs.OptionMeanings.{after_lines, before_lines, context_lines};
 ghost use Rattle.linegrep_cli.specs.OptionMeanings.{paths_of, searches_input, shows_columns, shows_numbers};
-ghost use Rattle.linegrep_cli.specs.OptionMeanings.{value_of};
+ghost use Rattle.linegrep_cli.specs.OptionMeanings.{operands_of, value_of};
 ghost use Rattle.linegrep_cli.specs.PrinterOptions.{color_choice, counts, counts_matches};
 ghost use Rattle.linegrep_cli.specs.PrinterOptions.{counts_all, is_line_buffered, is_summary};
 ghost use Rattle.linegrep_cli.specs.PrinterOptions.{is_vimgrep};
@@ -13,96 +14,20 @@ ghost use Rattle.linegrep_cli.specs.SearcherOptions.{detection_of, is_all_search
 ghost use Rattle.linegrep_cli.specs.SearcherOptions.{terminator_of};
 ghost use Rattle.linegrep_cli.specs.Refusals.{sorts_by_time};
 ghost use Rattle.linegrep_cli.specs.RunScopes.{order_for, searches_binary};
-ghost use Rattle.linegrep_cli.specs.OptionUses.{applies, has, is_none_after, last_use};
+ghost use Rattle.linegrep_cli.specs.OptionUses.{has};
+ghost use Rattle.linegrep_cli.specs.OptionValues.{AreListed, AreOptions, names_input, names_patterns};
+ghost use Rattle.linegrep_cli.specs.OptionValues.{number_for, unrestricted_at};
 ghost use Rattle.linegrep_files.specs.Orders.{is_by_time};
 
-use crate::file_options::type_options;
-use crate::option_id::{COUNT, Kind, OptionId};
-use crate::option_rows::{Row, tables};
-use crate::patterns::{names_patterns, pattern_inputs};
+use crate::lists::Lists;
 use crate::program::Streams;
 use crate::words::is_input;
-use clap::ArgMatches;
 use grep_printer::SummaryKind;
 use grep_searcher::{BinaryDetection, LineTerminator};
 use linegrep_files::{FileId, Order, TypeOptions};
+use linegrep_options::{OptionId, Use, applies, last_place, last_value, number};
 
-// The name of `-u`.
-const UNRESTRICTED: &str = "unrestricted";
-
-// When each option was used last.
-#[derive(Clone, Copy)]
-struct Uses {
-    // By the option's number, its place among the words, or 0 if it isn't used.
-    last: [usize; COUNT],
-}
-
-impl Uses {
-    // Those of parsed arguments.
-    fn read(matches: &ArgMatches<'_>) -> Uses {
-        let mut uses = Uses { last: [0; COUNT] };
-        for rows in tables() {
-            uses.add(matches, rows);
-        }
-        uses
-    }
-
-    // Adds those of the options of a table.
-    fn add(&mut self, matches: &ArgMatches<'_>, rows: &[Row]) {
-        for row in rows {
-            if let Some(last) = self.last.get_mut(row.id as usize) {
-                *last = last_use(matches, row);
-            }
-        }
-    }
-
-    // Whether an option is used, and none after it that takes it back.
-    #[tactic(auto, unfolding(crate::specs::OptionUses::applies))]
-    fn has(&self, option: OptionId) -> bool
-        ensures { result ≡ applies self.now option }
-    {
-        let last = self.last_of(option);
-        last > 0
-            && self.is_none_after(last, option.contraries())
-            && self.is_none_after(last, option.own_contraries())
-    }
-
-    // Whether none of some options is used after a place.
-    fn is_none_after(&self, place: usize, options: &[OptionId]) -> bool
-        ensures { result ≡ is_none_after self.now place options.now }
-    {
-        options.iter().all(|option| self.last_of(*option) <= place)
-    }
-
-    #[tactic(auto, unfolding(crate::specs::OptionUses::last_use))]
-    fn last_of(&self, option: OptionId) -> usize
-        ensures { result ≡ last_use self.now option }
-    {
-        self.last.get(option as usize).copied().unwrap_or(0)
-    }
-}
-
-// The place of the last use of an option among the words, from 1, or 0 if it isn't used. A flag
-// that isn't used has a place too.
-fn last_use(matches: &ArgMatches<'_>, row: &Row) -> usize {
-    if !is_used(matches, row) {
-        return 0;
-    }
-    match matches.indices_of(row.name) {
-        Some(indices) => indices.last().copied().unwrap_or(0),
-        None => 0,
-    }
-}
-
-// Whether an option may be used: a flag that isn't has a place all the same.
-fn is_used(matches: &ArgMatches<'_>, row: &Row) -> bool {
-    match row.id.kind() {
-        Kind::Flag => matches.get_flag(row.name),
-        _ => true,
-    }
-}
-
-// Where `-u` is among the words: the place of each use, from 1, or 0 if there is none.
+// Where `-u` is among the uses of options: the place of each use, from 1, or 0 if there is none.
 #[derive(Clone, Copy)]
 struct Unrestricted {
     // The first use, which asks for ignored files.
@@ -114,24 +39,23 @@ struct Unrestricted {
 }
 
 impl Unrestricted {
-    // That of parsed arguments.
-    fn read(matches: &ArgMatches<'_>) -> Unrestricted {
-        let mut places = matches
-            .indices_of(UNRESTRICTED)
-            .unwrap_or(&[])
-            .iter()
-            .copied();
+    // That of the places of all uses.
+    fn new(places: &[usize]) -> Unrestricted
+        ensures { result ≡ unrestricted_at places.now }
+    {
         Unrestricted {
-            ignored: places.next().unwrap_or(0),
-            hidden: places.next().unwrap_or(0),
-            binary: places.next().unwrap_or(0),
+            ignored: place_at(places, 0),
+            hidden: place_at(places, 1),
+            binary: place_at(places, 2),
         }
     }
 }
 
-/// Whether parsed arguments have `-u` more than three times, which is as often as it means something.
-pub fn repeats_unrestricted(matches: &ArgMatches<'_>) -> bool {
-    matches.indices_of(UNRESTRICTED).unwrap_or(&[]).len() > 3
+// The place with an index, or 0 if there is none.
+fn place_at(places: &[usize], index: usize) -> usize
+    ensures { result ≡ slice_index places.now index }
+{
+    places.get(index).copied().unwrap_or(0)
 }
 
 /// What the options ask for, but for patterns, of a run with some standard streams.
@@ -139,7 +63,8 @@ pub fn repeats_unrestricted(matches: &ArgMatches<'_>) -> bool {
 pub struct Options<'m, 'w> {
     /// What the run knows of its standard streams.
     pub streams: Streams,
-    uses: Uses,
+    /// The uses of options, in their order.
+    pub uses: &'m [Use<'w>],
     /// After how many matched lines of a file its search stops.
     pub max_count: Option<u64>,
     /// How many bytes a line has at most that is written; 0 is no limit.
@@ -176,46 +101,46 @@ pub struct Options<'m, 'w> {
     sortr: Option<&'w str>,
     unrestricted: Unrestricted,
     operands: Option<&'m [&'w str]>,
-    // Whether patterns are read from standard input.
-    reads_patterns: bool,
+    /// Whether patterns are read from standard input.
+    pub reads_patterns: bool,
     // Whether the first operand is a path like the others, and no pattern.
     names_patterns: bool,
 }
 
 impl<'m, 'w> Options<'m, 'w> {
-    /// The options of parsed arguments, with the standard streams.
+    /// The options that are used, with their values and the operands, and the standard streams.
     #[inline(never)]
-    pub fn read(matches: &'m ArgMatches<'w>, streams: Streams) -> Options<'m, 'w>
-        ensures { result.streams ≡ streams }
+    pub fn new(uses: &'m [Use<'w>], lists: &'m Lists<'w>, streams: Streams) -> Options<'m, 'w>
+        ensures { AreOptions uses.entry lists.entry.now streams result }
     {
         Options {
             streams,
-            uses: Uses::read(matches),
-            max_count: matches.get_one::<u64>("max-count"),
-            max_columns: matches.get_one::<u64>("max-columns"),
-            after_context: matches.get_one::<u64>("after-context"),
-            before_context: matches.get_one::<u64>("before-context"),
-            context: matches.get_one::<u64>("context"),
-            context_separator: matches.get_str("context-separator"),
-            field_context_separator: matches.get_str("field-context-separator"),
-            field_match_separator: matches.get_str("field-match-separator"),
-            path_separator: matches.get_str("path-separator"),
-            replace: matches.get_str("replace"),
-            color: matches.get_str("color"),
-            colors: matches.get_strs("colors"),
-            encoding: matches.get_str("encoding"),
-            globs: matches.get_strs("glob"),
-            iglobs: matches.get_strs("iglob"),
-            ignore_files: matches.get_strs("ignore-file"),
-            types: type_options(matches),
-            max_depth: matches.get_one::<u64>("max-depth"),
-            max_filesize: matches.get_str("max-filesize"),
-            sort: matches.get_str("sort"),
-            sortr: matches.get_str("sortr"),
-            unrestricted: Unrestricted::read(matches),
-            operands: matches.get_strs("operands"),
-            reads_patterns: pattern_inputs(matches) > 0,
-            names_patterns: names_patterns(matches) || matches.get_flag("files"),
+            uses,
+            max_count: number_for(uses, OptionId::MaxCount),
+            max_columns: number_for(uses, OptionId::MaxColumns),
+            after_context: number_for(uses, OptionId::AfterContext),
+            before_context: number_for(uses, OptionId::BeforeContext),
+            context: number_for(uses, OptionId::Context),
+            context_separator: last_value(uses, OptionId::ContextSeparator),
+            field_context_separator: last_value(uses, OptionId::FieldContextSeparator),
+            field_match_separator: last_value(uses, OptionId::FieldMatchSeparator),
+            path_separator: last_value(uses, OptionId::PathSeparator),
+            replace: last_value(uses, OptionId::Replace),
+            color: last_value(uses, OptionId::Color),
+            colors: listed(&lists.colors),
+            encoding: last_value(uses, OptionId::Encoding),
+            globs: listed(&lists.globs),
+            iglobs: listed(&lists.iglobs),
+            ignore_files: listed(&lists.ignore_files),
+            types: lists.type_options(),
+            max_depth: number_for(uses, OptionId::MaxDepth),
+            max_filesize: last_value(uses, OptionId::MaxFilesize),
+            sort: last_value(uses, OptionId::Sort),
+            sortr: last_value(uses, OptionId::Sortr),
+            unrestricted: Unrestricted::new(&lists.unrestricted),
+            operands: listed(&lists.operands),
+            reads_patterns: reads_patterns(&lists.pattern_files),
+            names_patterns: names_patterns(uses),
         }
     }
 
@@ -223,7 +148,7 @@ impl<'m, 'w> Options<'m, 'w> {
     pub fn has(&self, option: OptionId) -> bool
         ensures { result ≡ has self.now option }
     {
-        self.uses.has(option)
+        applies(self.uses, option)
     }
 
     /// Whether ignore files of a kind are read, which one option asks for and another doesn't. The last
@@ -240,8 +165,8 @@ impl<'m, 'w> Options<'m, 'w> {
     fn last_of_both(&self, one: OptionId, other: OptionId) -> usize
         ensures { result ≡ last_of_both self.now one other }
     {
-        let one = self.uses.last_of(one);
-        let other = self.uses.last_of(other);
+        let one = last_place(self.uses, one);
+        let other = last_place(self.uses, other);
         if one < other { other } else { one }
     }
 
@@ -274,7 +199,7 @@ impl<'m, 'w> Options<'m, 'w> {
         ensures { result ≡ shows_hidden self.now }
     {
         self.has(OptionId::Hidden)
-            || self.uses.last_of(OptionId::NoHidden) < self.unrestricted.hidden
+            || last_place(self.uses, OptionId::NoHidden) < self.unrestricted.hidden
     }
 
     /// Whether the search of a file of a folder goes on after a NUL, though it isn't searched as text.
@@ -289,9 +214,9 @@ impl<'m, 'w> Options<'m, 'w> {
         ensures { result ≡ is_all_searched self.now }
     {
         let third = self.unrestricted.binary;
-        self.uses.last_of(OptionId::Text) < third
-            && self.uses.last_of(OptionId::NoText) < third
-            && self.uses.last_of(OptionId::NoBinary) < third
+        last_place(self.uses, OptionId::Text) < third
+            && last_place(self.uses, OptionId::NoText) < third
+            && last_place(self.uses, OptionId::NoBinary) < third
     }
 
     /// When there are colors.
@@ -326,6 +251,16 @@ impl<'m, 'w> Options<'m, 'w> {
             Some(operands) if self.names_patterns => operands,
             Some([_, paths @ ..]) => paths,
             _ => &[],
+        }
+    }
+
+    /// The first operand, if there is one.
+    pub fn first_operand(&self) -> Option<&'w str>
+        ensures { result ≡ slice_get (operands_of self.now.operands) 0 }
+    {
+        match self.operands {
+            Some(operands) => operands.first().copied(),
+            None => None,
         }
     }
 
@@ -531,4 +466,41 @@ impl<'m, 'w> Options<'m, 'w> {
             BinaryDetection::convert(0)
         }
     }
+}
+
+// The number that the last use of an option gives, if it is used.
+fn number_for(uses: &[Use<'_>], option: OptionId) -> Option<u64>
+    ensures { result ≡ number_for uses.now option }
+{
+    match last_value(uses, option) {
+        Some(text) => number(text),
+        None => None,
+    }
+}
+
+// Texts, if there are any.
+fn listed<'m, 'w>(texts: &'m Vec<&'w str>) -> Option<&'m [&'w str]>
+    ensures { AreListed texts.entry.now.items result }
+{
+    if texts.is_empty() {
+        None
+    } else {
+        Some(texts.as_slice())
+    }
+}
+
+// Whether one of some files is standard input.
+fn reads_patterns(files: &[&str]) -> bool
+    ensures { result ≡ names_input files.now }
+{
+    files.iter().any(|file| is_input(file))
+}
+
+// Whether the uses of options name the patterns, or that files are listed.
+fn names_patterns(uses: &[Use<'_>]) -> bool
+    ensures { result ≡ names_patterns uses.now }
+{
+    last_place(uses, OptionId::Regexp) > 0
+        || last_place(uses, OptionId::File) > 0
+        || last_place(uses, OptionId::Files) > 0
 }

@@ -1,5 +1,5 @@
 //! The patterns that are searched for.
-ghost use Rattle.std.specs.Prelude.{◌≡◌, ◌≢◌, ◌⊎◌, ◌∷◌, ◌++◌, [], codes, map, string_bytes, true};
+ghost use Rattle.std.specs.Prelude.{◌≡◌, ◌≢◌, ◌⊎◌, ◌∷◌, ◌++◌, [], codes, false, map, string_bytes, true};
 ghost use Rattle.std.specs.Prelude.{IfErr, IfOk, OnOk};
 ghost use Rattle.std.specs.List.{list_any};
 ghost use Rattle.grep_regex.specs.Views.{regex_options, regex_patterns};
@@ -8,105 +8,132 @@ ghost use Rattle.linegrep_cli.specs.PatternOptions.{has_capital, ignores_case, i
 ghost use Rattle.linegrep_cli.specs.PatternOptions.{joined_text, names_groups};
 ghost use Rattle.linegrep_cli.specs.PatternOptions.{pattern_options, pattern_texts};
 ghost use Rattle.linegrep_cli.specs.PatternOptions.{searched_options, searched_texts};
+ghost use Rattle.linegrep_options.specs.OptionUses.{is_same};
+ghost use Rattle.linegrep_cli.specs.NamedPatterns.{AreMore, AreNamed, ArePatterns, IsAdded};
+ghost use Rattle.linegrep_cli.specs.NamedPatterns.{name_patterns, names_files};
+ghost use Rattle.linegrep_cli.specs.ProgramRuns.{may_lack_patterns};
 ghost use Rattle.grep_regex.specs.Refusals.{IsRefusal};
 ghost use Rattle.grep_regex.specs.declared.error.Error.{Error};
 ghost use Rattle.grep_regex.specs.declared.error.Error.TheVariants.{Memory};
 ghost use Rattle.linegrep_files.specs.Failures.{has_cause};
 
 use crate::failures::{Failure, pattern_failure};
-use crate::option_id::OptionId;
 use crate::options::Options;
 use crate::usage::no_pattern_failure;
-use crate::words::is_input;
-use clap::ArgMatches;
+use crate::words::{is_escaped, is_input};
 use grep_regex::{Regex, RegexMatcherBuilder};
 use grep_searcher::{LineTerminator, Source};
+use linegrep_options::{OptionId, Use, is_same, last_place};
 use std::alloc::{AllocError, Global};
 use std::{fs, io};
 
 /// Reads the texts of the patterns: those of `-e` and those in the lines of the files of `-f`, of
 /// which `-` is standard input, in the order of these options, or if neither is used the first
-/// operand. An error is that there is no pattern, that a file can't be read, or that there is no
-/// memory.
+/// operand. An error is that there is no pattern, that it isn't UTF-8, that a file can't be read, or
+/// that there is no memory.
 pub fn read_patterns<R: Source>(
     rt: &HostRuntime,
-    matches: &ArgMatches<'_>,
+    options: &Options<'_, '_>,
     input: &mut R,
-) -> Result<Vec<String>, Failure> {
-    let mut patterns = Vec::new(rt.alloc());
-    add_patterns(rt, matches, &mut patterns, input)?;
-    Ok(patterns)
-}
-
-/// Whether options name the patterns.
-pub fn names_patterns(matches: &ArgMatches<'_>) -> bool {
-    matches.contains_id("regexp") || matches.contains_id("file")
-}
-
-/// How often patterns are to be read from standard input.
-pub fn pattern_inputs(matches: &ArgMatches<'_>) -> usize {
-    match matches.get_strs("file") {
-        Some(files) => files.iter().filter(|file| is_input(file)).count(),
-        None => 0,
+) -> Result<Vec<String>, Failure>
+    ensures patterns { IfOk result (λ patterns.
+        ArePatterns options.now (map string_bytes patterns.items)) }
+    ensures input { names_files options.now.uses.now ≡ false → input.new ≡ input.old }
+    ensures refused { IfErr result (λ failure. has_cause failure ≡ true
+        → may_lack_patterns options.now ≡ true) }
+{
+    if name_patterns(options.uses) {
+        return read_named(rt, options.uses, input);
     }
-}
-
-// Adds the texts of the patterns.
-fn add_patterns<R: Source>(
-    rt: &HostRuntime,
-    matches: &ArgMatches<'_>,
-    patterns: &mut Vec<String>,
-    input: &mut R,
-) -> Result<(), Failure> {
-    if names_patterns(matches) {
-        return add_named(rt, matches, patterns, input);
-    }
-    match matches.get_str("operands") {
-        Some(pattern) => add_text(rt.alloc(), patterns, pattern),
+    match options.first_operand() {
+        Some(pattern) if is_escaped(pattern) => {
+            Err(Failure::of_cause(rt.alloc(), pattern, &"the argument isn't UTF-8"))
+        }
+        Some(pattern) => only_pattern(rt.alloc(), pattern),
         None => Err(no_pattern_failure(rt.alloc())),
     }
 }
 
-// Adds the texts of `-e` and the lines of the files of `-f`, in the order of these options.
-fn add_named<R: Source>(
-    rt: &HostRuntime,
-    matches: &ArgMatches<'_>,
-    patterns: &mut Vec<String>,
-    input: &mut R,
-) -> Result<(), Failure> {
-    let files = matches.get_strs("file").unwrap_or(&[]);
-    let places = matches.indices_of("file").unwrap_or(&[]);
-    let texts = matches.get_strs("regexp").unwrap_or(&[]);
-    let text_places = matches.indices_of("regexp").unwrap_or(&[]);
-    let mut added = 0;
-    for (text, at) in texts.iter().zip(text_places) {
-        let before = count_before(places, *at);
-        add_files(rt, patterns, files.get(added..before).unwrap_or(&[]), input)?;
-        add_text(rt.alloc(), patterns, text)?;
-        added = before;
+// Whether uses of options name patterns.
+fn name_patterns(uses: &[Use<'_>]) -> bool
+    ensures { result ≡ name_patterns uses.now }
+{
+    last_place(uses, OptionId::Regexp) > 0 || last_place(uses, OptionId::File) > 0
+}
+
+// A pattern alone.
+fn only_pattern(alloc: Global, pattern: &str) -> Result<Vec<String>, Failure>
+    ensures refused { IfErr result (λ failure. has_cause failure ≡ false) }
+    ensures pattern { IfOk result (λ patterns. map string_bytes patterns.items ≡ pattern.now ∷ []) }
+{
+    let mut patterns = Vec::new(alloc);
+    match add_text(alloc, &mut patterns, pattern) {
+        Ok(()) => Ok(patterns),
+        Err(failure) => Err(failure),
     }
-    add_files(rt, patterns, files.get(added..).unwrap_or(&[]), input)
 }
 
-// How many places are before one.
-fn count_before(places: &[usize], at: usize) -> usize {
-    places.iter().filter(|place| **place < at).count()
-}
-
-// Adds the lines of files.
-fn add_files<R: Source>(
+// The patterns that uses of options name.
+fn read_named<R: Source>(
     rt: &HostRuntime,
-    patterns: &mut Vec<String>,
-    files: &[&str],
+    uses: &[Use<'_>],
     input: &mut R,
-) -> Result<(), Failure> {
-    for file in files {
-        match read_file(rt, file, input) {
-            Ok(text) => add_lines(rt.alloc(), patterns, text.as_str())?,
-            Err(error) => return Err(Failure::of_cause(rt.alloc(), file, &error)),
+) -> Result<Vec<String>, Failure>
+    ensures patterns { IfOk result (λ patterns.
+        AreNamed uses.now (map string_bytes patterns.items)) }
+    ensures input { names_files uses.now ≡ false → input.new ≡ input.old }
+    ensures refused { IfErr result (λ failure. has_cause failure ≡ true
+        → names_files uses.now ≡ true) }
+{
+    let mut patterns = Vec::new(rt.alloc());
+    for one in uses {
+        match add_use(rt, one, &mut patterns, input) {
+            Ok(()) => {}
+            Err(failure) => return Err(failure),
         }
     }
-    Ok(())
+    Ok(patterns)
+}
+
+// Adds the patterns that a use of an option names, if it does.
+fn add_use<R: Source>(
+    rt: &HostRuntime,
+    one: &Use<'_>,
+    patterns: &mut Vec<String>,
+    input: &mut R,
+) -> Result<(), Failure>
+    ensures added { IfOk result (λ _. IsAdded one.now
+        (map string_bytes patterns.old.items) (map string_bytes patterns.new.items)) }
+    ensures input { is_same one.now.id OptionId.File ≡ false → input.new ≡ input.old }
+    ensures refused { IfErr result (λ failure. has_cause failure ≡ true
+        → is_same one.now.id OptionId.File ≡ true) }
+{
+    let Some(value) = one.value else {
+        return Ok(());
+    };
+    if is_same(one.id, OptionId::Regexp) {
+        add_text(rt.alloc(), patterns, value)
+    } else if is_same(one.id, OptionId::File) {
+        add_file(rt, patterns, value, input)
+    } else {
+        Ok(())
+    }
+}
+
+// Adds the lines of a file.
+fn add_file<R: Source>(
+    rt: &HostRuntime,
+    patterns: &mut Vec<String>,
+    file: &str,
+    input: &mut R,
+) -> Result<(), Failure>
+    ensures { IfOk result (λ _. AreMore
+        (map string_bytes patterns.old.items) (map string_bytes patterns.new.items)) }
+{
+    match read_file(rt, file, input) {
+        Ok(text) => add_lines(rt.alloc(), patterns, text.as_str()),
+        Err(error) => Err(Failure::of_cause(rt.alloc(), file, &error)),
+    }
 }
 
 // The text of a file, of which `-` is standard input.
@@ -133,21 +160,34 @@ fn read_input<R: Source>(alloc: Global, input: &mut R) -> io::Result<Vec<u8>> {
     Ok(contents)
 }
 
-fn add_lines(alloc: Global, texts: &mut Vec<String>, text: &str) -> Result<(), Failure> {
+fn add_lines(alloc: Global, texts: &mut Vec<String>, text: &str) -> Result<(), Failure>
+    ensures { IfOk result (λ _. AreMore
+        (map string_bytes texts.old.items) (map string_bytes texts.new.items)) }
+{
     for line in text.lines() {
-        add_text(alloc, texts, line)?;
+        match add_text(alloc, texts, line) {
+            Ok(()) => {}
+            Err(failure) => return Err(failure),
+        }
     }
     Ok(())
 }
 
-fn add_text(alloc: Global, texts: &mut Vec<String>, text: &str) -> Result<(), Failure> {
+fn add_text(alloc: Global, texts: &mut Vec<String>, text: &str) -> Result<(), Failure>
+    ensures refused { IfErr result (λ failure. has_cause failure ≡ false) }
+    ensures added { IfOk result (λ _. map string_bytes texts.new.items
+        ≡ map string_bytes texts.old.items ++ text.now ∷ []) }
+{
     match push_text(alloc, texts, text) {
         Ok(()) => Ok(()),
         Err(_) => Err(Failure::out_of_memory()),
     }
 }
 
-fn push_text(alloc: Global, texts: &mut Vec<String>, text: &str) -> Result<(), AllocError> {
+fn push_text(alloc: Global, texts: &mut Vec<String>, text: &str) -> Result<(), AllocError>
+    ensures { IfOk result (λ _. map string_bytes texts.new.items
+        ≡ map string_bytes texts.old.items ++ text.now ∷ []) }
+{
     texts.push(String::from_str(alloc, text)?)?;
     Ok(())
 }
@@ -280,8 +320,8 @@ fn compile_with(
     }
 }
 
-// The texts of patterns.
-fn texts_of<'p>(alloc: Global, patterns: &'p [String]) -> Result<Vec<&'p str>, AllocError>
+/// The texts of some strings.
+pub fn texts_of<'p>(alloc: Global, patterns: &'p [String]) -> Result<Vec<&'p str>, AllocError>
     ensures { IfOk result (λ texts.
         map (λ text. text.now) texts.items ≡ map string_bytes patterns.entry.now) }
 {

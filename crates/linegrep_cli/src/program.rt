@@ -1,23 +1,28 @@
 //! The program, by its arguments.
-ghost use Rattle.std.specs.Prelude.{◌≡◌, ◌⊎◌, ℕ, List};
+ghost use Rattle.std.specs.Prelude.{◌≡◌, IfErr, IfOk, IfSome, false, map, string_bytes, true};
 ghost use Rattle.grep_output.specs.PendingTexts.{Flushes};
-ghost use Rattle.linegrep_cli.specs.ProgramRuns.{IsAnswered, IsProgramRun};
-ghost use Rattle.linegrep_cli.specs.WholeRuns.{IsRefused};
+ghost use Rattle.linegrep_cli.specs.NamedPatterns.{names_files};
+ghost use Rattle.linegrep_cli.specs.ProgramRuns.{IsAnswered, IsOptionsRun, IsParsedRun};
+ghost use Rattle.linegrep_cli.specs.ProgramRuns.{IsProgramRun};
+ghost use Rattle.linegrep_cli.specs.ProgramRuns.{ArePatternsFor, exclude_each_other, may_lack_patterns};
+ghost use Rattle.linegrep_cli.specs.ProgramRuns.{text_asked};
+ghost use Rattle.linegrep_files.specs.Failures.{has_cause};
+ghost use Rattle.linegrep_options.specs.OptionUses.{places_of, values_of};
+ghost use Rattle.std.specs.Option.{option_map};
 
-use crate::command::command;
 use crate::failures::{Failure, output_failure};
-use crate::help::HELP;
-use crate::option_id::OptionId;
-use crate::options::{Options, repeats_unrestricted};
-use crate::patterns::{pattern_inputs, read_patterns};
+use crate::help::{long_text, short_text, version_text};
+use crate::lists::Lists;
+use crate::options::Options;
+use crate::patterns::{read_patterns, texts_of};
 use crate::search::{Ended, search_all};
 use crate::system::System;
-use crate::usage::{arguments_failure, usage_text};
-use crate::words::{is_escaped, is_input, words};
-use clap::ArgMatches;
+use crate::usage::{arguments_failure, fault_failure};
+use crate::words::{is_input, texts};
 use grep_output::{Output, write_all};
 use grep_searcher::Source;
 use linegrep_files::{FileId, type_list};
+use linegrep_options::{OptionId, ParseError, Parsed, parse};
 use std::alloc::{AllocError, Global};
 use std::fmt::Display;
 use std::io;
@@ -54,57 +59,49 @@ pub fn run<S: System, R: Source + Drop, W: Output + Drop, E: Output>(
     output: W,
     errors: &mut E,
 ) -> Ended<R, W>
-    ensures { IsProgramRun ⟦<AllocError as Display>⟧.output W.step S.File.remaining R.remaining
+    ensures { IsProgramRun ⟦<AllocError as Display>⟧.output W.step E.step S.File.remaining R.remaining
         R.step (S.facts system.now) (S.finds system.now) (S.opens system.now)
-        (S.identifies system.now) streams input output errors.old result.status result.input
-        result.output }
+        (S.identifies system.now) arguments.now streams input output errors.old result.status
+        result.input result.output errors.new }
 {
-    let Ok(words) = words(rt.alloc(), arguments) else {
-        return Ended::refused(errors, &Failure::out_of_memory(), input, output);
-    };
-    match parse(rt.alloc(), &words) {
-        Ok(matches) => {
-            let options = Options::read(&matches, streams);
-            run_options(
-                rt, system, &words, &matches, &options, input, output, errors,
-            )
+    match parse(rt.alloc(), arguments) {
+        Ok(parsed) => run_parsed(rt, system, streams, &parsed, input, output, errors),
+        Err(ParseError::Words(fault)) => {
+            let failure = fault_failure(rt.alloc(), arguments, &fault);
+            Ended::refused(errors, &failure, input, output)
         }
-        Err(error) => answer(rt.alloc(), &words, &error, input, output, errors),
+        Err(ParseError::Memory) => {
+            Ended::refused(errors, &Failure::out_of_memory(), input, output)
+        }
     }
 }
 
-// Parses the words of the arguments. Neither this nor what else comes before a search is inlined, so
-// that their room on the stack is free again when files are searched.
-#[inline(never)]
-fn parse<'w>(alloc: Global, words: &'w [String]) -> Result<ArgMatches<'w>, clap::Error> {
-    match command(alloc) {
-        Ok(command) => command.try_get_matches_from(words),
-        Err(error) => Err(clap::Error::from(error)),
-    }
-}
-
-// Writes help or the version, if that is what was asked for. Otherwise it says what is wrong with
-// the arguments.
-#[inline(never)]
-fn answer<R, W: Output, E: Output>(
-    alloc: Global,
-    words: &[String],
-    error: &clap::Error,
+// Does what parsed arguments ask for.
+fn run_parsed<S: System, R: Source + Drop, W: Output + Drop, E: Output>(
+    rt: &HostRuntime,
+    system: &S,
+    streams: Streams,
+    parsed: &Parsed<'_>,
     input: R,
     output: W,
     errors: &mut E,
 ) -> Ended<R, W>
-    ensures { IsRefused input output result.status result.input result.output
-        ⊎ ((text : List ℕ) × (result.input ≡ input)
-        × IsAnswered W.step text output result.status result.output) }
+    ensures { IsParsedRun ⟦<AllocError as Display>⟧.output W.step E.step S.File.remaining R.remaining
+        R.step (S.facts system.now) (S.finds system.now) (S.opens system.now)
+        (S.identifies system.now) parsed.now streams input output errors.old result.status
+        result.input result.output errors.new }
 {
-    let Ok(text) = usage_text(alloc, words, error) else {
+    let Ok(operands) = texts(rt.alloc(), &parsed.operands) else {
         return Ended::refused(errors, &Failure::out_of_memory(), input, output);
     };
-    if error.use_stderr() {
-        return Ended::refused(errors, &Failure::of_text(Ok(text)), input, output);
-    }
-    write_answer(alloc, text.as_str(), input, output, errors)
+    let Ok(operands) = texts_of(rt.alloc(), &operands) else {
+        return Ended::refused(errors, &Failure::out_of_memory(), input, output);
+    };
+    let Ok(lists) = Lists::read(rt.alloc(), &parsed.uses, operands) else {
+        return Ended::refused(errors, &Failure::out_of_memory(), input, output);
+    };
+    let options = Options::new(&parsed.uses, &lists, streams);
+    run_options(rt, system, &lists, &options, input, output, errors)
 }
 
 fn write_answer<R, W: Output, E: Output>(
@@ -136,24 +133,26 @@ fn write_whole<W: Output>(output: &mut W, text: &str) -> io::Result<()>
     output.flush()
 }
 
-// Searches what parsed arguments name.
+// Does what the options ask for.
 fn run_options<S: System, R: Source + Drop, W: Output + Drop, E: Output>(
     rt: &HostRuntime,
     system: &S,
-    words: &[String],
-    matches: &ArgMatches<'_>,
+    lists: &Lists<'_>,
     options: &Options<'_, '_>,
     mut input: R,
     output: W,
     errors: &mut E,
 ) -> Ended<R, W>
-    ensures { IsProgramRun ⟦<AllocError as Display>⟧.output W.step S.File.remaining R.remaining
+    requires unrestricted { lists.now.unrestricted.items
+        ≡ places_of OptionId.Unrestricted 1 options.now.uses.now }
+    requires files { lists.now.pattern_files.items ≡ values_of OptionId.File options.now.uses.now }
+    ensures { IsOptionsRun ⟦<AllocError as Display>⟧.output W.step E.step S.File.remaining R.remaining
         R.step (S.facts system.now) (S.finds system.now) (S.opens system.now)
-        (S.identifies system.now) options.now.streams input output errors.old result.status
-        result.input result.output }
+        (S.identifies system.now) options.now input output errors.old result.status result.input
+        result.output errors.new }
 {
-    if options.has(OptionId::Help) {
-        return write_answer(rt.alloc(), HELP, input, output, errors);
+    if let Some(text) = text_asked(options) {
+        return write_answer(rt.alloc(), text, input, output, errors);
     }
     if options.has(OptionId::TypeList) {
         return match type_list(rt.alloc(), &options.types) {
@@ -161,56 +160,70 @@ fn run_options<S: System, R: Source + Drop, W: Output + Drop, E: Output>(
             Err(failure) => Ended::refused(errors, &failure, input, output),
         };
     }
-    match patterns_of(rt, words, matches, options, &mut input) {
+    if let Some(fault) = fault_of(lists, options) {
+        return Ended::refused(errors, &arguments_failure(rt.alloc(), fault), input, output);
+    }
+    match patterns_of(rt, options, &mut input) {
         Ok(patterns) => search_all(rt, system, options, &patterns, input, output, errors),
         Err(failure) => Ended::refused(errors, &failure, input, output),
     }
 }
 
-// The patterns of parsed arguments. An error is that a word other than a path isn't UTF-8, that options
-// don't go together, that there is no pattern or that it can't be read, or that there is no memory.
+// The text that is asked for in place of a search, if one is.
+fn text_asked(options: &Options<'_, '_>) -> Option<&'static str>
+    ensures { option_map (λ text. text.now) result ≡ text_asked options.now }
+{
+    if options.has(OptionId::Help) {
+        Some(long_text())
+    } else if options.has(OptionId::ShortHelp) {
+        Some(short_text())
+    } else if options.has(OptionId::Version) {
+        Some(version_text())
+    } else {
+        None
+    }
+}
+
+// The patterns of a command line; none, where files are listed. An error is as in `read_patterns`.
 #[inline(never)]
 fn patterns_of<R: Source>(
     rt: &HostRuntime,
-    words: &[String],
-    matches: &ArgMatches<'_>,
     options: &Options<'_, '_>,
     input: &mut R,
-) -> Result<Vec<String>, Failure> {
-    if let Some(word) = misplaced(words, options.paths()) {
-        return Err(Failure::of_cause(rt.alloc(), word, &"the argument isn't UTF-8"));
-    }
-    if let Some(fault) = fault_of(matches, options) {
-        return Err(arguments_failure(rt.alloc(), fault));
-    }
+) -> Result<Vec<String>, Failure>
+    ensures patterns { IfOk result (λ patterns.
+        ArePatternsFor options.now (map string_bytes patterns.items)) }
+    ensures input { names_files options.now.uses.now ≡ false → input.new ≡ input.old }
+    ensures refused { IfErr result (λ failure. has_cause failure ≡ true
+        → may_lack_patterns options.now ≡ true) }
+{
     if options.has(OptionId::Files) {
         Ok(Vec::new(rt.alloc()))
     } else {
-        read_patterns(rt, matches, input)
+        read_patterns(rt, options, input)
     }
 }
 
 // What is wrong with options together that each are right, if something is.
-fn fault_of(matches: &ArgMatches<'_>, options: &Options<'_, '_>) -> Option<&'static str> {
+fn fault_of(lists: &Lists<'_>, options: &Options<'_, '_>) -> Option<&'static str>
+    requires unrestricted { lists.now.unrestricted.items
+        ≡ places_of OptionId.Unrestricted 1 options.now.uses.now }
+    requires files { lists.now.pattern_files.items ≡ values_of OptionId.File options.now.uses.now }
+    ensures { IfSome result (λ _. exclude_each_other options.now ≡ true) }
+{
+    let inputs = lists
+        .pattern_files
+        .iter()
+        .filter(|file| is_input(file))
+        .count();
     let searches_input = options.paths().iter().any(|path| is_input(path));
-    if repeats_unrestricted(matches) {
+    if lists.unrestricted.len() > 3 {
         Some("-u can be given three times at most")
-    } else if pattern_inputs(matches) > 1 {
+    } else if inputs > 1 {
         Some("patterns can be read from standard input once")
-    } else if pattern_inputs(matches) > 0 && searches_input && !options.has(OptionId::Files) {
+    } else if inputs > 0 && searches_input && !options.has(OptionId::Files) {
         Some("patterns are read from standard input, so that it can't be searched")
     } else {
         None
-    }
-}
-
-// A word that isn't UTF-8, if one of these isn't a path. What else a word is has to be a text.
-fn misplaced<'w>(words: &'w [String], paths: &[&str]) -> Option<&'w str> {
-    let mut escaped = words.iter().filter(|word| is_escaped(word.as_str()));
-    let first = escaped.next()?;
-    if escaped.count() < paths.iter().filter(|path| is_escaped(path)).count() {
-        None
-    } else {
-        Some(first.as_str())
     }
 }

@@ -1,4 +1,5 @@
 //! Options that ripgrep has and this program hasn't.
+use linegrep_options::OptionId;
 
 const NO_PROGRAM: &str = "no other program is started, so files are searched as they are";
 
@@ -13,14 +14,11 @@ pub fn reason(option: &str) -> Option<&'static str> {
     }
 }
 
-/// Why a value that ripgrep may take can't be given to the option with a name, if what is wrong is
-/// the value.
-pub fn refused_value(fault: &str, name: &str) -> Option<&'static str> {
-    match name {
-        _ if !fault.starts_with("invalid value") => None,
-        "engine" => Some(NO_ENGINE),
-        "hyperlink-format" => Some("there are no links"),
-        "unrestricted" => Some("it takes no value"),
+/// Why an option has none of the other values that ripgrep may take.
+pub fn refused_value(option: OptionId) -> Option<&'static str> {
+    match option {
+        OptionId::Engine => Some(NO_ENGINE),
+        OptionId::HyperlinkFormat => Some("there are no links"),
         _ => None,
     }
 }

@@ -5,12 +5,12 @@ ghost use Rattle.linegrep_cli.specs.OperandRuns.{path_of, says_errors, says_warn
 ghost use Rattle.linegrep_cli.specs.OperandRuns.{status_of};
 ghost use Rattle.linegrep_cli.specs.RunScopes.{IsScopeOf, MaySearch, messages_of, quiet_of};
 
-use crate::option_id::OptionId;
 use crate::options::Options;
 use crate::system::System;
 use crate::visit::Visit;
 use grep_printer::Searched;
 use linegrep_files::{FileId, Route};
+use linegrep_options::OptionId;
 
 /// What the options say of a run.
 #[derive(Clone, Copy)]

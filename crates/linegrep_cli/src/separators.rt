@@ -8,11 +8,11 @@ ghost use Rattle.linegrep_cli.specs.SeparatorOptions.{separator_text};
 ghost use Rattle.linegrep_files.specs.Failures.{has_cause};
 
 use crate::failures::Failure;
-use crate::option_id::OptionId;
 use crate::options::Options;
 use crate::usage::arguments_failure;
 use bstr::ByteVec;
 use grep_printer::Separators;
+use linegrep_options::OptionId;
 use std::alloc::{AllocError, Global};
 
 const MALFORMED: &str = "--path-separator: the separator is one byte of ASCII, or none";

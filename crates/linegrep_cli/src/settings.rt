@@ -19,7 +19,6 @@ use crate::colors::color_specs;
 use crate::counted_run::CountedRun;
 use crate::failures::Failure;
 use crate::json_run::JsonRun;
-use crate::option_id::OptionId;
 use crate::options::Options;
 use crate::printers::Printer;
 use grep_output::Output;
@@ -29,6 +28,7 @@ use grep_printer::{
 };
 use grep_replace::Template;
 use grep_searcher::{ConfigError, Encoding, Searcher, SearcherBuilder};
+use linegrep_options::OptionId;
 use std::alloc::Global;
 
 const ENCODINGS: &str = "-E takes auto, none, utf-8, utf-16, utf-16le or utf-16be";

@@ -1,13 +1,18 @@
 //! What is said of arguments that can't be used.
 use crate::failures::Failure;
-use crate::option_rows::letter_of;
 use crate::refused::{reason, refused_value};
+use crate::words::word;
 use linegrep_files::shown;
+use linegrep_options::{Fault, OptionId, Row, Value, is_same, names, rows};
 use std::alloc::{AllocError, Global};
+use strsim::jaro;
 
 const USAGE: &str = "\nUsage: linegrep [OPTIONS] PATTERN [PATH ...]";
 
 const PATTERN_TIP: &str = "\nA pattern that begins with a hyphen goes after -e.";
+
+// How alike a name is at least to one that is suggested, from 0 to 1.
+const ALIKE: f64 = 0.8;
 
 /// Why the arguments can't be used, and how to get help.
 pub fn arguments_failure(alloc: Global, text: &str) -> Failure {
@@ -19,101 +24,204 @@ pub fn no_pattern_failure(alloc: Global) -> Failure {
     Failure::of_text(arguments_text(alloc, "there is no pattern", USAGE))
 }
 
-/// What the parser of the command line says of some words: what is wrong with them, help or the
-/// version.
-pub fn usage_text(
+/// What is wrong with some words: which option it is about, and what may help.
+pub fn fault_failure(alloc: Global, words: &[Vec<u8>], fault: &Fault<'_>) -> Failure {
+    Failure::of_text(match fault {
+        Fault::UnknownName(name) => unknown_name_text(alloc, words, name),
+        Fault::UnknownLetter(rest) => unknown_letter_text(alloc, words, rest),
+        Fault::UnexpectedValue(row, value) => unexpected_text(alloc, row, value),
+        Fault::MissingValue(row) => missing_text(alloc, row),
+        Fault::NotText(row, value) => not_text(alloc, row, value),
+        Fault::WrongValue(row, value) => wrong_text(alloc, row, value),
+    })
+}
+
+// That no option has a name.
+fn unknown_name_text(alloc: Global, words: &[Vec<u8>], name: &[u8]) -> Result<String, AllocError> {
+    let may_be_pattern = may_be_pattern(words, b"--", name);
+    let name = word(alloc, name)?;
+    let option = format!(in alloc; "--{name}")?;
+    let similar = similar_name(alloc, name.as_str())?;
+    unknown_text(alloc, option.as_str(), similar, may_be_pattern)
+}
+
+// That no option has the letter that the rest of a word begins with.
+fn unknown_letter_text(
     alloc: Global,
-    words: &[String],
-    error: &clap::Error,
+    words: &[Vec<u8>],
+    rest: &[u8],
 ) -> Result<String, AllocError> {
-    let text = format!(in alloc; "{error}")?;
-    if !error.use_stderr() {
-        return Ok(text);
-    }
-    let cause = cause_of(text.as_str());
-    match unknown_option(cause) {
-        Some(option) => unknown_text(alloc, words, cause, option, text.as_str()),
-        None => value_text(alloc, cause),
-    }
-}
-
-// What the text of an error says is wrong: its start, up to an empty line.
-fn cause_of(text: &str) -> &str {
-    let cause = match text.split_once("\n\n") {
-        Some((cause, _)) => cause,
-        None => text.trim_end(),
-    };
-    cause.strip_prefix("error: ").unwrap_or(cause)
-}
-
-// The option that an error is about, if there is none of its name.
-fn unknown_option(cause: &str) -> Option<&str> {
-    cause
-        .strip_prefix("unexpected argument '")?
-        .strip_suffix("' found")
+    let may_be_pattern = may_be_pattern(words, b"-", rest);
+    let rest = word(alloc, rest)?;
+    let letter = rest.as_str().chars().next().unwrap_or('-');
+    let option = format!(in alloc; "-{letter}")?;
+    unknown_text(alloc, option.as_str(), None, may_be_pattern)
 }
 
 // Why an option can't be used: it is one of ripgrep that isn't here, or none at all. Then what may help
 // is an option with a similar name, or that a pattern was meant.
 fn unknown_text(
     alloc: Global,
-    words: &[String],
-    cause: &str,
     option: &str,
-    text: &str,
+    similar: Option<&str>,
+    may_be_pattern: bool,
 ) -> Result<String, AllocError> {
     if let Some(reason) = reason(option) {
         return format!(in alloc; "linegrep: {option}: {reason}\n");
     }
-    match similar_option(text) {
+    let cause = format!(in alloc; "unexpected argument '{option}' found")?;
+    match similar {
         Some(similar) => {
-            let tip = format!(in alloc; "\nA similar option is {similar}.")?;
-            arguments_text(alloc, cause, tip.as_str())
+            let tip = format!(in alloc; "\nA similar option is --{similar}.")?;
+            arguments_text(alloc, cause.as_str(), tip.as_str())
         }
-        None if may_be_pattern(words, option) => arguments_text(alloc, cause, PATTERN_TIP),
-        None => arguments_text(alloc, cause, ""),
+        None if may_be_pattern => arguments_text(alloc, cause.as_str(), PATTERN_TIP),
+        None => arguments_text(alloc, cause.as_str(), ""),
     }
 }
 
-// The option with a similar name that the text of an error suggests.
-fn similar_option(text: &str) -> Option<&str> {
-    let (_, rest) = text.split_once("a similar argument exists: '")?;
-    let (option, _) = rest.split_once('\'')?;
-    Some(option)
+// The name of the option that is most like another name, if one is alike.
+fn similar_name(alloc: Global, name: &str) -> Result<Option<&'static str>, AllocError> {
+    let mut similar = None;
+    let mut most = ALIKE;
+    for own in names() {
+        let alike = jaro(alloc, name, own)?;
+        if alike > most && !own.is_empty() {
+            most = alike;
+            similar = Some(*own);
+        }
+    }
+    Ok(similar)
 }
 
-// Whether a word may be meant as the pattern: it is before the first operand.
-fn may_be_pattern(words: &[String], option: &str) -> bool {
+// Whether a word that begins with hyphens and a name may be meant as the pattern: it is before the first
+// operand.
+fn may_be_pattern(words: &[Vec<u8>], hyphens: &[u8], name: &[u8]) -> bool {
     words
         .iter()
-        .take_while(|word| word.as_str().starts_with('-'))
-        .any(|word| word.as_str().starts_with(option))
+        .take_while(|word| word.as_slice().starts_with(b"-"))
+        .any(|word| match word.as_slice().strip_prefix(hyphens) {
+            Some(rest) => rest.starts_with(name),
+            None => false,
+        })
 }
 
-// What is wrong with the value of an option, which is named by its letter too; or why ripgrep has the
-// value, and this program hasn't.
-fn value_text(alloc: Global, cause: &str) -> Result<String, AllocError> {
-    let Some((fault, option)) = cause.split_once(" for '--") else {
-        return arguments_text(alloc, cause, "");
-    };
-    let name = name_in(option);
-    if let Some(reason) = refused_value(fault, name) {
+// That an option that has no value is given one.
+fn unexpected_text(alloc: Global, row: &Row, value: &[u8]) -> Result<String, AllocError> {
+    let option = option_text(alloc, row)?;
+    let value = word(alloc, value)?;
+    let cause = format!(in alloc;
+        "unexpected value '{value}' for '{option}' found; no more were expected"
+    )?;
+    arguments_text(alloc, cause.as_str(), "")
+}
+
+// That no word is left for the value of an option.
+fn missing_text(alloc: Global, row: &Row) -> Result<String, AllocError> {
+    let option = option_text(alloc, row)?;
+    let values = words_text(alloc, row.value)?;
+    let cause = format!(in alloc;
+        "a value is required for '{option}' but none was supplied{values}"
+    )?;
+    arguments_text(alloc, cause.as_str(), "")
+}
+
+// That the value of an option isn't UTF-8.
+fn not_text(alloc: Global, row: &Row, value: &[u8]) -> Result<String, AllocError> {
+    let option = option_text(alloc, row)?;
+    let value = word(alloc, value)?;
+    let cause = format!(in alloc; "the value '{value}' for '{option}' isn't UTF-8")?;
+    arguments_text(alloc, cause.as_str(), "")
+}
+
+// That an option hasn't a value, and what it has; or why it hasn't those of ripgrep.
+fn wrong_text(alloc: Global, row: &Row, value: &[u8]) -> Result<String, AllocError> {
+    if let Some(reason) = refused_value(row.id) {
+        let name = name_of(row.id);
         return format!(in alloc; "linegrep: --{name}: {reason}\n");
     }
-    match letter_of(name) {
-        Some(letter) => {
-            let cause = format!(in alloc; "{fault} for '-{letter}, --{option}")?;
-            arguments_text(alloc, cause.as_str(), "")
-        }
-        None => arguments_text(alloc, cause, ""),
+    let option = option_text(alloc, row)?;
+    let value = word(alloc, value)?;
+    let values = values_text(alloc, row.value)?;
+    let cause = format!(in alloc; "invalid value '{value}' for '{option}'{values}")?;
+    arguments_text(alloc, cause.as_str(), "")
+}
+
+// What a value has to be, if it may not be any text.
+fn values_text(alloc: Global, value: Value) -> Result<String, AllocError> {
+    match value {
+        Value::Number => String::from_str(alloc, ": a number below 2 ^ 64 is expected"),
+        value => words_text(alloc, value),
     }
 }
 
-// The name that a text begins with.
-fn name_in(text: &str) -> &str {
-    match text.find(|letter: char| matches!(letter, ' ' | '\'' | '[')) {
-        Some(end) => text.get(..end).unwrap_or(text),
-        None => text,
+// The words that a value may be, if it may not be any text.
+fn words_text(alloc: Global, value: Value) -> Result<String, AllocError> {
+    let mut text = String::new(alloc);
+    for word in value.words() {
+        text.push_str(if text.is_empty() {
+            "\n  [possible values: "
+        } else {
+            ", "
+        })?;
+        text.push_str(word)?;
+    }
+    if !text.is_empty() {
+        text.push_str("]")?;
+    }
+    Ok(text)
+}
+
+// An option by its letter and its name, and what help calls its value.
+fn option_text(alloc: Global, row: &Row) -> Result<String, AllocError> {
+    let mut text = String::new(alloc);
+    if let Some(letter) = letter_of(row.id) {
+        text.push('-')?;
+        text.push(char::from(letter))?;
+        text.push_str(", ")?;
+    }
+    text.push_str("--")?;
+    text.push_str(name_of(row.id))?;
+    let value = value_name(row.value);
+    if !value.is_empty() {
+        text.push_str(" <")?;
+        text.push_str(value)?;
+        text.push_str(">")?;
+    }
+    Ok(text)
+}
+
+// The letter of an option, if it has one.
+fn letter_of(option: OptionId) -> Option<u8> {
+    rows().iter().find(|row| is_same(row.id, option))?.letter
+}
+
+// The first name of an option.
+fn name_of(option: OptionId) -> &'static str {
+    match rows().iter().position(|row| is_same(row.id, option)) {
+        Some(at) => names().get(at).copied().unwrap_or(""),
+        None => "",
+    }
+}
+
+// What help calls a value.
+fn value_name(value: Value) -> &'static str {
+    match value {
+        Value::Nothing => "",
+        Value::Number | Value::Size => "NUM",
+        Value::When => "WHEN",
+        Value::Order => "ORDER",
+        Value::Engine => "ENGINE",
+        Value::Format => "FORMAT",
+        Value::Pattern => "PATTERN",
+        Value::File => "FILE",
+        Value::Glob => "GLOB",
+        Value::Type => "TYPE",
+        Value::Definition => "DEFINITION",
+        Value::Separator => "SEPARATOR",
+        Value::Template => "TEMPLATE",
+        Value::Change => "CHANGE",
+        Value::Label => "LABEL",
     }
 }
 

@@ -1,24 +1,32 @@
 //! Arguments as texts.
-ghost use Rattle.std.specs.Prelude.{◌≡◌};
+ghost use Rattle.std.specs.Prelude.{◌≡◌, IfOk, map, string_bytes, true};
+ghost use Rattle.std.specs.Str.{is_utf8};
 ghost use Rattle.linegrep_cli.specs.OperandRuns.{is_escaped, is_input};
+ghost use Rattle.linegrep_cli.specs.OperandTexts.{AreTexts};
 
 use linegrep_files::escape;
 use std::alloc::{AllocError, Global};
 use std::str;
 
-/// The words of arguments, each as `escape` writes it if it isn't UTF-8.
-pub fn words(alloc: Global, arguments: &[Vec<u8>]) -> Result<Vec<String>, AllocError> {
-    let mut words = Vec::new(alloc);
-    for argument in arguments {
-        words.push(word(alloc, argument.as_slice())?)?;
+/// The texts of operands, each as `escape` writes it if it isn't UTF-8.
+pub fn texts(alloc: Global, operands: &[&[u8]]) -> Result<Vec<String>, AllocError>
+    ensures { IfOk result (λ texts.
+        AreTexts (map (λ operand. operand.now) operands.now) (map string_bytes texts.items)) }
+{
+    let mut texts = Vec::new(alloc);
+    for operand in operands {
+        texts.push(word(alloc, operand)?)?;
     }
-    Ok(words)
+    Ok(texts)
 }
 
-fn word(alloc: Global, argument: &[u8]) -> Result<String, AllocError> {
-    match str::from_utf8(argument) {
+/// Bytes as a text, as `escape` writes them if they aren't UTF-8.
+pub fn word(alloc: Global, bytes: &[u8]) -> Result<String, AllocError>
+    ensures { IfOk result (λ text. is_utf8 bytes.now ≡ true → string_bytes text ≡ bytes.now) }
+{
+    match str::from_utf8(bytes) {
         Ok(text) => String::from_str(alloc, text),
-        Err(_) => escape(alloc, argument),
+        Err(_) => escape(alloc, bytes),
     }
 }
 

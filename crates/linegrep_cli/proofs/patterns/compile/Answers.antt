@@ -7,7 +7,7 @@ use Rattle.grep_regex.specs.declared.error.Error.TheVariants.{Memory}
 use Rattle.grep_regex.specs.declared.options.Options.{Options as PatternSettings}
 use Rattle.grep_regex.specs.declared.regex.Regex.{Regex}
 use Rattle.linegrep_cli.specs.OptionUses.{has}
-use Rattle.linegrep_cli.specs.declared.option_id.OptionId.TheVariants.{Files}
+use Rattle.linegrep_options.specs.declared.option_id.OptionId.TheVariants.{Files}
 use Rattle.linegrep_files.specs.Failures.{has_cause}
 use Rattle.linegrep_files.specs.declared.failures.Failure.{Failure}
 use Rattle.linegrep_cli.proofs.patterns.compile.Goals as goal

@@ -1,16 +1,29 @@
-use Rattle.std.proofs.Common.{inl, inr}
-use Rattle.linegrep_cli.specs.ProgramRuns.{of_answer, of_refusal}
+use Rattle.linegrep_options.specs.ParsedWords.{refusal}
+use Rattle.linegrep_cli.specs.ProgramRuns.{no_memory, of_fault, of_parsed}
 use Rattle.linegrep_cli.proofs.program.run.Goals as goal
 
-pub returns-in_default : goal.returns-in_default
-returns-in_default g c = of_refusal c.args.input (record {
-  status_is = c.refused.ensures.status;
-  unread = c.refused.ensures.input;
-  unwritten = c.refused.ensures.output;
-})
+pub returns-in-Ok : goal.returns-in-Ok
+returns-in-Ok g c = of_parsed c.in-Ok.parsed c.in-Ok.ensures.parsed c.run_parsed.ensures
 
-pub returns : goal.returns
-returns g c = elim c.answer.ensures [
-  | inl refused ↦ of_refusal c.args.input refused
-  | inr answered ↦ of_answer answered.0 answered.1 answered.2
-]
+pub returns-in-Err-Words : goal.returns-in-Err-Words
+returns-in-Err-Words g c = of_fault (refusal c.in-Err-Words.fault) c.fault_failure-failure.result
+    (rw c.in-Err-Words.field-0-is at c.in-Err-Words.ensures.refused)
+    (record {
+      refused = record {
+        status_is = c.refused.ensures.status;
+        unread = c.refused.ensures.input;
+        unwritten = c.refused.ensures.output;
+      };
+      said = c.refused.ensures.said;
+    })
+
+pub returns-in-Err-Memory : goal.returns-in-Err-Memory
+returns-in-Err-Memory g c = no_memory c.out_of_memory.result c.out_of_memory.ensures
+    (record {
+      refused = record {
+        status_is = c.refused-in-Err-Memory.ensures.status;
+        unread = c.refused-in-Err-Memory.ensures.input;
+        unwritten = c.refused-in-Err-Memory.ensures.output;
+      };
+      said = c.refused-in-Err-Memory.ensures.said;
+    })

@@ -1,29 +1,81 @@
-use Rattle.std.proofs.Common.{inl, inr, refl}
-use Rattle.linegrep_cli.specs.ProgramRuns.{of_answer, of_refusal, of_run}
+use Rattle.std.proofs.Common.{◌∙◌, ℕ, List, ap, map, refl, string_bytes, subst, sym}
+use Rattle.std.specs.Borrow.{Bor}
+use Rattle.std.specs.Global.{Global}
+use Rattle.std.specs.Option.{option_map}
+use Rattle.std.specs.Prelude.{String}
+use Rattle.linegrep_options.specs.declared.option_id.OptionId.TheVariants.{TypeList}
+use Rattle.linegrep_cli.proofs.RunLemmas.{first-cause, last-cause, second-cause}
+use Rattle.linegrep_cli.specs.OptionUses.{has}
+use Rattle.linegrep_cli.specs.ProgramRuns.{ArePatternsFor, exclude_each_other, may_lack_patterns}
+use Rattle.linegrep_cli.specs.ProgramRuns.{of_refusal, of_search, of_text, of_types}
 use Rattle.linegrep_cli.proofs.program.run_options.Goals as goal
 
-pub returns-then-has : goal.returns-then-has
-returns-then-has g c = of_answer _ c.write_answer.ensures.input c.write_answer.ensures.answered
+pub returns-in-Some : goal.returns-in-Some
+returns-in-Some g c = of_text c.in-Some.text.now
+    (sym c.text_asked.ensures ∙ ap (option_map (λ (text : Bor (List ℕ)). text.now)) c.in-Some.is)
+    c.write_answer.ensures.input c.write_answer.ensures.answered
 
 pub returns-in-Ok : goal.returns-in-Ok
-returns-in-Ok g c = of_answer _ c.write_answer-in-Ok.ensures.input c.write_answer-in-Ok.ensures.answered
+returns-in-Ok g c = of_types c.as_str.result.now
+    (sym c.text_asked.ensures ∙ ap (option_map (λ (text : Bor (List ℕ)). text.now)) c.in_default.is)
+    (sym c.has.ensures ∙ c.if-has.true)
+    c.write_answer-in-Ok.ensures.input c.write_answer-in-Ok.ensures.answered
 
 pub returns-in-Err : goal.returns-in-Err
-returns-in-Err g c = of_refusal c.args.input (record {
-  status_is = c.refused.ensures.status;
-  unread = c.refused.ensures.input;
-  unwritten = c.refused.ensures.output;
-})
+returns-in-Err g c =
+    let options = c.args.options.now in
+    of_refusal c.args.input c.in-Err.failure
+    (sym c.text_asked.ensures ∙ ap (option_map (λ (text : Bor (List ℕ)). text.now)) c.in_default.is)
+    (λ none. refl)
+    (λ caused. first-cause (has options TypeList) (exclude_each_other options) (may_lack_patterns options)
+    (sym c.has.ensures ∙ c.if-has.true))
+    (record {
+      refused = record {
+        status_is = c.refused.ensures.status;
+        unread = c.refused.ensures.input;
+        unwritten = c.refused.ensures.output;
+      };
+      said = c.refused.ensures.said;
+    })
+
+pub returns-in-Some-fault_of : goal.returns-in-Some-fault_of
+returns-in-Some-fault_of g c =
+    let options = c.args.options.now in
+    of_refusal c.args.input c.arguments_failure.result
+    (sym c.text_asked.ensures ∙ ap (option_map (λ (text : Bor (List ℕ)). text.now)) c.in_default.is)
+    (λ none. refl)
+    (λ caused. second-cause (has options TypeList) (exclude_each_other options) (may_lack_patterns options)
+    c.in-Some-fault_of.ensures)
+    (record {
+      refused = record {
+        status_is = c.refused-in-Some-fault_of.ensures.status;
+        unread = c.refused-in-Some-fault_of.ensures.input;
+        unwritten = c.refused-in-Some-fault_of.ensures.output;
+      };
+      said = c.refused-in-Some-fault_of.ensures.said;
+    })
 
 pub returns-in-Ok-patterns_of : goal.returns-in-Ok-patterns_of
-returns-in-Ok-patterns_of g c = elim c.search_all.ensures [
-  | inl refused ↦ of_refusal c.patterns_of.new.input refused.refused
-  | inr run ↦ of_run c.args.options.now _ c.patterns_of.new.input refl run
-]
+returns-in-Ok-patterns_of g c = of_search c.deref.result.now c.patterns_of.new.input
+    (sym c.text_asked.ensures ∙ ap (option_map (λ (text : Bor (List ℕ)). text.now)) c.in_default.is)
+    (sym c.has.ensures ∙ c.if-has.false)
+    (subst (λ (patterns : List (String Global)). ArePatternsFor c.args.options.now (map string_bytes patterns))
+    (sym c.deref.ensures.value) c.in-Ok-patterns_of.ensures.patterns)
+    c.patterns_of.ensures.input c.search_all.ensures
 
 pub returns-in-Err-patterns_of : goal.returns-in-Err-patterns_of
-returns-in-Err-patterns_of g c = of_refusal c.patterns_of.new.input (record {
-  status_is = c.refused-in-Err-patterns_of.ensures.status;
-  unread = c.refused-in-Err-patterns_of.ensures.input;
-  unwritten = c.refused-in-Err-patterns_of.ensures.output;
-})
+returns-in-Err-patterns_of g c =
+    let options = c.args.options.now in
+    of_refusal c.patterns_of.new.input c.in-Err-patterns_of.failure
+    (sym c.text_asked.ensures ∙ ap (option_map (λ (text : Bor (List ℕ)). text.now)) c.in_default.is)
+    c.patterns_of.ensures.input
+    (λ caused. last-cause (has options TypeList) (exclude_each_other options) (may_lack_patterns options)
+    (c.in-Err-patterns_of.ensures.refused caused))
+    (record {
+      refused = record {
+        status_is = c.refused-in-Err-patterns_of.ensures.status;
+        unread = c.refused-in-Err-patterns_of.ensures.input;
+        unwritten = c.refused-in-Err-patterns_of.ensures.output;
+      };
+      said = c.refused-in-Err-patterns_of.ensures.said;
+    })

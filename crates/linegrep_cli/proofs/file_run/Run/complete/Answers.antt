@@ -1,6 +1,5 @@
 use Rattle.std.proofs.Common.{◌≡◌, ◌∙◌, None, Option, Some, ap, subst, sym}
 use Rattle.std.specs.Prelude.{MatchOption}
-use Rattle.std.specs.declared.io.Error.{Error}
 use Rattle.linegrep_cli.specs.declared.visit.Visit.{Visit}
 use Rattle.linegrep_cli.proofs.file_run.Run.complete.Goals as goal
 

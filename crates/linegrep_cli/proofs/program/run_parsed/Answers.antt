@@ -1,0 +1,53 @@
+use Rattle.std.proofs.Common.{◌∙◌, ℕ, List, ap, map, string_bytes, subst, sym}
+use Rattle.std.specs.Borrow.{Bor}
+use Rattle.std.specs.Global.{Global}
+use Rattle.std.specs.Prelude.{String}
+use Rattle.linegrep_options.specs.declared.uses.Use.{Use}
+use Rattle.linegrep_cli.proofs.PatternLemmas.{texts-same}
+use Rattle.linegrep_cli.specs.OptionValues.{AreLists}
+use Rattle.linegrep_cli.specs.ProgramRuns.{of_options, out_of_memory}
+use Rattle.linegrep_cli.proofs.program.run_parsed.Goals as goal
+
+pub returns-in_default : goal.returns-in_default
+returns-in_default g c = out_of_memory c.out_of_memory.result c.out_of_memory.ensures
+    (record {
+      refused = record {
+        status_is = c.refused.ensures.status;
+        unread = c.refused.ensures.input;
+        unwritten = c.refused.ensures.output;
+      };
+      said = c.refused.ensures.said;
+    })
+
+pub returns-in_default-texts_of : goal.returns-in_default-texts_of
+returns-in_default-texts_of g c = out_of_memory c.out_of_memory-in_default-texts_of.result c.out_of_memory-in_default-texts_of.ensures
+    (record {
+      refused = record {
+        status_is = c.refused-in_default-texts_of.ensures.status;
+        unread = c.refused-in_default-texts_of.ensures.input;
+        unwritten = c.refused-in_default-texts_of.ensures.output;
+      };
+      said = c.refused-in_default-texts_of.ensures.said;
+    })
+
+pub returns-in_default-read : goal.returns-in_default-read
+returns-in_default-read g c = out_of_memory c.out_of_memory-in_default-read.result c.out_of_memory-in_default-read.ensures
+    (record {
+      refused = record {
+        status_is = c.refused-in_default-read.ensures.status;
+        unread = c.refused-in_default-read.ensures.input;
+        unwritten = c.refused-in_default-read.ensures.output;
+      };
+      said = c.refused-in_default-read.ensures.said;
+    })
+
+pub returns : goal.returns
+returns g c =
+    let operands = c.in-Ok-texts_of.operands.items in
+    of_options c.new-options.result c.deref-4.result operands c.in-Ok-read.lists c.deref-4.ensures.value
+    (texts-same _ _ _ _ (ap (map (λ (operand : Bor (List ℕ)). operand.now)) c.deref.ensures.value)
+    (ap (map (λ (text : String Global). string_bytes text)) (sym c.deref-2.ensures.value)
+    ∙ sym c.in-Ok-texts_of.ensures) c.in-Ok.ensures)
+    (subst (λ (uses : List Use). AreLists uses operands c.in-Ok-read.lists)
+    (c.deref-3.ensures.value ∙ sym c.deref-4.ensures.value) c.in-Ok-read.ensures)
+    c.new-options.ensures c.run_options.ensures
