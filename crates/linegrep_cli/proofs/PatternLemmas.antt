@@ -46,14 +46,6 @@ none-at p (x ∷ xs) (suc i) d below none = none-at p xs i d (omega arith) (late
     later true is = absurd (cc)
     later false is = is
 
--- a test that an element passes
-pub some-at : {X : Type 0} (p : X → Bool) (xs : List X) (i : ℕ) (d : X) → i < length xs
-    → p (get_or xs i d) ≡ true → list_any p xs ≡ true
-some-at p xs i d below is = elim (cases_Bool (list_any p xs)) [
-  | inl any ↦ any
-  | inr none ↦ absurd (let isnt = none-at p xs i d below none in cc)
-]
-
 -- the uses up to one more, as a loop goes over them
 pub named-more : (uses : List Use) (i : ℕ) (d : Use) (patterns own new : List (List ℕ)) → i < length uses
     → AreNamed (take i uses) patterns → IsNamed (get_or uses i d) own → new ≡ patterns ++ own
