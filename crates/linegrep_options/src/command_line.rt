@@ -374,7 +374,7 @@ fn has_word(words: &[&str], text: &str) -> bool
     words.iter().any(|word| *word == text)
 }
 
-/// The number that a text writes, if it writes one below 2 ^ 64 in decimal digits.
+/// The number that a text writes, if it writes one below 2 ^ 64: decimal digits, maybe after a plus.
 pub fn number(text: &str) -> Option<u64>
     ensures { result ≡ number_of text.now }
 {

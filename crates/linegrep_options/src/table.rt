@@ -22,7 +22,7 @@ pub struct Row {
 pub enum Value {
     /// Nothing: the option is a flag.
     Nothing,
-    /// A number below 2 ^ 64, in decimal digits.
+    /// A number below 2 ^ 64: decimal digits, maybe after a plus.
     Number,
     /// `auto`, `always`, `never` or `ansi`.
     When,
