@@ -1,4 +1,4 @@
--- The text of calls of which lines alone are written, each as it is after its number.
+-- The text of calls for which only bare lines are written: each line as it is, after its number.
 use Rattle.std.specs.Prelude.{ℕ, Bool, false, true, not, ◌&&◌, List, [], ◌∷◌, ◌++◌}
 use Rattle.std.specs.Option.{is_none}
 use Rattle.grep_searcher.specs.BinaryDetections.{convert_byte_of, quit_byte_of}
@@ -16,15 +16,16 @@ is_nothing Nothing = true
 is_nothing Blank = false
 is_nothing Groups = false
 
--- whether nothing is written but lines as they are, each after its number alone, and what is
--- between their groups: no path, no parts, nothing between searches, and nothing of binary bytes
+-- only bare lines are written: each line as it is, after its number alone, and what comes between
+-- groups of lines. So there is no path and no part, nothing between searches, and no message about
+-- binary bytes
 abbrev pub is_bare : Config → Scene → Bool
 is_bare config scene =
     is_plain config scene.path && is_none scene.path && not config.only_matching
     && is_nothing config.separator && is_none (convert_byte_of scene.settings.binary_detection)
     && is_none (quit_byte_of scene.settings.binary_detection)
 
--- the text of a call then
+-- the text of a call for which only bare lines are written
 abbrev pub bare_text : ℕ → Call → List ℕ
 bare_text terminator (matches number offset bytes) =
     plain_lines terminator 58 number (lines terminator bytes)
@@ -32,7 +33,7 @@ bare_text terminator (context kind number offset line) = plain_line terminator 4
 bare_text terminator breaks = 45 ∷ 45 ∷ terminator ∷ []
 bare_text terminator call = []
 
--- the texts of some calls then, in order
+-- the texts of some such calls, in order
 abbrev pub bare_texts : ℕ → List Planned → List ℕ
 bare_texts terminator [] = []
 bare_texts terminator (planned ∷ later) =

@@ -19,12 +19,12 @@ has_match settings (matches number offset bytes) = not settings.invert_match
 has_match settings (context kind number offset bytes) = settings.invert_match
 has_match settings call = false
 
--- the bytes of a report with those around it, which are shown of a match alone
+-- the bytes of a report with those around it. Only a match is shown with bytes around it
 abbrev pub shown_bytes : Surroundings → Call → List ℕ
 shown_bytes around (matches number offset bytes) = around.before ++ (bytes ++ around.after)
 shown_bytes around call = reported_bytes call
 
--- where the bytes of a report start there
+-- where the bytes of a report start among these
 abbrev pub shown_start : Surroundings → Call → ℕ
 shown_start around (matches number offset bytes) = length around.before
 shown_start around call = 0
@@ -38,18 +38,18 @@ module _ (settings : Settings) (meaning : Meaning) (around : Surroundings) (call
       then shown_bytes around call
       else strip settings.line_terminator (reported_bytes call)
 
-  -- where the bytes of the report start there
+  -- where the bytes of the report start among these
   abbrev pub asked_start : ℕ
   asked_start = if is_across settings meaning then shown_start around call else 0
 
-  -- the parts, counted from the start of the report: the successive matches from there on that lie
-  -- in the report
+  -- the parts of the report, counted from its start: the successive matches from its start on that
+  -- lie in it
   abbrev pub parts_of_call : (List ℕ → ℕ → Option (ℕ × ℕ)) → List (ℕ × ℕ)
   parts_of_call first_at =
       parts_in (first_from (first_at asked_bytes) asked_start) (length asked_bytes - asked_start)
       (length (reported_bytes call))
 
--- those around a match, which is a range of a buffer
+-- the bytes around a match, which is a range of a buffer
 abbrev pub around_match : MatchReport → Surroundings
 around_match m = record {
   before = take m.start m.buffer;
@@ -62,7 +62,7 @@ Anything around = Unit {0}
 
 -- Which bytes may have been shown around a report.
 module _ (Shown : Surroundings → Type 0) where
-  -- a call has these parts, with such bytes around its report
+  -- these are the parts of a call's report, for some bytes that may have been shown around it
   abbrev pub HasParts : (List ℕ → ℕ → Option (ℕ × ℕ)) → Settings → Meaning → Bool → PrintedCall
       → Type 0
   HasParts first_at settings meaning is_asked printed =
@@ -70,7 +70,8 @@ module _ (Shown : Surroundings → Type 0) where
       × (printed.parts ≡ (if is_asked
       then parts_of_call settings meaning printed.around printed.call first_at else []))
 
-  -- an error is the matcher's, as a message, for what it was asked to find the parts of a call in
+  -- an error is the matcher's, as a message, for the bytes in which it was asked to find the parts
+  -- of a call
   abbrev pub FailsAtParts : {E : Type 0} → (E → Option (List ℕ)) → MatcherFacts E → Settings → Call
       → SearchError Global → Type 0
   FailsAtParts output facts settings call e =

@@ -67,24 +67,25 @@ is_matched parts end at =
 abbrev pub reaches : ℕ → ℕ × ℕ → Bool
 reaches start part = nat_le start part.0 || nat_lt start part.1
 
--- what is written between two bytes, by whether the one before is colored, and the one after: a
--- color where it begins, and another escape where it ends
+-- what is written between two bytes, by whether the first one is colored and whether the second one
+-- is: the color where it begins, and another escape where it ends
 abbrev pub switch_text : List ℕ → List ℕ → Bool → Bool → List ℕ
 switch_text color back false true = color
 switch_text color back true false = back
 switch_text color back true true = []
 switch_text color back false false = []
 
--- some bytes, the first of them at a position, of which those that a test chooses are colored; by
--- whether the byte before them is
+-- some bytes from a position on, of which those are colored that a test chooses. What comes first
+-- depends on whether the byte before them is colored
 abbrev pub painted_from : List ℕ → List ℕ → (ℕ → Bool) → Bool → ℕ → List ℕ → List ℕ
 painted_from color back is_chosen before at [] = switch_text color back before false
 painted_from color back is_chosen before at (byte ∷ later) =
     switch_text color back before (is_chosen at)
     ++ byte ∷ painted_from color back is_chosen (is_chosen at) (at + 1) later
 
--- some bytes, of which those that a test chooses are colored; if there is a highlight, so many of
--- them have it before them, again after what is colored, and a reset at their end
+-- some bytes, of which those are colored that a test chooses. If there is a highlight, it is for
+-- the first bytes, as many as are given: it comes before them, and again after each color in them,
+-- and a reset ends it
 abbrev pub painted_in : Option (List ℕ) → List ℕ → (ℕ → Bool) → ℕ → ℕ → List ℕ → List ℕ
 painted_in None color is_chosen start size bytes =
     painted_from color reset is_chosen false start bytes
@@ -92,8 +93,8 @@ painted_in (Some highlight) color is_chosen start size bytes =
     highlight ++ (painted_from color highlight is_chosen false start (take size bytes)
     ++ (reset ++ drop size bytes))
 
--- some bytes of a report from a position on, with those in some parts colored that come before an
--- end, if there is a color, and highlighted up to the end, if there is a highlight
+-- some bytes of a report from a position on. If there is a color, the bytes before an end that are
+-- in a part have it, and if there is a highlight too, all bytes before that end have it
 abbrev pub painted : Option (List ℕ) → Option (List ℕ) → List (ℕ × ℕ) → ℕ → ℕ → List ℕ → List ℕ
 painted None highlight parts end start bytes = bytes
 painted (Some color) highlight parts end start bytes =

@@ -13,18 +13,18 @@ use Rattle.grep_printer.specs.StatsSums.{capped, capped_sum, no_stats}
 use Rattle.grep_printer.specs.declared.counted.CountedFormat.{CountedFormat}
 use Rattle.grep_printer.specs.declared.stats.Stats.{Stats}
 
--- counts, with so many bytes more that are written
+-- counts, after some more bytes were written
 abbrev pub with_written : Stats → ℕ → Stats
 with_written stats size = record stats { bytes_printed = capped_sum stats.bytes_printed size }
 
--- with a match of so many lines, in which the matcher matches so often
+-- counts, after a match, by how many lines it has, and how often the matcher matches in it
 abbrev pub with_found : Stats → ℕ → ℕ → Stats
 with_found stats line_count match_count = record stats {
   matched_lines = capped_sum stats.matched_lines line_count;
   matches = capped_sum stats.matches match_count;
 }
 
--- with the end of the search, which has been through so many bytes
+-- counts, after the end of a search, by how many bytes it has been through
 abbrev pub with_finish : Stats → ℕ → Stats
 with_finish stats count = record stats {
   searches = 1;
@@ -32,7 +32,7 @@ with_finish stats count = record stats {
   bytes_searched = count;
 }
 
--- what is counted after a call of so many parts, by the byte at which lines end
+-- counts, after a call, by the byte at which lines end and by how many parts its report has
 abbrev pub counted_after : ℕ → Stats → Call → ℕ → Stats
 counted_after terminator stats begins parts = stats
 counted_after terminator stats (matches number offset bytes) parts =
@@ -42,12 +42,12 @@ counted_after terminator stats breaks parts = stats
 counted_after terminator stats (binary_data offset) parts = stats
 counted_after terminator stats (finishes count binary) parts = with_finish stats count
 
--- with its text, which has so many bytes
+-- counts, after a call and its text, by how many bytes that has
 abbrev pub counted_with : ℕ → Stats → Call → ℕ → ℕ → Stats
 counted_with terminator stats call parts size =
     with_written (counted_after terminator stats call parts) size
 
--- what a format writes, and counts if it is asked to: the parts of matches are asked for then
+-- the rules of a format that may count too. If it counts, it asks for the parts of matches
 abbrev pub counted_rules : {F : Type 0} → Rules F → Rules (CountedFormat F)
 counted_rules rules = record {
   begun = λ format follows. record {
@@ -70,8 +70,8 @@ counted_rules rules = record {
   is_bare = λ format scene. not format.is_counting && rules.is_bare format.format scene;
 }
 
--- what a search comes to, by its matches, the text that was written, and how many bytes it has been
--- through
+-- the counts of a whole search, by its matches, the text that was written, and how many bytes it
+-- has been through
 abbrev pub search_stats : ℕ → List PrintedCall → List ℕ → ℕ → Stats
 search_stats terminator found text count = record {
   elapsed = 0;
@@ -83,7 +83,7 @@ search_stats terminator found text count = record {
   matches = capped (sum_by part_count_of found);
 }
 
--- what a format that counts has counted in a search is that
+-- a format that counts has these counts at the end of a search
 abbrev pub StatsCount : {F : Type 0} → Rules F → Type 0
 StatsCount {F} rules =
     (format : F) (scene : Scene) (calls : List PrintedCall) (last : PrintedCall) (count : ℕ)
@@ -97,16 +97,16 @@ StatsCount {F} rules =
     (record { format = format; is_counting = true; stats = no_stats }) (calls
     ++ last ∷ [])).text count
 
--- a count in a line of its own, before the words that say of what
+-- a line with a count, and the words that say what is counted
 abbrev pub count_text : ℕ → List ℕ → List ℕ
 count_text count words = (decimal count ++ 32 ∷ []) ++ words
 
--- seconds, of a number of nanoseconds, to the next microsecond
+-- nanoseconds as seconds, to the next microsecond
 abbrev pub seconds_of : ℕ → List ℕ
 seconds_of nanos = decimal ((nanos + 500) / 1000 / 1000000)
     ++ (codes "." ++ six_digits ((nanos + 500) / 1000 % 1000000))
 
--- a time in nanoseconds in a line of its own, before the words that say of what
+-- a line with a time, which is given in nanoseconds, and the words that say what took it
 abbrev pub time_text : ℕ → List ℕ → List ℕ
 time_text nanos words = seconds_of nanos ++ words
 
@@ -122,7 +122,7 @@ searched_text stats = count_text stats.searches (codes "files searched\n")
     ++ (count_text stats.bytes_printed (codes "bytes printed\n")
     ++ count_text stats.bytes_searched (codes "bytes searched\n"))
 
--- the text of counts, after an empty line, with how long it took in all in nanoseconds
+-- the text of counts, after an empty line, and how long all took, which is given in nanoseconds
 abbrev pub stats_text : Stats → ℕ → List ℕ
 stats_text stats elapsed = codes "\n" ++ (found_text stats ++ (searched_text stats
     ++ (time_text stats.elapsed (codes " seconds spent searching\n")

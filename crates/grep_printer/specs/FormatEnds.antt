@@ -13,7 +13,7 @@ use Rattle.grep_printer.specs.StandardTexts.{standard_rules}
 use Rattle.grep_printer.specs.SummaryTexts.{summary_rules}
 use Rattle.grep_printer.specs.VimgrepTexts.{vimgrep_rules}
 
--- the calls of a search end so
+-- after `finish` the search goes on, as a format says
 abbrev Ends : {F : Type 0} → Rules F → Type 0
 Ends {F} rules =
     (format : F) (scene : Scene) (printed : PrintedCall) (count : ℕ) (binary : Option ℕ)
@@ -31,7 +31,7 @@ json-ends text_at format scene printed count binary is = refl
 pub vimgrep-ends : Ends vimgrep_rules
 vimgrep-ends format = standard-ends format.lines
 
--- the end of a search stays where parts are replaced
+-- `finish` stays the same call where parts are replaced
 end-stays : (template : Template) (groups_at : List ℕ → ℕ → List (Option (ℕ × ℕ))) (settings : Settings)
     (meaning : Meaning) (printed : PrintedCall) (count : ℕ) (binary : Option ℕ) → printed.call ≡ finishes count binary
     → (replaced_call template groups_at settings meaning printed).call ≡ finishes count binary

@@ -16,7 +16,7 @@ pub record Surroundings : Type 0 where
   pub before : List ℕ
   pub after : List ℕ
 
--- none
+-- no bytes around a report
 abbrev pub nothing_around : Surroundings
 nothing_around = record { before = []; after = [] }
 
@@ -27,7 +27,7 @@ pub record PrintedCall : Type 0 where
   pub around : Surroundings
   pub parts : List (ℕ × ℕ)
 
--- The rules of a format F, which is its settings and what it has kept of the calls before.
+-- The rules of a format. A value of F has its settings, and what it keeps of the calls so far.
 pub record Rules (F : Type 0) : Type 0 where
   -- the format before the first call of a search, by whether the printer has written anything
   pub begun : F → Bool → F
@@ -35,14 +35,14 @@ pub record Rules (F : Type 0) : Type 0 where
   pub asks : F → Call → Bool
   -- the text of a call
   pub text : F → Scene → PrintedCall → List ℕ
-  -- the format after it
+  -- the format after a call
   pub next : F → Scene → PrintedCall → F
-  -- whether the search goes on after it
+  -- whether the search goes on after a call
   pub goes_on : F → Scene → PrintedCall → Bool
   -- whether the calls so far are what a search looks for
   pub has_match : F → Bool
-  -- whether nothing is written but lines as they are, each after its number alone, and what is
-  -- between their groups
+  -- whether only bare lines are written: each line as it is, after its number alone, and what comes
+  -- between groups of lines
   pub is_bare : F → Scene → Bool
 
 -- whether there is any text
@@ -55,14 +55,14 @@ pub record Printed (F : Type 0) : Type 0 where
   pub text : List ℕ
 
 module _ {F : Type 0} (rules : Rules F) (scene : Scene) where
-  -- with one more call
+  -- what is made of some calls and one more
   abbrev pub printed_with : Printed F → PrintedCall → Printed F
   printed_with printed call = record {
     format = rules.next printed.format scene call;
     text = printed.text ++ rules.text printed.format scene call;
   }
 
-  -- with some calls, in order
+  -- what is made of some calls, in order
   abbrev pub printed_by : F → List PrintedCall → Printed F
   printed_by format calls = fold printed_with (record { format = format; text = [] }) calls
 
@@ -78,8 +78,8 @@ abbrev pub without_parts : Planned → PrintedCall
 without_parts planned = record { call = planned.call; around = nothing_around; parts = [] }
 
 module _ {F : Type 0} (rules : Rules F) (scene : Scene) where
-  -- what is made of matches without parts, since none are asked for or the search is inverted, and
-  -- after each of which it goes on: the text of all, and the format after them
+  -- some matches come to a text, and to a format after them. They have no parts, since none are
+  -- asked for or the search is inverted, and the search goes on after each
   abbrev pub AreTexts : F → List Planned → List ℕ → F → Type 0
   AreTexts format [] text new = (text ≡ []) × (new ≡ format)
   AreTexts format (planned ∷ later) text new =

@@ -1,4 +1,4 @@
--- What a printer does when it writes a text that is that of no call, as a message about all
+-- What a printer does when it writes a text that belongs to no call, as the message about all
 -- searches.
 use Rattle.std.specs.Prelude.{◌≡◌, ◌⊎◌, ◌≤◌, ◌||◌, true, ℕ, List, [], ◌++◌, length}
 use Rattle.std.specs.Global.{Global}
@@ -12,8 +12,8 @@ use Rattle.grep_printer.specs.Formats.{is_text}
 use Rattle.grep_printer.specs.declared.printer.Printer.{Printer}
 
 module _ {F W : Type 0} (write_step : W → OutputCall → W → Type 0) where
-  -- a text comes after what is pending, and nothing else: the writer has no call if both fit in the
-  -- buffer. No more is pending after it than the printer keeps if no more was before
+  -- a text comes after what is pending, and nothing else. The writer has no call if both fit in the
+  -- buffer. If no more was pending before than the printer keeps, no more is pending after it
   pub record PutsText (writer : W) (old : Printer F) (text : List ℕ) (writer' : W)
       (new : Printer F) : Type 0 where
     pub put : PutsAll write_step writer (pending_bytes old.pending) text writer'

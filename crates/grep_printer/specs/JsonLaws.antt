@@ -8,7 +8,7 @@ use Rattle.grep_printer.specs.JsonMessages.{begin_json, end_json, json_line, rep
 use Rattle.grep_printer.specs.JsonMessages.{summary_json}
 use Rattle.grep_printer.specs.declared.stats.Stats.{Stats}
 
--- a line is a text without a line feed, which is read as a message, and a line feed
+-- a line is a text and a line feed. The text has no line feed itself, and is read as a message
 pub record IsLineOf (message : Json) (line : List ℕ) : Type 0 where
   pub text : List ℕ
   pub ended : line ≡ text ++ 10 ∷ []
@@ -29,8 +29,8 @@ pub record AreWords (stats : Stats) : Type 0 where
 abbrev pub IsWordRange : ℕ × ℕ → Type 0
 IsWordRange range = (range.0 < 2 ^ 64) × (range.1 < 2 ^ 64)
 
--- a report, as its message has it, and what the match at a position would be replaced by, if it would
--- be
+-- a report as its message has it, with what would replace the match at a position, if something
+-- would
 pub record Reported : Type 0 where
   pub type : List ℕ
   pub path : Option (Bor (List ℕ))
@@ -40,14 +40,14 @@ pub record Reported : Type 0 where
   pub text_at : ℕ → Option (List ℕ)
   pub ranges : List (ℕ × ℕ)
 
--- its numbers are ones of 64 bits
+-- the numbers of a report have 64 bits
 pub record IsReport (report : Reported) : Type 0 where
   pub bytes : IsBytes report.bytes
   pub number : IfSome report.number (λ n. n < 2 ^ 64)
   pub offset : report.offset < 2 ^ 64
   pub ranges : All IsWordRange report.ranges
 
--- its message
+-- the message of a report
 abbrev pub message_of_report : Reported → Json
 message_of_report report =
     report_json report.type report.path report.bytes report.number report.offset
@@ -58,7 +58,7 @@ abbrev pub path_text : Option (Bor (List ℕ)) → Option (List ℕ)
 path_text None = None
 path_text (Some path) = Some path.now
 
--- there are two texts, which are the same if they are bytes, or there is neither
+-- two texts are there, and are the same if they are bytes, or neither is there
 abbrev pub AreSameTexts : Option (List ℕ) → Option (List ℕ) → Type 0
 AreSameTexts None None = Unit {0}
 AreSameTexts (Some a) (Some b) = IsBytes a → IsBytes b → a ≡ b

@@ -44,19 +44,20 @@ abbrev pub path_json : Option (Bor (List ℕ)) → Json
 path_json None = null
 path_json (Some path) = text_json path.now
 
--- what a match would be replaced by, if it would be, as a member before others
+-- some members, after one that says what would replace a match, if something would
 abbrev pub with_replacement : Option (List ℕ) → Members → Members
 with_replacement None later = later
 with_replacement (Some text) later = member (codes "replacement") (bytes_json text) later
 
--- a match in a report, with what it would be replaced by, if it would be, and its positions there
+-- a match in a report, with what would replace it, if something would, and its positions in the
+-- report
 unfoldable pub submatch_json : List ℕ → Option (List ℕ) → ℕ × ℕ → Json
 submatch_json bytes text range =
     object (member (codes "match") (bytes_json (slice_range bytes range.0 range.1))
     (with_replacement text (member (codes "start") (number_json range.0)
     (member (codes "end") (number_json range.1) no_members))))
 
--- the matches in a report, by what the one at a position would be replaced by
+-- the matches in a report, by what would replace the match at a position
 abbrev pub submatch_items : List ℕ → (ℕ → Option (List ℕ)) → List (ℕ × ℕ) → Items
 submatch_items bytes text_at [] = no_items
 submatch_items bytes text_at (range ∷ later) =
@@ -66,7 +67,7 @@ submatch_items bytes text_at (range ∷ later) =
 abbrev pub six_digits : ℕ → List ℕ
 six_digits n = padded_integral (format_spec 32 0 4 6 (2 ^ 64 - 1)) false [] (decimal n)
 
--- seconds, of a number of microseconds
+-- microseconds as seconds
 abbrev pub seconds_text : ℕ → List ℕ
 seconds_text micros =
     decimal (micros / 1000000) ++ (codes "." ++ (six_digits (micros % 1000000) ++ codes "s"))
@@ -89,18 +90,18 @@ stats_json stats =
     (member (codes "matched_lines") (number_json stats.matched_lines)
     (member (codes "matches") (number_json stats.matches) no_members)))))))
 
--- a message of a type
+-- a message, by its type and its members
 abbrev pub message_json : List ℕ → Members → Json
 message_json type members =
     object (member (codes "type") (string type)
     (member (codes "data") (object members) no_members))
 
--- a search begins
+-- the message that a search begins
 unfoldable pub begin_json : Option (Bor (List ℕ)) → Json
 begin_json path = message_json (codes "begin") (member (codes "path") (path_json path) no_members)
 
--- a report of a type: the bytes, the number of the first line, the offset, the matches, and what the
--- one at a position would be replaced by
+-- the message of a report, by its type, its bytes, the number of its first line, its offset, its
+-- matches, and what would replace the match at a position
 unfoldable pub report_json : List ℕ → Option (Bor (List ℕ)) → List ℕ → Option ℕ → ℕ
     → (ℕ → Option (List ℕ)) → List (ℕ × ℕ) → Json
 report_json type path bytes line_number offset text_at ranges =
@@ -110,14 +111,14 @@ report_json type path bytes line_number offset text_at ranges =
     (member (codes "absolute_offset") (number_json offset)
     (member (codes "submatches") (array (submatch_items bytes text_at ranges)) no_members)))))
 
--- a search ends
+-- the message that a search has ended
 unfoldable pub end_json : Option (Bor (List ℕ)) → Option ℕ → Stats → Json
 end_json path binary stats =
     message_json (codes "end") (member (codes "path") (path_json path)
     (member (codes "binary_offset") (optional_json binary)
     (member (codes "stats") (stats_json stats) no_members)))
 
--- all searches, and how long all took
+-- the message about all searches, with how long all took
 unfoldable pub summary_json : Stats → ℕ → Json
 summary_json stats total =
     message_json (codes "summary") (member (codes "elapsed_total") (time_json total)

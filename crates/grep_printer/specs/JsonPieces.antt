@@ -37,7 +37,7 @@ abbrev pub pieces_tokens : List Piece → List Token
 pieces_tokens [] = []
 pieces_tokens (piece ∷ later) = piece_tokens piece ++ pieces_tokens later
 
--- the first members of a message of a type about a path
+-- the first members of a message: its type, and the path that it is about
 abbrev pub head_tokens : List ℕ → Option (Bor (List ℕ)) → List Token
 head_tokens type path =
     Token.begin_object ∷ Token.key (codes "type") ∷ Token.string type ∷ Token.key (codes "data")
@@ -47,20 +47,20 @@ head_tokens type path =
 abbrev pub last_tokens : List Token
 last_tokens = Token.end_object ∷ Token.end_object ∷ []
 
--- what a match would be replaced by, if it would be
+-- what would replace a match, if something would
 abbrev pub replacement_tokens : Option (List ℕ) → List Token
 replacement_tokens None = []
 replacement_tokens (Some text) = Token.key (codes "replacement") ∷ json_tokens (bytes_json text)
 
--- what the match at a position of a report would be replaced by, if it would be
+-- what would replace the match at a position of a report, if something would
 abbrev pub texts_in : {R A : Type 0} → (R → TextAt) → Replacements R A → Report → ℕ
     → Option (List ℕ)
 texts_in text_at replacements report =
     text_at replacements.replacer replacements.searcher.now.settings (surroundings_of report)
     (call_of report)
 
--- the message of a report in a path, with the matches in it, and what the one at a position would be
--- replaced by
+-- the message of a report, by the path, the matches in the report, and what would replace the match
+-- at a position
 abbrev pub report_of : Option (Bor (List ℕ)) → Report → (ℕ → Option (List ℕ)) → List (ℕ × ℕ) → Json
 report_of path report text_at ranges =
     report_json (type_of report.kind) path report.bytes.now report.number report.offset text_at
@@ -72,7 +72,7 @@ message_of (Begin path) = begin_json path
 message_of (End path binary stats) = end_json path binary stats
 message_of (Summary stats total) = summary_json stats total
 
--- what was reported, with so many matches in a report of so many lines
+-- what was reported so far, after a report of some lines in which the matcher matches some times
 abbrev pub with_matches : ReportKind → JsonProgress → ℕ → ℕ → JsonProgress
 with_matches Match progress line_count match_count = with_match progress line_count match_count
 with_matches (Context kind) progress line_count match_count = progress

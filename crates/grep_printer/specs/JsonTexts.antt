@@ -37,26 +37,27 @@ new_json_format always_begin_end replacer = record {
 abbrev pub opening_line : Option (Bor (List ℕ)) → Bool → List ℕ
 opening_line path is_begun = if is_begun then [] else json_line (begin_json path)
 
--- the text of a report of a type: its bytes, the number of its first line, its offset, the matches
--- in it, and what the one at a position would be replaced by
+-- the text of a report, by its type, its bytes, the number of its first line, its offset, its
+-- matches, and what would replace the match at a position
 abbrev pub report_line : Option (Bor (List ℕ)) → JsonProgress → List ℕ → List ℕ → Option ℕ → ℕ
     → (ℕ → Option (List ℕ)) → List (ℕ × ℕ) → List ℕ
 report_line path progress type bytes number offset text_at ranges =
     opening_line path progress.is_begun
     ++ json_line (report_json type path bytes number offset text_at ranges)
 
--- what was reported, with so many bytes more that are written
+-- what was reported so far, after some more bytes were written
 abbrev pub with_size : JsonProgress → ℕ → JsonProgress
 with_size progress size = record progress {
   is_begun = true;
   bytes_printed = capped_sum progress.bytes_printed size;
 }
 
--- what was reported, with a text that is written
+-- what was reported so far, after a text was written
 abbrev pub with_text : JsonProgress → List ℕ → JsonProgress
 with_text progress text = with_size progress (length text)
 
--- what was reported, with a match of so many lines, in which the matcher matches so often
+-- what was reported so far, after a match, by how many lines it has, and how often the matcher
+-- matches in it
 abbrev pub with_match : JsonProgress → ℕ → ℕ → JsonProgress
 with_match progress line_count match_count = record progress {
   has_match = true;
@@ -64,7 +65,7 @@ with_match progress line_count match_count = record progress {
   matches = capped_sum progress.matches match_count;
 }
 
--- what was reported, with the end of the search
+-- what was reported, after the end of the search
 abbrev pub with_end : JsonProgress → ℕ → Option ℕ → JsonProgress
 with_end progress count binary =
     record progress { byte_count = Some count; binary_offset = binary }
@@ -73,8 +74,8 @@ with_end progress count binary =
 abbrev pub is_opened : Bool → JsonProgress → Bool
 is_opened always_begin_end progress = always_begin_end && not progress.is_begun
 
--- Whether `begin` and `end` are written for every search, and what the match at a position of the
--- report would be replaced by, if it would be.
+-- By whether `begin` and `end` are written for every search, and by what would replace the match at
+-- a position of a report, if something would.
 module _ (always_begin_end : Bool) (scene : Scene) (text_at : ℕ → Option (List ℕ)) where
   -- the text of a call with the matches in its report, by what was reported before
   abbrev pub json_text : JsonProgress → Call → List (ℕ × ℕ) → List ℕ
@@ -90,7 +91,7 @@ module _ (always_begin_end : Bool) (scene : Scene) (text_at : ℕ → Option (Li
   json_text progress (binary_data offset) ranges = []
   json_text progress (finishes count binary) ranges = []
 
-  -- what was reported, with a call
+  -- what was reported so far, after a call
   abbrev pub json_progress : JsonProgress → Call → List (ℕ × ℕ) → JsonProgress
   json_progress progress begins ranges =
       if is_opened always_begin_end progress
@@ -123,11 +124,11 @@ json_rules text_at = record {
   is_bare = λ format scene. false;
 }
 
--- whether a search has ended of which something was written
+-- whether the search has ended, and something was written of it
 abbrev pub is_reported : JsonProgress → Bool
 is_reported progress = progress.is_begun && is_some progress.byte_count
 
--- what was searched, found and written in a search that took so many nanoseconds
+-- what was searched, found and written in a search, by how many nanoseconds it took
 abbrev pub stats_of : JsonProgress → ℕ → Stats
 stats_of progress elapsed =
     if is_reported progress
@@ -142,7 +143,7 @@ stats_of progress elapsed =
     }
     else no_stats
 
--- the message that it ends
+-- the message that a search has ended, or nothing if nothing was written of it
 abbrev pub end_text : Option (Bor (List ℕ)) → JsonProgress → ℕ → List ℕ
 end_text path progress elapsed =
     if is_reported progress

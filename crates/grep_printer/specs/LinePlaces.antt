@@ -11,7 +11,8 @@ use Rattle.grep_printer.specs.declared.fields.Place.{Place}
 abbrev pub IsWordNumber : Option ℕ → Type 0
 IsWordNumber number = IfSome number (λ n. n < 2 ^ 64)
 
--- the place of the line after some lines, by that of the first of them: it begins where they end
+-- the place of the line after some lines, by the place of the first of them: it begins where they
+-- end
 abbrev pub place_past : Place → List (List ℕ) → Place
 place_past place before = record {
   number = number_after place.number (length before);
@@ -28,7 +29,7 @@ LinesArePlaced =
     ≡ flat_map (λ line. line_text layout kind (place_past place (take line.0 ls)) parts line.1)
     (enumerate_from 0 ls)
 
--- and of lines as they are that of each with its number
+-- the text of lines that are written as they are is the text of each, after its number
 abbrev pub PlainLinesAreNumbered : Type 0
 PlainLinesAreNumbered =
     (terminator mark : ℕ) (number : Option ℕ) (ls : List (List ℕ)) → IsWordNumber number

@@ -62,8 +62,8 @@ place_after place line = record {
   start = place.start + length line;
 }
 
--- whether lines, or parts in their place, are written as they are, each after its number alone:
--- without other fields, limit and colors, not trimmed, and with the usual separators
+-- lines, or parts in their place, are written as they are, each after its number alone: there is no
+-- other field, no limit, no color and no trimming, and the separators are the usual ones
 abbrev pub is_plain : Config → Option (Bor (List ℕ)) → Bool
 is_plain config path =
     (config.heading || is_none path) && not config.column && not config.byte_offset
@@ -76,7 +76,7 @@ abbrev pub plain_line : ℕ → ℕ → Option ℕ → List ℕ → List ℕ
 plain_line terminator mark number line =
     number_field None (mark ∷ []) number ++ (line ++ missing_end terminator line)
 
--- such lines, each with its own number
+-- lines as they are, each after its own number
 abbrev pub plain_lines : ℕ → ℕ → Option ℕ → List (List ℕ) → List ℕ
 plain_lines terminator mark number [] = []
 plain_lines terminator mark number (line ∷ later) =
@@ -109,12 +109,12 @@ abbrev pub mark_byte : LineKind → ℕ
 mark_byte Match = 58
 mark_byte Context = 45
 
--- the separator in its place
+-- the separator that stands in place of that byte
 abbrev pub field_mark : Separators → LineKind → List ℕ
 field_mark separators Match = separators.field_match.items
 field_mark separators Context = separators.field_context.items
 
--- the mark after each field of a line: that byte, unless separators are set
+-- the mark after each field of a line: a colon or a dash, unless separators are set
 abbrev pub mark_of : Option (Bor Separators) → LineKind → List ℕ
 mark_of None kind = mark_byte kind ∷ []
 mark_of (Some separators) kind = field_mark separators.now kind
@@ -157,7 +157,7 @@ end_of from (span ∷ later) = end_of span.1 later
 abbrev pub preview_len : ℕ → List ℕ → ℕ
 preview_len most bytes = end_of 0 (take most (grapheme_spans bytes))
 
--- what is written after so many parts that the first bytes of a line don't begin
+-- what a notice says of parts that begin after the first bytes of a line, by how many there are
 abbrev pub counted_more : ℕ → List ℕ
 counted_more count = codes " [... "
     ++ (decimal count ++ (if count == 1 then codes " more match]" else codes " more matches]"))
@@ -186,14 +186,15 @@ module _ (layout : Layout) where
       ++ number_field (column_color layout.config.color_specs) mark
       (if layout.config.byte_offset then Some place.offset else None)))
 
-  -- the highlight of a line: of one of a match, if a part reaches into it or comes after its start
+  -- the highlight of a line. A line of a match has it if a part reaches into it, or begins after
+  -- its start
   abbrev pub highlight_of : LineKind → Place → List (ℕ × ℕ) → Option (List ℕ)
   highlight_of Match place parts =
       if list_any (reaches place.start) parts then highlight_color layout.config.color_specs else None
   highlight_of Context place parts = None
 
-  -- a line that begins at a position of its report, with the bytes in some parts colored, and with a
-  -- highlight, if there is one, but for the terminator
+  -- a line that begins at a position of its report. The bytes that are in a part are colored, and
+  -- if there is a highlight, the line has it, but for its terminator
   abbrev pub painted_line : Option (List ℕ) → List (ℕ × ℕ) → ℕ → List ℕ → List ℕ
   painted_line highlight parts start line =
       painted (matched_color layout.config.color_specs) highlight parts
@@ -221,7 +222,8 @@ module _ (layout : Layout) where
   previewed line =
       take (preview_len (unwrap_or layout.config.max_columns 0) (strip layout.terminator line)) line
 
-  -- those, and after them a notice, of a line that begins at a position of its report
+  -- the first bytes of a line that is too long, and a notice after them. The line begins at a
+  -- position of its report
   unfoldable pub preview_text : Option (List ℕ) → List (ℕ × ℕ) → ℕ → List ℕ → List ℕ
   preview_text highlight parts start line =
       painted_line highlight parts start (previewed line)
@@ -236,7 +238,8 @@ module _ (layout : Layout) where
       (trimmed line)
       else notice kind (counted_parts parts place.start line)
 
-  -- what is shown of a line, less if that is too long, with the terminator at its end
+  -- what is shown of a line, with a terminator at its end: the line as it is trimmed, or what is
+  -- written of one that is too long
   unfoldable pub shown_line : LineKind → Place → List (ℕ × ℕ) → List ℕ → List ℕ
   shown_line kind place parts line =
       if is_long layout.config.max_columns (trimmed line)

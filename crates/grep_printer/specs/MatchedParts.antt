@@ -35,7 +35,7 @@ abbrev pub is_passed : Option ℕ → ℕ × ℕ → Bool
 is_passed None found = false
 is_passed (Some end) found = found.0 == found.1 && found.1 == end
 
--- some parts, after a match unless it is passed over
+-- a match and the parts after it. If the match is passed over, only the parts after it
 abbrev pub with_part : Option ℕ → ℕ × ℕ → List (ℕ × ℕ) → List (ℕ × ℕ)
 with_part end found later = if is_passed end found then later else found ∷ later
 
@@ -61,8 +61,8 @@ module _ (first_at : ℕ → Option (ℕ × ℕ)) (size limit : ℕ) where
   abbrev pub found_from : ℕ → Option (ℕ × ℕ)
   found_from position = if nat_le position size then below limit (first_at position) else None
 
-  -- the parts that so many searches find, the first of them from a position on, where the match
-  -- before it may have ended
+  -- the parts that some number of searches find. The first search begins at a position, and `end`
+  -- is where the match before it ended, if there was one
   abbrev pub parts_from : ℕ → ℕ → Option ℕ → List (ℕ × ℕ)
   parts_from zero position end = []
   parts_from (suc count) position end =
@@ -75,7 +75,8 @@ module _ (first_at : ℕ → Option (ℕ × ℕ)) (size limit : ℕ) where
   unfoldable pub parts_in : List (ℕ × ℕ)
   parts_in = parts_from (size + 1) 0 None
 
-  -- the first match from a position on that is a part, where the match before may have ended
+  -- the first match from a position on that is a part. `end` is where the match before it ended, if
+  -- there was one
   abbrev pub next_part : ℕ → Option ℕ → Option (ℕ × ℕ)
   next_part position end = option_and_then
       (λ found. if is_passed end found then found_from (position_after found) else Some found)

@@ -13,7 +13,7 @@ abbrev pub IsErrorOf : {F : Type 0} → (F → Option (List ℕ)) → PartsError
 IsErrorOf output Memory e = IsOutOfMemory e
 IsErrorOf output (Matcher error) e = IsMessageOf (output error) e
 
--- each error of a search for this one is so
+-- each error of a search that is made of this one is such an error
 abbrev pub EachErrorIs : {F : Type 0} → (F → Option (List ℕ)) → (SearchError Global → Type 0)
     → PartsError F → Type 0
 EachErrorIs output IsSo error = (e : SearchError Global) → IsErrorOf output error e → IsSo e

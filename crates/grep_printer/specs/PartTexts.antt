@@ -26,7 +26,7 @@ is_in_span span part =
     nat_lt (max part.0 span.start) (min part.1 span.end)
     || (part.0 == part.1 && (nat_le span.start part.0 && nat_lt part.0 span.next))
 
--- the layout of the lines, what they belong to, and the bytes of the report with their offset
+-- By the layout of the lines, what they belong to, and the bytes of the report with their offset.
 module _ (layout : Layout) (kind : LineKind) (offset : ℕ) (bytes : List ℕ) where
   -- the place of a part: the number of its line, and its own column and offset
   abbrev pub part_place : Option ℕ → ℕ × ℕ → Place
@@ -58,7 +58,8 @@ module _ (layout : Layout) (kind : LineKind) (offset : ℕ) (bytes : List ℕ) w
       (max (max part.0 span.start) (min part.1 span.end)))
       else []
 
-  -- of each line what each part has in it: the lines with the number and the position of the first
+  -- what each part has in each line, line after line, by the number and the position of the first
+  -- line
   abbrev pub across_text : Option ℕ → ℕ → List (List ℕ) → List (ℕ × ℕ) → List ℕ
   across_text number start [] parts = []
   across_text number start (line ∷ later) parts =

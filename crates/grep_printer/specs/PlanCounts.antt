@@ -33,7 +33,7 @@ abbrev pub is_inner : Call → Bool
 is_inner (finishes count binary) = false
 is_inner call = true
 
--- what a search comes to, by its matches, the text that was made, and its end
+-- the counts of a whole search, by its matches, the text that was made, and its end
 abbrev pub json_counts : ℕ → List PrintedCall → List ℕ → ℕ → Option ℕ → JsonProgress
 json_counts terminator found text count binary = record {
   is_begun = is_text text;
@@ -45,7 +45,7 @@ json_counts terminator found text count binary = record {
   binary_offset = binary;
 }
 
--- what a printer of JSON counts in a search is that
+-- a printer of JSON has these counts at the end of a search
 abbrev pub JsonCounts : {R : Type 0} → (R → TextAt) → Type 0
 JsonCounts {R} text_at =
     (always_begin_end : Bool) (replacer : R) (scene : Scene) (calls : List PrintedCall)
@@ -61,15 +61,15 @@ JsonCounts {R} text_at =
 abbrev pub times_counted : PrintedCall → ℕ
 times_counted printed = max 1 (length printed.parts)
 
--- what is counted of a search, by its matches
+-- the counts of a search, by its matches
 abbrev pub summary_counts : List PrintedCall → Counts
 summary_counts found = record {
   match_count = capped (length found);
   part_count = capped (sum_by times_counted found);
 }
 
--- the matches of a search are counted, and the text is that for their counts, unless a binary byte
--- ended it
+-- the matches of a search are counted, and the text is the one for these counts, unless a binary
+-- byte ended the search
 pub record IsSummedUp (config : SummaryConfig) (scene : Scene) (calls : List PrintedCall)
     (last : PrintedCall) (binary : Option ℕ) : Type 0 where
   pub counts : (printed_by summary_rules scene (record { config = config; counts = no_counts })

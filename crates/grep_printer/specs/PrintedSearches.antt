@@ -54,7 +54,8 @@ module _ {F M W E : Type 0} (rules : Rules F) (output : E → Option (List ℕ))
       (HasFound rules Anything facts first_at old settings) old.format calls printed
       × PrintsAll rules output facts first_at write_step old settings printed new
 
-  -- so do those of all calls along a plan, of which this is known; or a call fails after some
+  -- the texts of all calls along a plan come after what is pending, and `Known` holds of these
+  -- calls; or a call fails, after the texts of some
   abbrev pub PrintsPlan : (Plan → List PrintedCall → Type 0) → PrinterSink F M W → Settings → Plan
       → Result (Unit {0}) (SearchError Global) → PrinterSink F M W → Type 0
   PrintsPlan Known old settings plan (Ok u) new = (printed : List PrintedCall)
@@ -65,15 +66,16 @@ module _ {F M W E : Type 0} (rules : Rules F) (output : E → Option (List ℕ))
   PrintsPlan Known old settings plan (Err e) new =
       FailsAlongPlan rules output facts first_at write_step old settings plan e new
 
-  -- some first calls of a search, which goes on after them, with `binary_data` if it comes
+  -- the texts of some first calls of a search come after what is pending, with that of
+  -- `binary_data` if it comes among them. The search goes on after each
   abbrev pub PrintsFirst : PrinterSink F M W → Settings → Points → List Planned
       → PrinterSink F M W → Type 0
   PrintsFirst old settings IsAt calls new = (point : Option BinaryPoint) × IsAt calls point
       × (quits settings.binary_detection ≡ true → point ≡ None)
       × PrintsCalls old settings (calls_with point calls) new
 
-  -- what a search with a plan printed: its calls, up to one that failed, or those before a question
-  -- at which the matcher did
+  -- what a search with a plan printed: the plan's calls, up to one that failed; or, if the matcher
+  -- failed at a question, the calls before that
   pub data IsPlanPrinted (settings : Settings) (IsAt : Points)
       (IsAsked : List ℕ → List Planned → Type 0) (Known : Plan → List PrintedCall → Type 0)
       (plan : Plan) (old : PrinterSink F M W)
@@ -88,7 +90,7 @@ module _ {F M W E : Type 0} (rules : Rules F) (output : E → Option (List ℕ))
         → PrintsFirst old settings IsAt calls new
         → IsPlanPrinted settings IsAt IsAsked Known plan old (Err e) new
 
-  -- what a search of some bytes printed, of which so many were seen
+  -- what a search of some bytes printed, by how many of them were seen
   abbrev pub IsInputPrinted : Settings → Look → List ℕ → ℕ → PrinterSink F M W
       → Result (Unit {0}) (SearchError Global) → PrinterSink F M W → Type 0
   IsInputPrinted settings look bytes count old =
@@ -102,7 +104,7 @@ module _ {F M W E : Type 0} (rules : Rules F) (output : E → Option (List ℕ))
     abbrev pub look : PrinterSink F M W → Look
     look old = look_of state.settings (facts old.matcher).meaning false
 
-    -- where `binary_data` comes, whichever input begins with what was taken
+    -- where `binary_data` comes for any input that begins with what was taken of the reader
     abbrev pub IsPointOfAll : {reader mid : R} → Taken remaining read_step reader mid
         → PrinterSink F M W → ℕ → Points
     IsPointOfAll taken old count calls point =
@@ -116,7 +118,8 @@ module _ {F M W E : Type 0} (rules : Rules F) (output : E → Option (List ℕ))
         (PrintsCall rules output facts first_at write_step) (search_errors output)
         (facts old.matcher) state (look old) reader old result reader' new
 
-    -- if it went on after each call, and no byte ended it, each line was seen that may be reported
+    -- if the search went on after each call, and no binary byte ended it, it has seen each line
+    -- that may be reported
     abbrev pub IsAllSeenAfter : {reader reader' : R} {old : PrinterSink F M W}
         {result : Result (Unit {0}) (SearchError Global)} {new : PrinterSink F M W}
         → IsSeenSearch reader old result reader' new → Plan → List PrintedCall → Type 0
@@ -127,8 +130,9 @@ module _ {F M W E : Type 0} (rules : Rules F) (output : E → Option (List ℕ))
         → IsAllSeen remaining read_step (PrintsCall rules output facts first_at write_step)
         (search_errors output) (facts old.matcher) state (look old) search.seen bytes
 
-    -- what a search of a source printed: the calls for the lines that were seen, which are those for
-    -- its bytes, whatever follows what was taken of them; or, as not all could be read, those before
+    -- what a search of a source printed: the calls for the lines that were seen. These are the
+    -- calls for the source's bytes, whatever follows what was taken of it. If reading failed, they
+    -- are the calls for the lines before that
     pub data IsSourcePrinted (reader : R) (old : PrinterSink F M W)
         : Result (Unit {0}) (SearchError Global) → R → PrinterSink F M W → Type 0 where
       of_input : {result : Result (Unit {0}) (SearchError Global)} {reader' : R}
@@ -149,7 +153,8 @@ module _ {F M W E : Type 0} (rules : Rules F) (output : E → Option (List ℕ))
           (search_plan state.settings (facts old.matcher).meaning seen).calls new) (new ≡ old)
           → IsSourcePrinted reader old (Err (Io error)) reader' new
 
-    -- a search that isn't refused printed that, if the matcher can be trusted
+    -- if the matcher can be trusted, a search is refused, or has printed what a search of a source
+    -- prints
     abbrev pub IsSearchPrinted : R → PrinterSink F M W → Result (Unit {0}) (SearchError Global) → R
         → PrinterSink F M W → Type 0
     IsSearchPrinted reader old result reader' new =
@@ -157,8 +162,8 @@ module _ {F M W E : Type 0} (rules : Rules F) (output : E → Option (List ℕ))
         (reader' ≡ reader) (IsSourcePrinted reader old result reader' new)
         (refusal_of state.settings (facts old.matcher).meaning)
 
-    -- with any matcher and reader a search that isn't refused makes its calls in order, each of which
-    -- prints
+    -- with any matcher and reader, a search that isn't refused makes its calls in order, and each
+    -- of them prints
     abbrev pub IsPrintedInOrder : R → PrinterSink F M W → Result (Unit {0}) (SearchError Global) → R
         → PrinterSink F M W → Type 0
     IsPrintedInOrder reader old result reader' new =
@@ -167,8 +172,8 @@ module _ {F M W E : Type 0} (rules : Rules F) (output : E → Option (List ℕ))
         (facts old.matcher) state.settings (IsReadingError remaining read_step reader reader')
         old result new
 
-    -- so a printer printed what a search of a source reports to its sink, and it is known whether
-    -- that found what it is for
+    -- a printer has printed what a search of a source reports to its sink, and says whether the
+    -- search found what it is for
     pub record IsPrintedBy (matcher : M) (path : Option (Bor (List ℕ))) (reader : R) (writer : W)
         (old : Printer F) (searched : Searched) (reader' : R) (writer' : W) (new : Printer F)
         : Type 0 where

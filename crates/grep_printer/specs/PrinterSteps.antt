@@ -27,7 +27,7 @@ pub record IsSameSink {F M W : Type 0} (old new : PrinterSink F M W) : Type 0 wh
   pub matcher : new.matcher ≡ old.matcher
   pub path : new.path ≡ old.path
 
--- a sink of which the text and the parts at hand alone have changed
+-- of a sink nothing has changed but the text and the parts at hand
 pub record IsPreparing {F M W : Type 0} (old new : PrinterSink F M W) : Type 0 where
   pub same : IsSameSink old new
   pub format : new.format ≡ old.format
@@ -36,7 +36,7 @@ pub record IsPreparing {F M W : Type 0} (old new : PrinterSink F M W) : Type 0 w
   pub has_written : new.printer.now.has_written ≡ old.printer.now.has_written
   pub has_failed : new.printer.now.has_failed ≡ old.printer.now.has_failed
 
--- a sink as it was, of which the parts at hand may be others
+-- a sink is as it was, but for the parts at hand
 pub record IsAsBefore {F M W : Type 0} (old new : PrinterSink F M W) : Type 0 where
   pub same : IsSameSink old new
   pub format : new.format ≡ old.format
@@ -59,7 +59,8 @@ module _ {F M W : Type 0} (rules : Rules F) where
   abbrev pub text_of : PrinterSink F M W → Settings → PrintedCall → List ℕ
   text_of sink settings printed = rules.text sink.format (scene_of sink settings) printed
 
-  -- a call of a sink has these parts, with such bytes around its report
+  -- these are the parts of a call of a sink, for some bytes that may have been shown around its
+  -- report
   abbrev pub HasFound : (Surroundings → Type 0) → {E : Type 0} → (M → MatcherFacts E)
       → (M → List ℕ → ℕ → Option (ℕ × ℕ)) → PrinterSink F M W → Settings → F → PrintedCall → Type 0
   HasFound Shown facts first_at sink settings format printed =
@@ -81,10 +82,10 @@ module _ {F M W : Type 0} (rules : Rules F) where
 module _ {F M W E : Type 0} (rules : Rules F) (output : E → Option (List ℕ))
     (facts : M → MatcherFacts E) (first_at : M → List ℕ → ℕ → Option (ℕ × ℕ))
     (write_step : W → OutputCall → W → Type 0) (Shown : Surroundings → Type 0) where
-  -- a call succeeds: its text comes after what is pending, and nothing else is written: nothing at
-  -- all if both fit in the buffer, unless the text is of lines alone, for which memory may be out.
-  -- With a buffer of no bytes nothing is pending after it, and else no more than its bytes, but after
-  -- a match
+  -- a call succeeds: its text comes after what is pending, and nothing else is written. If both fit
+  -- in the buffer, nothing is written at all, unless only bare lines are written, for which memory
+  -- may be out. If the buffer has no bytes, nothing is pending afterwards, and after any call but a
+  -- match no more is pending than the buffer has bytes
   pub record Prints (old : PrinterSink F M W) (settings : Settings) (call : Call) (goes : Bool)
       (new : PrinterSink F M W) : Type 0 where
     pub same : IsSameSink old new
@@ -118,8 +119,8 @@ module _ {F M W E : Type 0} (rules : Rules F) (output : E → Option (List ℕ))
     pub format : new.format ≡ rules.next old.format (scene_of old settings) printed
     pub has_failed : new.printer.now.has_failed ≡ true
 
-  -- the writer had no call, and there was no memory, for the parts or for a text that isn't of lines
-  -- alone, or the matcher failed where the parts of a report were looked for
+  -- the writer had no call. There was no memory for the parts, or for a text that isn't of bare
+  -- lines; or the matcher failed when the parts of a report were looked for
   pub record FailsBefore (old : PrinterSink F M W) (settings : Settings) (call : Call)
       (e : SearchError Global) (new : PrinterSink F M W) : Type 0 where
     pub unwritten : new.writer.now ≡ old.writer.now
@@ -132,8 +133,8 @@ module _ {F M W E : Type 0} (rules : Rules F) (output : E → Option (List ℕ))
         ⊎ (((has_match settings call && rules.asks old.format call) ≡ true)
         × FailsAtParts Shown output (facts old.matcher) settings call e)
 
-  -- memory was out for the rest of the text of a call whose parts were asked for: some first bytes of
-  -- it come after what was pending
+  -- the parts of a call were asked for, and memory was out for the rest of its text: some first
+  -- bytes of the text come after what was pending
   pub record PrintsSome (old : PrinterSink F M W) (settings : Settings) (printed : PrintedCall)
       (e : SearchError Global) (new : PrinterSink F M W) : Type 0 where
     pub memory : IsOutOfMemory e
@@ -145,7 +146,7 @@ module _ {F M W E : Type 0} (rules : Rules F) (output : E → Option (List ℕ))
     pub format : new.format ≡ old.format
     pub has_failed : new.printer.now.has_failed ≡ old.printer.now.has_failed
 
-  -- so for a call with such parts
+  -- a call fails amid its text, for some parts that its report may have
   abbrev pub FailsAmid : PrinterSink F M W → Settings → Call → SearchError Global
       → PrinterSink F M W → Type 0
   FailsAmid old settings call e new = (printed : PrintedCall) × (printed.call ≡ call)
@@ -160,7 +161,7 @@ module _ {F M W E : Type 0} (rules : Rules F) (output : E → Option (List ℕ))
     pub cause : FailsToWriteCall old settings call e new ⊎ FailsBefore old settings call e new
         ⊎ FailsAmid old settings call e new
 
-  -- what a sink does at a call, with such bytes around its report
+  -- what a sink does at a call, for some bytes that may have been shown around its report
   abbrev pub PrintsShown : PrinterSink F M W → Settings → Call → Result Bool (SearchError Global)
       → PrinterSink F M W → Type 0
   PrintsShown old settings call (Ok goes) new = Prints old settings call goes new
@@ -174,8 +175,8 @@ module _ {F M W E : Type 0} (rules : Rules F) (output : E → Option (List ℕ))
       → PrinterSink F M W → Type 0
   PrintsCall = PrintsShown rules output facts first_at write_step Anything
 
-  -- the texts of some calls come after what is pending. With a buffer of no bytes nothing is pending
-  -- after them if nothing was before
+  -- the texts of some calls come after what is pending. If the buffer has no bytes and nothing was
+  -- pending before, nothing is pending after them
   pub record PrintsAll (old : PrinterSink F M W) (settings : Settings) (calls : List PrintedCall)
       (new : PrinterSink F M W) : Type 0 where
     pub same : IsSameSink old new
@@ -191,8 +192,8 @@ module _ {F M W E : Type 0} (rules : Rules F) (output : E → Option (List ℕ))
     pub at_once : old.printer.now.buffer_size ≡ 0 → pending_bytes old.printer.now.pending ≡ []
         → pending_bytes new.printer.now.pending ≡ []
 
-  -- calls that were made and all returned true, as those before reading failed, have written their
-  -- texts
+  -- if some calls were made, and all returned true, their texts come after what was pending. The
+  -- calls before reading fails are such calls
   abbrev pub CallsPrint : Type 0
   CallsPrint =
       (settings : Settings) (old : PrinterSink F M W) (calls : List Planned)
@@ -202,8 +203,9 @@ module _ {F M W E : Type 0} (rules : Rules F) (output : E → Option (List ℕ))
       (HasFound rules Anything facts first_at old settings) old.format calls printed
       × PrintsAll old settings printed new
 
-  -- a run of the sink that ended in `Ok` has written the texts of the calls of its plan, of all if
-  -- the search went on after each, but for as many bytes as the printer keeps
+  -- if a run of the sink ended in `Ok`, the texts of calls along its plan come after what was
+  -- pending. These are all calls of the plan if the search went on after each. No more is pending
+  -- afterwards than the printer keeps
   abbrev pub RunsPrint : Type 0
   RunsPrint =
       (settings : Settings) (old : PrinterSink F M W) (plan : Plan) (new : PrinterSink F M W)
@@ -217,9 +219,9 @@ module _ {F M W E : Type 0} (rules : Rules F) (output : E → Option (List ℕ))
       → run.outcome ≡ all_true)
       × KeepsNoMore new
 
-  -- the call after some others isn't printed whole: the writer failed after some first bytes of its
-  -- text, or it had no call more, and there was no memory, or the matcher failed, or memory was out
-  -- for the rest of its text
+  -- a call isn't printed whole, after others that are. The writer failed after some first bytes of
+  -- its text; or the writer had no call for it, since there was no memory or the matcher failed; or
+  -- memory was out for the rest of its text
   abbrev pub IsCutShort : PrinterSink F M W → Settings → PrintedCall → SearchError Global
       → PrinterSink F M W → Type 0
   IsCutShort mid settings tried e new =
@@ -231,8 +233,8 @@ module _ {F M W E : Type 0} (rules : Rules F) (output : E → Option (List ℕ))
       ⊎ FailsBefore rules output facts first_at write_step Anything mid settings tried.call e new
       ⊎ PrintsSome rules output facts first_at write_step Anything mid settings tried e new
 
-  -- a run along a plan failed at a call: the texts of the calls before it come after what was
-  -- pending, and its own is cut short. Its own and these begin the text of calls along the plan
+  -- a run along a plan failed at a call. The texts of the calls before it come after what was
+  -- pending, and its own text is cut short. Together they begin the text of calls along the plan
   pub record FailsAlongPlan (old : PrinterSink F M W) (settings : Settings) (plan : Plan)
       (e : SearchError Global) (new : PrinterSink F M W) : Type 0 where
     pub before : List PrintedCall
@@ -252,7 +254,7 @@ module _ {F M W E : Type 0} (rules : Rules F) (output : E → Option (List ℕ))
         (scene_of old settings) tried)
         (printed_by rules (scene_of old settings) old.format (before ++ tried ∷ later)).text
 
-  -- so fails each run of the sink that ended in an error
+  -- each run of the sink that ended in an error failed so
   abbrev pub RunsFailToPrint : Type 0
   RunsFailToPrint =
       (settings : Settings) (old : PrinterSink F M W) (plan : Plan) (e : SearchError Global)

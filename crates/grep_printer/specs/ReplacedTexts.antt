@@ -25,7 +25,8 @@ module _ (text_at : ℕ → List ℕ) where
   replaced_bytes bytes position (part ∷ later) =
       slice_range bytes position part.0 ++ (text_at part.0 ++ replaced_bytes bytes part.1 later)
 
-  -- where what is written in place of the parts is then: the bytes from a position on come after so many
+  -- where the texts are that replace the parts. The bytes from a position on come after some number
+  -- of bytes
   abbrev pub replaced_parts : ℕ → ℕ → List (ℕ × ℕ) → List (ℕ × ℕ)
   replaced_parts count position [] = []
   replaced_parts count position (part ∷ later) =
@@ -38,19 +39,19 @@ abbrev pub end_of_line : Settings → Meaning → Option ℕ
 end_of_line settings meaning =
     if is_across settings meaning then None else Some (byte_of settings.line_terminator)
 
--- bytes with that end, if none are left
+-- some bytes; if there are none, the end of the line
 abbrev pub ended : Option ℕ → List ℕ → List ℕ
 ended None bytes = bytes
 ended (Some end) [] = end ∷ []
 ended (Some end) (byte ∷ bytes) = byte ∷ bytes
 
--- the call with other bytes in its report
+-- a call with other bytes in its report
 abbrev pub with_bytes : Call → List ℕ → Call
 with_bytes (matches number offset old) bytes = matches number offset bytes
 with_bytes (context kind number offset old) bytes = context kind number offset bytes
 with_bytes call bytes = call
 
--- By a template, and the groups of the first match of a haystack from a position on.
+-- By a template, and by the groups of the first match of a haystack from a position on.
 module _ (template : Template) (groups_at : List ℕ → ℕ → List (Option (ℕ × ℕ))) (settings : Settings)
     (meaning : Meaning) where
   -- what is written in place of the part at a position of a report: what the template makes of the

@@ -1,4 +1,4 @@
--- What the match at a position of a call's report would be replaced by, if it would be.
+-- What would replace the match at a position of a call's report, if something would.
 use Rattle.std.specs.Prelude.{ℕ, List, Option, None, Some}
 use Rattle.grep_searcher.specs.Meanings.{Meaning}
 use Rattle.grep_searcher.specs.Plans.{Call, Settings}
@@ -7,7 +7,8 @@ use Rattle.grep_printer.specs.ReplacedTexts.{text_in_place}
 use Rattle.grep_printer.specs.declared.replacers.NoReplacer.{NoReplacer}
 use Rattle.grep_printer.specs.declared.replacers.TemplateReplacer.{TemplateReplacer}
 
--- by the settings of the search, the call, and what was shown around its report
+-- what would replace the match at a position, by the settings of the search, the call, and what was
+-- shown around its report
 abbrev pub TextAt : Type 0
 TextAt = Settings → Surroundings → Call → ℕ → Option (List ℕ)
 
@@ -15,14 +16,14 @@ TextAt = Settings → Surroundings → Call → ℕ → Option (List ℕ)
 abbrev pub no_text_at : NoReplacer → TextAt
 no_text_at replacer settings around call position = None
 
--- each is, by what a template makes of its groups
+-- each match is replaced by what a template makes of its groups
 abbrev pub template_text_at : {M : Type 0} → (M → List ℕ → ℕ → List (Option (ℕ × ℕ)))
     → (M → Meaning) → TemplateReplacer M → TextAt
 template_text_at groups_at meaning_of replacer settings around call position =
     Some (text_in_place replacer.template.now (groups_at replacer.matcher) settings
     (meaning_of replacer.matcher) around call position)
 
--- as a replacer says, if there is one
+-- each match is replaced as a replacer says, if there is one
 abbrev pub optional_text_at : {R : Type 0} → (R → TextAt) → Option R → TextAt
 optional_text_at text_at None settings around call position = None
 optional_text_at text_at (Some replacer) settings around call position =

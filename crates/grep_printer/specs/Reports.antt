@@ -51,7 +51,7 @@ surroundings_of report = record {
   after = drop (length report.bytes.now) (drop report.start report.shown.now);
 }
 
--- those of a call: nothing is shown with any other call
+-- the bytes that are shown around a call's report. With any other call nothing is shown
 abbrev pub event_surroundings : Event → Surroundings
 event_surroundings (report_event report) = surroundings_of report
 event_surroundings event = nothing_around
@@ -64,7 +64,7 @@ printed_event event parts = record {
   parts = parts;
 }
 
--- such are around a call's report
+-- these are the bytes around a call's report
 abbrev pub IsAround : Event → Surroundings → Type 0
 IsAround (report_event report) around = around ≡ surroundings_of report
 IsAround event around = Unit {0}
@@ -88,12 +88,12 @@ abbrev pub line_kind : ReportKind → LineKind
 line_kind Match = match_line
 line_kind (Context kind) = context_line
 
--- the type of its message
+-- the type of a report's message
 abbrev pub type_of : ReportKind → List ℕ
 type_of Match = codes "match"
 type_of (Context kind) = codes "context"
 
--- whether its lines match, by whether the lines without a match are selected
+-- whether the lines of a report match, by whether the search is inverted
 abbrev pub kind_has_match : ReportKind → Bool → Bool
 kind_has_match Match is_inverted = not is_inverted
 kind_has_match (Context kind) is_inverted = is_inverted

@@ -23,7 +23,7 @@ use Rattle.grep_printer.specs.JsonTexts.{json_rules}
 use Rattle.grep_printer.specs.ReplacerTexts.{TextAt}
 use Rattle.grep_printer.specs.declared.json_printer.JsonFormat.{JsonFormat}
 
--- what the match at a position of a call's report would be replaced by, if it would be, by what was
+-- what would replace the match at a position of a call's report, if something would, by what was
 -- shown around the report
 abbrev pub CallTextAt : Type 0
 CallTextAt = Surroundings → Call → ℕ → Option (List ℕ)
@@ -61,7 +61,7 @@ opens always_begin_end begins = always_begin_end
 opens always_begin_end call = is_report call
 
 -- the messages of some calls, in order: `begin`, if it is due with one of them and wasn't written
--- before, and then that of each report
+-- before, and then the message of each report
 abbrev pub messages_of : Bool → Option (Bor (List ℕ)) → CallTextAt → Bool → List PrintedCall
     → List Json
 messages_of always_begin_end path text_at is_begun calls =
@@ -78,8 +78,8 @@ pub record HasWords (call : Call) : Type 0 where
   pub size : length (reported_bytes call) < 2 ^ 64
   pub bytes : IsBytes (reported_bytes call)
 
--- so do the calls of a search of bytes, if these are fewer than the greatest such number, wherever
--- `binary_data` comes among them
+-- the calls of a search of bytes have such numbers, if there are fewer bytes than the greatest
+-- number of 64 bits, wherever `binary_data` comes among the calls
 abbrev pub PlansHaveWords : Type 0
 PlansHaveWords =
     (settings : Settings) (meaning : Meaning) (bytes : List ℕ) (detection : BinaryDetection)
@@ -94,7 +94,7 @@ pub record AreReadBack (messages : List Json) (text : List ℕ) : Type 0 where
   pub split : lines 10 text ≡ map json_line messages
   pub read : AllZip IsLineOf messages (lines 10 text)
 
--- so do the positions of its parts
+-- a call has numbers of 64 bits, and so have the positions of its parts
 pub record HasPrintedWords (printed : PrintedCall) : Type 0 where
   pub call : HasWords printed.call
   pub ranges : All IsWordRange printed.parts
@@ -107,7 +107,7 @@ PartsHaveWords =
     → HasWords printed.call → HasPrintedWords printed
 
 module _ {R : Type 0} (text_at : R → TextAt) where
-  -- what matches would be replaced by in a search
+  -- what would replace the matches of a search
   abbrev pub texts_of : JsonFormat R → Scene → CallTextAt
   texts_of format scene = text_at format.replacer scene.settings
 
@@ -118,7 +118,7 @@ module _ {R : Type 0} (text_at : R → TextAt) where
       → AreReadBack (messages_of format.always_begin_end scene.path (texts_of format scene)
       format.progress.is_begun calls) (printed_by (json_rules text_at) scene format calls).text
 
-  -- the text of a search tells its reports: any search with this text has the same ones
+  -- the text of a search tells its reports: any search with this text has the same reports
   abbrev pub SearchesTell : Type 0
   SearchesTell =
       (format other : JsonFormat R) (scene another : Scene) (calls others : List PrintedCall)

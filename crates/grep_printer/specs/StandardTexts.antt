@@ -37,7 +37,8 @@ default_config = record {
   separators = None;
 }
 
--- nothing was reported yet; whether the printer has written anything before
+-- what was reported at the beginning: nothing. It is kept whether the printer has written anything
+-- before
 abbrev pub new_progress : Bool → Progress
 new_progress follows =
     record { follows = follows; has_match = false; is_open = false; binary = None }
@@ -61,7 +62,7 @@ binary_message color (Convert byte) path offset =
     ++ (codes "binary file matches (found \"\\0\" byte around offset "
     ++ (decimal offset ++ codes ")\n"))
 
--- the message about a binary byte, if one was found
+-- the message about a binary byte, if the search found one
 abbrev pub message_text : Option (List ℕ) → BinaryDetection → Option (Bor (List ℕ))
     → Option ℕ → List ℕ
 message_text color detection path None = []
@@ -128,7 +129,7 @@ goes_on progress detection breaks = true
 goes_on progress detection (binary_data offset) = true
 goes_on progress detection (finishes count binary) = true
 
--- what was reported, with a call
+-- what was reported so far, after a call
 abbrev pub progress_after : Progress → Call → Progress
 progress_after progress begins = progress
 progress_after progress (matches number offset bytes) =

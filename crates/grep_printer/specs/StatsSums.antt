@@ -28,7 +28,7 @@ no_stats = record {
   matches = 0;
 }
 
--- each count added to its own
+-- two records of counts, added count by count
 abbrev pub stats_sum : Stats → Stats → Stats
 stats_sum a b = record {
   elapsed = capped_sum a.elapsed b.elapsed;

@@ -37,8 +37,8 @@ default_summary_config = record {
 abbrev pub no_counts : Counts
 no_counts = record { match_count = 0; part_count = 0 }
 
--- what was reported, with some more matches that have so many parts, each count up to the greatest
--- number of 64 bits
+-- what was reported so far, after some more matches, by how many parts these have. Each count goes
+-- up to the greatest number of 64 bits
 abbrev pub with_matches : Counts → ℕ → ℕ → Counts
 with_matches counts count parts = record {
   match_count = capped_sum counts.match_count count;
@@ -72,13 +72,13 @@ counts_on PathWithMatch = false
 counts_on PathWithoutMatch = false
 counts_on Quiet = false
 
--- whether something is written of a search: of one that found it, and of any that is counted if a
--- count of zero is written
+-- whether something is written of a search: if it found what it is for, or if counts are written,
+-- zero too
 abbrev pub is_written : SummaryKind → ℕ → Bool → Bool
 is_written kind count exclude_zero =
     has_found kind count || (counts_on kind && not exclude_zero)
 
--- what is written then, by what counts
+-- what is written of a search that found what it is for, by its counts
 abbrev pub found_line : SummaryKind → SummaryConfig → Option (Bor (List ℕ)) → ℕ → Counts → List ℕ
 found_line Count config path terminator counts =
     count_line config path terminator counts.match_count
@@ -88,7 +88,7 @@ found_line PathWithMatch config path terminator counts = path_line config path t
 found_line PathWithoutMatch config path terminator counts = path_line config path terminator
 found_line Quiet config path terminator counts = []
 
--- what is written when a search has ended, by what counts
+-- what is written when a search has ended, by its counts
 abbrev pub finish_text : SummaryKind → SummaryConfig → Option (Bor (List ℕ)) → ℕ → Counts
     → List ℕ
 finish_text kind config path terminator counts =
@@ -120,7 +120,7 @@ counts_parts PathWithMatch = false
 counts_parts PathWithoutMatch = false
 counts_parts Quiet = false
 
--- whether it goes on after a call, by whether it does in any case
+-- whether the search goes on after a call. It may have to go on after each, so that all is counted
 abbrev pub sums_on : Bool → SummaryKind → Call → Bool
 sums_on counts_all kind begins = true
 sums_on counts_all kind (matches number offset bytes) = counts_on kind || counts_all
@@ -133,8 +133,8 @@ sums_on counts_all kind (finishes count binary) = true
 abbrev pub asks_to_count : SummaryKind → Call → Bool
 asks_to_count kind call = counts_parts kind && is_match call
 
--- what was reported, with a call of so many parts, of which a match has one at least; nothing of it
--- counts once the search is left out
+-- what was reported so far, after a call, by how many parts it has. A match counts as one part at
+-- least. Nothing counts once the search is left out
 abbrev pub counts_after : Counts → BinaryDetection → Call → ℕ → Counts
 counts_after counts detection begins parts = counts
 counts_after counts detection (matches number offset bytes) parts =

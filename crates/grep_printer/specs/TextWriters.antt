@@ -9,7 +9,7 @@ use Rattle.grep_printer.specs.declared.text_writer.TextError.{TextError}
 use Rattle.grep_printer.specs.declared.text_writer.TextError.TheVariants.{Io, OutOfMemory}
 use Rattle.grep_printer.specs.declared.text_writer.TextWriter.{TextWriter}
 
--- what a writer of texts refers to stays, and how many bytes are kept
+-- what a writer of texts refers to stays the same, and so does how many bytes it keeps
 pub record IsSameWriter {W : Type 0} (old new : TextWriter W) : Type 0 where
   pub pending : new.pending.ghost_name ≡ old.pending.ghost_name
   pub writer : new.writer.ghost_name ≡ old.writer.ghost_name
@@ -22,8 +22,8 @@ had_memory (Err (Io error)) = true
 had_memory (Err OutOfMemory) = false
 
 module _ {W : Type 0} (step : W → OutputCall → W → Type 0) where
-  -- a piece is put after the texts before it: all that is pending is kept, or written if it is more
-  -- than is kept. Or the writer failed, or there was no memory for the piece
+  -- a piece is put after the texts before it. All that is pending is kept, or it is written, if it
+  -- is more than is kept. Otherwise the writer failed, or there was no memory for the piece
   abbrev pub PiecePut : TextWriter W → Result (Unit {0}) TextError → TextWriter W → Type 0
   PiecePut old (Ok u) new =
       (old.pending.now.has_failed ≡ false)
@@ -39,8 +39,8 @@ module _ {W : Type 0} (step : W → OutputCall → W → Type 0) where
       (new.writer.now ≡ old.writer.now)
       × (pending_bytes new.pending.now ≡ old.pending.now.before)
 
-  -- a text is put after what is pending, and no more is kept than is to be; nothing is written if
-  -- all of it is kept
+  -- a text is put after what is pending. No more is kept than may be kept, and if all of it is kept
+  -- nothing is written
   pub record PutsText (old : TextWriter W) (text : List ℕ) (new : TextWriter W) : Type 0 where
     pub same : IsSameWriter old new
     pub put : PutsAll step old.writer.now (pending_bytes old.pending.now) text

@@ -21,7 +21,7 @@ use Rattle.grep_printer.specs.declared.vimgrep.VimgrepFormat.{VimgrepFormat}
 abbrev pub vimgrep_config : Config → Config
 vimgrep_config config = record config { heading = false; only_matching = false }
 
--- the layout of the lines, what they belong to, and a report
+-- By the layout of the lines, what they belong to, and a report.
 module _ (layout : Layout) (kind : LineKind) (offset : ℕ) (bytes : List ℕ) where
   -- the line in which a part starts, after the line's number, the column of the part in it if
   -- columns are written, and the part's offset
@@ -39,13 +39,13 @@ module _ (layout : Layout) (kind : LineKind) (offset : ℕ) (bytes : List ℕ) w
       (slice_range bytes (block_start (end_byte layout) bytes (part.0, part.0))
       (block_end (end_byte layout) bytes (part.0, part.0)))
 
-  -- so for each part, by the number of the first line
+  -- the line of each part, by the number of the first line
   abbrev pub part_lines : Option ℕ → List (ℕ × ℕ) → List ℕ
   part_lines number parts = flat_map
       (λ part. part_line (number_after number (lines_before (end_byte layout) bytes part.0)) part) parts
 
--- the text of a call, by what was reported before: of a report with parts the line of each, and what
--- is written among lines of any other call
+-- the text of a call, by what was reported before. A report with parts has the line of each part,
+-- and any other call has the text that a printer of lines writes
 abbrev pub vimgrep_text : Config → Progress → Scene → Call → List (ℕ × ℕ) → List ℕ
 vimgrep_text config progress scene (matches number offset bytes) (part ∷ later) =
     if is_hidden progress scene.settings.binary_detection then []

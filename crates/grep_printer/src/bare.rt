@@ -1,5 +1,5 @@
-//! Calls of which lines alone are written, each as it is after its number, straight to a writer:
-//! where there is no memory for their text.
+//! Calls for which only bare lines are written: each line as it is, after its number. Where there
+//! is no memory for their text, they are written straight to a writer.
 ghost use Rattle.std.specs.Prelude.{◌≡◌, ◌++◌, MatchResult};
 ghost use Rattle.std.specs.Prelude.{Ok, Err};
 ghost use Rattle.grep_output.specs.Outputs.{Writes};
@@ -19,8 +19,8 @@ use std::alloc::Allocator;
 use std::io;
 
 impl<'c> Config<'c> {
-    // Whether nothing is written but lines as they are, each after its number alone, and what is
-    // between their groups.
+    // Whether only bare lines are written: each line as it is, after its number alone, and what
+    // comes between groups of lines.
     pub(crate) fn is_bare<A: Allocator + Copy>(
         &self,
         searcher: &Searcher<A>,

@@ -14,7 +14,7 @@ use grep_searcher::Match;
 // The escape after which a terminal shows a text without colors.
 const RESET: &str = "\x1b[0m";
 
-/// The escapes before what a printer writes, in place of those of ripgrep.
+/// The escapes before what a printer writes, in place of ripgrep's.
 #[derive(Debug, Drop)]
 pub struct ColorTexts {
     /// Before a path.
@@ -38,7 +38,7 @@ pub enum ColorSpecs<'c> {
     /// The colors of ripgrep: a path is magenta, a line number green, and what matches bold and
     /// red; a column and an offset have escapes that change nothing.
     Default,
-    /// Others.
+    /// Your own.
     Chosen(&'c ColorTexts),
 }
 
@@ -118,8 +118,8 @@ pub(crate) fn push_colored(text: &mut Pending, color: Option<&str>, bytes: &[u8]
     }
 }
 
-// Pushes a line, the first byte of which is at a position of its report, with the bytes in some
-// parts colored that come before an end. If it is highlighted, those up to the end are.
+// Pushes a line, the first byte of which is at a position of its report. The bytes before an end
+// that are in a part are colored. If there is a highlight, all bytes before that end have it.
 pub(crate) fn push_in_colors(
     text: &mut Pending,
     highlight: Option<&str>,
@@ -145,8 +145,9 @@ pub(crate) fn push_in_colors(
     text.push(rest)
 }
 
-// Pushes a line, the first byte of which is at a position of its report, with the bytes in some
-// parts colored that come before an end. After them comes the escape with which others are shown.
+// Pushes a line, the first byte of which is at a position of its report. The bytes before an end
+// that are in a part are colored, and `back`, the escape of all other bytes, comes after each of
+// them.
 fn push_painted(
     text: &mut Pending,
     color: &str,
@@ -190,8 +191,8 @@ fn push_rest(text: &mut Pending, color: &str, back: &str, before: bool, bytes: &
     text.push(bytes)
 }
 
-// Pushes bytes that are all colored, or none of which is, and returns whether the last byte that
-// was pushed is.
+// Pushes a run of bytes, of which all are colored, or none is. Returns whether the last byte that
+// was pushed is colored.
 fn push_run(
     text: &mut Pending,
     color: &str,
@@ -211,7 +212,8 @@ fn push_run(
     is_colored
 }
 
-// Pushes what comes between two bytes, by whether the one before is colored, and the one after.
+// Pushes what comes between two bytes, by whether the first one is colored and whether the second
+// one is.
 fn push_switch(text: &mut Pending, color: &str, back: &str, before: bool, after: bool)
     ensures { Adds text.old text.new (switch_text color.now back.now before after) }
 {

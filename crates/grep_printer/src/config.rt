@@ -17,7 +17,7 @@ pub enum SearchSeparator {
     Nothing,
     /// An empty line, as between the matches of two files below their headings.
     Blank,
-    /// What is between two groups of lines of one file, as a line with two dashes.
+    /// What comes between two groups of lines of one file, as a line with two dashes.
     Groups,
 }
 
@@ -111,9 +111,9 @@ impl<'c> StandardBuilder<'c> {
         self
     }
 
-    /// Whether the column of the first match is written before each line of a match: its first
-    /// byte, counted from 1 at the start of the report; not by default. Without a part that matches
-    /// there is none.
+    /// Whether the column of the first part is written before each line of a match; not by default.
+    /// It is the position of the part's first byte in the report, counted from 1. A report without
+    /// a part has none.
     pub fn column(&mut self, yes: bool) -> &mut StandardBuilder<'c>
         ensures reference { result.ghost_name ≡ self.entry.ghost_name }
         ensures set { result.now ≡ record self.old { column = yes } }
@@ -142,10 +142,9 @@ impl<'c> StandardBuilder<'c> {
         self
     }
 
-    /// How many bytes a line has at most that is written, with the terminator at its end if it has
-    /// one; by default there is no limit. A notice is written in place of a longer line, or of a
-    /// longer part of one: it says how many parts of the line match, if they are found and aren't
-    /// written themselves.
+    /// The limit of bytes of a line, with its terminator if it has one; by default there is none. A
+    /// notice is written in place of a longer line, or of a longer part. It says how many parts the
+    /// line has, if they are found and aren't written themselves.
     pub fn max_columns(&mut self, most: Option<u64>) -> &mut StandardBuilder<'c>
         ensures reference { result.ghost_name ≡ self.entry.ghost_name }
         ensures set { result.now ≡ record self.old { max_columns = most } }
@@ -154,9 +153,9 @@ impl<'c> StandardBuilder<'c> {
         self
     }
 
-    /// Whether the first characters of a line with more than `max_columns` bytes are written, as many
-    /// as bytes may be written, and only after them a notice; not by default. A character is what a
-    /// reader takes for one (a grapheme cluster).
+    /// Whether the first characters of a line with more than `max_columns` bytes are written, and a
+    /// notice after them; not by default. As many characters are written as `max_columns` says. A
+    /// character is what a reader takes for one (a grapheme cluster).
     pub fn max_columns_preview(&mut self, yes: bool) -> &mut StandardBuilder<'c>
         ensures reference { result.ghost_name ≡ self.entry.ghost_name }
         ensures set { result.now ≡ record self.old { max_columns_preview = yes } }
@@ -165,8 +164,8 @@ impl<'c> StandardBuilder<'c> {
         self
     }
 
-    /// The byte after a path, in place of the mark or of the end of the heading's line, as NUL, if
-    /// there is one; by default there is none.
+    /// The byte after a path, as NUL, in place of the mark after it, or of the line feed after a
+    /// heading. By default there is none.
     pub fn path_terminator(&mut self, terminator: Option<u8>) -> &mut StandardBuilder<'c>
         ensures reference { result.ghost_name ≡ self.entry.ghost_name }
         ensures set { result.now ≡ record self.old { path_terminator = terminator } }
@@ -184,7 +183,7 @@ impl<'c> StandardBuilder<'c> {
         self
     }
 
-    /// The colors of paths, numbers and matches; none by default. With one for matches the parts of
+    /// The colors of paths, numbers and matches; none by default. If matches have one, the parts of
     /// a match are found, as they are for its column.
     pub fn color_specs(&mut self, specs: ColorSpecs<'c>) -> &mut StandardBuilder<'c>
         ensures reference { result.ghost_name ≡ self.entry.ghost_name }
@@ -194,9 +193,9 @@ impl<'c> StandardBuilder<'c> {
         self
     }
 
-    /// Whether the white space of ASCII at the start of a line is left out, or of a part that is
-    /// written in its place, but not its terminator; not by default. Numbers, columns and offsets are
-    /// those of the whole line.
+    /// Whether white space of ASCII is left out at the start of a line, or of a part that is
+    /// written in its place; not by default. A terminator is never left out. Numbers, columns and
+    /// offsets stay those of the whole line.
     pub fn trim_ascii(&mut self, yes: bool) -> &mut StandardBuilder<'c>
         ensures reference { result.ghost_name ≡ self.entry.ghost_name }
         ensures set { result.now ≡ record self.old { trim_ascii = yes } }
@@ -205,8 +204,8 @@ impl<'c> StandardBuilder<'c> {
         self
     }
 
-    /// What is written between fields, and between groups of lines; by default, without any, a colon
-    /// after each field of a line that matches, a dash after one of any other line, and two dashes
+    /// What is written after fields, and between groups of lines. By default it is a colon after
+    /// each field of a line that matches, a dash after each field of any other line, and two dashes
     /// between two groups.
     pub fn separators(&mut self, separators: Option<&'c Separators>) -> &mut StandardBuilder<'c>
         ensures reference { result.ghost_name ≡ self.entry.ghost_name }

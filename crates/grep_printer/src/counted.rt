@@ -28,8 +28,8 @@ pub struct CountedFormat<F> {
 }
 
 impl<F> Printer<F> {
-    /// The printer, with what it keeps and has written, which also counts what it finds and writes in
-    /// each search from now on if `is_counting` is set.
+    /// The same printer, with what it keeps and has written. If `is_counting` is set, it also
+    /// counts what it finds and writes in each search from now on.
     pub fn counting(self, is_counting: bool) -> Printer<CountedFormat<F>>
         ensures pending { pending_bytes result.pending ≡ pending_bytes self.pending }
         ensures format { result.format ≡ record {
@@ -74,8 +74,8 @@ impl<F> Printer<CountedFormat<F>> {
 }
 
 impl<'s, F, M, W> PrinterSink<'s, CountedFormat<F>, M, W> {
-    /// What was counted of the search, which took `elapsed`, if its printer counts: it is a search
-    /// once it has ended.
+    /// What was counted of the search, which took `elapsed`, if its printer counts. The search
+    /// counts as one once it has ended.
     pub fn stats(&self, elapsed: Duration) -> Stats
         ensures { result ≡ record self.now.format.stats { elapsed = nanos_of elapsed } }
     {
@@ -87,7 +87,7 @@ impl<'s, F, M, W> PrinterSink<'s, CountedFormat<F>, M, W> {
 }
 
 impl Stats {
-    // Counts a call with so many parts, whose text has so many bytes.
+    // Counts a call, by how many parts it has, and how many bytes its text has.
     fn count(&mut self, terminator: u8, event: &Event<'_>, parts: usize, size: usize)
         ensures { self.new ≡ counted_with terminator self.old (event_call event.now) parts size }
     {
@@ -103,7 +103,7 @@ impl Stats {
         self.bytes_printed = self.bytes_printed.saturating_add(size as u64);
     }
 
-    // Counts a match of so many lines and parts.
+    // Counts a match, by how many lines and parts it has.
     fn find(&mut self, line_count: u64, match_count: u64)
         ensures { self.new ≡ with_found self.old line_count match_count }
     {
@@ -111,7 +111,7 @@ impl Stats {
         self.matches = self.matches.saturating_add(match_count);
     }
 
-    // Counts the end of the search, which has been through so many bytes.
+    // Counts the end of the search, by how many bytes it has been through.
     fn finish(&mut self, byte_count: u64)
         ensures { self.new ≡ with_finish self.old byte_count }
     {

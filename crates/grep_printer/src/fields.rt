@@ -44,7 +44,7 @@ pub(crate) struct Place {
 pub(crate) enum LineKind {
     // A match.
     Match,
-    // No match: the line is near one, or every line is reported.
+    // No match: the line is near a match, or every line is reported.
     Context,
 }
 
@@ -207,8 +207,8 @@ impl<'c, 'p> Layout<'c, 'p> {
         space_len(without_terminator(line, self.terminator))
     }
 
-    // How many parts are in a line that begins at a position of its report; where parts are written
-    // in place of lines they aren't counted.
+    // How many parts are in a line that begins at a position of its report. If parts are written in
+    // place of lines, they aren't counted.
     fn count_parts(&self, parts: &[Match], start: usize, line: &[u8]) -> usize
         requires { start + length line.now < 2 ^ 64 }
         ensures { result ≡ counted_parts self.now parts.now start line.now }
@@ -219,7 +219,8 @@ impl<'c, 'p> Layout<'c, 'p> {
         count_touching(parts, start, start + line.len())
     }
 
-    // The highlight of a line: of one of a match, if a part reaches into it or comes after its start.
+    // The highlight of a line. A line of a match has it if a part reaches into it, or begins after
+    // its start.
     fn highlight(&self, kind: LineKind, place: &Place, parts: &[Match]) -> Option<&'c str>
         ensures { color_of result ≡ highlight_of self.now kind place.now parts.now }
     {
@@ -235,8 +236,8 @@ impl<'c, 'p> Layout<'c, 'p> {
         }
     }
 
-    // Pushes the bytes of a line, the first of which is at a position of the report, with a highlight,
-    // if there is one.
+    // Pushes the bytes of a line, the first of which is at a position of the report, with a
+    // highlight, if there is one.
     fn push_bytes(
         &self,
         text: &mut Pending,
@@ -392,14 +393,14 @@ fn is_touching(part: &Match, start: usize, end: usize) -> bool
     part.start() < end && (start < part.end() || start <= part.start())
 }
 
-// Whether a part has bytes from a position on, or begins there or later.
+// Whether one of some parts has bytes from a position on, or begins there or later.
 fn any_reaches(parts: &[Match], start: usize) -> bool
     ensures { result ≡ list_any (reaches start) parts.now }
 {
     parts.iter().any(|part| reaches(part, start))
 }
 
-// Whether it does.
+// Whether a part has bytes from a position on, or begins there or later.
 fn reaches(part: &Match, start: usize) -> bool
     ensures { result ≡ reaches start part.now }
 {

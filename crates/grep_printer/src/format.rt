@@ -47,7 +47,7 @@ impl<'r> Event<'r> {
         }
     }
 
-    /// Whether lines are reported that match, by whether the lines without a match are selected.
+    /// Whether lines are reported that match, by whether the search is inverted.
     pub(crate) fn has_match(&self, is_inverted: bool) -> bool
         ensures { result ≡ event_has_match self.now is_inverted }
     {
@@ -58,8 +58,8 @@ impl<'r> Event<'r> {
     }
 }
 
-/// A format: what a printer writes of the calls of a search. Its value is its settings, and what it
-/// keeps of the calls before.
+/// A format: what a printer writes of the calls of a search. A value has the settings, and what it
+/// keeps of the calls so far.
 pub trait Format: Copy {
     /// The text of each call, and what it changes.
     ghost rules: { Rules Self };
@@ -76,8 +76,9 @@ pub trait Format: Copy {
     fn has_match(&self) -> bool
         ensures { result ≡ rules.has_match self.now };
 
-    /// Whether nothing is written but lines as they are, each after its number alone, and what is
-    /// between their groups: then a call's text is written where there is no memory for it, too.
+    /// Whether only bare lines are written: each line as it is, after its number alone, and what
+    /// comes between groups of lines. Then a call's text is written even if there is no memory for
+    /// it.
     fn is_bare<A: Allocator + Copy>(&self, searcher: &Searcher<A>, path: Option<&str>) -> bool
         ensures value { result ≡ rules.is_bare self.now
             (record { path = path.entry; settings = searcher.now.settings }) }
@@ -114,12 +115,12 @@ pub trait Format: Copy {
             (record { path = path.entry; settings = searcher.now.settings })
             (printed_event event.now parts.now) };
 
-    /// Pushes the texts of the lines of a match, each of which is a match, as one text after those
-    /// that are kept, and returns whether it did: only if no parts of them are asked for or the
-    /// search is inverted, and if it goes on after each of them. If it didn't, nothing has changed.
-    /// If memory is out, the text has failed, and the format is as it was.
+    /// Pushes the texts of some lines, each of which is a match, as one text after those that are
+    /// kept. Returns whether it did. It does so only if no parts are asked for or the search is
+    /// inverted, and if the search goes on after each line. If it didn't, nothing has changed. If
+    /// memory is out, the text has failed, and the format is as it was.
     ///
-    /// The default doesn't.
+    /// The default never does.
     fn push_lines<A: Allocator + Copy>(
         &mut self,
         text: &mut Pending,
@@ -142,10 +143,10 @@ pub trait Format: Copy {
         false
     }
 
-    /// Puts the text of a report with parts in pieces after the texts that are kept, so that it
-    /// needn't be kept whole, and returns whether the search goes on. If it returns `None`, nothing
-    /// has changed: the text is one for `push`. An error is the writer's, after some first bytes of
-    /// what was kept and of the text, or there is no memory for the rest of the text.
+    /// Puts the text of a report with parts in pieces, after the texts that are kept, so that it
+    /// needn't be kept whole. Returns whether the search goes on. If it returns `None`, nothing has
+    /// changed, and the text has to be pushed by `push`. An error is the writer's, after some first
+    /// bytes of what was kept and of the text; or there is no memory for the rest of the text.
     ///
     /// The default returns `None`.
     fn put_in_pieces<A: Allocator + Copy, W: Output>(

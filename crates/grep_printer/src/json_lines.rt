@@ -21,9 +21,9 @@ use std::alloc::Allocator;
 pub(crate) enum Message<'m> {
     // A search of a path begins.
     Begin(Option<&'m str>),
-    // A search of a path ends, in which a binary byte was found at an offset, if one was.
+    // A search of a path has ended. If it found a binary byte, this is the byte's offset.
     End(Option<&'m str>, Option<u64>, Stats),
-    // All searches, which took so many nanoseconds in all.
+    // The totals of all searches, and how many nanoseconds these took.
     Summary(Stats, u64),
 }
 

@@ -71,9 +71,8 @@ impl JsonBuilder {
         self.build_with(alloc, NoReplacer)
     }
 
-    /// A printer with these settings, which has written nothing yet, and of which the messages of
-    /// reports also have what each match would be replaced by. It takes memory from `alloc` when it
-    /// writes.
+    /// A printer with these settings, which has written nothing yet. Its messages of reports also
+    /// say what would replace each match. It takes memory from `alloc` when it writes.
     pub fn build_with<R>(&self, alloc: Global, replacer: R) -> Printer<JsonFormat<R>>
         ensures pending { pending_bytes result.pending ≡ [] }
         ensures buffer_size { result.buffer_size ≡ 65536 }
@@ -92,7 +91,7 @@ impl JsonBuilder {
 }
 
 /// The format of messages in JSON: whether `begin` and `end` are written for every search, what
-/// matches would be replaced by, and what was reported of a search.
+/// would replace matches, and what was reported of a search.
 #[derive(Clone, Copy)]
 pub struct JsonFormat<R> {
     pub(crate) always_begin_end: bool,
@@ -100,10 +99,10 @@ pub struct JsonFormat<R> {
     pub(crate) progress: JsonProgress,
 }
 
-// What was reported to a sink, and written: whether the message `begin` was written, whether a
-// match was reported, how many bytes were written, how many lines the matches have, how
-// often the matcher matches in them, and once the search has ended how many bytes it has been
-// through, and the offset of a binary byte, if one was found.
+// What was reported to a sink, and written. It has whether the message `begin` was written and a
+// match was reported, how many bytes were written, how many lines the matches have, and how often
+// the matcher matches in them. Once the search has ended, it also has how many bytes the search has
+// been through, and the offset of a binary byte, if one was found.
 #[derive(Clone, Copy)]
 pub struct JsonProgress {
     pub(crate) is_begun: bool,
@@ -131,7 +130,7 @@ impl JsonProgress {
         }
     }
 
-    // Notes so many bytes more.
+    // Notes that some more bytes were written.
     fn add_size(&mut self, size: usize)
         ensures { self.new ≡ with_size self.old size }
     {
@@ -139,7 +138,7 @@ impl JsonProgress {
         self.bytes_printed = self.bytes_printed.saturating_add(size as u64);
     }
 
-    // Notes a match of so many lines, in which the matcher matches so often.
+    // Notes a match, by how many lines it has, and how often the matcher matches in it.
     fn add_match(&mut self, lines: u64, matches: usize)
         ensures { self.new ≡ with_match self.old lines matches }
     {
@@ -148,14 +147,14 @@ impl JsonProgress {
         self.matches = self.matches.saturating_add(matches as u64);
     }
 
-    // Whether a search has ended of which something was written.
+    // Whether the search has ended, and something was written of it.
     fn is_reported(&self) -> bool
         ensures { result ≡ is_reported self.now }
     {
         self.is_begun && self.byte_count.is_some()
     }
 
-    // What was searched, found and written in a search that took so many nanoseconds.
+    // What was searched, found and written in the search, by how many nanoseconds it took.
     fn stats(&self, elapsed: u64) -> Stats
         ensures { result ≡ stats_of self.now elapsed }
     {
@@ -298,7 +297,7 @@ impl<R> Printer<JsonFormat<R>> {
         self.write_message(writer, Message::Summary(*stats, nanoseconds(elapsed)))
     }
 
-    // Writes a message that is no report.
+    // Writes a message that isn't about a report.
     fn write_message<W: Output>(
         &mut self,
         writer: &mut W,
@@ -325,9 +324,9 @@ impl<R> Printer<JsonFormat<R>> {
 
 impl<'s, R, M, W: Output> PrinterSink<'s, JsonFormat<R>, M, W> {
     /// Writes the message `end` of the search, which took `elapsed`, if the search has ended and
-    /// something was written of it; another call would write it again. It gives what was searched,
-    /// found and written, each 0 if it writes nothing. An error is the writer's, or one of being
-    /// out of memory.
+    /// something was written of it. Call it once: another call would write the message again. It
+    /// returns what was searched, found and written, or zeros if it writes nothing. An error is the
+    /// writer's, or one of being out of memory.
     pub fn write_end(&mut self, elapsed: Duration) -> Result<Stats, SearchError>
         ensures same { IsSameSink self.old self.new }
         ensures format { self.new.format ≡ self.old.format }

@@ -14,11 +14,11 @@ use std::alloc::{AllocError, Global};
 pub(crate) enum Piece<'p> {
     // An object begins.
     Open,
-    // It ends.
+    // An object ends.
     Close,
     // An array begins.
     OpenArray,
-    // It ends.
+    // An array ends.
     CloseArray,
     // The name of a member.
     Key(&'p str),
@@ -40,7 +40,7 @@ pub(crate) struct JsonText {
 }
 
 impl JsonText {
-    // A text of JSON, into which all that is pending is moved.
+    // A text of JSON that begins with all that is pending, which is moved into it.
     pub(crate) fn take_from(text: &mut Pending) -> JsonText
         ensures before { result.out.before ≡ text.old.before ++ text.old.text }
         ensures tokens { result.out.tokens ≡ [] }
@@ -53,8 +53,8 @@ impl JsonText {
         }
     }
 
-    // Moves it back as what is pending, of which the bytes from a position on are the text at hand,
-    // and ends the line.
+    // Ends the line, and moves the text back to what is pending. The bytes from a position on are
+    // the text at hand.
     pub(crate) fn put_line(self, text: &mut Pending, start: usize)
         requires { start ≤ length self.out.before }
         ensures before { text.new.before ≡ take start (self.out.before ++ print self.out.tokens) }

@@ -2,8 +2,8 @@
 //!
 //! `Standard` writes each reported line, as grep does, `Summary` a count or a path for each search,
 //! and `Json` messages for programs. `specs/StandardTexts.antt`, `specs/SummaryTexts.antt` and
-//! `specs/JsonTexts.antt` define the text of each call of a search, and `CALLING.md` has an example.
-//! The printers follow those of ripgrep's crate grep-printer.
+//! `specs/JsonTexts.antt` define the text of each call of a search, and `CALLING.md` has an
+//! example. The printers follow those of ripgrep's crate grep-printer.
 #![tactic(auto)]
 
 mod bare;

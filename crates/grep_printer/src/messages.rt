@@ -22,7 +22,7 @@ use grep_searcher::{Match, Searcher};
 use simdutf8::basic::from_utf8;
 use std::alloc::{AllocError, Allocator, Global};
 
-// What the matches in the reports of a search would be replaced by.
+// What would replace the matches in the reports of a search.
 #[derive(Clone, Copy)]
 pub(crate) struct Replacements<'s, R, A: Allocator + Copy> {
     pub(crate) replacer: R,
@@ -113,7 +113,7 @@ impl JsonText {
         ])
     }
 
-    // Pushes what the match at a position of a report would be replaced by, if it would be.
+    // Pushes what would replace the match at a position of a report, if something would.
     fn push_replacement<R: Replacer, A: Allocator + Copy>(
         &mut self,
         report: &Report<'_>,
@@ -173,7 +173,7 @@ impl JsonText {
     }
 }
 
-// Seconds, of a number of microseconds.
+// Microseconds as seconds.
 fn seconds_text(alloc: Global, micros: u64) -> Result<String, AllocError>
     ensures { IfOk result (λ text. string_bytes text ≡ seconds_text micros) }
 {

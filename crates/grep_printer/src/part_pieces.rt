@@ -1,4 +1,4 @@
-//! The lines in which the parts of a report start, put as pieces of a text.
+//! The lines in which the parts of a report start, each put as a piece of a text.
 ghost use Rattle.std.specs.Prelude.{◌≡◌, ◌+◌, ◌++◌, ◌<◌, ◌^◌, [], length};
 ghost use Rattle.grep_printer.specs.MatchedParts.{AreInOrder};
 ghost use Rattle.grep_printer.specs.Reports.{line_kind};
@@ -15,8 +15,8 @@ use grep_lines::count;
 use grep_output::Output;
 use grep_searcher::Match;
 
-// Puts what comes before a report, and of each part of it the line in which that starts, each line
-// as a piece.
+// Puts what comes before a report, and for each of its parts the line in which that part starts.
+// Each line is a piece.
 pub(crate) fn put_part_lines<W: Output>(
     out: &mut TextWriter<'_, W>,
     layout: &Layout<'_, '_>,

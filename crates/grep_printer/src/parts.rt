@@ -16,8 +16,8 @@ use grep_searcher::{FindAt, Match, SearchError, Searcher, SinkError};
 use std::alloc::{AllocError, Allocator, Global};
 use std::fmt::Display;
 
-// Why the parts of a report aren't found: memory is out for them, or the matcher failed. It has no
-// more room than the matcher's error needs.
+// Why the parts of a report aren't found: there is no memory for them, or the matcher failed. It
+// takes no more room than the matcher's error.
 pub(crate) enum PartsError<E> {
     // Memory is out.
     Memory,
@@ -64,7 +64,7 @@ pub(crate) fn find_report_parts<M: FindAt, A: Allocator + Copy>(
 }
 
 // Finds the parts of some bytes that match, from a start on, in order. Each starts before a limit
-// and ends by it, and is counted from the start as the limit is.
+// and ends by it. Positions and the limit are counted from the start.
 fn find_parts<M: FindAt>(
     parts: &mut Vec<Match>,
     matcher: &M,
@@ -98,8 +98,8 @@ fn find_parts<M: FindAt>(
     }
 }
 
-// Pushes a match, unless it is empty and the one before it ended there. It fails only where there
-// was no room for it, so that memory was asked for.
+// Pushes a match, unless it is empty and the one before it ended there. It fails only if the vector
+// had no room for it, so that it asked for memory.
 fn push_part(parts: &mut Vec<Match>, end: Option<usize>, found: Match) -> Result<(), AllocError>
     ensures parts { OnOk result (parts.new.items
         ≡ (if is_passed end found then parts.old.items else parts.old.items ++ found ∷ [])) }
@@ -140,7 +140,7 @@ fn find_from<M: FindAt>(
     }
 }
 
-// A match, counted from a start, if it then starts before a limit and ends by it.
+// A match, counted from a start, if it starts before a limit and ends by it when it is counted so.
 fn part_below(found: &Match, start: usize, limit: usize) -> Option<Match>
     requires from { start ≤ found.now.0 }
     requires ordered { found.now.0 ≤ found.now.1 }

@@ -1,4 +1,4 @@
-//! Reports of which the lines are written as they are, each after its number alone.
+//! Reports whose lines are written as they are, each after its number alone.
 ghost use Rattle.std.specs.Prelude.{◌≡◌, ◌≤◌, ◌<◌, ◌∷◌, ◌++◌, [], MatchBool, length, slice_range, true};
 ghost use Rattle.std.specs.List.{count_by, flat_map};
 ghost use Rattle.grep_matcher.specs.Lines.{byte_of, lines};
@@ -17,8 +17,9 @@ use grep_output::Pending;
 use grep_searcher::{LineIter, LineTerminator, Match};
 
 impl<'c> Config<'c> {
-    // Pushes a report if its lines are written as they are, each after its number alone, and returns
-    // whether it did. Most reports are: neither a layout nor a copy of the settings is made for them.
+    // Pushes a report if its lines are written as they are, each after its number alone. Returns
+    // whether it did. Most reports are written so, and for them neither a layout nor a copy of the
+    // settings is made.
     #[inline(always)]
     pub(crate) fn push_plain(
         &self,
@@ -55,7 +56,8 @@ impl<'c> Config<'c> {
     }
 
     // Whether lines, or parts in their place, are written as they are, each after its number alone:
-    // without other fields, limit and colors, not trimmed, and with the usual separators.
+    // there is no other field, no limit, no color and no trimming, and the separators are the usual
+    // ones.
     #[inline(always)]
     pub(crate) fn is_plain(&self, path: Option<&str>) -> bool
         ensures { result ≡ is_plain self.now path.entry }
@@ -71,8 +73,8 @@ impl<'c> Config<'c> {
     }
 }
 
-// Pushes each part of a match in a line of its own, if the match is one line that has its
-// terminator, into which no part reaches. Returns whether it did.
+// Pushes each part of a match in a line of its own, if the match is one line with its terminator,
+// and no part reaches into the terminator. Returns whether it did.
 #[inline(never)]
 fn push_plain_parts(
     text: &mut Pending,
@@ -100,7 +102,8 @@ fn push_plain_parts(
     true
 }
 
-// Whether a report is a match of one line that has its terminator, into which no part reaches.
+// Whether a report is a match of one line with its terminator, and no part reaches into the
+// terminator.
 fn has_plain_parts(terminator: LineTerminator, report: &Report<'_>, parts: &[Match]) -> bool
     requires { AreInOrder 0 (length report.now.bytes.now) parts.now }
     ensures { result ≡ true → HasPlainParts terminator report.now parts.now }
@@ -162,9 +165,9 @@ fn push_parts(
     }
 }
 
-// Pushes the lines of a match that some bytes show from one position up to another as they are, each
-// after its number, if they are numbered; if not, they aren't looked for. The caller ensures that
-// there is a byte.
+// Pushes the lines of a match as they are, each after its number. They are the bytes from one
+// position of some bytes up to another. If lines have no numbers, the bytes aren't split into
+// lines. The caller ensures that there is a byte.
 #[inline(always)]
 fn push_lines(
     text: &mut Pending,
@@ -185,7 +188,7 @@ fn push_lines(
     }
 }
 
-// Pushes the bytes that some bytes show from one position up to another as one line.
+// Pushes the bytes from one position of some bytes up to another, as one line.
 #[inline(always)]
 fn push_range(text: &mut Pending, terminator: u8, shown: &[u8], start: usize, end: usize)
     requires ordered { start ≤ end }

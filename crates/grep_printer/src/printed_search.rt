@@ -1,4 +1,4 @@
-//! Searches of which a printer writes the reports.
+//! Searches whose reports a printer writes.
 ghost use Rattle.std.specs.Prelude.{◌≡◌, OnOk, true};
 ghost use Rattle.grep_printer.specs.PrintedSearches.{IsPrintedBy, IsPrintedInOrder};
 ghost use Rattle.grep_printer.specs.PrintedSearches.{IsSearchPrinted};
@@ -11,11 +11,13 @@ use grep_searcher::laws::inputs_are_searched;
 use grep_searcher::{FindAt, SearchError, Searcher, Source};
 use std::alloc::Global;
 
-/// Searches what a source gives with the matcher of a printer's sink, to which it reports: the
-/// printer writes the texts of the calls, or keeps them. An error is one of the search, or of the
-/// printer: out of memory, or the writer's. The caller ensures that the matcher is the sink's.
+/// Searches what a source gives, with the matcher of a printer's sink, and reports to this sink.
+/// The printer writes the texts of the calls, or keeps them. An error is one of the search, or of
+/// the printer: being out of memory, or the writer's. The caller ensures that the matcher is the
+/// sink's.
 ///
-/// With any matcher the calls come in order: `begin`, reports, and `finish` unless it failed.
+/// With any matcher the calls come in order: `begin`, reports, and `finish` unless the search
+/// failed.
 pub fn search<F: Format, M: FindAt + Copy, H: Source, W: Output>(
     searcher: &mut Searcher,
     matcher: M,
@@ -46,8 +48,8 @@ pub struct Searched {
 }
 
 impl<F: Format> Printer<F> {
-    /// Searches what a source gives, and writes what is reported to `writer`, or keeps it. The path,
-    /// if there is one, is what the format writes of it.
+    /// Searches what a source gives, and writes what is reported to `writer`, or keeps it. The
+    /// path, if there is one, is the one that the format writes.
     pub fn search<M: FindAt + Copy, H: Source, W: Output>(
         &mut self,
         searcher: &mut Searcher,
@@ -70,7 +72,7 @@ impl<F: Format> Printer<F> {
 }
 
 impl<'s, F: Format, M: FindAt + Copy, W: Output> PrinterSink<'s, F, M, W> {
-    /// Ends the sink, so that its printer and writer may be used again, and returns whether the
+    /// Ends the sink, so that its printer and its writer may be used again. Returns whether the
     /// search found what it is for, as `has_match` does.
     pub fn end(self) -> bool
         ensures printer { self.exit.0.now ≡ self.entry.printer.now }

@@ -36,24 +36,24 @@ use std::io;
 // How many bytes of text a printer keeps before it writes them, unless it is told otherwise.
 const BUFFER_SIZE: usize = 64 * 1024;
 
-// The text of a call with more parts than these may be long: it is pushed once, and not first to see
-// whether it is kept.
+// If a call has more parts than these, its text may be long. Then it is pushed once, and not a
+// first time to see whether it can be kept.
 const MANY_PARTS: usize = 64;
 
 /// A printer: it writes what its format makes of the calls of a search. `sink` gives the sink of
-/// one search after another, each with the writer that is lent to it.
+/// one search after another, and each time you lend it the writer.
 ///
-/// Text is kept until there are 64 KiB of it, or as much as `set_buffer_size` says, and written
-/// then or by `flush`, after which the writer may be used otherwise. What is kept when the printer
-/// is dropped isn't written.
+/// Text is kept until there are 64 KiB of it, or as much as `set_buffer_size` says. Then it is
+/// written, or when you call `flush`. After `flush` you may write to the writer yourself. What is
+/// kept when the printer is dropped isn't written.
 #[derive(Drop)]
 pub struct Printer<F> {
     // The texts of calls that aren't written yet, and how many bytes of them are kept.
     pub(crate) pending: Pending,
     pub(crate) buffer_size: usize,
-    // The parts that match of the report at hand.
+    // The parts of the report at hand that match.
     pub(crate) parts: Vec<Match>,
-    // The format as each search has it to begin with.
+    // The format with which each search begins.
     pub(crate) format: F,
     pub(crate) has_written: bool,
     pub(crate) has_failed: bool,
@@ -86,8 +86,8 @@ impl<F> Printer<F> {
         self.buffer_size = size;
     }
 
-    /// Whether there was any text. That of a call that failed doesn't count; if it was the writer
-    /// that failed, `has_failed` is true.
+    /// Whether there was any text. The text of a call that failed doesn't count. If the writer
+    /// failed, `has_failed` is true.
     pub fn has_written(&self) -> bool
         ensures { result ≡ self.now.has_written }
     {
@@ -103,8 +103,8 @@ impl<F> Printer<F> {
 }
 
 impl<F: Format> Printer<F> {
-    /// The sink of a search, which writes to `writer`: the matcher is that of the search, and the
-    /// path, if there is one, is what the format writes of it.
+    /// The sink of a search, which writes to `writer`. The matcher has to be the one of the search.
+    /// The path, if there is one, is the one that the format writes.
     pub fn sink<'s, M: FindAt, W>(
         &'s mut self,
         writer: &'s mut W,
@@ -132,7 +132,8 @@ impl<F: Format> Printer<F> {
 
 impl<F> Printer<F> {
     /// Writes what isn't written yet, and flushes the writer. An error is the writer's own, or of
-    /// kind `WriteZero` as for `write_all` of grep_output: then nothing is kept any more.
+    /// kind `WriteZero`, as for `write_all` of grep_output. After an error nothing is kept any
+    /// more.
     pub fn flush<W: Output>(&mut self, writer: &mut W) -> io::Result<()>
         ensures flushed { Flushes W.step writer.old (pending_bytes self.old.pending) result
             writer.new }
@@ -150,7 +151,7 @@ impl<F> Printer<F> {
         flushed
     }
 
-    /// Writes what isn't written yet, and doesn't flush the writer. An error is one of `flush`.
+    /// Writes what isn't written yet, and doesn't flush the writer. Errors are as for `flush`.
     pub fn write_pending<W: Output>(&mut self, writer: &mut W) -> io::Result<()>
         ensures written { Writes W.step writer.old (pending_bytes self.old.pending) result
             writer.new }
@@ -182,7 +183,7 @@ impl<F> Printer<F> {
         writer.flush()
     }
 
-    // Whether as much text is kept as is written at once.
+    // Whether so much text is kept that it is to be written.
     fn is_full(&self) -> bool
         ensures some { result ≡ false → 0 < self.now.buffer_size }
         ensures kept { result ≡ false
@@ -191,8 +192,8 @@ impl<F> Printer<F> {
         self.pending.len() >= self.buffer_size
     }
 
-    // Ends the text at hand, and returns whether it is kept: if there are more bytes than are kept,
-    // they are to be written.
+    // Ends the text at hand, and returns whether it is kept. If it isn't, there are more bytes than
+    // are kept, and they are to be written.
     #[inline(always)]
     pub(crate) fn keeps_text(&mut self) -> bool
         ensures pending { self.new.pending ≡ self.old.pending }
@@ -216,7 +217,7 @@ impl<F> Printer<F> {
         true
     }
 
-    // Writes what is kept, and then the text of a call of which lines alone are written.
+    // Writes what is kept, and then the text of a call for which only bare lines are written.
     #[inline(never)]
     fn write_unkept<W: Output>(
         &mut self,
@@ -361,7 +362,7 @@ impl<'s, F: Format, M: FindAt, W: Output> PrinterSink<'s, F, M, W> {
         }
     }
 
-    // Has no parts at hand, where those of a call's report aren't asked for.
+    // Empties the parts at hand, since those of the call's report aren't asked for.
     #[inline(always)]
     fn clear_parts<A: Allocator + Copy>(&mut self, searcher: &Searcher<A>, event: &Event<'_>)
         requires { (has_match searcher.now.settings (event_call event.now)
@@ -376,8 +377,8 @@ impl<'s, F: Format, M: FindAt, W: Output> PrinterSink<'s, F, M, W> {
         self.printer.parts.clear();
     }
 
-    // Keeps the text of a call of whose report no parts are asked for, if there is memory and room for
-    // it, and returns whether the search goes on. If there isn't, nothing has changed but the parts.
+    // Keeps the text of a call whose parts aren't asked for, if there is memory and room for it,
+    // and returns whether the search goes on. Otherwise nothing has changed but the parts.
     #[inline(always)]
     fn keep<A: Allocator + Copy>(
         &mut self,
@@ -413,7 +414,7 @@ impl<'s, F: Format, M: FindAt, W: Output> PrinterSink<'s, F, M, W> {
     }
 
     // Prints a call, and returns whether the search goes on. It is inlined, so that each method
-    // knows which call it prints; room for an error is made only where one may come.
+    // knows which call it prints, and makes room for an error only where one may come.
     #[inline(always)]
     fn print<A: Allocator + Copy>(
         &mut self,
@@ -439,7 +440,7 @@ impl<'s, F: Format, M: FindAt, W: Output> PrinterSink<'s, F, M, W> {
         self.print_call(searcher, event)
     }
 
-    // Prints a call of whose report the parts are asked for.
+    // Prints a call whose parts are asked for.
     #[inline(always)]
     fn print_with_parts<A: Allocator + Copy>(
         &mut self,
@@ -468,7 +469,7 @@ impl<'s, F: Format, M: FindAt, W: Output> PrinterSink<'s, F, M, W> {
     }
 
     // Keeps the text of a call whose parts are at hand, if there is memory and room for it, and
-    // returns whether the search goes on. If there isn't, nothing has changed.
+    // returns whether the search goes on. Otherwise nothing has changed.
     #[inline(always)]
     fn keep_call<A: Allocator + Copy>(
         &mut self,
@@ -578,8 +579,8 @@ impl<'s, F: Format, M: FindAt, W: Output> Sink for PrinterSink<'s, F, M, W> {
         self.print(searcher, &Event::Report(Report::of_match(found)))
     }
 
-    /// Keeps the texts of lines, if the format pushes them at once, where there is memory for them
-    /// and less text is kept than is written at once. It writes nothing.
+    /// Keeps the texts of lines, if the format pushes them as one text, there is memory for them,
+    /// and not so much text is kept that it is to be written. It writes nothing.
     #[inline(always)]
     fn matched_lines<A: Allocator + Copy>(
         &mut self,
@@ -594,7 +595,8 @@ impl<'s, F: Format, M: FindAt, W: Output> Sink for PrinterSink<'s, F, M, W> {
         ensures taken { AreTaken (PrintsCall F.rules M.Error.output M.facts M.first_at W.step)
             searcher.now.settings self.old (calls_of_match lines.now) result self.new }
         ensures succeeds { IsOk result }
-        // What waits after them is what waited before, which is no more than is kept, and their text.
+        // After them waits what waited before, which is no more than the printer keeps, and their
+        // text.
         ensures kept { result ≡ Ok true → KeepsNoMore self.old }
         ensures room { result ≡ Ok true → (text : List ℕ)
             × (pending_bytes self.new.printer.now.pending

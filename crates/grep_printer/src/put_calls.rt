@@ -1,4 +1,4 @@
-//! The calls of a printer whose texts may be long: they are pushed once, or put in pieces.
+//! The calls of a printer whose texts may be long. A text is pushed once, or put in pieces.
 ghost use Rattle.std.specs.Prelude.{◌≡◌, ◌≤◌, ◌&&◌, ◌||◌, [], true};
 ghost use Rattle.std.specs.Prelude.{IfErr, IfNone, IfSome, OnErr, OnOk, if◌then◌else◌, is_ok};
 ghost use Rattle.std.specs.Prelude.{length};
@@ -83,8 +83,8 @@ impl<'s, F: Format, M: FindAt, W: Output> PrinterSink<'s, F, M, W> {
         Ok(goes_on)
     }
 
-    // Puts the text of a call whose parts are at hand in pieces, if the format does, and returns
-    // whether the search goes on. If it doesn't, nothing has changed.
+    // Puts the text of a call whose parts are at hand in pieces, if the format does so, and returns
+    // whether the search goes on. Otherwise nothing has changed.
     #[inline(never)]
     fn put_in_pieces<A: Allocator + Copy>(
         &mut self,
@@ -140,7 +140,7 @@ impl<'s, F: Format, M: FindAt, W: Output> PrinterSink<'s, F, M, W> {
     }
 
     // Ends the text that is pushed: it is kept, or it and those before it are written. It isn't
-    // inlined, so that where texts are kept there is no room for an error.
+    // inlined, so that no room for an error is made where texts are kept.
     #[inline(never)]
     fn end_call(&mut self) -> Result<(), SearchError>
         ensures ok { OnOk result (PutsAll W.step self.old.writer.now
@@ -170,7 +170,7 @@ impl<'s, F: Format, M: FindAt, W: Output> PrinterSink<'s, F, M, W> {
     }
 
     // Pushes the text of a call whose parts are at hand, if there is memory for it, and returns
-    // whether the search goes on. If there isn't, nothing has changed.
+    // whether the search goes on. Otherwise nothing has changed.
     #[inline(always)]
     fn push_call<A: Allocator + Copy>(
         &mut self,

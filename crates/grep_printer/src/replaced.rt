@@ -13,9 +13,9 @@ use grep_replace::{CapturesAt, Template};
 use grep_searcher::{Match, Searcher};
 use std::alloc::{AllocError, Allocator, Global};
 
-// What a part is replaced by: a template, for the groups that a matcher finds in some bytes, in
-// which those of a report begin at a position; and the byte that ends a line that is emptied, if
-// any does.
+// What replaces a part. A matcher finds the groups in some bytes, in which the report begins at a
+// position, and the template says what is made of them. If a line is emptied, a byte ends it, if
+// there is such a byte.
 #[derive(Clone, Copy)]
 pub struct Replacement<'t, 'r, M> {
     pub(crate) template: &'t Template,
@@ -25,7 +25,7 @@ pub struct Replacement<'t, 'r, M> {
     pub(crate) end: Option<u8>,
 }
 
-// Bytes in which parts are replaced, and where what replaced them is.
+// Bytes in which parts are replaced, and where the texts are that replaced them.
 #[derive(Drop)]
 pub struct Replaced {
     pub(crate) bytes: Vec<u8>,
@@ -33,8 +33,8 @@ pub struct Replaced {
 }
 
 impl<'t, 'r, M: CapturesAt + Copy> Replacement<'t, 'r, M> {
-    // What each part of a report is replaced by: the groups are found in the bytes about which the
-    // matcher was asked. By line one that is emptied is ended.
+    // What replaces each part of a report. The groups are found in the bytes about which the
+    // matcher was asked. In a search by line, a line that is emptied gets an end.
     pub(crate) fn of_report<A: Allocator + Copy>(
         template: &'t Template,
         matcher: M,
@@ -69,7 +69,8 @@ impl<'t, 'r, M: CapturesAt + Copy> Replacement<'t, 'r, M> {
         }
     }
 
-    // The bytes of a report in which each part is replaced, or their end alone if none are left.
+    // The bytes of a report in which each part is replaced. If no bytes are left, the end of the
+    // line alone.
     pub(crate) fn replace(
         &self,
         alloc: Global,
@@ -103,7 +104,7 @@ impl<'t, 'r, M: CapturesAt + Copy> Replacement<'t, 'r, M> {
         Ok(replaced)
     }
 
-    // Ends bytes that are emptied.
+    // Adds the end of the line to bytes, if there are none.
     fn end_line(&self, bytes: &mut Vec<u8>) -> Result<(), AllocError>
         ensures { OnOk result (bytes.new.items ≡ ended self.now.end bytes.old.items) }
     {

@@ -1,4 +1,4 @@
-//! A format of which each part that matches is replaced.
+//! A format that replaces each part that matches.
 ghost use Rattle.std.specs.Prelude.{◌≡◌, ◌+◌, ◌<◌, ◌^◌, [], IfOk, false, true, length};
 ghost use Rattle.grep_output.specs.PendingTexts.{Adds, pending_bytes};
 ghost use Rattle.grep_printer.specs.MatchedParts.{AreInOrder};
@@ -18,9 +18,9 @@ use grep_replace::{CapturesAt, Template};
 use grep_searcher::{Match, Searcher};
 use std::alloc::{AllocError, Allocator};
 
-/// A format of the calls of a search in which each part of a report that matches is replaced by what
-/// a template makes of its groups: what is written of a report are the new bytes, and the parts are
-/// what was put in. It has the matcher of the search, which finds the groups.
+/// A format that replaces each part of a report that matches by what a template makes of its
+/// groups. It writes the new bytes of the report, in which the parts are the texts that were put
+/// in. It has the matcher of the search, which finds the groups.
 #[derive(Clone, Copy)]
 pub struct ReplacedFormat<'t, F, M> {
     pub(crate) format: F,
@@ -29,10 +29,10 @@ pub struct ReplacedFormat<'t, F, M> {
 }
 
 impl<F> Printer<F> {
-    /// The printer, with what it keeps and has written, by which from now on each part that matches is
-    /// replaced by what a template makes of its groups: each sink has to be for the search with this
-    /// matcher. Where a report would then be too long to have an offset of 64 bits, that counts as
-    /// being out of memory.
+    /// The same printer, with what it keeps and has written. From now on it replaces each part that
+    /// matches by what a template makes of its groups. Each sink has to be for a search with this
+    /// matcher. If the end of a report would have no offset of 64 bits then, that counts as being
+    /// out of memory.
     pub fn replacing<'t, M>(
         self,
         matcher: M,
@@ -177,7 +177,7 @@ impl<'t, F: Format, M: CapturesAt + Copy> ReplacedFormat<'t, F, M> {
     }
 
     // Puts the text of a report in which each part is replaced, and returns whether the search goes
-    // on. It is one piece if the format doesn't put it in pieces.
+    // on. If the format puts no pieces, the text is one piece.
     fn put_replaced<A: Allocator + Copy, W: Output>(
         &mut self,
         out: &mut TextWriter<'_, W>,
@@ -224,8 +224,8 @@ impl<'t, F: Format, M: CapturesAt + Copy> ReplacedFormat<'t, F, M> {
     }
 }
 
-// Puts the text of a report with parts in pieces, or as one piece if the format puts no pieces, and
-// returns whether the search goes on.
+// Puts the text of a report with parts in pieces, and returns whether the search goes on. If the
+// format puts no pieces, the text is one piece.
 fn put_report<F: Format, A: Allocator + Copy, W: Output>(
     format: &mut F,
     out: &mut TextWriter<'_, W>,

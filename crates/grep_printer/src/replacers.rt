@@ -1,4 +1,4 @@
-//! What is written beside each match in messages of JSON: what would be written in its place.
+//! What messages of JSON say beside each match: what would replace it.
 ghost use Rattle.std.specs.Prelude.{◌≡◌, ℕ, IfOk, List, Option};
 ghost use Rattle.std.specs.Option.{option_map};
 ghost use Rattle.grep_searcher.specs.Plans.{Call, Settings};
@@ -11,13 +11,13 @@ use grep_replace::{CapturesAt, Template};
 use grep_searcher::Searcher;
 use std::alloc::{AllocError, Allocator, Global};
 
-/// What the matches of a search would be replaced by, if they would be.
+/// What would replace the matches of a search, if something would.
 pub trait Replacer: Copy {
-    /// What the match at a position of a call's report would be replaced by, if it would be.
+    /// What would replace the match at a position of a call's report, if something would.
     ghost text_at: { Self → Settings → Surroundings → Call → ℕ → Option (List ℕ) };
 
-    /// What the match at a position of a report would be replaced by, if it would be. An error is
-    /// one of being out of memory.
+    /// What would replace the match at a position of a report, if something would. An error is one
+    /// of being out of memory.
     fn replacement<A: Allocator + Copy>(
         &self,
         alloc: Global,

@@ -16,12 +16,12 @@ use grep_searcher::{SearchError, SinkContext, SinkContextKind, SinkMatch};
 pub enum ReportKind {
     // A match.
     Match,
-    // A line that isn't one.
+    // A line that isn't a match.
     Context(SinkContextKind),
 }
 
 impl ReportKind {
-    // The type of its message.
+    // The type of the report's message.
     pub(crate) fn name(&self) -> &'static str
         ensures { result.now ≡ type_of self.now }
     {
@@ -31,7 +31,7 @@ impl ReportKind {
         }
     }
 
-    // Whether its lines match, by whether the lines without a match are selected.
+    // Whether the report's lines match, by whether the search is inverted.
     pub(crate) fn has_match(&self, is_inverted: bool) -> bool
         ensures { result ≡ kind_has_match self.now is_inverted }
     {
@@ -41,7 +41,7 @@ impl ReportKind {
         }
     }
 
-    // What its lines belong to.
+    // What the report's lines belong to.
     pub(crate) fn line_kind(&self) -> LineKind
         ensures { result ≡ line_kind self.now }
     {
@@ -52,8 +52,8 @@ impl ReportKind {
     }
 }
 
-// A report: what it is, the number of its first line, its offset, its bytes, and the bytes that are
-// shown with it, in which its own begin at a position.
+// A report: what it is, the number of its first line, its offset, and its bytes. It also has the
+// bytes that are shown with it, and the position at which its own begin in these.
 #[derive(Clone, Copy)]
 pub struct Report<'r> {
     pub(crate) kind: ReportKind,
@@ -65,7 +65,7 @@ pub struct Report<'r> {
 }
 
 impl<'r> Report<'r> {
-    // A match.
+    // The report of a match.
     pub(crate) fn of_match(found: &SinkMatch<'r>) -> Report<'r>
         ensures call { call_of result ≡ match_call found.now }
         ensures offset { result.offset ≡ found.now.offset }
@@ -84,7 +84,7 @@ impl<'r> Report<'r> {
         }
     }
 
-    // The report with other bytes, with which nothing else is shown.
+    // The report with other bytes. Nothing else is shown with them.
     pub(crate) fn with_bytes<'b>(&self, bytes: &'b [u8]) -> Report<'b>
         ensures call { call_of result ≡ with_bytes (call_of self.now) bytes.now }
         ensures surroundings { surroundings_of result ≡ nothing_around }
@@ -102,7 +102,7 @@ impl<'r> Report<'r> {
         }
     }
 
-    // A line that isn't one.
+    // The report of a line that isn't a match.
     pub(crate) fn of_context(line: &SinkContext<'r>) -> Report<'r>
         ensures call { call_of result ≡ context_call line.now }
         ensures offset { result.offset ≡ line.now.offset }
@@ -120,7 +120,7 @@ impl<'r> Report<'r> {
     }
 }
 
-// What the end of a search comes to, by a call that goes on if it succeeds.
+// What comes of the end of a search, by what came of printing it.
 pub(crate) fn finish_of(called: Result<bool, SearchError>) -> Result<(), SearchError>
     requires { IfOk called (λ goes. goes ≡ true) }
     ensures { finish_result result ≡ called }

@@ -79,7 +79,7 @@ impl<'c, 'p> Layout<'c, 'p> {
         self.push_report(text, &report, parts)
     }
 
-    // Pushes a report: its parts, or all of it.
+    // Pushes a report: its parts, or its lines.
     fn push_report(&self, text: &mut Pending, report: &Report<'_>, parts: &[Match])
         requires fits { report.now.offset + length report.now.bytes.now < 2 ^ 64 }
         requires ordered { AreInOrder 0 (length report.now.bytes.now) parts.now }

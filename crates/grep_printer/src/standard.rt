@@ -32,7 +32,7 @@ pub struct StandardFormat<'c> {
 }
 
 // What was reported to a sink: whether the printer had written anything before, whether a match was
-// reported, whether anything was, and the offset of a binary byte, if one was found.
+// reported, whether anything was reported, and the offset of a binary byte, if one was found.
 #[derive(Clone, Copy)]
 pub struct Progress {
     pub(crate) follows: bool,
@@ -61,7 +61,8 @@ impl Progress {
         self.binary.is_some() && detection.convert_byte().is_some()
     }
 
-    // The offset of a binary byte that is reported at the end of a search: only if it found a match.
+    // The offset of a binary byte, which is reported at the end of a search only if the search
+    // found a match.
     fn reported_offset(&self, binary: Option<u64>) -> Option<u64>
         ensures { result ≡ (if self.now.has_match then binary else None) }
     {
@@ -129,7 +130,7 @@ impl<'c> StandardFormat<'c> {
     }
 
     // Pushes a report, after the opening if it is the first, unless it is hidden. Returns whether
-    // it isn't.
+    // it is shown.
     #[inline(always)]
     fn push_report<A: Allocator + Copy>(
         &mut self,

@@ -9,7 +9,7 @@ use std::time::Duration;
 /// doesn't fit in 64 bits is the greatest number that does.
 #[derive(Clone, Copy, Debug, PartialEq, Eq)]
 pub struct Stats {
-    // In nanoseconds.
+    // How long the searches took, in nanoseconds.
     pub(crate) elapsed: u64,
     pub(crate) searches: u64,
     pub(crate) searches_with_match: u64,

@@ -45,7 +45,7 @@ impl<F> Printer<CountedFormat<F>> {
     }
 }
 
-// Pushes the text of counts, with how many nanoseconds all took.
+// Pushes the text of counts, and how long all took, which is given in nanoseconds.
 fn push_stats(text: &mut Pending, stats: &Stats, elapsed: u64)
     ensures { Adds text.old text.new (stats_text stats.now elapsed) }
 {
@@ -99,7 +99,7 @@ fn push_time(text: &mut Pending, nanos: u64, words: &[u8])
     }
 }
 
-// Seconds, of a number of nanoseconds.
+// Nanoseconds as seconds.
 fn seconds(alloc: Global, nanos: u64) -> Result<String, AllocError>
     ensures { IfOk result (λ text. string_bytes text ≡ seconds_of nanos) }
 {

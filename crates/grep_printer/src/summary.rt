@@ -18,10 +18,10 @@ use std::alloc::Allocator;
 /// search after another.
 pub type Summary<'c> = Printer<SummaryFormat<'c>>;
 
-/// The sink of one search, which counts the matches, and writes the summary when the search ends. A
-/// search of which only the first match counts ends there, unless all are to be counted. A search
-/// that a binary byte ended (`BinaryDetection::Quit`) counts for nothing, as in ripgrep: nothing is
-/// written of it, and its matches don't count.
+/// The sink of one search, which counts the matches, and writes the summary when the search ends.
+/// If only the first match counts, the search ends there, unless all matches are to be counted. A
+/// search that a binary byte ended (`BinaryDetection::Quit`) counts for nothing, as in ripgrep:
+/// nothing is written of it, and its matches don't count.
 pub type SummarySink<'s, 'c, M, W> = PrinterSink<'s, SummaryFormat<'c>, M, W>;
 
 /// The format of summaries: its settings, and what was reported of a search.
@@ -31,8 +31,8 @@ pub struct SummaryFormat<'c> {
     pub(crate) counts: Counts,
 }
 
-// How many matches were reported, and how many parts they have that match, if those are counted, one
-// each at least.
+// How many matches were reported, and how many parts they have, if parts are counted. Each match
+// has one part at least.
 #[derive(Clone, Copy)]
 pub struct Counts {
     pub(crate) match_count: u64,
@@ -50,7 +50,7 @@ impl Counts {
         }
     }
 
-    // With some more matches, and parts of them.
+    // Adds some more matches, and how many parts these have.
     fn add(&mut self, matches: u64, parts: u64)
         ensures { self.new ≡ with_matches self.old matches parts }
     {

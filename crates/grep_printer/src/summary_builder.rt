@@ -13,11 +13,11 @@ use std::marker::Model;
 /// What is written of a search.
 #[derive(Clone, Copy, Debug, PartialEq, Eq)]
 pub enum SummaryKind {
-    /// How many matches were reported, after the path, if any was or a count of zero is written.
+    /// How many matches were reported, after the path. Zero is written only if counts of zero are.
     Count,
-    /// How many parts of the reported matches match, as `StandardBuilder::only_matching` has them,
-    /// but one of each match at least, after the path, if any match was reported or a count of zero
-    /// is written.
+    /// How many parts the reported matches have, after the path: those that
+    /// `StandardBuilder::only_matching` writes, but one for each match at least. Zero is written
+    /// only if counts of zero are.
     CountMatches,
     /// The path, if a match was reported.
     PathWithMatch,
@@ -38,7 +38,7 @@ impl SummaryKind {
         }
     }
 
-    // Whether something is written of a search with so many matches.
+    // Whether something is written of a search, by how many matches it has.
     pub(crate) fn is_written(&self, count: u64, exclude_zero: bool) -> bool
         ensures { result ≡ is_written self.now count exclude_zero }
     {
@@ -86,8 +86,8 @@ impl<'c> Model for SummaryBuilder<'c> {
 }
 
 impl<'c> SummaryBuilder<'c> {
-    /// The default settings: the matches that are reported are counted, a count of zero isn't written,
-    /// and nothing is colored.
+    /// The default settings: the matches that are reported are counted, a count of zero isn't
+    /// written, and nothing is colored.
     pub fn new() -> SummaryBuilder<'c>
         ensures { result ≡ default_summary_config }
     {
@@ -127,7 +127,7 @@ impl<'c> SummaryBuilder<'c> {
         self
     }
 
-    /// Whether nothing is written where a count is zero; so by default.
+    /// Whether a count of zero isn't written; by default it isn't.
     pub fn exclude_zero(&mut self, yes: bool) -> &mut SummaryBuilder<'c>
         ensures reference { result.ghost_name ≡ self.entry.ghost_name }
         ensures set { result.now ≡ record self.old { exclude_zero = yes } }
@@ -136,8 +136,8 @@ impl<'c> SummaryBuilder<'c> {
         self
     }
 
-    /// Whether a search goes on after its first match even where no more are asked for, so that all
-    /// of them can be counted; not by default.
+    /// Whether a search goes on after its first match even if no more matches are asked for, so
+    /// that all of them can be counted; not by default.
     pub fn counts_all(&mut self, yes: bool) -> &mut SummaryBuilder<'c>
         ensures reference { result.ghost_name ≡ self.entry.ghost_name }
         ensures set { result.now ≡ record self.old { counts_all = yes } }
@@ -146,8 +146,8 @@ impl<'c> SummaryBuilder<'c> {
         self
     }
 
-    /// The byte after a path, in place of a colon or of the end of the path's line, as NUL, if
-    /// there is one; by default there is none.
+    /// The byte after a path, as NUL, in place of the colon after it, or of the line feed after a
+    /// path alone. By default there is none.
     pub fn path_terminator(&mut self, terminator: Option<u8>) -> &mut SummaryBuilder<'c>
         ensures reference { result.ghost_name ≡ self.entry.ghost_name }
         ensures set { result.now ≡ record self.old { path_terminator = terminator } }
@@ -156,7 +156,7 @@ impl<'c> SummaryBuilder<'c> {
         self
     }
 
-    /// The colors, of which a summary has that of the path; none by default.
+    /// The colors; none by default. A summary has only the color of the path.
     pub fn color_specs(&mut self, specs: ColorSpecs<'c>) -> &mut SummaryBuilder<'c>
         ensures reference { result.ghost_name ≡ self.entry.ghost_name }
         ensures set { result.now ≡ record self.old { color_specs = specs.entry } }

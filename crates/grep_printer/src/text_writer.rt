@@ -14,7 +14,7 @@ pub enum TextError {
     OutOfMemory,
 }
 
-/// The texts that a printer keeps, and the writer to which they go where they have more bytes than
+/// The texts that a printer keeps, and the writer to which they go once they have more bytes than
 /// are kept.
 #[derive(Drop)]
 pub struct TextWriter<'w, W> {
@@ -30,8 +30,8 @@ pub struct TextWriter<'w, W> {
 
 impl<'w, W: Output> TextWriter<'w, W> {
     /// Ends the piece at hand, and begins another one. If there are more bytes than are kept, all
-    /// are written. On an error of the writer nothing is kept any more. If there was no memory for
-    /// the piece, it is dropped, and what came before it stays.
+    /// are written. After an error of the writer nothing is kept any more. If there was no memory
+    /// for the piece, it is dropped, and what came before it stays.
     pub fn end_piece(&mut self) -> Result<(), TextError>
         ensures same { IsSameWriter self.old self.new }
         ensures put { PiecePut W.step self.old result self.new }

@@ -26,16 +26,17 @@ pub type Vimgrep<'c> = Printer<VimgrepFormat<'c>>;
 /// The sink of one search, which writes a line for each part that matches.
 pub type VimgrepSink<'s, 'c, M, W> = PrinterSink<'s, VimgrepFormat<'c>, M, W>;
 
-/// The format: that of lines, but for reports with parts that match.
+/// The format. It differs from the format of lines only in reports with parts that match.
 #[derive(Clone, Copy)]
 pub struct VimgrepFormat<'c> {
     pub(crate) lines: StandardFormat<'c>,
 }
 
 impl<'c> StandardBuilder<'c> {
-    /// A printer, which has written nothing yet. For each part that matches it writes the line in
-    /// which that starts, after the path, the line's number, the part's column in it if `column` is
-    /// set, and its offset if `byte_offset` is. `heading` and `only_matching` don't count.
+    /// A printer that writes, for each part that matches, the line in which the part starts; it has
+    /// written nothing yet. Before the line come the path, the line's number, the part's column in
+    /// the line if `column` is set, and the part's offset if `byte_offset` is set. `heading` and
+    /// `only_matching` don't count.
     pub fn build_vimgrep(&self, alloc: Global) -> Vimgrep<'c>
         ensures pending { pending_bytes result.pending ≡ [] }
         ensures buffer_size { result.buffer_size ≡ 65536 }
@@ -125,7 +126,7 @@ impl<'c> Format for VimgrepFormat<'c> {
     }
 }
 
-// Pushes of each part of a report the line in which it starts.
+// Pushes, for each part of a report, the line in which the part starts.
 fn push_part_lines(
     layout: &Layout<'_, '_>,
     text: &mut Pending,
@@ -149,7 +150,8 @@ fn push_part_lines(
     }
 }
 
-// Pushes the line in which a part of a report starts, before which there are so many.
+// Pushes the line in which a part of a report starts, by how many lines of the report come before
+// it.
 pub(crate) fn push_part_line(
     layout: &Layout<'_, '_>,
     text: &mut Pending,
