@@ -10,19 +10,20 @@ abbrev pub are_members : List ℕ → Bool
 are_members [] = false
 are_members (first ∷ later) = not (list_any (λ byte. byte == 93) later)
 
--- what is between the brackets of a class: its members, which a mark may be before
+-- what is between the brackets of a class: its members, maybe after a mark
 abbrev pub is_class : List ℕ → Bool
 is_class class = are_members (members_of class)
 
--- a class, after its opening bracket, is before a closing one and a rest
+-- a text has a class, without its opening bracket, then a closing bracket, and a rest
 abbrev pub IsClassBefore : List ℕ → List ℕ → Type 0
 IsClassBefore text rest = (class : List ℕ) × (text ≡ class ++ 93 ∷ rest) × (is_class class ≡ true)
 
--- so are its members
+-- a text has the members of a class, then a closing bracket, and a rest
 abbrev pub AreMembersBefore : List ℕ → List ℕ → Type 0
 AreMembersBefore text rest = (members : List ℕ) × (text ≡ members ++ rest) × (are_members members ≡ true)
 
--- a member is a byte, or a range from it to one after a dash, which another dash may move
+-- a member is a byte, or a range from a byte to the one after a dash. Another dash and byte move
+-- its end
 pub data IsRange : ℕ × ℕ → List ℕ → List ℕ → Type 0 where
   of_byte : (byte : ℕ) (rest : List ℕ) → IsRange (byte, byte) (byte ∷ rest) rest
   of_end : {text : List ℕ} (first middle last : ℕ) (rest : List ℕ)
@@ -43,13 +44,15 @@ HasRanges ignores_case set text rest = (ranges : List (ℕ × ℕ)) × (0 < leng
     × AreRanges ranges text rest
     × IsSet set (is_either ignores_case (λ b. list_any (λ range. is_in_range range b) ranges))
 
--- a byte that a class stands for, by its members; a mark at its start means all others
+-- whether a class stands for a byte, by its members. If it begins with a mark, it stands for all
+-- other bytes
 abbrev pub is_of_class : Bool → Bool → List (ℕ × ℕ) → ℕ → Bool
 is_of_class ignores_case negates ranges byte =
     let is_member = is_either ignores_case (λ b. list_any (λ range. is_in_range range b) ranges) byte in
     if negates then nat_lt byte 256 && not is_member else is_member
 
--- a class, after its opening bracket: the set of the bytes that it stands for, before a rest
+-- the set of the bytes that a class stands for. The text has the class, without its opening
+-- bracket, and a rest
 abbrev pub IsClassOf : Bool → List Bool → List ℕ → List ℕ → Type 0
 IsClassOf ignores_case set text rest = (ranges : List (ℕ × ℕ)) × (0 < length ranges)
     × AreRanges ranges (members_of text) (93 ∷ rest)

@@ -4,7 +4,7 @@ use Rattle.std.specs.Prelude.{string_bytes}
 use Rattle.std.specs.Global.{Global}
 use Rattle.linegrep_files.specs.declared.failures.Failure.{Failure}
 
--- a failure has a text of its own; any other is that there is no memory
+-- a failure has a text of its own. A failure without one says that there is no memory
 abbrev pub has_cause : Failure → Bool
 has_cause failure = is_some failure.text
 

@@ -21,7 +21,7 @@ Have (Only only) name = name ≡ string_bytes only
 Have (EndingIn end) name = IsTrue (ends_with nat_eq name (string_bytes end))
 Have (Matching glob) name = MatchesOne glob.choices.items name
 
--- what a type says of a file that it has
+-- what a type says of a file whose name it has
 abbrev pub type_choice_of : TypeGlob → Choice
 type_choice_of glob = if glob.is_exclusion then LeftOut else Chosen
 
@@ -30,7 +30,8 @@ abbrev pub NoneHasFrom : ℕ → List TypeGlob → List ℕ → Type 0
 NoneHasFrom start globs name = (k : ℕ) (glob : TypeGlob) → start ≤ k → k < length globs
     → Have (slice_index_or globs k glob).names name → ⊥
 
--- what types say of a file with a name; if none has it, it is left out if one is asked for
+-- what types say of a file with a name: the last that has the name decides. If none has it, the
+-- file is left out if a type is asked for
 abbrev pub IsTypeChoice : Types → List ℕ → Choice → Type 0
 IsTypeChoice types name choice =
     ((choice ≡ (if types.are_asked then LeftOut else Unmatched))
@@ -55,14 +56,15 @@ is_wildcard byte = (byte == 42) || (byte == 63) || (byte == 91) || (byte == 93) 
 abbrev pub has_wildcard : List ℕ → Bool
 has_wildcard glob = list_any is_wildcard glob
 
--- names are those of a glob: its own bytes, those that end in what follows a star, or what it matches
+-- names are those of a glob: the glob itself, if it has no wildcard; all that end in what follows a
+-- star at its start; or all that it matches
 abbrev pub AreNames : List ℕ → Names → Type 0
 AreNames glob (Only only) = (has_wildcard glob ≡ false) × (string_bytes only ≡ glob)
 AreNames glob (EndingIn end) =
     (has_wildcard (string_bytes end) ≡ false) × (glob ≡ 42 ∷ string_bytes end)
 AreNames glob (Matching matching) = IsGlobOf false false glob matching
 
--- globs that are each for what is searched, or for what isn't
+-- globs, each with whether it leaves files out
 abbrev pub with_choice : Bool → List (List ℕ) → List (List ℕ × Bool)
 with_choice is_exclusion globs = map (λ glob. (glob, is_exclusion)) globs
 
@@ -84,7 +86,7 @@ pub record AreSelected (known : Known) (types : Types) : Type 0 where
   pub asked : types.are_asked ≡ list_any (λ one. not one.1) known.selections
   pub globs : AreTypeGlobs (selected_globs known.definitions known.selections) types.globs
 
--- types are those that options select, of what they know
+-- types are those that options select, among those that options know
 pub record AreTypes (options : TypeOptions) (types : Types) : Type 0 where
   pub known : Known
   pub is_known : IsKnownBy options known

@@ -8,7 +8,7 @@ use Rattle.std.specs.declared.io.Error.{Error}
 use Rattle.grep_ignore.specs.Classes.{begins_with}
 use Rattle.linegrep_files.specs.Paths.{joined}
 
--- a path that begins in a folder, unless it begins with a slash
+-- a path, which begins in a folder unless it begins with a slash
 abbrev pub resolved : List ℕ → List ℕ → List ℕ
 resolved folder path = if begins_with 47 path then path else joined folder path
 
@@ -25,13 +25,14 @@ module _ (reads : List ℕ → Result (Vec ℕ Global) Error → Type 0) where
         → IsTextRead path None
     of_unread : (error : Error) → reads path (Err error) → IsTextRead path None
 
-  -- the folder that worktrees share which have a folder, by what a file in it says; or that one
+  -- the folder that a worktree shares with others, by what the file `commondir` in its own folder
+  -- says; without that file, its own
   pub data IsShared (folder : List ℕ) : List ℕ → Type 0 where
     of_alone : IsTextRead (joined folder (codes "commondir")) None → IsShared folder folder
     of_shared : (text shared : List ℕ) → IsTextRead (joined folder (codes "commondir")) (Some text)
         → IsTrimAscii text shared → IsShared folder (resolved folder shared)
 
-  -- the folder that a file stands for which a repository has in place of `.git`, if it has one
+  -- the folder that a repository names, if it has a file in place of the folder `.git`
   pub data IsRepositoryAt (folder : List ℕ) : Option (List ℕ) → Type 0 where
     of_folder : IsTextRead (joined folder (codes ".git")) None → IsRepositoryAt folder None
     of_unnamed : (text : List ℕ) → IsTextRead (joined folder (codes ".git")) (Some text)

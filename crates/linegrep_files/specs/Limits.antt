@@ -14,7 +14,7 @@ abbrev pub factor_of : List ℕ → ℕ
 factor_of text = if ends_with 75 text then 2 ^ 10 else if ends_with 77 text then 2 ^ 20
     else if ends_with 71 text then 2 ^ 30 else 1
 
--- what is before it
+-- a size without the letter at its end
 abbrev pub digits_of : List ℕ → List ℕ
 digits_of text = if nat_lt 1 (factor_of text) then without_last text else text
 
@@ -23,7 +23,7 @@ abbrev pub number_of : List ℕ → Option ℕ
 number_of digits = if nat_lt 0 (length digits) && all_ascii_digits digits
     && nat_lt (digits_value 10 digits) (2 ^ 64) then Some (digits_value 10 digits) else None
 
--- so many times a factor
+-- a factor times a number, if the product has 64 bits
 abbrev pub times : ℕ → ℕ → Option ℕ
 times factor number = if nat_lt (number * factor) (2 ^ 64) then Some (number * factor) else None
 
@@ -31,7 +31,7 @@ times factor number = if nat_lt (number * factor) (2 ^ 64) then Some (number * f
 abbrev pub size_of : List ℕ → Option ℕ
 size_of text = option_and_then (times (factor_of text)) (number_of (digits_of text))
 
--- a size is given that is none
+-- a size is given that isn't well formed
 abbrev pub has_no_size : Option (Bor (List ℕ)) → Bool
 has_no_size None = false
 has_no_size (Some text) = is_none (size_of text.now)
@@ -43,7 +43,8 @@ pub record AreLimits (options : FileOptions) (limits : Limits) : Type 0 where
   pub has_size : has_no_size options.max_filesize ≡ false
   pub system : limits.is_one_system ≡ options.is_one_system
 
--- what is in a folder is visited, which is so many folders below one that is named
+-- whether what is in a folder is visited, by how many levels the folder is below the one that is
+-- named
 abbrev pub allows_depth : Limits → ℕ → Bool
 allows_depth limits depth = is_below limits.max_depth
   where
@@ -51,7 +52,7 @@ allows_depth limits depth = is_below limits.max_depth
     is_below None = true
     is_below (Some most) = nat_lt depth most
 
--- a file of a size isn't too large
+-- whether a file isn't too large, by its size
 abbrev pub allows_size : Limits → ℕ → Bool
 allows_size limits size = is_within limits.max_size
   where

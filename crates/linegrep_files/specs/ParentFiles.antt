@@ -1,5 +1,5 @@
--- Which ignore files count when a folder is taken up: those that are named, the user's own, and those of
--- the folders that it is in, by what a system says of them.
+-- Which ignore files count when a folder is taken up, by what a system says of them: those that are
+-- named, the user's own, and those of the folders that the folder is in.
 use Rattle.std.specs.Prelude.{◌≡◌, ◌⊎◌, ℕ, ◌+◌, Bool, true, ◌&&◌, ◌||◌, ◌++◌, ◌∷◌, ◌==◌, []}
 use Rattle.std.specs.Prelude.{List, codes, drop, filter, if◌then◌else◌, length, map, nat_lt, take}
 use Rattle.std.specs.Prelude.{slice_index, MatchBool, Ok, Err, String, string_bytes}
@@ -19,11 +19,11 @@ use Rattle.linegrep_files.specs.declared.ignores.Ignores.{Ignores}
 use Rattle.linegrep_files.specs.declared.ignores.Marks.{Marks}
 use Rattle.linegrep_files.specs.declared.ignores.Sources.{Sources}
 
--- the files that count in any folder: they belong to none
+-- the files that count in any folder, since they belong to no folder
 abbrev pub base_of : List Layer → List Layer
 base_of layers = filter (λ layer. nat_lt layer.depth 1) layers
 
--- what a folder may have whose names aren't known
+-- which ignore files a folder may have, if its names aren't known
 abbrev pub any_marks : Marks
 any_marks = record {
   has_rgignore = true;
@@ -37,7 +37,8 @@ any_marks = record {
 abbrev pub has_git : Sources → Bool
 has_git sources = sources.git || sources.exclude || sources.global
 
--- the paths of the folders that one is in: what is before each slash among the first bytes of its path
+-- the paths of the folders that a folder is in: what comes before each slash among the first bytes
+-- of its path
 abbrev pub parents_to : List ℕ → ℕ → List (List ℕ)
 parents_to path count = map (λ at. take at path)
     (filter (λ at. slice_index path at == 47) (range_with_len 0 count))
@@ -45,7 +46,7 @@ parents_to path count = map (λ at. take at path)
 abbrev pub parents_of : List ℕ → List (List ℕ)
 parents_of path = parents_to path (length path)
 
--- the path of such a folder for the system
+-- the path of a folder for the system, by what comes before a slash
 abbrev pub rooted : List ℕ → List ℕ
 rooted above = if is_empty above then 47 ∷ [] else above
 
@@ -54,8 +55,8 @@ abbrev pub is_within : List ℕ → List ℕ → Bool
 is_within other folder = bytes_eq (take (length other) folder) other
     && (is_empty (drop (length other) folder) || begins_with 47 (drop (length other) folder))
 
--- how many bytes of the path of a folder are before what is in another, or if it isn't in that before
--- the first name
+-- where a path begins relative to another folder: after that folder's path and a slash, if it is in
+-- there, and otherwise after its own first slash
 abbrev pub start_in : List ℕ → List ℕ → ℕ
 start_in other folder = if is_within other folder then length other + 1 else 1
 
@@ -68,12 +69,12 @@ module _ (folders : FolderFacts) where
         → IsRoot (string_bytes text) root → IsPlace folder (take root (string_bytes text))
     of_none : (error : Error) → folders.resolves folder (Err error) → IsPlace folder []
 
-  -- where what is in the current folder begins in the path of a folder
+  -- where the part relative to the current folder begins in the path of a folder
   abbrev pub IsStart : List ℕ → ℕ → Type 0
   IsStart path start = (here : List ℕ) × IsPlace (codes ".") here × (start ≡ start_in here path)
 
-  -- the files of a folder that others are in were read, the path of which is before a slash; and it may
-  -- be the top of a repository that they are in
+  -- the ignore files were read of one of the folders above, whose path comes before a slash. This
+  -- folder may also be the top of a repository
   pub record IsParentRead (sources : Sources) (above : List ℕ) (layers : List Layer)
       (repositories : List ℕ) (layers' : List Layer) (repositories' : List ℕ) : Type 0 where
     pub top : MatchBool (has_git sources)
@@ -84,7 +85,7 @@ module _ (folders : FolderFacts) where
         (depth_in (above ++ 47 ∷ [])) (length above + 1) (rooted above) layers layers')
         (layers' ≡ layers)
 
-  -- such were read of each of some folders, in order
+  -- the ignore files of each of some folders above were read, in order
   pub data AreParentsRead (sources : Sources) (layers : List Layer) :
       List (List ℕ) → List Layer → List ℕ → Type 0 where
     no_parent : AreParentsRead sources layers [] layers []
@@ -93,7 +94,7 @@ module _ (folders : FolderFacts) where
         → IsParentRead sources above mid between new repositories
         → AreParentsRead sources layers (parents ++ above ∷ []) new repositories
 
-  -- a folder is taken up, from one with a name for the system on: the files count that belong to no
+  -- a folder is taken up, by its name for the system: the ignore files count that belong to no
   -- folder, and those of the folders that it is in
   pub record IsTakenUp (name : List ℕ) (old new : Ignores) : Type 0 where
     pub place : List ℕ
@@ -104,7 +105,7 @@ module _ (folders : FolderFacts) where
     pub parents : AreParentsRead old.sources (base_of old.layers) (parents_of place) new.layers
         new.repositories.items
 
-  -- unless no ignore file is read
+  -- a folder is taken up, unless no ignore file is read
   pub record AreBegun (name : List ℕ) (old new : Ignores) : Type 0 where
     pub same : ReadsTheSame old new
     pub read : MatchBool (is_idle old) (new.layers ≡ base_of old.layers) (IsTakenUp name old new)
@@ -117,12 +118,13 @@ module _ (folders : FolderFacts) where
         → IsFileRead folders.reads ignores_case Named 0 0 path.now mid new
         → AreNamedRead ignores_case (paths ++ path ∷ []) new
 
-  -- and so was the user's own for all repositories, if there is one, at a path that isn't known
+  -- the user's own ignore file for all repositories was read, if there is one, at a path that isn't
+  -- known
   abbrev pub IsGlobalRead : Bool → List Layer → List Layer → Type 0
   IsGlobalRead ignores_case old new = (new ≡ old)
       ⊎ ((path : List ℕ) × IsFileRead folders.reads ignores_case GitGlobal 0 0 path old new)
 
-  -- ignore files are those that some sources have, and those at some paths
+  -- ignore files are those of some sources, and those at some paths
   pub record AreIgnores (sources : Sources) (paths : List (Bor (List ℕ))) (ignores : Ignores) :
       Type 0 where
     pub sources_are : ignores.sources ≡ sources

@@ -19,6 +19,6 @@ pub record IsRoot (path : List ℕ) (root : ℕ) : Type 0 where
   pub slashes : (k : ℕ) → root ≤ k → k < length path → slice_index path k ≡ 47
   pub other : (k : ℕ) → root ≡ k + 1 → slice_index path k ≢ 47
 
--- the path of a name in a folder
+-- the path of something with a name in a folder
 abbrev pub joined : List ℕ → List ℕ → List ℕ
 joined folder name = if needs_slash folder then folder ++ 47 ∷ name else folder ++ name

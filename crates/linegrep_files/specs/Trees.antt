@@ -1,4 +1,4 @@
--- What a walk visits: a folder's files, and of each folder in it the files, in the order of names.
+-- What a walk visits: the files of a folder and of the folders in it, in the order of names.
 use Rattle.std.specs.Prelude.{◌≡◌, ℕ, Bool, true, false, ◌++◌, ◌∷◌, [], List, None, Some, reverse}
 use Rattle.std.specs.Prelude.{Ok, Err, String, Vec, filter, map, not, string_bytes}
 use Rattle.std.specs.Borrow.{Bor}
@@ -25,11 +25,13 @@ is_file (File path) = true
 is_file (Folder path) = false
 is_file (Unread path error) = false
 
--- By what a system may say of folders and files; of a walk by a route, below a folder that the system
--- knows by a name, the path of which has so many bytes without the slashes at its end.
+-- By what a system may say of folders and files, and by the route of a walk. The system knows the
+-- walk's own folder by the name `top`, and the path of that has `root` bytes, without the slashes
+-- at its end.
 module _ (folders : FolderFacts) (route : Route) (top : List ℕ) (root : ℕ) where
-  -- what is in a folder, in order: what is found of its names and doesn't wait, by what is chosen
-  -- there, and the paths of what waits; nothing if it is too deep; or that it can't be read
+  -- what is in a folder: what is found for its names, in order, by what is chosen there; and apart
+  -- from these the paths of the files that wait. If the folder is too deep, that is nothing, and if
+  -- it can't be read, that is found
   pub data IsFolderOf (choices : Choices) (folder : List ℕ) :
       List Entry → List (List ℕ) → Choices → Type 0 where
     is_deep : {inside : Choices} → allows_depth choices.limits (depth_of root folder) ≡ false
@@ -50,8 +52,8 @@ module _ (folders : FolderFacts) (route : Route) (top : List ℕ) (root : ℕ) w
         → IsFolderOf choices folder (reverse next) (map path_of (filter (waits route.order) found))
         inside
 
-  -- what is visited of some entries, in their order: each one itself, and right after a folder what
-  -- is visited of what is in it; and what waits
+  -- what is visited of some entries, in their order: each entry, and right after a folder what is
+  -- visited in it. Apart from these, the paths of the files that wait
   pub data AreVisited :
       Choices → List Entry → List Entry → List (List ℕ) → Choices → Type 0 where
     no_entry : (choices : Choices) → AreVisited choices [] [] [] choices
@@ -65,7 +67,8 @@ module _ (folders : FolderFacts) (route : Route) (top : List ℕ) (root : ℕ) w
         → AreVisited choices (Folder path ∷ later) (Folder path ∷ (below ++ visited))
         (own ++ (under ++ waiting)) after
 
-  -- some first of what is visited of some entries: up to one of them, or to one of what is in one
+  -- the beginning of what is visited of some entries: up to one of them, or to something in one of
+  -- them
   pub data AreFirst : Choices → List Entry → List Entry → Type 0 where
     no_first : (choices : Choices) (later : List Entry) → AreFirst choices later []
     first_entry : {choices : Choices} {later visited : List Entry} (entry : Entry)
@@ -83,7 +86,8 @@ module _ (folders : FolderFacts) (route : Route) (top : List ℕ) (root : ℕ) w
         → AreVisited inside inner below under mid → AreFirst mid later visited
         → AreFirst choices (Folder path ∷ later) (Folder path ∷ (below ++ visited))
 
--- what waits is visited once nothing else is: files, each once, but for some that are left
+-- the files that wait are visited once nothing else is left, each once, but for some that are left
+-- over
 pub record AreLater (waiting : List (List ℕ)) (late : List Entry) (left : List (List ℕ)) : Type 0 where
   pub same : IsPermutation waiting (map path_of late ++ left)
   pub files : All (λ entry. is_file entry ≡ true) late
@@ -91,7 +95,7 @@ pub record AreLater (waiting : List (List ℕ)) (late : List Entry) (left : List
 -- By what a system may say of folders and files.
 module _ (folders : FolderFacts) (route : Route) (choices : Choices) (folder : List ℕ) where
   -- all that is visited of a folder, by choices for it: the folder itself, and what is in it, in
-  -- order, but for files that are sorted by a time, which come last
+  -- order. Files that are sorted by a time come last
   pub record AreAllOf (visited : List Entry) : Type 0 where
     pub begun : Choices
     pub are_begun : AreTakenUp folders (name_of folder) choices begun
@@ -108,7 +112,7 @@ module _ (folders : FolderFacts) (route : Route) (choices : Choices) (folder : L
     pub are_late : AreLater waiting late []
     pub are : visited ≡ former ++ late
 
-  -- some first of it
+  -- the beginning of what is visited of a folder
   pub data AreFirstOf : List Entry → Type 0 where
     are_none : AreFirstOf []
     are_first : {visited : List Entry} (begun : Choices) (path : String Global) (root : ℕ)
@@ -132,8 +136,7 @@ module _ {S : Type 0} (facts : S → FolderFacts) where
       × GoesOn old new
   IsPassed old choices entry new inside = (new ≡ old) × (inside ≡ choices)
 
-  -- what was visited of a walk so far, by its calls: what was popped, each folder of which was
-  -- entered
+  -- what a walk has visited so far, by its calls: what was popped. Each folder among it was entered
   pub data IsWalked (begun : Walk S) (choices : Choices) :
       List Entry → Walk S → Choices → Type 0 where
     no_visit : IsWalked begun choices [] begun choices
@@ -146,7 +149,7 @@ module _ {S : Type 0} (facts : S → FolderFacts) where
         → IsEntered facts popped inside (string_bytes path) new within → GoesOn popped new
         → IsWalked begun choices (visited ++ Folder path ∷ []) new within
 
-  -- what a walk visited that ended with memory left is all that is visited of its folder
+  -- if a walk ended with memory left, it has visited all that is visited of its folder
   abbrev pub WalksEnd : Type 0
   WalksEnd = (system : Bor S) (route : Route) (folder : List ℕ) (begun walk end : Walk S)
       (first choices inside : Choices) (visited : List Entry)
@@ -155,8 +158,8 @@ module _ {S : Type 0} (facts : S → FolderFacts) where
       → IsWalked begun choices visited walk inside → walk.is_out_of_memory ≡ false
       → IsPopped walk None end → AreAllOf (facts system.now) route first folder visited
 
-  -- what a walk has visited by the time that an entry is popped is, with that, some first of what is
-  -- visited of its folder
+  -- when an entry is popped, what the walk has visited so far, and this entry, are the beginning of
+  -- what is visited of its folder
   abbrev pub WalksBegin : Type 0
   WalksBegin = (system : Bor S) (route : Route) (folder : List ℕ) (begun walk new : Walk S)
       (first choices inside : Choices) (visited : List Entry) (entry : Entry)

@@ -45,7 +45,7 @@ globs_of definitions name = map (λ d. d.1) (filter (λ d. bytes_eq d.0 name) de
 abbrev pub is_known : Definitions → List ℕ → Bool
 is_known definitions name = list_any (λ d. bytes_eq d.0 name) definitions
 
--- the names of types, of which one that comes again at once counts once
+-- the names of types, in order. If a name comes several times in a row, it counts once
 abbrev pub names_after : List ℕ → Definitions → List (List ℕ)
 names_after last [] = []
 names_after last (d ∷ later) =
@@ -65,27 +65,28 @@ has_colon text = list_any is_colon text
 abbrev pub is_letter : ℕ → Bool
 is_letter letter = is_alphabetic letter || is_numeric letter
 
--- a type may have a name: letters and digits alone, but not the name of all types
+-- a type may have this name: it has letters and digits alone, and isn't the name of all types
 abbrev pub is_type_name : List ℕ → Bool
 is_type_name name = not (is_empty name) && not (bytes_eq name (codes "all"))
     && list_all is_letter (chars name)
 
--- a type has a glob
+-- definitions, after a type got another glob
 abbrev pub with_glob : List ℕ → Definitions → List ℕ → Definitions
 with_glob name definitions glob = definitions ++ (name, glob) ∷ []
 
--- a type has the globs of another too
+-- definitions, after a type got the globs of another type
 abbrev pub with_globs_of : List ℕ → Definitions → List ℕ → Definitions
 with_globs_of name definitions other =
     definitions ++ map (λ glob. (name, glob)) (globs_of definitions other)
 
--- and of some, with commas between them, if all are known
+-- definitions, after a type got the globs of several types, if all of these are known
 abbrev pub with_types : List ℕ → Definitions → List (List ℕ) → Option Definitions
 with_types name definitions others =
     if list_all (is_known definitions) others then Some (fold (with_globs_of name) definitions others)
     else None
 
--- what follows a name and a colon: a glob, or the word for including other types and their names
+-- definitions, by what follows a name and a colon: a glob, or the word that includes other types,
+-- with their names
 abbrev pub with_meaning : List ℕ → Definitions → List ℕ → Option Definitions
 with_meaning name definitions meaning =
     if has_colon meaning then if bytes_eq (before_first is_colon meaning) (codes "include")
@@ -94,17 +95,17 @@ with_meaning name definitions meaning =
     (slice_split is_comma (after_first is_colon meaning)) else None
     else if is_empty meaning then None else Some (with_glob name definitions meaning)
 
--- a definition is added, if it is well formed
+-- definitions, after one was added, if it is well formed
 abbrev pub added : Definitions → List ℕ → Option Definitions
 added definitions text =
     if has_colon text && is_type_name (before_first is_colon text)
     then with_meaning (before_first is_colon text) definitions (after_first is_colon text) else None
 
--- a type is forgotten
+-- definitions without a type
 abbrev pub cleared : Definitions → List ℕ → Definitions
 cleared definitions name = filter (λ d. not (bytes_eq d.0 name)) definitions
 
--- a type is selected, or all that are known by now
+-- selections, after a type was selected, or all types that are known by now
 abbrev pub selected : Definitions → Selections → List ℕ → Bool → Selections
 selected definitions selections name is_exclusion = selections
     ++ map (λ one. (one, is_exclusion)) (if bytes_eq name (codes "all")
@@ -121,7 +122,7 @@ known_of types = record {
   selections = chosen_of types.selections.items;
 }
 
--- a change is made, if it is well formed
+-- what is known, after a change, if it is well formed
 abbrev pub changed : Known → Change → Option Known
 changed known change = by change.action
   where
@@ -138,7 +139,7 @@ changed known change = by change.action
       selections = selected known.definitions known.selections change.text.now is_exclusion;
     })
 
--- one change after another
+-- what is known, after some changes in order
 abbrev pub all_changed : Known → List Change → Option Known
 all_changed known [] = Some known
 all_changed known (change ∷ later) = option_and_then (λ next. all_changed next later) (changed known change)
@@ -154,7 +155,7 @@ known_table = TYPES.now
 abbrev pub known_types : Definitions
 known_types = fold (λ definitions line. definitions ++ line_definitions line) [] (lines known_table)
 
--- what an option's texts ask for, each with its place among the words
+-- the change that a text of an option asks for, by the text's place among the words
 abbrev pub change_of : Action → Bor (List ℕ) × ℕ → Change
 change_of action pair = record { place = pair.1; action = action; text = pair.0 }
 

@@ -22,17 +22,18 @@ use Rattle.linegrep_files.specs.declared.order.Order.{Order}
 use Rattle.linegrep_files.specs.declared.walk.Route.{Route}
 use Rattle.linegrep_files.specs.declared.walk.Walk.{Walk}
 
--- what is found waits until all is found, if it is a file that is sorted by a time
+-- whether something that is found waits until all is found: it does if it is a file that is sorted
+-- by a time
 abbrev pub waits : Order → Entry → Bool
 waits order (File path) = is_by_time order
 waits order _ = false
 
--- one of what is found in a folder is visited before another
+-- whether one entry of a folder is visited before another
 abbrev pub comes_before : Order → Entry → Entry → Bool
 comes_before order one other = is_lt (order_of order (path_of one) (path_of other))
 
--- a walk asks a system, by a route, from a folder on with a name for the system; nothing is to be
--- visited
+-- a walk asks a system, by a route, from a folder on that has a name for the system. Nothing is to
+-- be visited yet
 pub record IsWith {S : Type 0} (system : Bor S) (route : Route) (top : String Global) (root : ℕ)
     (walk : Walk S) : Type 0 where
   pub system_is : walk.finder.system ≡ system
@@ -56,8 +57,8 @@ pub record IsBegun {S : Type 0} (system : Bor S) (route : Route) (folder : List 
     pub pending : walk.pending.items ≡ Folder path ∷ []
     pub dated : walk.dated.items ≡ []
 
--- what was found is to be visited next, by the order of paths, with what is visited first last; and
--- the files that are sorted by a time once nothing else is
+-- what was found is added. It is visited next, in the order of paths, and what is visited first
+-- stands last. The files that are sorted by a time are visited once nothing else is left
 pub record AreAdded {S : Type 0} (old : Walk S) (found : List Entry) (new : Walk S) : Type 0 where
   pub next : List Entry
   pub same : IsPermutation (filter (λ entry. not (waits old.order entry)) found) next
@@ -67,12 +68,12 @@ pub record AreAdded {S : Type 0} (old : Walk S) (found : List Entry) (new : Walk
       ≡ map (λ file. string_bytes file.path) old.dated.items
       ++ map path_of (filter (waits old.order) found)
 
--- a walk goes on with what it asks, and with what waits to be visited
+-- a walk asks the same system by the same route, and what waits to be visited stays
 pub record GoesOn {S : Type 0} (old new : Walk S) : Type 0 where
   pub finder : new.finder ≡ old.finder
   pub order : new.order ≡ old.order
 
--- what is chosen of the names in a folder is added, by what its ignore files say too
+-- the names in a folder that are chosen are added, also by what the folder's ignore files say
 pub record AreNamesAdded {S : Type 0} (facts : S → FolderFacts) (old : Walk S) (choices : Choices)
     (folder names : List ℕ) (new : Walk S) (inside : Choices) : Type 0 where
   pub within : Choices
@@ -86,8 +87,8 @@ pub record AreNamesAdded {S : Type 0} (facts : S → FolderFacts) (old : Walk S)
 
 -- By what a system may say of folders and files.
 module _ {S : Type 0} (facts : S → FolderFacts) where
-  -- what is in a folder is added to what is to be visited, unless the folder is too deep; or that
-  -- it can't be read. `inside` is what is chosen there
+  -- what is in a folder is added to what is to be visited, unless the folder is too deep. If it
+  -- can't be read, that is added. `inside` has the choices for what is in it
   pub data IsEntered (old : Walk S) (choices : Choices) (folder : List ℕ) (new : Walk S)
       (inside : Choices) : Type 0 where
     of_deep : allows_depth choices.limits (depth_of old.finder.root folder) ≡ false
@@ -106,8 +107,8 @@ module _ {S : Type 0} (facts : S → FolderFacts) where
         → AreNamesAdded facts old choices folder names.items new inside
         → IsEntered old choices folder new inside
 
--- what is visited next is the last that was added; without one it is one of the files that are
--- sorted by a time, each of which is visited once
+-- what is visited next is the last entry of those that were added. If there is none, it is one of
+-- the files that are sorted by a time, and each of these is visited once
 pub data IsPopped {S : Type 0} (old : Walk S) : Option Entry → Walk S → Type 0 where
   of_pending : {new : Walk S} (entry : Entry) → old.is_out_of_memory ≡ false
       → old.pending.items ≡ new.pending.items ++ entry ∷ [] → new.dated ≡ old.dated → GoesOn old new

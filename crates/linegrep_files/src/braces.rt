@@ -36,7 +36,7 @@ fn is_brace(byte: u8) -> bool
 }
 
 /// The texts that a glob stands for. An error is that a brace isn't opened or closed, that a class
-/// isn't well formed, that the texts are more than 1000, or that there is no memory.
+/// isn't well formed, that there are more than 1000 texts, or that there is no memory.
 pub fn texts_of(alloc: Global, glob: &[u8]) -> Result<Vec<Vec<u8>>, GlobError>
     ensures { IfOk result (λ texts. StandsFor false glob.now (bytes_of texts.items)) }
 {
@@ -51,7 +51,7 @@ pub fn texts_of(alloc: Global, glob: &[u8]) -> Result<Vec<Vec<u8>>, GlobError>
     texts.complete()
 }
 
-// The texts that a glob stands for, as far as it is read: those from the innermost open brace on.
+// The texts that a glob stands for, as far as it is read. They begin at the innermost open brace.
 #[derive(Drop)]
 struct Texts {
     alloc: Global,
@@ -60,7 +60,7 @@ struct Texts {
     braces: Vec<Brace>,
 }
 
-// A brace that is open: the texts before it, and those of its choices that are at their end.
+// A brace that is open: the texts before it, and those of its choices that have ended.
 #[derive(Drop)]
 struct Brace {
     before: Vec<Vec<u8>>,
@@ -202,7 +202,7 @@ impl Texts {
     }
 }
 
-// How many bytes the part without braces has that a glob begins with.
+// How many bytes there are in the part without braces that a glob begins with.
 fn part_len(glob: &[u8]) -> Result<usize, GlobError>
     requires { glob.now ≢ [] }
     ensures { (is_choice : Bool) → BeginsPart is_choice glob.now
@@ -217,7 +217,7 @@ fn part_len(glob: &[u8]) -> Result<usize, GlobError>
     Ok(1)
 }
 
-// How many bytes a backslash and the byte after it have that a glob begins with.
+// How many bytes there are in the backslash and the byte after it that a glob begins with.
 fn escape_len(glob: &[u8]) -> Result<usize, GlobError>
     requires { begins_with 92 glob.now ≡ true }
     ensures { (is_choice : Bool) → IfOk result (HasPart is_choice glob.now) }
@@ -229,7 +229,7 @@ fn escape_len(glob: &[u8]) -> Result<usize, GlobError>
     }
 }
 
-// How many bytes the class has that a glob begins with.
+// How many bytes there are in the class that a glob begins with.
 fn class_len(glob: &[u8]) -> Result<usize, GlobError>
     requires { begins_with 91 glob.now ≡ true }
     ensures { (is_choice : Bool) → IfOk result (HasPart is_choice glob.now) }
@@ -240,7 +240,7 @@ fn class_len(glob: &[u8]) -> Result<usize, GlobError>
     }
 }
 
-// One text, without a byte.
+// A list of one text, which is empty.
 fn empty_text(alloc: Global) -> Result<Vec<Vec<u8>>, AllocError>
     ensures { IfOk result (λ texts. bytes_of texts.items ≡ [] ∷ []) }
 {

@@ -62,7 +62,7 @@ impl<'r> Choices<'r> {
     }
 
     /// Takes up a folder that is searched, as a system has it. An error is one of being out of
-    /// memory, as those below.
+    /// memory, and so are those of the functions below.
     pub fn begin<S: Folders>(&mut self, system: &S, folder: &str) -> Result<(), AllocError>
         ensures { OnOk result (AreTakenUp (S.facts system.now) (name_of folder.now) self.old
             self.new) }
@@ -70,8 +70,8 @@ impl<'r> Choices<'r> {
         self.ignores.begin(system, folder)
     }
 
-    /// Goes on in a folder with some names, which is at a path below the folder that is searched,
-    /// as a system has it.
+    /// Goes on in a folder, by the names in it and its path below the folder that is searched, as a
+    /// system has it.
     pub fn enter<S: Folders>(
         &mut self,
         system: &S,
@@ -93,9 +93,9 @@ impl<'r> Choices<'r> {
         self.limits
     }
 
-    /// Whether the file or the folder with a name in the folder is visited, which is at a path:
-    /// globs decide first, then ignore files, and of files types. What none says anything about is
-    /// visited unless it is hidden, or if hidden ones are too.
+    /// Whether the file or the folder is visited that has a name in the folder, and is at a path.
+    /// Globs decide first, then ignore files, and for a file its types. If none of these is about
+    /// it, it is visited if it isn't hidden, or if hidden ones are visited too.
     pub fn is_chosen(&mut self, path: &str, name: &str, is_folder: bool) -> Result<bool, AllocError>
         ensures chosen { IfOk result (IsChosen self.old path.now name.now is_folder) }
         ensures same { SaysTheSame self.old self.new }
@@ -111,7 +111,7 @@ impl<'r> Choices<'r> {
         }
     }
 
-    // Whether what has a name isn't hidden, or hidden ones are shown.
+    // Whether something is shown, by its name: it isn't hidden, or hidden ones are shown.
     fn is_shown(&self, name: &[u8]) -> bool
         ensures { result ≡ is_shown self.now name.now }
     {
@@ -126,7 +126,8 @@ impl<'r> Choices<'r> {
         self.is_unmatched_chosen(name, false, true)
     }
 
-    // Whether what no glob says anything about is visited. `is_shown` says so of what nothing does.
+    // Whether something is visited that no glob is about. If nothing else is about it either,
+    // `is_shown` decides.
     fn is_unmatched_chosen(
         &mut self,
         name: &[u8],

@@ -32,10 +32,10 @@ const UNCLOSED: &str = "a bracket isn't closed";
 
 const REVERSED: &str = "a range ends before it begins";
 
-/// Reads a class of which the opening bracket is left out. An exclamation mark or a caret at its
-/// start means all other bytes. A bracket that comes first is a member, and a dash after a range
-/// moves its end. If `ignores_case` is set, letters of ASCII stand for both cases. An error is that
-/// it isn't closed, or that a range ends before it begins.
+/// Reads a class, without its opening bracket. An exclamation mark or a caret at its start means
+/// all other bytes. A closing bracket that comes first is a member, and a dash after a range moves
+/// its end. If `ignores_case` is set, letters of ASCII stand for both cases. An error is that the
+/// class isn't closed, or that a range ends before it begins.
 pub fn read_class(text: &[u8], ignores_case: bool) -> Result<Class<'_>, &'static str>
     ensures text { IfOk result (λ class. IsClassBefore text.now class.rest.now) }
     ensures set { IfOk result (λ class. IsClassOf ignores_case class.set text.now class.rest.now) }
@@ -87,8 +87,8 @@ fn read_members(text: &[u8], ignores_case: bool) -> Result<Class<'_>, &'static s
     Err(UNCLOSED)
 }
 
-// The member that some members of a class begin with: a byte, or two with a dash between them,
-// which make a range.
+// The first of some members of a class: a byte, or two bytes with a dash between them, which make a
+// range.
 fn read_member(text: &[u8]) -> Result<Member<'_>, &'static str>
     ensures text { IfOk result (λ member. AreMembersBefore text.now member.rest.now) }
     ensures range { IfOk result (λ member. IsRange (member.first, member.last) text.now
@@ -103,7 +103,8 @@ fn read_member(text: &[u8]) -> Result<Member<'_>, &'static str>
     }
 }
 
-// The last byte of a range that goes on with a text: one after a dash, but no closing bracket.
+// The last byte of a range that goes on with a text: the byte after a dash, unless that is a
+// closing bracket.
 fn range_end(after: &[u8]) -> Option<u8>
     ensures { MatchOption result (begins_range after.now ≡ false)
         (λ last. (after.now ≡ 45 ∷ last ∷ drop 2 after.now) × (last ≢ 93)) }

@@ -11,7 +11,7 @@ pub enum Entry {
     File(String),
     /// A folder, by its path.
     Folder(String),
-    /// What can't be read: a path, as a word of `words`, and why.
+    /// What can't be read: its path, as a word that `escape` writes, and why.
     Unread(String, io::Error),
 }
 

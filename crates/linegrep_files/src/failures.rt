@@ -8,7 +8,7 @@ const OUT_OF_MEMORY: &str = "linegrep: out of memory\n";
 /// Why a run ends, or what it goes on without: whole lines for standard error.
 #[derive(Drop)]
 pub struct Failure {
-    // There is none if there was no memory for it.
+    // The text. There is none if there was no memory for it.
     text: Option<String>,
 }
 
@@ -16,25 +16,27 @@ impl Failure {
     ghost use Rattle.std.specs.Prelude.{◌≡◌, false};
     ghost use Rattle.linegrep_files.specs.Failures.{has_cause, text_of};
 
-    /// What is wrong, as something that can be written says it.
+    /// A failure that something which can be written says.
     pub fn new<D: Display>(alloc: Global, text: &D) -> Failure {
         Failure::of_text(format!(in alloc; "linegrep: {text}\n"))
     }
 
-    /// That there is no memory.
+    /// The failure that there is no memory.
     pub fn out_of_memory() -> Failure
         ensures { has_cause result ≡ false }
     {
         Failure { text: None }
     }
 
-    /// What can't be read or written, and why: the system's words, without the number of the error.
-    /// The name is a word, which may stand for bytes that aren't UTF-8, as `escape` writes them.
+    /// The failure that something can't be read or written, and why, in the system's words without
+    /// the number of the error. The name is a word, which may stand for bytes that aren't UTF-8, as
+    /// `escape` writes them.
     pub fn of_cause<D: Display>(alloc: Global, name: &str, error: &D) -> Failure {
         Failure::of_text(cause_text(alloc, name, error))
     }
 
-    /// A text of whole lines, or that there is no memory for it.
+    /// A failure with a text of whole lines, or that there is no memory, if there was none for the
+    /// text.
     pub fn of_text(text: Result<String, AllocError>) -> Failure {
         Failure { text: text.ok() }
     }

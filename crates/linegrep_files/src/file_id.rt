@@ -14,7 +14,7 @@ impl FileId {
     ghost use Rattle.std.specs.Prelude.{◌≡◌};
     ghost use Rattle.linegrep_files.specs.FileIds.{is_beside, is_same_file};
 
-    /// The regular file at a path, if there is one. At `/proc/self/fd/1` there is the one that
+    /// The regular file at a path, if there is one. `/proc/self/fd/1` is the path of the file that
     /// standard output goes to.
     pub fn at(rt: &HostRuntime, path: &str) -> Option<FileId> {
         match fs::metadata(rt, path) {
@@ -23,7 +23,7 @@ impl FileId {
         }
     }
 
-    /// The file that metadata are of, if it is a regular one.
+    /// The file that has some metadata, if it is a regular one.
     pub fn of(metadata: &Metadata) -> Option<FileId> {
         if metadata.is_file() {
             Some(FileId::of_any(metadata))
@@ -32,7 +32,7 @@ impl FileId {
         }
     }
 
-    /// What metadata are of.
+    /// The file or the folder that has some metadata.
     pub fn of_any(metadata: &Metadata) -> FileId {
         FileId {
             device: metadata.dev(),

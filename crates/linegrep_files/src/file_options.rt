@@ -6,7 +6,7 @@ use crate::ignores::Sources;
 pub struct Values<'o, 'w> {
     /// The texts.
     pub texts: &'o [&'w str],
-    /// Their places, which say what comes before what.
+    /// Their places, by which values of several options can be put in order.
     pub places: &'o [usize],
 }
 
@@ -43,9 +43,9 @@ impl TypeOptions<'_, '_> {
 pub struct FileOptions<'o, 'w> {
     /// The globs, of which the last that matches a path decides.
     pub globs: &'o [&'w str],
-    /// Those that come after them, whose letters match in either case.
+    /// More globs, which come after the others, and whose letters match in either case.
     pub iglobs: &'o [&'w str],
-    /// Whether the letters of all globs do.
+    /// Whether the letters of all globs match in either case.
     pub ignores_glob_case: bool,
     /// What they say of types of files.
     pub types: TypeOptions<'o, 'w>,

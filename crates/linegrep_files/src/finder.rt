@@ -1,4 +1,4 @@
-//! What is found in folders of what their names stand for.
+//! What is found in a folder for each of its names.
 ghost use Rattle.std.specs.Prelude.{◌≡◌, ◌≢◌, ◌<◌, [], ◌∷◌, if◌then◌else◌, length, IfOk, IfSome};
 ghost use Rattle.std.specs.Prelude.{Ok, drop, string_bytes, true};
 ghost use Rattle.std.specs.Str.{IsUtf8};
@@ -24,7 +24,7 @@ use std::{io, str};
 
 const IS_LOOP: &str = "it is a link to a folder that it is in";
 
-/// What finds the files and the folders that are chosen.
+/// A finder of the files and the folders that are chosen.
 #[derive(Drop)]
 pub struct Finder<'r, S> {
     alloc: Global,
@@ -33,13 +33,13 @@ pub struct Finder<'r, S> {
     follows_links: bool,
     // The name of the walk's own folder for the system.
     top: String,
-    // How many bytes the path of that has, without a slash at the end.
+    // How many bytes the path of that folder has, without a slash at the end.
     root: usize,
 }
 
 impl<'r, S: Folders> Finder<'r, S> {
-    /// What finds the files and the folders that are below one with a name for the system, the path
-    /// of which has so many bytes.
+    /// A finder below a folder, by the folder's name for the system, and how many bytes its path
+    /// has.
     pub fn new(
         alloc: Global,
         system: &'r S,
@@ -61,7 +61,7 @@ impl<'r, S: Folders> Finder<'r, S> {
         }
     }
 
-    /// How many folders below the walk's own a folder is.
+    /// How many levels a folder is below the walk's own.
     pub fn depth(&self, folder: &str) -> usize
         ensures { result ≡ depth_of self.now.root folder.now }
     {
@@ -78,7 +78,7 @@ impl<'r, S: Folders> Finder<'r, S> {
         depth
     }
 
-    /// What it asks.
+    /// The system that it asks.
     pub fn system(&self) -> &'r S
         ensures { result ≡ self.now.system }
     {
@@ -103,7 +103,7 @@ impl<'r, S: Folders> Finder<'r, S> {
         self.system.names(self.alloc, path)
     }
 
-    /// What is found of some names in a folder that each end in a NUL, in their order.
+    /// What is found for some names in a folder, in their order. Each name ends in a NUL.
     pub fn found(
         &self,
         choices: &mut Choices<'_>,
@@ -131,7 +131,7 @@ impl<'r, S: Folders> Finder<'r, S> {
         Ok(found)
     }
 
-    // What is found that a name in a folder stands for.
+    // What is found for a name in a folder.
     fn find(
         &self,
         choices: &mut Choices<'_>,
@@ -149,7 +149,7 @@ impl<'r, S: Folders> Finder<'r, S> {
         }
     }
 
-    // What is found that a name in a folder stands for, which is UTF-8.
+    // What is found for a name in a folder that is UTF-8.
     fn find_named(
         &self,
         choices: &mut Choices<'_>,
@@ -174,7 +174,7 @@ impl<'r, S: Folders> Finder<'r, S> {
         }
     }
 
-    // What is found that a name in a folder stands for, which isn't UTF-8.
+    // What is found for a name in a folder that isn't UTF-8.
     fn find_escaped(
         &self,
         choices: &mut Choices<'_>,
@@ -196,7 +196,7 @@ impl<'r, S: Folders> Finder<'r, S> {
         Ok(None)
     }
 
-    // What is at a path, unless it is neither a file nor a folder, or not within limits.
+    // What is at a path, if it is a file or a folder, and within the limits.
     fn entry(&self, path: String, limits: Limits) -> Option<Entry>
         ensures at { IsAt (S.facts self.now.system.now).looks self.now.follows_links
             (string_bytes self.now.top) self.now.root limits (string_bytes path) result }
@@ -248,7 +248,7 @@ impl<'r, S: Folders> Finder<'r, S> {
         }
     }
 
-    // The folder at a path, which can't be read if it is a link to a folder that it is in.
+    // The folder at a path; or that it can't be read, if it is a link to a folder that it is in.
     fn folder(&self, path: String, id: FileId, limits: Limits) -> Entry
         ensures { IsFolderAt (S.facts self.now.system.now).looks self.now.follows_links
             (string_bytes self.now.top) self.now.root limits (string_bytes path) id result }
@@ -260,7 +260,8 @@ impl<'r, S: Folders> Finder<'r, S> {
         Entry::Folder(path)
     }
 
-    // Whether there is a link at a path that was followed to a folder of an id that it is in.
+    // Whether there is a link at a path that was followed to a folder with an id, and the link is
+    // in that folder.
     fn leads_back(&self, path: &str, id: FileId) -> bool
         ensures { LeadsBack (S.facts self.now.system.now).looks self.now.follows_links
             (string_bytes self.now.top) self.now.root id path.now result }
@@ -279,7 +280,8 @@ impl<'r, S: Folders> Finder<'r, S> {
         }
     }
 
-    // Whether one of the folders that a path goes through has an id, from the walk's own on.
+    // Whether one of the folders that a path goes through has an id. The first of them is the
+    // walk's own.
     fn goes_through(&self, path: &str, id: FileId) -> bool
         ensures { GoesThrough (S.facts self.now.system.now).looks (string_bytes self.now.top)
             self.now.root id path.now result }
@@ -314,7 +316,7 @@ pub fn listed_path(alloc: Global, folder: &str) -> Result<String, AllocError>
     join(alloc, name_of(folder), "")
 }
 
-/// The name of a folder for the system, which has none for an empty path.
+/// The name of a folder for the system: its path, or a dot for an empty path.
 pub fn name_of(folder: &str) -> &str
     ensures { result.now ≡ name_of folder.now }
 {
@@ -339,7 +341,7 @@ pub fn root_of(path: &[u8]) -> usize
     root
 }
 
-// What of a path is after some bytes.
+// What comes in a path after its first bytes.
 fn after(path: &[u8], start: usize) -> &[u8]
     ensures { result.now ≡ drop start path.now }
 {
@@ -350,7 +352,7 @@ fn after(path: &[u8], start: usize) -> &[u8]
     }
 }
 
-// Whether a name isn't that of a folder itself, nor of the one that it is in.
+// Whether a name isn't the one of the folder itself, nor of the folder that it is in.
 fn is_name(name: &[u8]) -> bool
     ensures { result ≡ is_name name.now }
 {

@@ -8,7 +8,7 @@ use std::io::Read;
 use std::rt::Files;
 use std::{fs, io};
 
-// For how many bytes of names there is room when a folder is read.
+// How many bytes of names are read at a time when a folder is read.
 const ROOM: usize = 8192;
 
 /// What there is at a path.
@@ -31,11 +31,11 @@ pub struct Found {
     pub kind: Kind,
     /// How many bytes it has.
     pub size: u64,
-    /// Which file or folder of the system it is.
+    /// Its identity in the system.
     pub id: FileId,
 }
 
-/// What lists folders and looks at paths. It is given by what it may return.
+/// A system that lists folders and looks at paths. Clauses know it by what it may return.
 pub trait Folders {
     /// What it may return.
     ghost facts: { Self → FolderFacts };

@@ -26,8 +26,8 @@ pub fn exclude_path<S: Folders>(
     }
 }
 
-// The path of the folder that a file in place of `.git` stands for, or if several worktrees share
-// one the path of that. There is none if `.git` is a folder itself.
+// The path of the folder that a repository names, if it has a file in place of the folder `.git`.
+// If several worktrees share a folder, that is its path.
 fn repository_folder<S: Folders>(
     alloc: Global,
     system: &S,
@@ -43,7 +43,7 @@ fn repository_folder<S: Folders>(
     }
 }
 
-// The path of the folder that the text of such a file names, if it names one.
+// The path of the folder that the text of such a file names, if it does.
 fn named_folder<S: Folders>(
     alloc: Global,
     system: &S,
@@ -65,7 +65,8 @@ fn named_folder<S: Folders>(
     }
 }
 
-// The path of the folder that worktrees share which have a folder, or of that one.
+// The path of the folder that a worktree shares with others, by the worktree's own folder. If it
+// shares none, its own.
 fn shared_folder<S: Folders>(alloc: Global, system: &S, folder: &str) -> Result<String, AllocError>
     ensures { IfOk result (λ at. IsShared (S.facts system.now).reads folder.now (string_bytes at)) }
 {
@@ -89,7 +90,8 @@ fn read_text<S: Folders>(alloc: Global, system: &S, path: &str) -> Option<String
     }
 }
 
-// The folder that a text names which stands in place of one, as in a worktree.
+// The folder that the text of a file names that stands in place of the folder `.git`, as in a
+// worktree.
 fn folder_in(text: &str) -> Option<&str>
     ensures { MatchOption result ((rest : List ℕ) → text.now ≢ codes "gitdir:" ++ rest)
         (λ named. (rest : List ℕ) × (text.now ≡ codes "gitdir:" ++ rest)
@@ -101,7 +103,7 @@ fn folder_in(text: &str) -> Option<&str>
     }
 }
 
-// A path that begins in a folder, unless it begins with a slash.
+// A path, which begins in a folder unless it begins with a slash.
 fn resolve(alloc: Global, folder: &str, path: &str) -> Result<String, AllocError>
     ensures { IfOk result (λ at. string_bytes at ≡ resolved folder.now path.now) }
 {

@@ -1,9 +1,8 @@
-//! Git's settings, as far as ignore files are named by them.
+//! Git's settings, as far as they name ignore files.
 use std::alloc::{AllocError, Global};
 
-/// The path of the ignore file for all repositories that the contents of a file of settings name,
-/// as it is written there: the last value of `core.excludesFile`. The only error is being out of
-/// memory.
+/// The last value of `core.excludesFile` in the contents of a file of settings, as it is written
+/// there: the path of the ignore file for all repositories. The only error is being out of memory.
 pub fn excludes_file(alloc: Global, contents: &[u8]) -> Result<Option<Vec<u8>>, AllocError> {
     let mut settings = Settings {
         is_core: false,
@@ -43,7 +42,7 @@ struct Value {
     bytes: Vec<u8>,
     // How many bytes it has without blanks at its end.
     length: usize,
-    // Whether it is that of the setting that is looked for.
+    // Whether it is the value of the setting that is looked for.
     is_wanted: bool,
     is_quoted: bool,
     // Whether it goes on in the next line.
@@ -118,7 +117,7 @@ impl Value {
         bytes.get(..self.length).unwrap_or(bytes)
     }
 
-    // Adds what a line has of it.
+    // Adds the part of the value that a line has.
     fn add(&mut self, line: &[u8]) -> Result<(), AllocError> {
         self.is_open = false;
         for byte in line {
@@ -137,7 +136,7 @@ impl Value {
         Ok(())
     }
 
-    // Adds a byte, which counts at the ends of the value, or is a blank that doesn't.
+    // Adds a byte. A blank at an end of the value doesn't count, unless it is quoted.
     fn push(&mut self, byte: u8, counts: bool) -> Result<(), AllocError> {
         if !counts && self.length == 0 {
             return Ok(());

@@ -27,8 +27,8 @@ pub enum Choice {
 }
 
 impl Choice {
-    /// Whether what is chosen or left out is visited, if what nothing is said about is visited or
-    /// isn't.
+    /// Whether something is visited, by what globs say of it. If they say nothing, `unmatched`
+    /// decides.
     pub fn is_chosen(self, unmatched: bool) -> bool
         ensures { result ≡ is_chosen self unmatched }
     {
@@ -58,8 +58,8 @@ struct GlobRule {
 }
 
 impl Globs {
-    /// Reads globs, of which an empty one is left out. The letters of `iglobs`, which come after
-    /// the others, match in either case, and if `ignores_case` is set those of all. An error is
+    /// Reads globs, without those that are empty. `iglobs` come after the others, and their letters
+    /// match in either case. If `ignores_case` is set, the letters of all globs do. An error is
     /// that one isn't well formed, or that there is no memory.
     pub fn read(
         alloc: Global,
@@ -116,9 +116,9 @@ impl Globs {
         }
     }
 
-    /// What the globs say of the file or the folder at a path: the last that matches it decides. If
-    /// none does, a file is left out if there is a glob that asks for files. `row` is room to work
-    /// in. An error is one of being out of memory.
+    /// What the globs say of the file or the folder at a path. The last glob that matches it
+    /// decides. If none does, a file is left out if there is a glob that asks for files. `row` is
+    /// room to work in. An error is one of being out of memory.
     pub fn choice(
         &self,
         row: &mut Vec<bool>,
@@ -145,7 +145,7 @@ impl Globs {
         }
     }
 
-    // What they say of what none of them matches.
+    // What the globs say of something that none of them matches.
     fn default_choice(&self, is_folder: bool) -> Choice
         ensures { result ≡ (if self.now.are_exclusions || is_folder then Choice.Unmatched
             else Choice.LeftOut) }
@@ -159,7 +159,7 @@ impl Globs {
 }
 
 impl GlobRule {
-    // What it says of what it matches.
+    // What the glob says of something that it matches.
     fn choice(&self) -> Choice
         ensures { result ≡ choice_of self.now }
     {
@@ -198,7 +198,7 @@ impl PathTest for GlobRule {
     }
 }
 
-// A path without what names the current folder at its start.
+// A path without a dot and a slash at its start.
 fn path_from_here(path: &[u8]) -> &[u8]
     ensures { result.now ≡ path_from_here path.now }
 {
@@ -208,9 +208,9 @@ fn path_from_here(path: &[u8]) -> &[u8]
     }
 }
 
-// The rule of the text of a glob: an exclamation mark at its start leaves paths out, all of them if
-// nothing follows it, a slash at its end means folders alone, and without any other slash it is
-// about names in any folder.
+// The rule of the text of a glob. With an exclamation mark at its start it leaves paths out, and
+// with nothing after that it leaves out all paths. With a slash at its end it means folders alone.
+// Without any other slash it is about names in any folder.
 fn read_rule(alloc: Global, text: &[u8], ignores_case: bool) -> Result<GlobRule, GlobError>
     ensures ok { IfOk result (IsGlobRule ignores_case text.now) }
     ensures err { IfErr result (λ e. OnMalformed e (may_be_malformed (glob_text text.now) ≡ true)) }
@@ -226,7 +226,8 @@ fn read_rule(alloc: Global, text: &[u8], ignores_case: bool) -> Result<GlobRule,
     }
 }
 
-// A text, or if it is an exclamation mark alone that of the glob that leaves everything out.
+// The text of a glob. For an exclamation mark alone, the text of the glob that leaves everything
+// out.
 fn said_glob(text: &[u8]) -> &[u8]
     ensures { result.now ≡ said_glob text.now }
 {

@@ -31,31 +31,31 @@ use std::{env, fs, io, str};
 /// Which ignore files are read, and how.
 #[derive(Clone, Copy)]
 pub struct Sources {
-    /// Whether `.ignore` and `.rgignore` are.
+    /// Whether `.ignore` and `.rgignore` are read.
     pub dot: bool,
-    /// Whether `.gitignore` is.
+    /// Whether `.gitignore` is read.
     pub git: bool,
-    /// Whether `.git/info/exclude` is.
+    /// Whether `.git/info/exclude` is read.
     pub exclude: bool,
-    /// Whether the user's file for all repositories is.
+    /// Whether the user's file for all repositories is read.
     pub global: bool,
-    /// Whether those of the folders are that a searched folder is in.
+    /// Whether the files of the folders above the searched folder are read.
     pub parents: bool,
-    /// Whether git's count in repositories alone.
+    /// Whether git's files count in repositories alone.
     pub needs_repository: bool,
-    /// Whether letters match in either case.
+    /// Whether letters in the files match in either case.
     pub ignores_case: bool,
 }
 
 impl Sources {
-    // Whether any is read.
+    // Whether any file is read.
     fn has_any(&self) -> bool
         ensures { result ≡ (self.now.dot || self.now.git || self.now.exclude || self.now.global) }
     {
         self.dot || self.has_git()
     }
 
-    // Whether any of git's is read.
+    // Whether any of git's files is read.
     fn has_git(&self) -> bool
         ensures { result ≡ has_git self.now }
     {
@@ -74,7 +74,7 @@ pub struct Marks {
 }
 
 impl Marks {
-    /// Those among names that end in a NUL each.
+    /// Which of these names are among some names. Each of these ends in a NUL.
     pub fn read(names: &[u8]) -> Marks
         ensures { result ≡ marks_of names.now }
     {
@@ -123,9 +123,10 @@ pub struct Ignores<'r> {
     repositories: Vec<usize>,
     // The path of the folder from the root of the system on, with a slash at its end.
     path: Vec<u8>,
-    // How many bytes of it are that of the folder that is searched, without the slash.
+    // How many of its bytes are the path of the folder that is searched, without a slash at the
+    // end.
     root: usize,
-    // How many bytes of it are before what is where the program runs.
+    // How many of its bytes come before what is relative to the folder where the program runs.
     start: usize,
     row: Vec<bool>,
     // What is wrong with files, as lines for standard error.
@@ -133,8 +134,9 @@ pub struct Ignores<'r> {
 }
 
 impl<'r> Ignores<'r> {
-    /// What the files of some sources say, and those at some paths, of which a later one decides
-    /// before an earlier one, as a system has them. An error is one of being out of memory.
+    /// What the files of some sources say, and the files at some paths, as a system has them. Of
+    /// the files at paths a later one decides before an earlier one. An error is one of being out
+    /// of memory.
     pub fn read<S: Folders>(
         rt: &'r HostRuntime,
         system: &S,
@@ -176,8 +178,8 @@ impl<'r> Ignores<'r> {
         Ok(())
     }
 
-    /// Takes up a folder that is searched, which may be the current one, with an empty path: what
-    /// the folders say that it is in, as a system has them.
+    /// Takes up a folder that is searched: reads what the folders say that it is in, as a system
+    /// has them. An empty path is that of the current folder.
     pub fn begin<S: Folders>(&mut self, system: &S, folder: &str) -> Result<(), AllocError>
         ensures same { ReadsTheSame self.old self.new }
         ensures begun { OnOk result (AreBegun (S.facts system.now) (name_of folder.now) self.old
@@ -201,8 +203,8 @@ impl<'r> Ignores<'r> {
         }
     }
 
-    /// Goes on in a folder with some names, which is at a path below the folder that is searched:
-    /// what its files say, as a system has them. `folder` is its path for that.
+    /// Goes on in a folder, by the names in it and its path below the folder that is searched:
+    /// reads what its files say, as a system has them. `folder` is its path for the system.
     pub fn enter<S: Folders>(
         &mut self,
         system: &S,
@@ -239,7 +241,8 @@ impl<'r> Ignores<'r> {
         Ok(())
     }
 
-    // Leaves the folders that the folder isn't in, which may be the top of a repository.
+    // Forgets the files of folders that the folder isn't in. The folder may be the top of a
+    // repository.
     fn leave(&mut self, is_top: bool) -> Result<(), AllocError>
         ensures layers { self.new.layers
             ≡ filter (λ layer. nat_lt layer.depth (depth_in self.old.path.items)) self.old.layers }
@@ -304,8 +307,8 @@ impl<'r> Ignores<'r> {
         !self.has_named && !self.sources.has_any()
     }
 
-    // The depth of the nearest repository that the folder is in. If none is needed, all folders are in
-    // one.
+    // The depth of the nearest repository that the folder is in. If no repository is needed, each
+    // folder counts as in one.
     fn repository(&self) -> Option<usize>
         ensures { result ≡ repository_of self.now }
     {
@@ -329,14 +332,14 @@ impl<'r> Ignores<'r> {
         Ok(())
     }
 
-    // How many folders the folder is in, and one more.
+    // The depth of the folder: how many folders it is in, and one more.
     fn depth(&self) -> usize
         ensures { result ≡ depth_in self.now.path.items }
     {
         self.path.iter().filter(|byte| **byte == b'/').count()
     }
 
-    // Adds the rules of the files that are in the folder, which has some names and a path for the
+    // Adds the rules of the files that are in the folder, by the names in it and its path for the
     // system.
     fn add_files<S: Folders>(
         &mut self,
@@ -403,8 +406,8 @@ impl<'r> Ignores<'r> {
         Ok(())
     }
 
-    // Adds the rules of the user's file for all repositories, if it is there: that which git's
-    // settings name, or else the one that git has by default.
+    // Adds the rules of the user's file for all repositories, if it is there. It is the file that
+    // git's settings name, or else the one that git reads by default.
     fn add_global<S: Folders>(&mut self, system: &S) -> Result<(), AllocError>
         requires { self.old.path.items ≡ [] }
         ensures global { OnOk result (IsGlobalRead (S.facts system.now)
@@ -433,8 +436,8 @@ impl<'r> Ignores<'r> {
         }
     }
 
-    // The path of the file for all repositories that git's settings name, if they are in a folder
-    // and name one.
+    // The path of the file for all repositories that git's settings in a folder name, if there are
+    // settings and they name one.
     fn excludes_file(
         &self,
         home: &str,
@@ -477,7 +480,7 @@ impl<'r> Ignores<'r> {
         Ok(())
     }
 
-    // Adds the rules of the file at a path, or what is wrong with it. A file that needn't be there
+    // Adds the rules of the file at a path, or what is wrong with it. If the file isn't needed, it
     // may be absent.
     fn add_file<S: Folders>(
         &mut self,
@@ -504,7 +507,7 @@ impl<'r> Ignores<'r> {
         }
     }
 
-    // Adds why the file at a path can't be read, unless it needn't be there and isn't.
+    // Adds why the file at a path can't be read, unless it isn't needed and is absent.
     fn warn_unread(
         &mut self,
         path: &str,
@@ -520,7 +523,7 @@ impl<'r> Ignores<'r> {
         Ok(())
     }
 
-    // Adds what is wrong.
+    // Adds something that is wrong.
     fn warn(&mut self, failure: Failure) -> Result<(), AllocError>
         ensures layers { self.new.layers ≡ self.old.layers }
         ensures place { HasPlace self.old self.new }
@@ -528,7 +531,7 @@ impl<'r> Ignores<'r> {
         Ok(self.warnings.push(failure)?)
     }
 
-    // Adds what is wrong with lines of a file at a path.
+    // Adds what is wrong with some lines of the file at a path.
     fn warn_of(&mut self, path: &str, misread: &[Misread]) -> Result<(), AllocError>
         ensures layers { self.new.layers ≡ self.old.layers }
         ensures place { HasPlace self.old self.new }
@@ -609,7 +612,7 @@ fn variable(rt: &HostRuntime, name: &str) -> Result<String, AllocError> {
     }
 }
 
-// The folder that has the folder of git's settings, or an empty text.
+// The path of the folder in which the folder of git's settings is, or an empty text.
 fn config_folder(rt: &HostRuntime, home: &str) -> Result<String, AllocError> {
     let folder = variable(rt, "XDG_CONFIG_HOME")?;
     if !folder.is_empty() || home.is_empty() {
@@ -618,7 +621,7 @@ fn config_folder(rt: &HostRuntime, home: &str) -> Result<String, AllocError> {
     join(rt.alloc(), home, ".config")
 }
 
-// The path that a setting names, which may begin at a folder that a tilde stands for.
+// The path that a setting names. It may begin with a tilde, which stands for the user's folder.
 fn in_home(rt: &HostRuntime, home: &str, path: &[u8]) -> Result<Option<String>, AllocError> {
     let Ok(path) = str::from_utf8(path) else {
         return Ok(None);

@@ -1,6 +1,7 @@
 //! The types of files that are known.
 
-/// Each type in a line: its name, a colon, and its globs with commas between them. Those of ripgrep 15.
+/// The types of ripgrep 15, each in a line: its name, a colon, and its globs with commas between
+/// them.
 pub const TYPES: &str = "\
 ada:*.adb,*.ads
 agda:*.agda,*.lagda

@@ -3,15 +3,15 @@ ghost use Rattle.linegrep_files.specs.Trees.{WalksBegin, WalksEnd};
 
 use crate::folders::Folders;
 
-/// What a walk visited that ended with memory left is all that is visited of its folder: each file
-/// and each folder in it that is chosen once, by the order of paths, and right after a folder what
-/// is in that. If files are sorted by a time, all of them come after what else there is.
+/// If a walk ended with memory left, it has visited all that is visited of its folder: each file
+/// and each folder in it that is chosen, once, in the order of paths, and right after a folder what
+/// is in that folder. If files are sorted by a time, all of them come after everything else.
 pub fn walks_end<S: Folders>()
     ensures { WalksEnd S.facts }
 {}
 
-/// What a walk has visited by the time that an entry is popped is, with that, some first of what is
-/// visited of its folder.
+/// When an entry is popped, what the walk has visited so far, and this entry, are the beginning of
+/// what is visited of its folder.
 pub fn walks_begin<S: Folders>()
     ensures { WalksBegin S.facts }
 {}

@@ -20,7 +20,7 @@ pub struct Limits {
 }
 
 impl Limits {
-    /// Those of the options. The only error is that of a size that isn't well formed.
+    /// The limits that options set. The only error is that of a size that isn't well formed.
     pub fn read(alloc: Global, options: &FileOptions<'_, '_>) -> Result<Limits, Failure>
         ensures ok { IfOk result (AreLimits options.now) }
         ensures err { OnErr result (has_no_size options.now.max_filesize ≡ true) }
@@ -39,7 +39,8 @@ impl Limits {
         })
     }
 
-    /// Whether what is in a folder is visited, which is so many folders below one that is named.
+    /// Whether what is in a folder is visited, by how many levels the folder is below the one that
+    /// is named.
     pub fn allows_depth(&self, depth: usize) -> bool
         ensures { result ≡ allows_depth self.now depth }
     {
@@ -49,7 +50,7 @@ impl Limits {
         }
     }
 
-    /// Whether a file of a size isn't too large.
+    /// Whether a file isn't too large, by its size.
     pub fn allows_size(&self, size: u64) -> bool
         ensures { result ≡ allows_size self.now size }
     {
@@ -67,7 +68,7 @@ impl Limits {
     }
 }
 
-// The number of bytes that a text says: digits, and then a K, an M or a G, or nothing.
+// The number of bytes that a text says: digits, and then maybe a K, an M or a G.
 fn size_of(text: &str) -> Option<u64>
     ensures { result ≡ size_of text.now }
 {

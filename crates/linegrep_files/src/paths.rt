@@ -7,7 +7,7 @@ ghost use Rattle.linegrep_files.specs.Paths.{joined, needs_slash, parts_of};
 use crate::class::is_empty;
 use std::alloc::{AllocError, Global};
 
-/// The path of a name in a folder. An error is one of being out of memory.
+/// The path of something with a name in a folder. An error is one of being out of memory.
 pub fn join(alloc: Global, folder: &str, name: &str) -> Result<String, AllocError>
     ensures { IfOk result (λ path. string_bytes path ≡ joined folder.now name.now) }
 {
@@ -27,7 +27,8 @@ fn needs_slash(folder: &[u8]) -> bool
     !is_empty(folder) && !(count > 0 && folder[count - 1] == b'/')
 }
 
-/// The part of a text before the first of a byte, or all of it, and what follows that.
+/// A text up to the first place of a byte, or all of it if it doesn't have the byte, and what
+/// follows that.
 pub fn split_part(text: &[u8], end: u8) -> (&[u8], &[u8])
     ensures split { parts_of end text.now ≡ (if is_empty result.0.now then parts_of end result.1.now
         else result.0.now ∷ parts_of end result.1.now) }

@@ -33,7 +33,7 @@ pub struct Definition<'t> {
     pub glob: &'t str,
 }
 
-/// A type that is asked for, or left out.
+/// A type of files that is asked for, or left out.
 #[derive(Clone, Copy)]
 pub struct Selection<'t> {
     /// Its name.
@@ -64,7 +64,7 @@ pub enum TypeError<'t> {
     Unknown(&'t str),
     /// A definition that isn't well formed.
     Malformed(&'t str),
-    /// A glob that isn't, and why.
+    /// A glob that isn't well formed, and why.
     Glob(&'t str, &'static str),
     /// There is no memory.
     OutOfMemory,
@@ -92,7 +92,7 @@ impl Definition<'_> {
 }
 
 impl<'t> KnownTypes<'t> {
-    /// The known types, with what options say of them. An error is that a definition isn't well
+    /// The known types, after what options say of types. An error is that a definition isn't well
     /// formed, or that there is no memory.
     pub fn read(
         alloc: Global,
@@ -220,7 +220,7 @@ impl<'t> KnownTypes<'t> {
         Ok(true)
     }
 
-    // Adds the globs of some types to one, with commas between their names.
+    // Adds the globs of some types to a type, by a text of their names with commas between.
     fn include_all(&mut self, name: &'t str, others: &str) -> Result<(), AllocError>
         ensures definitions { OnOk result (pairs_of self.new.definitions.items
             ≡ fold (with_globs_of name.now) (pairs_of self.old.definitions.items)
@@ -249,7 +249,7 @@ impl<'t> KnownTypes<'t> {
         Ok(())
     }
 
-    // Whether all of some types are known, with commas between their names.
+    // Whether all of some types are known, by a text of their names with commas between.
     fn knows_all(&self, names: &str) -> bool
         ensures { result ≡ list_all (is_known (pairs_of self.now.definitions.items))
             (slice_split is_comma names.now) }

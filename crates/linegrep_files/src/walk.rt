@@ -17,7 +17,7 @@ use crate::order::{Dated, Order};
 use std::alloc::AllocError;
 use std::io;
 
-/// How a walk goes through folders.
+/// How a walk goes through folders: whether it follows links, and in which order it finds files.
 #[derive(Clone, Copy)]
 pub struct Route {
     /// Whether links are followed, and not left out.
@@ -33,18 +33,18 @@ pub struct Walk<'r, S> {
     rt: &'r HostRuntime,
     finder: Finder<'r, S>,
     order: Order,
-    // What is still to be visited, the next last.
+    // What is still to be visited. What is visited next stands last.
     pending: Vec<Entry>,
-    // The files that were found, if they are sorted by a time: those to be visited once nothing
-    // else is, and then the next last.
+    // The files that were found and are sorted by a time. They are visited once nothing else is
+    // left, and then the next one stands last.
     dated: Vec<Dated>,
     is_sorted: bool,
     is_out_of_memory: bool,
 }
 
 impl<'r, S: Folders> Walk<'r, S> {
-    /// A walk through the folder at a path, or through the current one if the path is empty, as a
-    /// system has it.
+    /// A walk through the folder at a path, as a system has it. An empty path is that of the
+    /// current folder.
     pub fn new(rt: &'r HostRuntime, system: &'r S, route: Route, folder: &str) -> Walk<'r, S>
         ensures { result.is_out_of_memory ≡ false → IsBegun system.entry route folder.now result }
     {
@@ -65,7 +65,7 @@ impl<'r, S: Folders> Walk<'r, S> {
         }
     }
 
-    // A walk for which nothing is to be visited yet, below a folder with a name for the system.
+    // A walk below a folder, by the folder's name for the system. Nothing is to be visited yet.
     fn with(
         rt: &'r HostRuntime,
         system: &'r S,
@@ -126,7 +126,7 @@ impl<'r, S: Folders> Walk<'r, S> {
         }
     }
 
-    // Puts those of the files first that are visited last.
+    // Sorts the files that are sorted by a time, the next one last.
     fn sort_dated(&mut self)
         ensures dated { IsPermutation self.old.dated.items self.new.dated.items }
         ensures same { self.new.pending ≡ self.old.pending }
@@ -149,7 +149,7 @@ impl<'r, S: Folders> Walk<'r, S> {
         self.is_out_of_memory
     }
 
-    /// Adds what a folder holds and is chosen, or that the folder can't be read. Nothing is added
+    /// Adds what is in a folder and is chosen, or that the folder can't be read. Nothing is added
     /// of a folder that is too deep.
     pub fn enter(&mut self, choices: &mut Choices<'_>, folder: &str)
         ensures entered { self.new.is_out_of_memory ≡ false
@@ -185,7 +185,7 @@ impl<'r, S: Folders> Walk<'r, S> {
         }
     }
 
-    // Adds what is chosen of the names in a folder that each end in a NUL.
+    // Adds what is chosen among the names in a folder. Each name ends in a NUL.
     fn add_names(
         &mut self,
         choices: &mut Choices<'_>,
@@ -217,7 +217,8 @@ impl<'r, S: Folders> Walk<'r, S> {
         self.pending.append(&mut next)
     }
 
-    // Dates the files of what was found that are sorted by a time, and gives the others.
+    // Takes the files that are sorted by a time out of what was found, with their times, and
+    // returns the rest.
     fn date_files(&mut self, found: Vec<Entry>) -> Result<Vec<Entry>, AllocError>
         ensures next { IfOk result (λ next. next.items
             ≡ filter (λ entry. not (waits self.old.order entry)) found.items) }
@@ -237,7 +238,8 @@ impl<'r, S: Folders> Walk<'r, S> {
         Ok(next)
     }
 
-    // Dates what was found, if it is a file, or adds it to what is visited next.
+    // Keeps something that was found with its time, if it is a file; otherwise adds it to what is
+    // visited next.
     fn date(&mut self, next: &mut Vec<Entry>, entry: Entry) -> Result<(), AllocError>
         requires { is_by_time self.old.order ≡ true }
         ensures next { OnOk result (next.new.items ≡ next.old.items
@@ -277,7 +279,7 @@ impl<'r, S: Folders> Walk<'r, S> {
     }
 }
 
-// Puts what is visited first last.
+// Sorts what was found in a folder. What is visited first stands last.
 fn sort(found: &mut Vec<Entry>, order: Order)
     ensures same { IsPermutation found.old.items found.new.items }
     ensures sorted { IsSortedBy (λ one other. comes_before order other one) found.new.items }

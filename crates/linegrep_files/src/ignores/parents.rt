@@ -1,4 +1,4 @@
-//! The ignore files of the folders that a searched folder is in.
+//! The ignore files of the folders above a searched folder.
 ghost use Rattle.std.specs.Prelude.{◌≡◌, ◌++◌, ◌∷◌, [], Bool, IfOk, OnOk, if◌then◌else◌, length};
 ghost use Rattle.std.specs.Prelude.{MatchBool};
 ghost use Rattle.linegrep_files.specs.IgnoreFiles.{HasSource, IsMarkThere, IsThere, IsTopAt};
@@ -13,7 +13,7 @@ use crate::folders::Folders;
 use crate::paths::join;
 use std::alloc::{AllocError, Global};
 
-// What a folder may have whose names aren't known.
+// Which ignore files a folder may have, if its names aren't known.
 const ANY_MARKS: Marks = Marks {
     has_rgignore: true,
     has_ignore: true,
@@ -39,7 +39,7 @@ impl Ignores<'_> {
         self.set_path(path)
     }
 
-    // Adds what the folders say that the one at a path is in.
+    // Adds what the folders above the one at a path say.
     fn add_parents<S: Folders>(&mut self, system: &S, path: &str) -> Result<(), AllocError>
         requires { self.old.repositories.items ≡ [] }
         ensures place { HasSource self.old self.new }
@@ -55,8 +55,8 @@ impl Ignores<'_> {
         Ok(())
     }
 
-    // Adds what a folder says that the searched one is in, the path of which is before a slash. It is
-    // in a repository, whether the files of such folders are read or not.
+    // Adds what one of the folders above says, whose path comes before a slash. It may be the top
+    // of a repository, whether the files of the folders above are read or not.
     fn add_parent<S: Folders>(&mut self, system: &S, above: &str) -> Result<(), AllocError>
         ensures place { HasSource self.old self.new }
         ensures read { OnOk result (IsParentRead (S.facts system.now) self.old.sources above.now
@@ -72,7 +72,7 @@ impl Ignores<'_> {
         Ok(())
     }
 
-    // Adds the repository of which a folder is the top, if git's files are read and it is one.
+    // Adds the repository of a folder, if git's files are read and the folder is the top of one.
     fn add_top<S: Folders>(&mut self, system: &S, folder: &str) -> Result<(), AllocError>
         ensures place { HasSource self.old self.new }
         ensures layers { self.new.layers ≡ self.old.layers }
@@ -94,7 +94,7 @@ impl Ignores<'_> {
     }
 }
 
-// The path of a folder for the system, by what is before the slash at its end.
+// The path of a folder for the system, by what comes before the slash at its end.
 fn rooted(above: &str) -> &str
     ensures { result.now ≡ rooted above.now }
 {
@@ -138,7 +138,7 @@ fn is_mark_there<S: Folders>(
     Ok(is_there)
 }
 
-// Whether a folder has something with a name, which for a link is what it leads to.
+// Whether a folder has something with a name. A link has to lead to something.
 fn is_there<S: Folders>(
     alloc: Global,
     system: &S,
@@ -151,8 +151,8 @@ fn is_there<S: Folders>(
     Ok(system.look(path.as_str(), true).is_ok())
 }
 
-// How many bytes of the path of a folder are before what is in the current one, or if it isn't in
-// that before the first name.
+// Where the path of a folder begins relative to the current folder. If it isn't in that, it begins
+// after its first slash.
 fn start_of<S: Folders>(alloc: Global, system: &S, folder: &[u8]) -> usize
     ensures { IsStart (S.facts system.now) folder.now result }
 {
@@ -162,8 +162,8 @@ fn start_of<S: Folders>(alloc: Global, system: &S, folder: &[u8]) -> usize
     }
 }
 
-// How many bytes of the path of a folder are before what is in another, or if it isn't in that before
-// the first name.
+// Where the path of a folder begins relative to another folder. If it isn't in that, it begins
+// after its first slash.
 fn start_in(other: &[u8], folder: &[u8]) -> usize
     ensures { result ≡ start_in other.now folder.now }
 {
