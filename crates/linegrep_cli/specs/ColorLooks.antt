@@ -1,4 +1,4 @@
--- How what is written looks, by what is asked for, and the escapes for that.
+-- How a text looks that is written, by what options ask for, and the escapes for that.
 use Rattle.std.specs.Prelude.{◌≡◌, ℕ, ◌+◌, min, nat_lt, Bool, true, false, not, ◌&&◌, ◌==◌}
 use Rattle.std.specs.Prelude.{if◌then◌else◌, List, [], ◌∷◌, ◌++◌, codes, decimal, length, Option}
 use Rattle.std.specs.Prelude.{None, Some, String}
@@ -17,7 +17,7 @@ use Rattle.linegrep_cli.specs.declared.looks.Looks.{Looks}
 use Rattle.linegrep_cli.specs.declared.looks.Tint.{Tint}
 use Rattle.linegrep_cli.specs.declared.looks.Tint.TheVariants.{Indexed, Mixed, Named}
 
--- a byte is this mark, and bytes have it
+-- a byte is a mark
 abbrev pub is_mark : ℕ → ℕ → Bool
 is_mark mark byte = byte == mark
 
@@ -29,13 +29,13 @@ abbrev pub are_digits : ℕ → List ℕ → Bool
 are_digits radix digits = nat_lt 0 (length digits)
     && list_all (λ digit. nat_lt (digit_value digit) radix) digits
 
--- the number that digits of a radix say, if it is one of 8 bits
+-- the number that digits of a radix say, if it has 8 bits
 abbrev pub byte_of_digits : ℕ → List ℕ → Option ℕ
 byte_of_digits radix digits =
     if are_digits radix digits && nat_lt (digits_value radix digits) 256
     then Some (digits_value radix digits) else None
 
--- a plus may be before them
+-- the number that digits of a radix say, maybe after a plus
 abbrev pub byte_in : ℕ → List ℕ → Option ℕ
 byte_in radix text = byte_of_digits radix (without_leading_plus text)
 
@@ -46,7 +46,7 @@ after_mark (first ∷ []) = None
 after_mark (first ∷ mark ∷ digits) =
     if first == 48 && mark == 120 then Some digits else None
 
--- the number that a text says in digits, or after the mark in hexadecimal ones
+-- the number that a text says: in decimal digits, or in hexadecimal ones after their mark
 abbrev pub byte_by : Option (List ℕ) → List ℕ → Option ℕ
 byte_by None text = byte_in 10 text
 byte_by (Some digits) text = byte_in 16 digits
@@ -54,7 +54,7 @@ byte_by (Some digits) text = byte_in 16 digits
 abbrev pub byte_value : List ℕ → Option ℕ
 byte_value text = byte_by (after_mark text) text
 
--- the color of a number, or of three with commas between them
+-- the color of one number, or of three numbers with commas between them
 abbrev pub tint_of_bytes : Option ℕ → Option ℕ → Option ℕ → Option Tint
 tint_of_bytes (Some red) (Some green) (Some blue) = Some (Mixed red green blue)
 tint_of_bytes red green blue = None
@@ -84,7 +84,7 @@ tint_of value = if bytes_eq value (codes "black") then Some (Named 0)
     else if bytes_eq value (codes "white") then Some (Named 7)
     else tint_of_numbers value
 
--- as other text
+-- the look of a text about which nothing is asked for
 abbrev pub plain_look : Look
 plain_look = record {
   letters = None;
@@ -99,7 +99,7 @@ abbrev pub is_plain : Look → Bool
 is_plain look = not (is_some look.letters) && not (is_some look.behind) && not look.is_bold
     && not look.is_intense && not look.is_underlined && not look.is_italic
 
--- with a style of a name
+-- a look with one more style, by the style's name, if there is such a style
 abbrev pub style_with : List ℕ → Look → Option Look
 style_with name look = if bytes_eq name (codes "bold") then Some (record look { is_bold = true })
     else if bytes_eq name (codes "nobold") then Some (record look { is_bold = false })
@@ -111,7 +111,7 @@ style_with name look = if bytes_eq name (codes "bold") then Some (record look { 
     else if bytes_eq name (codes "noitalic") then Some (record look { is_italic = false })
     else None
 
--- with a value of an attribute
+-- a look with another value of an attribute, if both are well formed
 abbrev pub look_by : List ℕ → List ℕ → Look → Option Look
 look_by attribute value look =
     if bytes_eq attribute (codes "fg")
@@ -121,14 +121,14 @@ look_by attribute value look =
     else if bytes_eq attribute (codes "style") then style_with value look
     else None
 
--- with a change: none of it, or a value after an attribute and a colon
+-- a look after a change: `none`, or an attribute, a colon and a value
 abbrev pub look_with : List ℕ → Look → Option Look
 look_with change look = if bytes_eq change (codes "none") then Some plain_look
     else if has_mark 58 change
     then look_by (before_first (is_mark 58) change) (after_first (is_mark 58) change) look
     else None
 
--- with a change in one of them, by its name
+-- all looks after a change in one of them, by its name
 abbrev pub looks_by : List ℕ → List ℕ → Looks → Option Looks
 looks_by part change looks =
     if bytes_eq part (codes "path")
@@ -143,13 +143,14 @@ looks_by part change looks =
     then option_map (λ look. record looks { highlight = look }) (look_with change looks.highlight)
     else None
 
--- with what a text says: a name, a colon and a change
+-- all looks after what a text says: a name, a colon and a change
 abbrev pub looks_with : List ℕ → Looks → Option Looks
 looks_with text looks = if has_mark 58 text
     then looks_by (before_first (is_mark 58) text) (after_first (is_mark 58) text) looks
     else None
 
--- paths are magenta, line numbers green, matches bold red, and their lines as other text
+-- the looks at first: paths are magenta, line numbers green, and matches bold and red. Lines of
+-- matches look as other text
 abbrev pub first_looks : Looks
 first_looks = record {
   path = record plain_look { letters = Some (Named 5) };
@@ -159,7 +160,7 @@ first_looks = record {
   highlight = plain_look;
 }
 
--- the escape of a color, for a layer of a terminal: the letters, or what is behind them
+-- the escape of a color, for the letters or for what is behind them
 abbrev pub tint_text : List ℕ → Bool → Option Tint → List ℕ
 tint_text layer is_intense None = []
 tint_text layer is_intense (Some (Named number)) =
@@ -173,11 +174,11 @@ tint_text layer is_intense (Some (Mixed red green blue)) =
     (27 ∷ codes "[") ++ (layer ++ (codes "8;2;" ++ (decimal red ++ (codes ";"
     ++ (decimal green ++ (codes ";" ++ (decimal blue ++ codes "m")))))))
 
--- an escape, if it is asked for
+-- an escape, if it is asked for, or else nothing
 abbrev pub escape_if : Bool → List ℕ → List ℕ
 escape_if is_asked escape = if is_asked then escape else []
 
--- the escapes before a text that looks so
+-- the escapes before a text with a look
 abbrev pub look_text : Look → List ℕ
 look_text look = reset ++ (escape_if look.is_bold (27 ∷ codes "[1m")
     ++ (escape_if look.is_italic (27 ∷ codes "[3m")
@@ -185,12 +186,12 @@ look_text look = reset ++ (escape_if look.is_bold (27 ∷ codes "[1m")
     ++ (tint_text (codes "3") look.is_intense look.letters
     ++ tint_text (codes "4") look.is_intense look.behind))))
 
--- the escape before what looks so, if it doesn't look as other text
+-- the escape before a text with a look, unless that is the look of other text
 abbrev pub IsTextIfAny : Look → Option (String Global) → Type 0
 IsTextIfAny look None = is_plain look ≡ true
 IsTextIfAny look (Some text) = (is_plain look ≡ false) × (string_bytes text ≡ look_text look)
 
--- the escapes before what looks so
+-- the escapes before texts with these looks
 pub record AreTextsOf (looks : Looks) (texts : ColorTexts) : Type 0 where
   pub path : string_bytes texts.path ≡ look_text looks.path
   pub line : string_bytes texts.line ≡ look_text looks.line

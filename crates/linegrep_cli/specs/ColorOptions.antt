@@ -9,13 +9,13 @@ use Rattle.linegrep_cli.specs.ColorLooks.{AreTextsOf, first_looks, looks_with}
 use Rattle.linegrep_cli.specs.declared.looks.Looks.{Looks}
 use Rattle.linegrep_cli.specs.declared.options.Options.{Options}
 
--- how what is written looks after one more change, if all before it are well formed. Letters may be
--- large
+-- all looks after one more change, if it and all changes before it are well formed. Its letters may
+-- be capitals
 abbrev pub looks_then : Option Looks → Bor (List ℕ) → Option Looks
 looks_then None text = None
 looks_then (Some looks) text = looks_with (map to_ascii_lowercase text.now) looks
 
--- after all changes, of which the last decides
+-- all looks after some changes, of which the last decides
 abbrev pub looks_of : List (Bor (List ℕ)) → Option Looks
 looks_of texts = fold looks_then (Some first_looks) texts
 
@@ -33,11 +33,11 @@ AreChosen None texts = ⊥
 AreChosen (Some changes) texts = (looks : Looks) × (looks_of changes.now ≡ Some looks)
     × AreTextsOf looks texts
 
--- so if options choose any
+-- the escapes are those of the colors that options choose, or there are none if they choose none
 abbrev pub AreColorTexts : Options → Option ColorTexts → Type 0
 AreColorTexts options None = options.colors ≡ None
 AreColorTexts options (Some texts) = AreChosen options.colors texts
 
--- so are escapes that are lent
+-- lent escapes are those of the colors that options choose
 abbrev pub AreColorsLent : Options → Option (Bor ColorTexts) → Type 0
 AreColorsLent options lent = AreColorTexts options (option_copied lent)

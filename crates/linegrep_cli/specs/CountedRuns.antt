@@ -1,4 +1,4 @@
--- What a run writes whose searches a format prints, and what it counts.
+-- What a run writes and counts, if a format prints its searches.
 use Rattle.std.specs.Prelude.{◌≡◌, ℕ, List, MatchBool, MatchResult, Option, Result, Ok, Err}
 use Rattle.std.specs.Borrow.{Bor}
 use Rattle.std.specs.Global.{Global}
@@ -41,7 +41,7 @@ module _ {F M W E : Type 0} (rules : Rules F) (output : E → Option (List ℕ))
     pub start : new.start ≡ old.start
 
 module _ {F W : Type 0} (write_step : W → OutputCall → W → Type 0) where
-  -- the text of counts comes, or fails to
+  -- the text of counts is written, or writing it fails
   abbrev pub AreCountsPut : W → Printer (CountedFormat F) → Stats → ℕ
       → Result (Unit {0}) (SearchError Global) → W → Printer (CountedFormat F) → Type 0
   AreCountsPut writer old stats elapsed result writer' new = MatchResult result

@@ -4,9 +4,10 @@ use Rattle.std.specs.Borrow.{Bor}
 use Rattle.std.specs.declared.io.Error.{Error}
 use Rattle.grep_printer.specs.declared.printed_search.Searched.{Searched}
 
--- a call, with what it was given and what it returned: a search of a file, or of standard input, with
--- a path if there is one; the path of a file that isn't searched; a text on standard error; whether
--- the search of a binary file ends where that shows; and the end of all
+-- a call of an engine, with what it was given and what it returned: the search of a file, or of
+-- standard input, with a path if there is one; writing the path of a file that isn't searched; a
+-- text on standard error; whether the search of a binary file ends once it is found to be binary;
+-- and the end of the run
 pub data EngineCall (F : Type 0) : Type 0 where
   searches_file : Option (Bor (List ℕ)) → F → Searched → EngineCall F
   searches_input : Option (Bor (List ℕ)) → Searched → EngineCall F

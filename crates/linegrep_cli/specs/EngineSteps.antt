@@ -19,7 +19,7 @@ has_failed (ReplacedParts run) = run.printer.has_failed
 has_failed (Summary run) = run.printer.has_failed
 has_failed (Json run) = run.printer.has_failed
 
--- the writer's error in that of a search
+-- an error is the writer's, in the error of a search
 abbrev pub IsWrittenError : SearchError Global → Error → Type 0
 IsWrittenError (Io cause) error = error ≡ cause
 IsWrittenError e error = error_kind error ≡ Other

@@ -30,8 +30,9 @@ last_of_both options one other =
     if nat_lt (last_use options one) (last_use options other)
     then last_use options other else last_use options one
 
--- ignore files of a kind are read: what says so last, of these or of all, isn't before what says no
--- last, or the first `-u`
+-- whether ignore files of a kind are read. Of the options about this kind and about all kinds, the
+-- last that asks for them has to come after the last that refuses them, and after the first `-u`;
+-- they are also read if none of these is used
 abbrev pub reads : Options → OptionId → OptionId → Bool
 reads options asked refused =
     nat_le (last_of_both options refused NoIgnore) (last_of_both options asked Ignore)
@@ -49,12 +50,12 @@ sources_of options = record {
   ignores_case = has options IgnoreFileCaseInsensitive;
 }
 
--- those that are named
+-- the ignore files that are named
 abbrev pub ignore_files_of : Options → List (Bor (List ℕ))
 ignore_files_of options = if has options NoIgnoreFiles then [] else texts_of options.ignore_files
 
--- hidden files and folders are searched: an option says so, or the second `-u` does, and nothing after
--- it says no
+-- whether hidden files and folders are searched: `--hidden` or the second `-u` asks for that, and
+-- no `--no-hidden` comes after it
 abbrev pub shows_hidden : Options → Bool
 shows_hidden options = has options Hidden
     || nat_lt (last_use options NoHidden) options.unrestricted.hidden

@@ -27,7 +27,7 @@ module _ {F R : Type 0} (file_remaining : F → Option (List ℕ)) (remaining : 
     abbrev pub IsPulled : Haystack F R → ReadResult → Haystack F R → Type 0
     IsPulled old result new = IsPulledIn old.file old.reader result new.file new.reader
 
-    -- it returns the front of what remained, and a failed one takes nothing
+    -- a call returns the front of what remained, and takes nothing if it fails
     gives-in : ((old new : R) (bytes : List ℕ) → read_step old (Ok bytes) new
         → Consumes (remaining old) (remaining new) bytes)
         → (file : Option F) (reader : R) (bytes : List ℕ) (file' : Option F) (reader' : R)

@@ -1,4 +1,4 @@
--- What a run writes whose searches are written as messages in JSON.
+-- What a run writes, if its searches are written as messages in JSON.
 use Rattle.std.specs.Prelude.{◌≡◌, ℕ, List, MatchResult, Option, Result, Ok, Err}
 use Rattle.std.specs.Borrow.{Bor}
 use Rattle.std.specs.Global.{Global}
@@ -27,8 +27,8 @@ AreCounted totals (Ok stats) result new = (result ≡ Ok tt) × (new ≡ stats_s
 AreCounted totals (Err e) result new = (result ≡ Err e) × (new ≡ totals)
 
 module _ {W : Type 0} (write_step : W → OutputCall → W → Type 0) where
-  -- after a search that ended in `Ok` comes the message about its end, if it reported something,
-  -- with how long it took; and it gives what it counts
+  -- after a search that ended in `Ok`, the message about its end is written, if it reported
+  -- something, with how long it took. The result is what the search counted
   abbrev pub IsEndPut : {T M : Type 0} → PrinterSink (JsonFormat T) M W
       → Result (Unit {0}) (SearchError Global) → ℕ → Result Stats (SearchError Global) → W
       → Printer (JsonFormat T) → Type 0
@@ -41,7 +41,7 @@ module _ {W : Type 0} (write_step : W → OutputCall → W → Type 0) where
   IsEndPut sink (Err e) elapsed counts writer new =
       (counts ≡ Err e) × (writer ≡ sink.writer.now) × (new ≡ sink.printer.now)
 
-  -- the message about all searches comes, or fails to
+  -- the message about all searches is written, or writing it fails
   abbrev pub AreTotalsPut : {T : Type 0} → W → Printer (JsonFormat T) → Stats → ℕ
       → Result (Unit {0}) (SearchError Global) → W → Printer (JsonFormat T) → Type 0
   AreTotalsPut writer old totals elapsed result writer' new = MatchResult result
@@ -53,7 +53,7 @@ module _ {T M W E : Type 0} (text_at : T → TextAt) (output : E → Option (Lis
     (first_at : M → List ℕ → ℕ → Option (ℕ × ℕ)) (write_step : W → OutputCall → W → Type 0)
     {R : Type 0} (remaining : R → Option (List ℕ)) (read_step : R → ReadResult → R → Type 0)
     (state : SearcherState) (matcher : M) (path : Option (Bor (List ℕ))) where
-  -- a search is written as messages, with what matches would be replaced by
+  -- a search is written as messages, with what would replace its matches
   pub record IsJsonWritten (reader : R) (writer : W) (old : JsonRun T) (searched : Searched)
       (reader' : R) (writer' : W) (new : JsonRun T) : Type 0 where
     pub begun : PrinterSink (JsonFormat T) M W

@@ -12,7 +12,7 @@ use Rattle.linegrep_cli.specs.declared.options.Options.{Options}
 abbrev pub name_patterns : List Use → Bool
 name_patterns uses = nat_lt 0 (last_place uses Regexp) || nat_lt 0 (last_place uses File)
 
--- and files of patterns
+-- uses of options name files of patterns
 abbrev pub names_files : List Use → Bool
 names_files uses = list_any (λ one. is_same one.id File) uses
 
@@ -32,11 +32,11 @@ AreNamed [] patterns = patterns ≡ []
 AreNamed (one ∷ later) patterns = (own : List (List ℕ)) × (rest : List (List ℕ))
     × IsNamed one own × AreNamed later rest × (patterns ≡ own ++ rest)
 
--- those that one use names are added
+-- the patterns that one use names are added
 abbrev pub IsAdded : Use → List (List ℕ) → List (List ℕ) → Type 0
 IsAdded one old new = (own : List (List ℕ)) × IsNamed one own × (new ≡ old ++ own)
 
--- some are added
+-- some patterns are added
 abbrev pub AreMore : List (List ℕ) → List (List ℕ) → Type 0
 AreMore old new = (own : List (List ℕ)) × (new ≡ old ++ own)
 

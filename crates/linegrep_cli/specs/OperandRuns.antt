@@ -1,4 +1,4 @@
--- What a run over operands visits, in which order, what comes of it, and the status.
+-- What a run over operands visits, in which order, what comes of that, and the status.
 use Rattle.std.specs.Prelude.{◌≡◌, ◌≢◌, ◌⊎◌, ℕ, Bool, true, false, not, ◌&&◌, ◌||◌, ◌==◌, if◌then◌else◌}
 use Rattle.std.specs.Prelude.{◌+◌, codes, length, List, [], ◌∷◌, ◌++◌, Option, None, Some, is_some, is_ok}
 use Rattle.std.specs.Prelude.{MatchBool, MatchOption, Result, Ok, Err, String, string_bytes}
@@ -42,7 +42,7 @@ visited_then total next = record {
   failure = next.failure;
 }
 
--- both are files, and the same one
+-- both are the same file
 abbrev pub is_same : Option FileId → Option FileId → Bool
 is_same (Some one) (Some other) = is_same_file one other
 is_same _ _ = false
@@ -59,29 +59,29 @@ abbrev pub seeks_unmatched : Option Quiet → Bool
 seeks_unmatched None = false
 seeks_unmatched (Some quiet) = quiet.seeks_unmatched
 
--- or it looks for a match, of which the first ends it unless all are counted
+-- the first match ends a run that writes nothing of what it finds, unless all matches are counted
 abbrev pub ends_with_match : Option Quiet → Bool
 ends_with_match None = false
 ends_with_match (Some quiet) = not quiet.counts_all
 
--- a search found what is looked for: a match, or if files without one are sought none
+-- a search found what is looked for: a match, or no match, if files without one are looked for
 abbrev pub has_found : Scope → Searched → Bool
 has_found scope searched =
     if seeks_unmatched scope.quiet then is_ok searched.result && not searched.has_match
     else searched.has_match
 
--- the path that is written of what has a name
+-- the path that is written, by the name of what is searched
 abbrev pub path_of : Scope → Bor (List ℕ) → Option (Bor (List ℕ))
 path_of scope name = if scope.shows_paths then Some name else None
 
--- what is visited after this makes no difference: the run failed, or nothing is written or counted
--- and there is a match
+-- what is visited after this makes no difference: the run failed; or there is a match, and nothing
+-- is written or counted
 abbrev pub is_over : Scope → Visit → Bool
 is_over scope total =
     is_some total.failure || (ends_with_match scope.quiet && total.has_match)
 
--- what was visited of a folder is what choices say: all of it, or if that ended the run some first of
--- it
+-- what was visited of a folder is all that is visited of it, by choices; or the beginning of that,
+-- if it ended the run
 abbrev pub IsWalkedTo : FolderFacts → Scope → Choices → List ℕ → List Entry → Visit → Type 0
 IsWalkedTo folders scope choices folder visited visit =
     AreAllOf folders scope.route choices folder visited
@@ -96,13 +96,13 @@ status_of scope total = if total.has_error && not (is_some scope.quiet && total.
 abbrev pub is_escaped : List ℕ → Bool
 is_escaped word = list_any (λ letter. letter == 0) word
 
--- it is said what can't be read
+-- standard error says what can't be read
 abbrev pub says_errors : Messages → Bool
 says_errors Full = true
 says_errors WithoutWarnings = true
 says_errors Silent = false
 
--- it is said what is wrong with ignore files
+-- standard error says what is wrong with ignore files
 abbrev pub says_warnings : Messages → Bool
 says_warnings Full = true
 says_warnings WithoutWarnings = false
@@ -117,13 +117,14 @@ abbrev pub error_of : Result (Unit {0}) Error → Option Error
 error_of (Ok u) = None
 error_of (Err error) = Some error
 
--- a visit ends as it is, or memory is out
+-- a visit ends as it did, or memory is out
 abbrev pub EndsAs : Visit → Visit → Type 0
 EndsAs total visit = (visit ≡ total) ⊎ ((error : Error) × (error_kind error ≡ OutOfMemory)
     × (visit ≡ record total { failure = Some error }))
 
 module _ {E F : Type 0} (step : E → EngineCall F → E → Type 0) where
-  -- so many texts are written to standard error, and the last error in that is this
+  -- some texts are written to standard error, as many as are given. The result is the last error of
+  -- these writes, if there is one
   pub data AreWritten (old : E) : ℕ → Option Error → E → Type 0 where
     no_text : AreWritten old 0 None old
     next_text : (count : ℕ) (failure : Option Error) {mid new : E}
@@ -132,28 +133,29 @@ module _ {E F : Type 0} (step : E → EngineCall F → E → Type 0) where
         → AreWritten old (count + 1) (option_or (error_of said) failure) new
 
 module _ {E F : Type 0} (step : E → EngineCall F → E → Type 0) (scope : Scope) where
-  -- a text is written to standard error, unless nothing is to be said; then writing what was found
-  -- before may fail
+  -- a text is written to standard error, unless nothing is to be said. Writing what was found
+  -- before may fail then
   abbrev pub IsSaid : E → Option Error → E → Type 0
   IsSaid old failure new =
       MatchBool (says_errors scope.messages)
       ((said : Result (Unit {0}) Error) × step old (says said) new × (failure ≡ error_of said))
       ((failure ≡ None) × (new ≡ old))
 
-  -- it is said what can't be read
+  -- something can't be read, and standard error says so
   abbrev pub IsReported : E → Visit → E → Type 0
   IsReported old visit new = (failure : Option Error) × IsSaid old failure new
       × (visit ≡ record no_visit { has_error = true; failure = failure })
 
-  -- so many texts about ignore files are written to standard error, or none if they aren't asked for
+  -- some texts about ignore files are written to standard error, as many as are given, or none if
+  -- they aren't asked for
   abbrev pub AreSaid : E → ℕ → Option Error → E → Type 0
   AreSaid old count failure new =
       AreWritten step old (if says_warnings scope.messages then count else 0) failure new
 
 module _ {E F : Type 0} (step : E → EngineCall F → E → Type 0) (has_failed : E → Bool)
     (scope : Scope) where
-  -- after a search that ended in `Ok`, one in which the writer failed, which ends the run, and one
-  -- in which reading did, which is said
+  -- what comes after a search. It ended in `Ok`; or the writer failed, which ends the run; or
+  -- reading failed, which standard error says
   abbrev pub IsEnded : E → Result (Unit {0}) (SearchError Global) → Visit → E → Type 0
   IsEnded old (Ok u) visit new = (visit.has_error ≡ false) × (visit.failure ≡ None) × (new ≡ old)
   IsEnded old (Err e) visit new = MatchBool (has_failed old)
@@ -167,12 +169,12 @@ module _ {E F : Type 0} (step : E → EngineCall F → E → Type 0) (has_failed
     pub matched : visit.has_match ≡ has_found scope searched
     pub ended : IsEnded old searched.result visit new
 
-  -- the path of a file is written, which isn't searched
+  -- the path of a file is written, and the file isn't searched
   abbrev pub IsListed : Bor (List ℕ) → E → Visit → E → Type 0
   IsListed path old visit new = (searched : Searched) × (mid : E)
       × step old (lists path searched) mid × IsKept mid searched visit new
 
-  -- standard input is searched, unless it is the output; where files are listed its name is written
+  -- standard input is searched, unless it is the output. If files are listed, its name is written
   abbrev pub IsInputVisited : E → Visit → E → Type 0
   IsInputVisited old visit new = MatchBool scope.lists_files
       ((name : Bor (List ℕ)) × (name.now ≡ codes "<stdin>") × IsListed name old visit new)
@@ -187,7 +189,7 @@ module _ {E F : Type 0} (step : E → EngineCall F → E → Type 0) (has_failed
       × step old (searches_file (path_of scope path) file searched) mid
       × IsKept mid searched visit new
 
-  -- the run fails: it says why, unless nobody reads what is written
+  -- the run fails. It says why, unless nobody reads what is written
   pub data IsFailing (error : Error) (old : E) : ℕ → E → Type 0 where
     of_closed : has_failed old ≡ true → error_kind error ≡ BrokenPipe → IsFailing error old 0 old
     of_other : {new : E} (said : Result (Unit {0}) Error) → step old (says said) new
@@ -206,8 +208,8 @@ module _ {E F : Type 0} (step : E → EngineCall F → E → Type 0) (has_failed
 module _ {E F : Type 0} (opens : List ℕ → Result F Error → Type 0)
     (identifies : F → Option FileId → Type 0) (step : E → EngineCall F → E → Type 0)
     (has_failed : E → Bool) (scope : Scope) where
-  -- the file at a path is opened and searched, unless it is the output; or it is said why it can't
-  -- be opened
+  -- the file at a path is opened and searched, unless it is the output. If it can't be opened,
+  -- standard error says why
   pub data IsPathVisited (path : Bor (List ℕ)) (old : E) (visit : Visit) (new : E) : Type 0 where
     of_unopened : (error : Error) → opens path.now (Err error)
         → IsReported step scope old visit new → IsPathVisited path old visit new
@@ -217,8 +219,8 @@ module _ {E F : Type 0} (opens : List ℕ → Result F Error → Type 0)
         → IsFileVisited step has_failed scope path file old visit new
         → IsPathVisited path old visit new
 
-  -- what is found in a folder is visited: a file by its path, what can't be read, and of a folder
-  -- what is said on standard error of its ignore files
+  -- an entry of a folder is visited. A file is searched or listed; of a folder, what is wrong with
+  -- its ignore files is said; of what can't be read, that is said
   pub data IsEntryVisited (old : E) : Entry → Visit → E → Type 0 where
     of_path : {visit : Visit} {new : E} {text : String Global} (path : Bor (List ℕ))
         → path.now ≡ string_bytes text → scope.lists_files ≡ false
@@ -234,7 +236,7 @@ module _ {E F : Type 0} (opens : List ℕ → Result F Error → Type 0)
         → visit ≡ record no_visit { failure = failure }
         → IsEntryVisited old (Folder text) visit new
 
-  -- such are visited in order, none of which ended the run but the last
+  -- entries are visited in order. Only the last may have ended the run
   pub data AreEntriesVisited (old : E) : List Entry → Visit → E → Type 0 where
     no_entry : AreEntriesVisited old [] no_visit old
     next_entry : (entries : List Entry) (total next : Visit) {mid new : E} (entry : Entry)
@@ -245,7 +247,7 @@ module _ {E F : Type 0} (opens : List ℕ → Result F Error → Type 0)
 module _ {E F : Type 0} (folders : FolderFacts) (opens : List ℕ → Result F Error → Type 0)
     (identifies : F → Option FileId → Type 0) (step : E → EngineCall F → E → Type 0)
     (has_failed : E → Bool) (scope : Scope) (choices : Choices) where
-  -- what a walk through a folder finds is visited. That ends the run if memory is out
+  -- what a walk through a folder finds is visited. If memory is out, that ends the run
   pub record IsTreeVisited (folder : List ℕ) (old : E) (visit : Visit) (new : E) : Type 0 where
     pub visited : List Entry
     pub total : Visit
@@ -253,7 +255,7 @@ module _ {E F : Type 0} (folders : FolderFacts) (opens : List ℕ → Result F E
     pub walked : IsWalkedTo folders scope choices folder visited visit
     pub visit_is : EndsAs total visit
 
-  -- a folder is visited, in which the search of a binary file may end where that shows
+  -- a folder is visited. In it the search of a binary file may end once it is found to be binary
   pub record IsFolderVisited (folder : List ℕ) (old : E) (visit : Visit) (new : E) : Type 0 where
     pub first : E
     pub last : E
@@ -261,7 +263,8 @@ module _ {E F : Type 0} (folders : FolderFacts) (opens : List ℕ → Result F E
     pub tree : IsTreeVisited folder first visit last
     pub ends : step last (sets_quits false) new
 
-  -- without an operand the current folder is visited; if no file is searched there, that is said
+  -- without an operand the current folder is visited. If no file is searched in it, standard error
+  -- says so
   pub record IsHereVisited (old : E) (visit : Visit) (new : E) : Type 0 where
     pub mid : E
     pub folder : Visit
@@ -275,7 +278,8 @@ module _ {E F : Type 0} (folders : FolderFacts) (finds : List ℕ → Result Boo
     (opens : List ℕ → Result F Error → Type 0) (identifies : F → Option FileId → Type 0)
     (step : E → EngineCall F → E → Type 0) (has_failed : E → Bool) (scope : Scope)
     (choices : Choices) where
-  -- what an operand names that is neither standard input nor a word for bytes that aren't UTF-8
+  -- the folder or the file that an operand names is visited. The operand is neither `-` nor a word
+  -- for bytes that aren't UTF-8
   pub data IsNamedVisited (path : Bor (List ℕ)) (old : E) (visit : Visit) (new : E) : Type 0 where
     of_folder : finds path.now (Ok true)
         → IsFolderVisited folders opens identifies step has_failed scope choices path.now old visit
@@ -292,14 +296,14 @@ module _ {E F : Type 0} (folders : FolderFacts) (finds : List ℕ → Result Boo
     of_missing : (error : Error) → finds path.now (Err error) → scope.lists_files ≡ true
         → IsReported step scope old visit new → IsNamedVisited path old visit new
 
-  -- what an operand names
+  -- what an operand names is visited
   abbrev pub IsOperandVisited : Bor (List ℕ) → E → Visit → E → Type 0
   IsOperandVisited path old visit new =
       MatchBool (is_input path.now) (IsInputVisited step has_failed scope old visit new)
       (MatchBool (is_escaped path.now) (IsReported step scope old visit new)
       (IsNamedVisited path old visit new))
 
-  -- operands are visited in order, each once, none of which ended the run but the last
+  -- operands are visited in order, each once. Only the last may have ended the run
   pub data AreVisited (old : E) : List (Bor (List ℕ)) → Visit → E → Type 0 where
     no_operand : AreVisited old [] no_visit old
     next_operand : (paths : List (Bor (List ℕ))) (total next : Visit) {mid new : E}
@@ -317,7 +321,7 @@ module _ {E F : Type 0} (folders : FolderFacts) (finds : List ℕ → Result Boo
       × (path ∷ later ≡ done ++ rest) × AreVisited old done total new
       × ((rest ≡ []) ⊎ (is_over scope total ≡ true))
 
-  -- operands are visited, and the status is what comes of that
+  -- operands are visited, and the status follows from what came of that
   pub record AreOperandsSearched (paths : List (Bor (List ℕ))) (old : E) (status : ℕ) (new : E)
       : Type 0 where
     pub total : Visit

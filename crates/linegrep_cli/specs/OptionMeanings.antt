@@ -18,8 +18,8 @@ use Rattle.linegrep_cli.specs.declared.options.Options.{Options}
 abbrev pub value_of : Options → OptionId → Option ℕ → Option ℕ
 value_of options option value = if has options option then value else None
 
--- how many lines of context are on a side: by the value of the option for that side, or else of the
--- one for both. Where all lines are written there are none besides
+-- how many lines of context are on a side, by the value of the option for that side, or else of the
+-- option for both. If all lines are written, there is no context
 abbrev pub context_lines : Options → Option ℕ → ℕ
 context_lines options own = if has options Passthru then 0
     else unwrap_or (option_or own (value_of options Context options.context)) 0
@@ -43,8 +43,8 @@ abbrev pub paths_of : Options → List (Bor (List ℕ))
 paths_of options = if options.names_patterns then operands_of options.operands
     else without_first (operands_of options.operands)
 
--- standard input is all that is searched: it is the only path or, where there is none, it has
--- something to give besides patterns, and files aren't listed
+-- only standard input is searched: it is the only path; or there is no path, standard input may be
+-- searched then, no patterns are read from it, and files aren't listed
 abbrev pub searches_input : Options → Bool
 searches_input options = is_input (paths_of options)
   where
@@ -58,8 +58,8 @@ searches_input options = is_input (paths_of options)
 abbrev pub shows_columns : Options → Bool
 shows_columns options = has options Column || (has options Vimgrep && not (has options NoColumn))
 
--- lines are numbered: because an option asks for it, or for a terminal, unless standard input is
--- all that is searched
+-- lines are numbered: an option asks for it; or they are written to a terminal, and not only
+-- standard input is searched
 abbrev pub shows_numbers : Options → Bool
 shows_numbers options = not (has options NoLineNumber)
     && (has options LineNumber || has options Pretty || shows_columns options || has options Json

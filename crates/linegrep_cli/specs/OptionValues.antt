@@ -30,7 +30,7 @@ use Rattle.linegrep_files.specs.declared.file_options.Values.{Values}
 abbrev pub number_for : List Use → OptionId → Option ℕ
 number_for uses option = option_and_then (λ text. number_of text.now) (last_value uses option)
 
--- texts that are there if there are any
+-- a list of texts, which is there only if it isn't empty
 abbrev pub AreListed : List (Bor (List ℕ)) → Option (Bor (List (Bor (List ℕ)))) → Type 0
 AreListed texts listed = MatchOption listed (texts ≡ []) (λ some. some.now ≡ texts)
 
@@ -38,7 +38,7 @@ AreListed texts listed = MatchOption listed (texts ≡ []) (λ some. some.now �
 abbrev pub names_input : List (Bor (List ℕ)) → Bool
 names_input files = list_any (λ file. bytes_eq file.now (codes "-")) files
 
--- the uses of options name the patterns, or that files are listed
+-- uses of options name the patterns, or ask that files are listed
 abbrev pub names_patterns : List Use → Bool
 names_patterns uses = nat_lt 0 (last_place uses Regexp) || nat_lt 0 (last_place uses File)
     || nat_lt 0 (last_place uses Files)
@@ -70,7 +70,7 @@ pub record AreLists (uses : List Use) (operands : List (Bor (List ℕ))) (lists 
   pub types_added : AreValues uses TypeAdd lists.types_added
   pub types_cleared : AreValues uses TypeClear lists.types_cleared
 
--- values that are lent
+-- lent values of an option
 pub record AreLent (listed : Listed) (values : Values) : Type 0 where
   pub texts : values.texts.now ≡ listed.texts.items
   pub places : values.places.now ≡ listed.places.items
@@ -82,7 +82,7 @@ pub record AreTypes (lists : Lists) (types : TypeOptions) : Type 0 where
   pub added : AreLent lists.types_added types.added
   pub cleared : AreLent lists.types_cleared types.cleared
 
--- the options that uses, values and operands are
+-- the options of a run, by the uses of options, their values and the operands
 pub record AreOptions (uses : Bor (List Use)) (lists : Lists) (streams : Streams) (options : Options) : Type 0
   where
     pub streams_are : options.streams ≡ streams

@@ -8,7 +8,7 @@ use Rattle.linegrep_cli.specs.SeparatorOptions.{separator_text}
 use Rattle.linegrep_options.specs.declared.option_id.OptionId.TheVariants.{Files, Json}
 use Rattle.linegrep_cli.specs.declared.options.Options.{Options}
 
--- bytes are one of ASCII, or none
+-- some bytes are one byte of ASCII, or none
 abbrev pub is_path_separator : List ℕ → Bool
 is_path_separator [] = true
 is_path_separator (byte ∷ []) = nat_lt byte 128
@@ -37,7 +37,8 @@ abbrev pub with_separator : ℕ → List ℕ → List ℕ
 with_separator separator path =
     encode_utf8_all (map (λ letter. if letter == 47 then separator else letter) (chars path))
 
--- the path that is written, by the separator and the path of what is searched, if there are such
+-- the path that is written, by the separator, if there is one, and by the path of what is searched,
+-- if there is one
 abbrev pub IsShown : Option ℕ → Option (Bor (List ℕ)) → Option (Bor (List ℕ)) → Type 0
 IsShown None path shown = shown ≡ path
 IsShown (Some separator) None shown = shown ≡ None

@@ -49,8 +49,8 @@ ends_in_crlf options = not (has options NullData) && has options Crlf
 abbrev pub is_unicode : Options → Bool
 is_unicode options = not (has options NoUnicode) && not (has options NoPcre2Unicode)
 
--- the options of the patterns: `^` and `$` match at the ends of lines, and no match has the end of a
--- line in it, unless it may run over several lines. What no option sets is at its default
+-- the options of the patterns. `^` and `$` match at the ends of lines, and no match has the end of
+-- a line in it, unless matches may run over several lines. What no option sets has its default
 abbrev pub searched_options : Options → List (String Global) → PatternSettings
 searched_options options patterns = record default_options {
   case_insensitive = ignores_case options patterns;
@@ -64,7 +64,8 @@ searched_options options patterns = record default_options {
   line_terminator = if has options Multiline then None else Some (terminator_of options);
 }
 
--- and where files are listed those of the literal that is searched for each path
+-- the options with which patterns are compiled. If files are listed, those of the literal that is
+-- searched for each path
 abbrev pub pattern_options : Options → List (String Global) → PatternSettings
 pattern_options options patterns =
     if has options Files then default_options else searched_options options patterns
@@ -77,8 +78,8 @@ has_dollar (Some text) = list_any (λ byte. byte == 36) text.now
 abbrev pub names_groups : Options → Bool
 names_groups options = has_dollar options.replace && not (has options FixedStrings)
 
--- several patterns as one, whose groups have one row of numbers and names: alternatives, each in a
--- group that has no number
+-- several patterns as one pattern, whose groups have one sequence of numbers and names. The
+-- patterns are alternatives, each in a group without a number
 abbrev pub group_of : List ℕ → List ℕ → List ℕ
 group_of start text = start ++ (text ++ codes ")")
 
@@ -87,7 +88,7 @@ joined_text [] = []
 joined_text (first ∷ later) = group_of (codes "(?:") first
     ++ flat_map (group_of (codes "|(?:")) later
 
--- the texts that are compiled: those of the patterns, or several of them as one
+-- the texts that are compiled: the patterns, or several patterns as one
 abbrev pub searched_texts : Options → List (List ℕ) → List (List ℕ)
 searched_texts options texts = if nat_lt 1 (length texts) && names_groups options
     then joined_text texts ∷ [] else texts

@@ -10,13 +10,13 @@ use Rattle.linegrep_cli.specs.declared.search.Layout.{Layout}
 use Rattle.linegrep_cli.specs.declared.search.Prepared.{Prepared}
 use Rattle.linegrep_files.specs.FolderFacts.{FolderFacts}
 
--- separators, colors and what stands in place of slashes are those that options ask for
+-- separators, colors, and what is written in place of slashes are what options ask for
 pub record IsLayout (options : Options) (layout : Layout) : Type 0 where
   pub separators : IsSeparators options layout.separators
   pub colors : AreColorTexts options layout.colors
   pub path_separator : layout.path_separator ≡ path_separator_of options
 
--- a searcher, the choices of files and what is written besides are those that options ask for
+-- a searcher, the choices of files, and the layout of what is written are what options ask for
 pub record IsPrepared (folders : FolderFacts) (options : Options) (prepared : Prepared) : Type 0
   where
     pub settings : prepared.searcher.settings ≡ searcher_settings options

@@ -50,8 +50,8 @@ use Rattle.linegrep_cli.specs.declared.printers.Printer.TheVariants.{Json as Mes
 abbrev pub counts : Options → Bool
 counts options = has options Count || has options CountMatches
 
--- single matches are counted, and not lines, in a search by line or across lines: an inverted count
--- is one of lines
+-- single matches are counted, and not lines, in a search by line or across lines. With `-v` lines
+-- are counted in any case
 abbrev pub counts_matches : Options → Bool → Bool
 counts_matches options is_across = not (has options InvertMatch) && (has options CountMatches
     || (has options Count && (has options OnlyMatching || is_across)))
@@ -61,8 +61,8 @@ abbrev pub is_summary_of_paths : Options → Bool
 is_summary_of_paths options = has options FilesWithMatches || has options FilesWithoutMatch
     || has options Files
 
--- all that is found is counted, to say at the end how much it was: not where files are listed, or
--- where messages say it
+-- all that is found is counted, to say at the end how much it was. It isn't if files are listed, or
+-- if messages say it
 abbrev pub counts_all : Options → Bool
 counts_all options = has options Stats && not (has options Files) && not (has options Json)
 
@@ -70,7 +70,7 @@ counts_all options = has options Stats && not (has options Files) && not (has op
 abbrev pub is_summary : Options → Bool
 is_summary options = has options Quiet || counts options || is_summary_of_paths options
 
--- what is written in place of lines, if something is, by line or across lines
+-- what is written in place of lines, if something is, in a search by line or across lines
 abbrev pub summary_kind : Options → Bool → Option SummaryKind
 summary_kind options is_across = if has options Quiet then Some silent
     else if has options Files then Some PathWithMatch
@@ -80,9 +80,9 @@ summary_kind options is_across = if has options Quiet then Some silent
     else if has options FilesWithoutMatch then Some PathWithoutMatch
     else None
 
--- the path of each line or count is written, or of each file that is named: always in JSON and in
--- summaries of paths; else, unless it is asked not to be, if it is asked for or several files may be
--- searched
+-- paths are written. In JSON, and if paths are all that is written, they always are. Otherwise they
+-- are written if an option asks for them or several files may be searched, unless an option refuses
+-- them
 abbrev pub shows_paths : Options → Bool → Bool
 shows_paths options searches_several = has options Json || is_summary_of_paths options
     || (not (has options NoFilename)
@@ -98,7 +98,7 @@ abbrev pub is_line_buffered : Options → Bool
 is_line_buffered options = has options LineBuffered
     || (options.streams.is_terminal && not (has options BlockBuffered))
 
--- how many bytes a line has at most that is written, by the value of `-M`
+-- the limit of bytes of a line, by the value of `-M`
 abbrev pub column_limit : Option ℕ → Option ℕ
 column_limit None = None
 column_limit (Some most) = if most == 0 then None else Some most
@@ -118,11 +118,12 @@ abbrev pub color_choice : Options → Option (List ℕ)
 color_choice options = if has options Color then option_map (λ choice. choice.now) options.color
     else if has options Pretty then Some (codes "always") else None
 
--- the colors, if they are known without the environment, which is asked for a terminal alone
+-- the colors, if they are known without the environment. The environment is asked only for a
+-- terminal
 abbrev pub open_colors : Bool → Option ColorSpecs
 open_colors is_terminal = if is_terminal then None else Some Plain
 
--- those of ripgrep, or others that are chosen
+-- ripgrep's colors, or others that are chosen
 abbrev pub colors_of : Option (Bor ColorTexts) → ColorSpecs
 colors_of None = Default
 colors_of (Some texts) = Chosen texts
@@ -135,8 +136,8 @@ known_colors chosen (Some choice) is_terminal =
     else if bytes_eq choice (codes "never") then Some Plain
     else open_colors is_terminal
 
--- there are such colors for a choice of the options: those that are known by it, and where it is
--- open none or those that are chosen
+-- the colors for what options say of when there are colors. If that tells which, they are these;
+-- otherwise there are none, or they are those that are chosen
 pub record AreColorsFor (chosen : Option (Bor ColorTexts)) (choice : Option (List ℕ))
     (is_terminal : Bool) (colors : ColorSpecs) : Type 0 where
   pub known : IfSome (known_colors chosen choice is_terminal) (λ known. colors ≡ known)
@@ -172,35 +173,36 @@ summary_settings options kind colors = record {
   color_specs = colors;
 }
 
--- the printer has written nothing yet, and keeps 64 KiB of text, or writes at once if options ask
--- for that
+-- a printer has written nothing yet. It keeps 64 KiB of text, or writes each text at once, if
+-- options ask for that
 pub record IsNew {F : Type 0} (options : Options) (printer : Writer F) : Type 0 where
   pub pending : pending_bytes printer.pending ≡ []
   pub has_written : printer.has_written ≡ false
   pub has_failed : printer.has_failed ≡ false
   pub buffer_size : printer.buffer_size ≡ (if is_line_buffered options then 0 else 65536)
 
--- so has the printer of a run, and nothing was counted: it counts if options ask for that
+-- the printer of a run has written nothing yet, and nothing was counted. It counts if options ask
+-- for that
 pub record IsNewRun {F : Type 0} (options : Options) (run : CountedRun F) : Type 0 where
   pub printer : IsNew options run.printer
   pub counts : run.printer.format.is_counting ≡ counts_all options
   pub stats : run.stats ≡ no_stats
 
--- a format has each match replaced by this template, for the groups that a matcher finds
+-- a format replaces each match by a template, for the groups that a matcher finds
 abbrev pub IsReplacing : {F M : Type 0} → M → Option (Bor Template) → ReplacedFormat F M → Type 0
 IsReplacing matcher None format = ⊥
 IsReplacing matcher (Some template) format =
     (format.matcher ≡ matcher) × (format.template.now ≡ template.now)
 
--- so does a replacer, if there is a template
+-- a replacer replaces each match by a template, if there is one
 abbrev pub IsReplacer : {M : Type 0} → M → Option (Bor Template) → Option (TemplateReplacer M) → Type 0
 IsReplacer matcher None None = Unit {0}
 IsReplacer matcher (Some template) (Some replacer) =
     (replacer.matcher ≡ matcher) × (replacer.template.now ≡ template.now)
 IsReplacer matcher template replacer = ⊥
 
--- the printer is the one that options ask for, by line or across lines, with some separators, if
--- there is a template with each match replaced, and with some colors
+-- a printer is the one that options ask for, in a search by line or across lines, with these
+-- separators and colors. If there is a template, it replaces each match
 abbrev pub IsPrinterFor : {M : Type 0} → Options → Bool → Option (Bor Separators) → M
     → Option (Bor Template) → ColorSpecs → Printer M → Type 0
 IsPrinterFor options is_across separators matcher template colors (Lines run) =
@@ -235,7 +237,7 @@ IsPrinterFor options is_across separators matcher template colors (Messages run)
     × IsReplacer matcher template run.printer.format.replacer × IsNew options run.printer
     × (run.stats ≡ no_stats)
 
--- so with the colors that they ask for
+-- a printer is the one that options ask for, with the colors that they ask for
 abbrev pub IsPrinterOf : {M : Type 0} → Options → Bool → Option (Bor Separators)
     → Option (Bor ColorTexts) → M → Option (Bor Template) → Printer M → Type 0
 IsPrinterOf options is_across separators chosen matcher template printer =

@@ -52,7 +52,7 @@ module _ {M W E : Type 0} (output : E → Option (List ℕ)) (facts : M → Matc
   IsSearchWritten reader writer old searched reader' writer' new = ⊥
 
 module _ {M W : Type 0} (write_step : W → OutputCall → W → Type 0) where
-  -- so does the printer of a run
+  -- the printer of a run writes what is pending, and flushes its writer
   abbrev pub IsFlushed : W → Printer M → Result (Unit {0}) Error → W → Printer M → Type 0
   IsFlushed writer (Lines old) result writer' (Lines new) =
       IsRunFlushed write_step writer old result writer' new
@@ -69,7 +69,7 @@ module _ {M W : Type 0} (write_step : W → OutputCall → W → Type 0) where
       × (new ≡ record old { printer = new.printer })
   IsFlushed writer old result writer' new = ⊥
 
-  -- the totals of all searches come after what they wrote, if they are asked for
+  -- the totals of all searches are written after what these wrote, if options ask for that
   abbrev pub HasTotals : W → Printer M → Result (Unit {0}) (SearchError Global) → W → Printer M → Type 0
   HasTotals writer (Json old) result writer' (Json new) =
       (elapsed : ℕ) × AreTotalsPut write_step writer old.printer old.stats elapsed result writer' new.printer
@@ -84,7 +84,7 @@ module _ {M W : Type 0} (write_step : W → OutputCall → W → Type 0) where
       AreStatsPut write_step writer old result writer' new
   HasTotals writer old result writer' new = ⊥
 
-  -- the totals of all searches come, and all is written and flushed
+  -- the totals of all searches are written, and everything is written and flushed
   pub data IsFinished (writer : W) (old : Printer M) : Result (Unit {0}) (SearchError Global) → W
       → Printer M → Type 0 where
     of_totals : {e : SearchError Global} {writer' : W} {new : Printer M}

@@ -23,7 +23,7 @@ use Rattle.linegrep_cli.specs.declared.engine.PrintingEngine.{PrintingEngine}
 use Rattle.linegrep_cli.specs.declared.haystacks.Haystack.{Haystack}
 use Rattle.grep_printer.specs.declared.printed_search.Searched.{Searched}
 
--- what is done about a binary file, if its search may end where that shows
+-- what is done about a binary file, by whether its search ends once it is found to be binary
 abbrev pub detection_with : Bool → BinaryDetection → BinaryDetection
 detection_with quits (Convert byte) = if quits then Quit byte else Convert byte
 detection_with quits detection = detection
@@ -37,13 +37,14 @@ abbrev pub IsUnsearched : Searched → Type 0
 IsUnsearched searched = (searched.has_match ≡ false) × ((error : Error)
     × (error_kind error ≡ OutOfMemory) × (searched.result ≡ Err (Io error)))
 
--- the writer's error in that of a search, if it is one
+-- a result is that of a search, with the writer's error, if it is one
 abbrev pub IsWrittenResult : Result (Unit {0}) (SearchError Global) → Result (Unit {0}) Error
     → Type 0
 IsWrittenResult (Ok u) result = result ≡ Ok tt
 IsWrittenResult (Err e) result = (error : Error) × (result ≡ Err error) × IsWrittenError e error
 
--- something is done with a path as it is written, or there is no memory for that, and nothing is done
+-- something is done with a path as it is written; or there is no memory for that path, and nothing
+-- is done
 abbrev pub IsDoneShown : {F M R W X : Type 0} → (PrintingEngine F M R W X → Option (Bor (List ℕ))
     → Searched → PrintingEngine F M R W X → Type 0) → Option (Bor (List ℕ)) → PrintingEngine F M R W X
     → Searched → PrintingEngine F M R W X → Type 0
@@ -57,8 +58,8 @@ module _ {F M R W X E : Type 0} (output : E → Option (List ℕ)) (facts : M �
     (write_step : W → OutputCall → W → Type 0)
     (file_remaining : F → Option (List ℕ)) (remaining : R → Option (List ℕ))
     (read_step : R → ReadResult → R → Type 0) where
-  -- a file is searched, or else standard input: with the engine's settings and matcher, and what its
-  -- printer makes of it is written
+  -- a file is searched, or without one standard input, with the engine's settings and matcher. What
+  -- the engine's printer makes of it is written
   pub record IsSearched (file : Option F) (old : PrintingEngine F M R W X)
       (path : Option (Bor (List ℕ))) (searched : Searched) (new : PrintingEngine F M R W X)
       : Type 0 where
@@ -75,7 +76,8 @@ module _ {F M R W X E : Type 0} (output : E → Option (List ℕ)) (facts : M �
       haystack = record { file = None; reader = left.reader };
     }
 
-  -- a path is written as that of a file with a match: the line that files are listed by is searched
+  -- a path is written as the path of a file with a match. For that a line is searched which always
+  -- matches
   pub record IsPathWritten (old : PrintingEngine F M R W X) (path : Option (Bor (List ℕ)))
       (searched : Searched) (new : PrintingEngine F M R W X) : Type 0 where
     pub line : Bor (List ℕ)
@@ -91,7 +93,7 @@ module _ {F M R W X E : Type 0} (output : E → Option (List ℕ)) (facts : M �
       writer = new.writer;
     }
 
-  -- what was found before a text on standard error is written first
+  -- before a text on standard error, what was found so far is written
   pub record IsSaidAfter (old : PrintingEngine F M R W X) (result : Result (Unit {0}) Error)
       (new : PrintingEngine F M R W X) : Type 0 where
     pub flushed : IsFlushed write_step old.writer old.printer result new.writer new.printer

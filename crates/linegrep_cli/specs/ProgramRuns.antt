@@ -36,7 +36,7 @@ use Rattle.linegrep_files.specs.FolderFacts.{FolderFacts}
 use Rattle.linegrep_files.specs.declared.failures.Failure.{Failure}
 use Rattle.linegrep_files.specs.declared.file_id.FileId.{FileId}
 
--- the status after a text is written, which is 0 too if nobody reads it
+-- the status after a text is written. It is also 0 if nobody reads the text
 abbrev pub HasAnswerStatus : Result (Unit {0}) Error → ℕ → Type 0
 HasAnswerStatus (Ok u) status = status ≡ 0
 HasAnswerStatus (Err error) status = ((error_kind error ≡ BrokenPipe) × (status ≡ 0))
@@ -75,7 +75,7 @@ ArePatternsFor options patterns = by_list (has options Files)
 abbrev pub inputs_named : List Use → ℕ
 inputs_named uses = count_by (λ file. is_input file.now) (values_of File uses)
 
--- options don't go together: `-u` is given more than three times, or standard input is asked for
+-- options don't go together: `-u` is given more than three times, or standard input is to be read
 -- twice
 abbrev pub exclude_each_other : Options → Bool
 exclude_each_other options = nat_lt 3 (length (places_of Unrestricted 1 options.uses.now))
@@ -111,8 +111,8 @@ module _ {F R W X : Type 0} (output : AllocError → Option (List ℕ))
     (read_step : R → ReadResult → R → Type 0) (folders : FolderFacts)
     (finds : List ℕ → Result Bool Error → Type 0) (opens : List ℕ → Result F Error → Type 0)
     (identifies : F → Option FileId → Type 0) where
-  -- what the program does by its options: a text that is asked for is written; else the list of
-  -- types is, if it is asked for; else the patterns are searched for, or the run is refused
+  -- what the program does by its options. A text that is asked for is written; otherwise the list
+  -- of types, if that is asked for; otherwise the patterns are searched for, or the run is refused
   pub data IsOptionsRun (options : Options) (input : R) (writer : W) (errors : X)
       : ℕ → R → W → X → Type 0 where
     of_text : {status : ℕ} {input' : R} {writer' : W} {errors' : X} (text : List ℕ)
@@ -138,7 +138,7 @@ module _ {F R W X : Type 0} (output : AllocError → Option (List ℕ))
         identifies options patterns mid writer errors status input' writer'
         → IsOptionsRun options input writer errors status input' writer' errors'
 
-  -- what the program does by what is parsed: as the options say, unless memory is out
+  -- what the program does by parsed arguments: what the options say, unless memory is out
   pub data IsParsedRun (parsed : Parsed) (streams : Streams) (input : R) (writer : W) (errors : X)
       : ℕ → R → W → X → Type 0 where
     out_of_memory : {status : ℕ} {input' : R} {writer' : W} {errors' : X} (failure : Failure)
@@ -154,7 +154,7 @@ module _ {F R W X : Type 0} (output : AllocError → Option (List ℕ))
         → IsOptionsRun options input writer errors status input' writer' errors'
         → IsParsedRun parsed streams input writer errors status input' writer' errors'
 
-  -- what the program does: if its arguments aren't a command line, that is said; otherwise it does
+  -- what the program does. If its arguments aren't a command line, it says so; otherwise it does
   -- what they say, unless memory is out
   pub data IsProgramRun (words : List (Vec ℕ Global)) (streams : Streams) (input : R) (writer : W)
       (errors : X) : ℕ → R → W → X → Type 0 where

@@ -27,9 +27,9 @@ abbrev pub sorts_by_time : Options → Bool
 sorts_by_time options = names_time (if has options Sort then options.sort
     else if has options Sortr then options.sortr else None)
 
--- why a run is refused: a label of an encoding that isn't known, patterns that aren't well formed
--- or too large, all as one or each by itself, a separator that isn't one byte, colors that aren't
--- well formed, an order that the system may not have, or what is said of files
+-- why a run is refused: the label of an encoding isn't known; patterns aren't well formed or are
+-- too large, all as one or each by itself; a separator isn't one byte; colors aren't well formed;
+-- the system may not have an order; or what is said of files may be refused
 pub data IsCause (options : Options) (patterns : List (String Global)) : Type 0 where
   of_label : refuses_label options ≡ true → IsCause options patterns
   of_pattern : (error : PatternError) → error ≢ Memory

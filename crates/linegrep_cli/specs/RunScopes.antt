@@ -22,7 +22,8 @@ use Rattle.linegrep_cli.specs.declared.scope.Quiet.{Quiet as QuietRun}
 use Rattle.linegrep_files.specs.Orders.{by_path, named_order}
 use Rattle.linegrep_files.specs.declared.order.Order.{Order}
 
--- the search of a file of a folder goes on after a NUL, though it isn't searched as text
+-- whether the search of a file of a folder goes on after a NUL, though the file isn't searched as
+-- text
 abbrev pub searches_binary : Options → Bool
 searches_binary options = has options Binary || is_all_searched options
 
@@ -66,7 +67,8 @@ abbrev pub is_folder : Result Bool Error → Bool
 is_folder (Ok found) = found
 is_folder (Err error) = false
 
--- several files may be searched: there isn't one path alone, or it is that of a folder
+-- whether several files may be searched: there is no path, there are several, or the only one is
+-- that of a folder
 abbrev pub MaySearch : (List ℕ → Result Bool Error → Type 0) → List (Bor (List ℕ)) → Bool → Type 0
 MaySearch finds (path ∷ []) several =
     (found : Result Bool Error) × finds path.now found × (several ≡ is_folder found)

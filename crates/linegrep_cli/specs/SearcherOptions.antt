@@ -71,11 +71,11 @@ abbrev pub IsLabelError : Option (Bor (List ℕ)) → ConfigError → Type 0
 IsLabelError None error = ⊥
 IsLabelError (Some label) error = IsUnknownEncoding label.now error ⊎ (error ≡ Memory)
 
--- the label of the encoding is refused: where files are listed none is read
+-- the label of the encoding is refused. If files are listed, no label is looked at
 abbrev pub refuses_label : Options → Bool
 refuses_label options = not (has options Files) && is_unknown_label (label_of options)
 
--- the settings of the searcher; what no option sets is at its default
+-- the settings of the searcher. What no option sets has its default
 abbrev pub asked_settings : Options → Settings
 asked_settings options = record default_settings {
   line_terminator = terminator_of options;
@@ -92,7 +92,7 @@ asked_settings options = record default_settings {
   max_matches = options.max_count;
 }
 
--- and where files are listed each at its default
+-- the settings of the searcher. If files are listed, each has its default
 abbrev pub searcher_settings : Options → Settings
 searcher_settings options =
     if has options Files then default_settings else built (asked_settings options)

@@ -37,6 +37,6 @@ IsSeparators options (Some separators) =
     ≡ separator_text options.field_context_separator (codes "-"))
     × IsContext options separators.context
 
--- so are separators that are lent
+-- lent separators are those that options ask for
 abbrev pub AreLent : Options → Option (Bor Separators) → Type 0
 AreLent options lent = IsSeparators options (option_copied lent)

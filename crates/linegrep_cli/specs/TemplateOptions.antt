@@ -20,6 +20,6 @@ IsTemplate options regex None = options.replace ≡ None
 IsTemplate options regex (Some template) =
     IsReadFrom (group_names (regex_options regex) (regex_patterns regex)) options.replace template
 
--- so is a template that is lent
+-- a lent template is what options ask for
 abbrev pub IsTemplateLent : Options → Regex → Option (Bor Template) → Type 0
 IsTemplateLent options regex lent = IsTemplate options regex (option_copied lent)

@@ -53,7 +53,7 @@ module _ {F M R W X E : Type 0} (output : E → Option (List ℕ)) (facts : M �
     (remaining : R → Option (List ℕ)) (read_step : R → ReadResult → R → Type 0)
     (folders : FolderFacts) (finds : List ℕ → Result Bool Error → Type 0)
     (opens : List ℕ → Result F Error → Type 0) (identifies : F → Option FileId → Type 0) where
-  -- the engine that options ask for: it has written nothing yet, and has no file open
+  -- the engine that options ask for. It has written nothing yet, and has no file open
   pub record IsEngineFor (options : Options) (matcher : M) (template : Option (Bor Template))
       (input : R) (writer : W) (errors : X) (engine : PrintingEngine F M R W X) : Type 0 where
     pub settings : engine.searcher.settings ≡ searcher_settings options
@@ -72,8 +72,8 @@ module _ {F M R W X E : Type 0} (output : E → Option (List ℕ)) (facts : M �
     pub path_separator : engine.path_separator ≡ path_separator_of options
     pub detection : engine.detection ≡ (searcher_settings options).binary_detection
 
-  -- a run with a matcher and a template: over the operands that options have, with the choices and the
-  -- engine that they ask for
+  -- a run with a matcher and a template, over the operands of the options, with the choices of
+  -- files and the engine that options ask for
   pub record IsRunWith (options : Options) (matcher : M) (template : Option (Bor Template))
       (input : R) (writer : W) (errors : X) (status : ℕ) (input' : R) (writer' : W) : Type 0 where
     pub scope : Scope
@@ -89,7 +89,8 @@ module _ {F M R W X E : Type 0} (output : E → Option (List ℕ)) (facts : M �
     pub input_after : input' ≡ last.haystack.reader
     pub writer_after : writer' ≡ last.writer
 
-  -- a run for a regular expression is one with a matcher of it, and a template for its groups, if there is one
+  -- a run for a regular expression: a run with a matcher of the expression, and with a template for
+  -- its groups, if there is one
   pub record IsRunFor (options : Options) (regex : Regex) (input : R) (writer : W)
       (errors : X) (status : ℕ) (input' : R) (writer' : W) : Type 0 where
     pub matcher : M
@@ -114,7 +115,7 @@ naming_of regex = record { options = regex_options regex; patterns = regex_patte
 abbrev pub Named : Ghosts Brand → Type 0
 Named naming = Bor (NamedMatcher Brand naming)
 
--- what it finds, from a place on; it may fail at any question, and can be trusted
+-- what a named matcher finds, from a place on. It may fail at any question, and can be trusted
 abbrev pub named_facts : {naming : Ghosts Brand} → Named naming → MatcherFacts AllocError
 named_facts matcher = record {
   meaning = regex_meaning (named_regex matcher.now);
@@ -132,7 +133,7 @@ named_groups_at matcher = regex_groups_at (named_regex matcher.now)
 abbrev pub Literal : Type 0
 Literal = Bor LiteralRegexMatcher
 
--- what it finds, from a place on; it never fails, and can be trusted
+-- what a matcher of a literal finds, from a place on. It never fails, and can be trusted
 abbrev pub literal_facts : Literal → MatcherFacts AllocError
 literal_facts matcher = record {
   meaning = regex_meaning (literal_regex matcher.now);
@@ -146,8 +147,8 @@ literal_first_at matcher = regex_first_at (literal_regex matcher.now)
 abbrev pub literal_groups_at : Literal → List ℕ → ℕ → List (Option (ℕ × ℕ))
 literal_groups_at matcher = regex_groups_at (literal_regex matcher.now)
 
--- a whole run, by its options and patterns: they are compiled as the options say, and the run is one
--- for what they give
+-- a whole run, by its options and patterns. The patterns are compiled as the options say, and the
+-- run is one for the expression that they give
 pub record IsWholeRun {F R W X : Type 0} (output : AllocError → Option (List ℕ))
     (write_step : W → OutputCall → W → Type 0) (file_remaining : F → Option (List ℕ))
     (remaining : R → Option (List ℕ)) (read_step : R → ReadResult → R → Type 0)

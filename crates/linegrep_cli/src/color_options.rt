@@ -16,8 +16,8 @@ const MALFORMED: &str = "--colors: each is path, line, column, match or highligh
     with commas between\n\
     STYLE is bold, intense, underline or italic, or one of these with no before it";
 
-/// The escapes for the colors that the options choose, if they choose any. An error is that of one
-/// that isn't well formed, or of being out of memory.
+/// The escapes for the colors that the options choose, if they choose any. An error is that a color
+/// isn't well formed, or that there is no memory.
 pub fn color_texts(alloc: Global, options: &Options<'_, '_>) -> Result<Option<ColorTexts>, Failure>
     ensures texts { IfOk result (AreColorTexts options.now) }
     ensures refused { IfErr result (λ failure. has_cause failure ≡ true
@@ -36,7 +36,7 @@ pub fn color_texts(alloc: Global, options: &Options<'_, '_>) -> Result<Option<Co
     }
 }
 
-// How what is written looks after some changes, if each is well formed.
+// All looks after some changes, if each of these is well formed.
 fn looks(alloc: Global, texts: &[&str]) -> Result<Option<Looks>, AllocError>
     ensures { IfOk result (λ looks. looks ≡ looks_of texts.now) }
 {
@@ -47,7 +47,8 @@ fn looks(alloc: Global, texts: &[&str]) -> Result<Option<Looks>, AllocError>
     Ok(looks)
 }
 
-// With one more change, if all are well formed. Letters may be large.
+// All looks after one more change, if it and all before it are well formed. Its letters may be
+// capitals.
 fn apply(alloc: Global, looks: Option<Looks>, text: &str) -> Result<Option<Looks>, AllocError>
     ensures { IfOk result (λ changed. changed ≡ looks_then looks text.entry) }
 {

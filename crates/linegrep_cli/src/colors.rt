@@ -6,8 +6,8 @@ use grep_printer::{ColorSpecs, ColorTexts};
 use std::env;
 use std::env::VarError;
 
-/// The colors for a choice of the options, or those that they choose. If it is open, a terminal
-/// gets colors, unless the environment asks for none.
+/// The colors, by what options say of when there are colors, and by which colors they choose. If
+/// they don't say when, a terminal gets colors, unless the environment asks for none.
 pub fn color_specs<'c>(
     rt: &HostRuntime,
     choice: Option<&str>,
@@ -31,7 +31,7 @@ pub fn color_specs<'c>(
     }
 }
 
-// Whether the environment names a terminal that has colors: any but the dumb one.
+// Whether the environment names a terminal that has colors: any terminal but the dumb one.
 fn has_colors(rt: &HostRuntime) -> bool {
     match env::var(rt, "TERM") {
         Ok(term) => term.as_str() != "dumb",
@@ -40,7 +40,7 @@ fn has_colors(rt: &HostRuntime) -> bool {
     }
 }
 
-// Whether the environment doesn't ask for texts without colors.
+// Whether the environment allows colors.
 fn allows_colors(rt: &HostRuntime) -> bool {
     matches!(env::var(rt, "NO_COLOR"), Err(VarError::NotPresent))
 }

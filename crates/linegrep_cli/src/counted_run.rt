@@ -1,4 +1,4 @@
-//! Searches that a format prints, and what is counted of them.
+//! Searches that a format prints, and counts.
 ghost use Rattle.std.specs.Prelude.{◌≡◌, true};
 ghost use Rattle.grep_printer.specs.StatsSums.{no_stats};
 ghost use Rattle.linegrep_cli.specs.CountedRuns.{AreAdded, AreStatsPut, IsCountedSearch};
@@ -11,8 +11,8 @@ use grep_searcher::{FindAt, SearchError, Searcher, Source};
 use std::io;
 use std::time::Instant;
 
-/// A printer, with the counts of the searches so far and when the run began, if it counts. Where
-/// the clock fails a time is 0.
+/// A printer, with the counts of the searches so far, and when the run began, if it counts. If the
+/// clock fails, a time is 0.
 #[derive(Drop)]
 pub struct CountedRun<F> {
     printer: Printer<CountedFormat<F>>,
@@ -34,8 +34,8 @@ impl<F> CountedRun<F> {
         }
     }
 
-    /// Writes what was counted in all searches, if it was. An error is the writer's, or one of
-    /// being out of memory.
+    /// Writes what was counted in all searches, if the run counts. An error is the writer's, or one
+    /// of being out of memory.
     pub fn write_totals<W: Output>(
         &mut self,
         rt: &HostRuntime,

@@ -17,11 +17,12 @@ use grep_searcher::{BinaryDetection, SearchError, Searcher, Source};
 use std::io;
 use std::io::Read;
 
-/// What searches files and standard input, writes what is found, and says what goes wrong. A run
-/// over files is generic in it, and so is proved without what a searcher and a printer consist of.
+/// An engine searches files and standard input, writes what is found, and says what goes wrong. A
+/// run over files is generic in it, so that it is proved without knowing what a searcher and a
+/// printer consist of.
 ///
-/// It is given by its steps: the state before a call, the call with what it was given and returned,
-/// and the state after.
+/// Clauses know an engine by its steps: the state before a call, the call with what it was given
+/// and returned, and the state after.
 pub trait Engine<F> {
     /// What one call may do.
     ghost step: { Self → EngineCall F → Self → Type 0 };
@@ -37,17 +38,17 @@ pub trait Engine<F> {
     fn search_input(&mut self, path: Option<&str>) -> Searched
         ensures { step self.old (searches_input path.entry result) self.new };
 
-    /// Writes the path of a file that isn't searched, as that of one with a match.
+    /// Writes the path of a file that isn't searched, as the path of a file with a match.
     fn list(&mut self, path: &str) -> Searched
         ensures { step self.old (lists path.entry result) self.new };
 
-    /// Writes a text to standard error, after what was found before. An error is that of writing
+    /// Writes a text to standard error, after what was found so far. An error is that of writing
     /// what was found.
     fn say(&mut self, text: &str) -> io::Result<()>
         ensures { step self.old (says result) self.new };
 
-    /// From now on the search of a binary file ends where that shows, or goes on as it did at
-    /// first.
+    /// From now on, the search of a binary file ends once it is found to be binary, or goes on as
+    /// it did at first.
     fn set_quits(&mut self, quits: bool)
         ensures { step self.old (sets_quits quits) self.new };
 
@@ -79,8 +80,8 @@ pub struct PrintingEngine<'e, F, M, R, W, E> {
 }
 
 impl<'e, F, M, R, W, E> PrintingEngine<'e, F, M, R, W, E> {
-    /// An engine of these, which writes a separator in place of each slash of a path, if there is one.
-    /// The times in messages are by the clock of `rt`.
+    /// An engine of a searcher, a matcher and a printer. If there is a separator, it writes that in
+    /// place of each slash of a path. Times are by the clock of `rt`.
     pub fn new(
         rt: &'e HostRuntime,
         searcher: Searcher,
@@ -166,7 +167,8 @@ impl<'e, F: Read + Drop, M: CapturesAt + Copy, R: Source, W: Output, E> Printing
         }
     }
 
-    // So with a path as it is.
+    // Searches a file, or else standard input, and writes what is found in it, with the path as it
+    // is given.
     fn search_shown(&mut self, file: Option<F>, path: Option<&str>) -> Searched
         ensures { IsSearched M.Error.output M.facts M.first_at M.groups_at W.step F.remaining R.remaining R.step
             file self.old path.entry result self.new }
@@ -184,7 +186,7 @@ impl<'e, F: Read + Drop, M: CapturesAt + Copy, R: Source, W: Output, E> Printing
         searched
     }
 
-    // Writes a path, as it is, as that of a file with a match.
+    // Writes a path, as it is given, as the path of a file with a match.
     fn list_shown(&mut self, path: &str) -> Searched
         ensures { IsPathWritten M.Error.output M.facts M.first_at M.groups_at W.step F.remaining R.remaining
             R.step self.old (Some path.entry) result self.new }
@@ -252,7 +254,7 @@ impl<'e, F: Read + Drop, M: CapturesAt + Copy, R: Source, W: Output, E: Output> 
     }
 }
 
-// Nothing was searched, since there is no memory.
+// The result if nothing was searched, since there is no memory.
 fn unsearched() -> Searched
     ensures { IsUnsearched result }
 {
@@ -262,7 +264,7 @@ fn unsearched() -> Searched
     }
 }
 
-// What is done about a binary file, if its search may end where that shows.
+// What is done about a binary file, by whether its search ends once it is found to be binary.
 fn detection(first: BinaryDetection, quits: bool) -> BinaryDetection
     ensures { result ≡ detection_with quits first }
 {
@@ -272,7 +274,7 @@ fn detection(first: BinaryDetection, quits: bool) -> BinaryDetection
     }
 }
 
-/// The writer's error in that of a search.
+/// The writer's error, of a search that failed because the writer did.
 pub fn written_error(error: SearchError) -> io::Error
     ensures { IsWrittenError error result }
 {

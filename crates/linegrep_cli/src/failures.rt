@@ -10,13 +10,13 @@ use std::alloc::{AllocError, Global};
 use std::fmt::Display;
 use std::io;
 
-// How many characters a pattern has at most that is written whole, and how many are written of each
-// end of a longer one, or on each side of a mark.
+// A pattern of at most so many characters is written whole. Of a longer one so many are written at
+// each end, or on each side of a mark.
 const LONGEST: usize = 200;
 
 const NEAR: usize = 40;
 
-/// Why nothing more can be written.
+/// The failure that nothing more can be written to standard output, and why.
 pub fn output_failure(alloc: Global, error: &io::Error) -> Failure {
     Failure::of_cause(alloc, "standard output", error)
 }
@@ -28,8 +28,8 @@ pub fn say<E: Output>(errors: &mut E, text: &str)
     let _ = write_all(errors, text.as_bytes());
 }
 
-/// Why patterns can't be compiled, with the text of the one that is wrong if that is known, and a
-/// mark below the place if there is one.
+/// The failure that patterns can't be compiled. It has the text of the pattern that is wrong, if
+/// that is known, and a mark below the place, if there is one.
 pub fn pattern_failure(alloc: Global, texts: &[&str], error: &grep_regex::Error) -> Failure
     ensures { has_cause result ≡ true → error.now ≢ Memory }
 {
@@ -47,8 +47,8 @@ pub fn pattern_failure(alloc: Global, texts: &[&str], error: &grep_regex::Error)
     }
 }
 
-// What is wrong with a pattern, with a mark below a character of it, which is counted from 1. Of a long
-// one what is near the mark is written.
+// What is wrong with a pattern, and a mark below one of its characters, which is counted from 1. Of
+// a long pattern only what is near the mark is written.
 fn marked<D: Display>(
     alloc: Global,
     cause: &D,
@@ -68,7 +68,8 @@ fn marked<D: Display>(
     )
 }
 
-// What is wrong with a pattern, which is written below unless it may be any of several.
+// What is wrong with a pattern. The pattern is written below, unless it isn't known which of
+// several it is.
 fn caused<D: Display>(alloc: Global, cause: &D, texts: &[&str]) -> Result<String, AllocError> {
     match texts {
         [text] => {
@@ -91,14 +92,16 @@ fn shortened(alloc: Global, text: &str) -> Result<String, AllocError> {
     format!(in alloc; "{first} .. {between} characters .. {last}")
 }
 
-// The characters of a text from one place up to another, counted from 0, as far as there are any.
+// The characters of a text from one place up to another, as far as there are any. Places are
+// counted from 0.
 fn characters(text: &str, from: usize, to: usize) -> &str {
     let rest = text.get(byte_at(text, from)..).unwrap_or("");
     rest.get(..byte_at(rest, to.saturating_sub(from)))
         .unwrap_or(rest)
 }
 
-// The byte at which a character of a text begins, or the length of a text without it.
+// The position at which a character of a text begins, or the length of the text, if it has no such
+// character.
 fn byte_at(text: &str, character: usize) -> usize {
     match text.char_indices().nth(character) {
         Some((start, _)) => start,

@@ -52,9 +52,9 @@ impl<'r, S: System> Run<'r, S> {
         Run { rt, system, scope }
     }
 
-    /// Says what is wrong with the ignore files that are named, searches the files at some paths, writes
-    /// what is left, and gives the status. What can't be read is reported, and gives the status 2,
-    /// unless it is an ignore file.
+    /// Says what is wrong with the ignore files that are named, searches the files at some paths,
+    /// writes what is left, and returns the status. If something can't be read, that is reported,
+    /// and the status is 2, unless it is an ignore file.
     pub fn complete<E: Engine<S::File>>(
         &self,
         engine: &mut E,
@@ -72,7 +72,7 @@ impl<'r, S: System> Run<'r, S> {
         }
     }
 
-    // Searches the files at some paths, writes what is left, and gives the status.
+    // Searches the files at some paths, writes what is left, and returns the status.
     fn search_operands<E: Engine<S::File>>(
         &self,
         engine: &mut E,
@@ -90,7 +90,7 @@ impl<'r, S: System> Run<'r, S> {
         }
     }
 
-    // Visits what some paths name, or what is searched without one.
+    // Visits what some paths name, or what is searched if there is no path.
     fn visit_operands<E: Engine<S::File>>(
         &self,
         engine: &mut E,
@@ -114,7 +114,7 @@ impl<'r, S: System> Run<'r, S> {
         total
     }
 
-    // Visits what is searched without a path: the input, or the current folder.
+    // Visits what is searched if there is no path: standard input, or the current folder.
     fn visit_default<E: Engine<S::File>>(&self, engine: &mut E, choices: &mut Choices<'r>) -> Visit
         ensures { AreAllVisited (S.facts self.now.system.now) (S.finds self.now.system.now)
             (S.opens self.now.system.now) (S.identifies self.now.system.now) E.step E.has_failed
@@ -141,7 +141,7 @@ impl<'r, S: System> Run<'r, S> {
         visit
     }
 
-    // Visits what an operand names: the input, a folder or a file.
+    // Visits what an operand names: standard input, a folder or a file.
     fn visit_operand<E: Engine<S::File>>(
         &self,
         engine: &mut E,
@@ -321,7 +321,7 @@ impl<'r, S: System> Run<'r, S> {
         self.keep(engine, path, searched)
     }
 
-    // Searches standard input or, where files are listed, writes its name.
+    // Searches standard input, or writes its name, if files are listed.
     fn visit_input<E: Engine<S::File>>(&self, engine: &mut E) -> Visit
         ensures { IsInputVisited E.step E.has_failed self.now.scope engine.old result engine.new }
     {
@@ -335,7 +335,7 @@ impl<'r, S: System> Run<'r, S> {
         self.keep(engine, STDIN, searched)
     }
 
-    // What comes of a search. An error of reading is reported; one of writing ends the run.
+    // What comes of a search. An error of reading is reported. An error of writing ends the run.
     fn keep<E: Engine<S::File>>(&self, engine: &mut E, path: &str, searched: Searched) -> Visit
         ensures { IsKept E.step E.has_failed self.now.scope engine.old searched result engine.new }
     {
@@ -350,7 +350,7 @@ impl<'r, S: System> Run<'r, S> {
         visit
     }
 
-    // Says what is wrong with ignore files, and wasn't said before.
+    // Says what is wrong with ignore files, and hasn't been said before.
     fn warn<E: Engine<S::File>>(&self, engine: &mut E, choices: &mut Choices<'r>) -> Visit
         ensures said { (failure : Option Error)
             × AreSaid E.step self.now.scope engine.old (length (warnings_of choices.old)) failure
@@ -379,7 +379,7 @@ impl<'r, S: System> Run<'r, S> {
         failure
     }
 
-    // Says what goes wrong. The result is the writer's error, or an earlier one.
+    // Says what goes wrong. The result is the writer's error, or the one before if there is none.
     fn say_next<E: Engine<S::File>>(
         &self,
         engine: &mut E,
@@ -416,7 +416,7 @@ impl<'r, S: System> Run<'r, S> {
         }
     }
 
-    // Writes what is left, and gives the status.
+    // Writes what is left, and returns the status.
     fn finish<E: Engine<S::File>>(&self, engine: &mut E, total: &Visit) -> u8
         requires { total.now.failure ≡ None }
         ensures { IsRunEnd E.step E.has_failed self.now.scope total.now engine.old result
@@ -428,8 +428,8 @@ impl<'r, S: System> Run<'r, S> {
         }
     }
 
-    // Says why the run ends early: by the writer's error, of which nothing is said if nobody reads
-    // what is written, or by one of being out of memory.
+    // Says why the run ends early: because of the writer's error, or because memory is out. If
+    // nobody reads what is written, nothing is said.
     fn fail<E: Engine<S::File>>(&self, engine: &mut E, error: &io::Error) -> u8
         ensures { IsFailing E.step E.has_failed self.now.scope error.now engine.old result
             engine.new }

@@ -4,7 +4,7 @@ use std::io;
 use std::io::Read;
 
 /// What is searched: a file, if one is open, or else what a reader gives. It is one type, so that
-/// the program has one search of each printer.
+/// each printer has one search in the program.
 #[derive(Drop)]
 pub struct Haystack<F, R> {
     /// The file.

@@ -11,8 +11,8 @@ use grep_searcher::{FindAt, SearchError, Searcher, Source};
 use std::io;
 use std::time::Instant;
 
-/// A printer of JSON, with what matches would be replaced by, the totals of the searches so far, and
-/// when the run began. Where the clock fails a time is 0.
+/// A printer of JSON, with what would replace matches, the totals of the searches so far, and when
+/// the run began. If the clock fails, a time is 0.
 #[derive(Drop)]
 pub struct JsonRun<R> {
     printer: Printer<JsonFormat<R>>,
@@ -82,7 +82,7 @@ impl<R> JsonRun<R> {
 }
 
 impl<R: Replacer> JsonRun<R> {
-    /// Searches a haystack, which messages name by a path.
+    /// Searches a haystack, and writes messages that name it by a path.
     pub fn search<M: FindAt + Copy, H: Source, W: Output>(
         &mut self,
         rt: &HostRuntime,
@@ -107,7 +107,7 @@ impl<R: Replacer> JsonRun<R> {
     }
 }
 
-// Writes that a search has ended, unless it failed, and gives its counts.
+// Writes that a search has ended, unless it failed, and returns its counts.
 fn write_end<R, M: FindAt, W: Output>(
     rt: &HostRuntime,
     sink: &mut PrinterSink<'_, JsonFormat<R>, M, W>,

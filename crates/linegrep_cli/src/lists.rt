@@ -17,7 +17,7 @@ pub struct Lists<'w> {
     pub colors: Vec<&'w str>,
     /// The globs.
     pub globs: Vec<&'w str>,
-    /// Those whose letters match in either case.
+    /// The globs whose letters match in either case.
     pub iglobs: Vec<&'w str>,
     /// The ignore files that are named.
     pub ignore_files: Vec<&'w str>,
@@ -37,7 +37,8 @@ struct Listed<'w> {
 }
 
 impl<'w> Lists<'w> {
-    /// Those of some uses, with the operands. The only error is being out of memory.
+    /// The values of some uses of options, with the operands. The only error is being out of
+    /// memory.
     pub fn read(
         alloc: Global,
         uses: &[Use<'w>],

@@ -21,7 +21,7 @@ pub enum Tint {
     Named(u8),
     /// One of 256.
     Indexed(u8),
-    /// By how much red, green and blue it has.
+    /// A mixture of red, green and blue.
     Mixed(u8, u8, u8),
 }
 
@@ -47,7 +47,7 @@ pub struct Looks {
 }
 
 impl Looks {
-    /// How they look unless that is changed.
+    /// How they look, if nothing is changed.
     pub fn first() -> Looks
         ensures { result ≡ first_looks }
     {
@@ -71,8 +71,8 @@ impl Looks {
         }
     }
 
-    /// With what a text changes in one of them, if it is well formed: `path:none` or `path:fg:red`,
-    /// for instance.
+    /// All looks after what a text changes in one of them, if the text is well formed: `path:none`
+    /// or `path:fg:red`, for instance.
     pub fn with(&self, text: &str) -> Option<Looks>
         ensures { result ≡ looks_with text.now self.now }
     {
@@ -82,7 +82,7 @@ impl Looks {
         }
     }
 
-    // With a change in the one of a name, if it is well formed.
+    // All looks after a change in one of them, by its name, if both are well formed.
     fn with_part(&self, part: &str, change: &str) -> Option<Looks>
         ensures { result ≡ looks_by part.now change.now self.now }
     {
@@ -111,8 +111,8 @@ impl Looks {
         }
     }
 
-    /// The escapes before what looks so. Matches and their lines have none if they look as other
-    /// text.
+    /// The escapes before texts with these looks. Matches and their lines have none, if they look
+    /// as other text.
     pub fn texts(&self, alloc: Global) -> Result<ColorTexts, AllocError>
         ensures { IfOk result (AreTextsOf self.now) }
     {
@@ -127,7 +127,7 @@ impl Looks {
 }
 
 impl Look {
-    // As other text.
+    // The look of a text about which nothing is asked for.
     fn plain() -> Look
         ensures { result ≡ plain_look }
     {
@@ -152,7 +152,7 @@ impl Look {
             && !self.is_italic
     }
 
-    // With a change, if it is well formed: `none`, `fg:red`, `bg:255`, `style:bold`.
+    // The look after a change, if that is well formed: `none`, `fg:red`, `bg:255`, `style:bold`.
     fn with(&self, change: &str) -> Option<Look>
         ensures { result ≡ look_with change.now self.now }
     {
@@ -165,7 +165,7 @@ impl Look {
         }
     }
 
-    // With the value of an attribute, if it is well formed.
+    // The look with another value of an attribute, if that is well formed.
     fn with_value(&self, attribute: &str, value: &str) -> Option<Look>
         ensures { result ≡ look_by attribute.now value.now self.now }
     {
@@ -192,7 +192,7 @@ impl Look {
         }
     }
 
-    // With a style, if there is one of the name.
+    // The look with one more style, by the style's name, if there is such a style.
     fn with_style(&self, name: &str) -> Option<Look>
         ensures { result ≡ style_with name.now self.now }
     {
@@ -211,7 +211,7 @@ impl Look {
         Some(look)
     }
 
-    // The escape before a text that looks so, unless that is as other text.
+    // The escape before a text with this look, unless it looks as other text.
     fn text_if_any(&self, alloc: Global) -> Result<Option<String>, AllocError>
         ensures { IfOk result (IsTextIfAny self.now) }
     {
@@ -224,7 +224,7 @@ impl Look {
         }
     }
 
-    // The escape before a text that looks so.
+    // The escape before a text with this look.
     fn text(&self, alloc: Global) -> Result<String, AllocError>
         ensures { IfOk result (λ text. string_bytes text ≡ look_text self.now) }
     {
@@ -237,14 +237,14 @@ impl Look {
     }
 }
 
-// An escape, if it is asked for.
+// An escape, if it is asked for, or else an empty text.
 fn escape_if<'t>(is_asked: bool, escape: &'t str) -> &'t str
     ensures { result.now ≡ escape_if is_asked escape.now }
 {
     if is_asked { escape } else { "" }
 }
 
-// The escape of a color, for a layer of a terminal.
+// The escape of a color, for the letters or for what is behind them.
 fn tint_text(
     alloc: Global,
     layer: &str,
@@ -310,7 +310,8 @@ fn mixed_tint(red: &str, rest: &str) -> Option<Tint>
     }
 }
 
-// The number that a text says in digits, or after `0x` in hexadecimal ones, if it is one of 8 bits.
+// The number that a text says in decimal digits, or in hexadecimal ones after `0x`, if it has 8
+// bits.
 fn byte_value(text: &str) -> Option<u8>
     ensures { result ≡ byte_value text.now }
 {
@@ -330,7 +331,7 @@ fn after_mark(text: &str) -> Option<&str>
     }
 }
 
-// The number that digits of a radix say, if it is one of 8 bits. A plus may be before them.
+// The number that digits of a radix say, maybe after a plus, if it has 8 bits.
 fn byte_in(text: &str, radix: u32) -> Option<u8>
     requires least { 2 ≤ radix }
     requires most { radix ≤ 36 }

@@ -32,14 +32,14 @@ use linegrep_options::{OptionId, Use, applies, last_place, last_value, number};
 struct Unrestricted {
     // The first use, which asks for ignored files.
     ignored: usize,
-    // The second, which asks for hidden ones.
+    // The second use, which asks for hidden files.
     hidden: usize,
-    // The third, which asks for binary ones.
+    // The third use, which asks for binary files.
     binary: usize,
 }
 
 impl Unrestricted {
-    // That of the places of all uses.
+    // The first three of the places of all uses.
     fn new(places: &[usize]) -> Unrestricted
         ensures { result ≡ unrestricted_at places.now }
     {
@@ -58,7 +58,7 @@ fn place_at(places: &[usize], index: usize) -> usize
     places.get(index).copied().unwrap_or(0)
 }
 
-/// What the options ask for, but for patterns, of a run with some standard streams.
+/// What the options ask for, but for the patterns, in a run with some standard streams.
 #[derive(Clone, Copy)]
 pub struct Options<'m, 'w> {
     /// What the run knows of its standard streams.
@@ -67,7 +67,7 @@ pub struct Options<'m, 'w> {
     pub uses: &'m [Use<'w>],
     /// After how many matched lines of a file its search stops.
     pub max_count: Option<u64>,
-    /// How many bytes a line has at most that is written; 0 is no limit.
+    /// The limit of bytes of a line that is written; 0 is no limit.
     pub max_columns: Option<u64>,
     after_context: Option<u64>,
     before_context: Option<u64>,
@@ -88,7 +88,7 @@ pub struct Options<'m, 'w> {
     encoding: Option<&'w str>,
     /// The globs, which choose among the files of folders.
     pub globs: Option<&'m [&'w str]>,
-    /// Those whose letters match in either case.
+    /// The globs whose letters match in either case.
     pub iglobs: Option<&'m [&'w str]>,
     ignore_files: Option<&'m [&'w str]>,
     /// What they say of types of files.
@@ -103,7 +103,7 @@ pub struct Options<'m, 'w> {
     operands: Option<&'m [&'w str]>,
     /// Whether patterns are read from standard input.
     pub reads_patterns: bool,
-    // Whether the first operand is a path like the others, and no pattern.
+    // Whether the first operand is a path like the others, and not the pattern.
     names_patterns: bool,
 }
 
@@ -151,8 +151,8 @@ impl<'m, 'w> Options<'m, 'w> {
         applies(self.uses, option)
     }
 
-    /// Whether ignore files of a kind are read, which one option asks for and another doesn't. The last
-    /// of these and of those about all kinds decides.
+    /// Whether ignore files of a kind are read. One option asks for them, and its opposite refuses
+    /// them. The last of these, and of the options about all kinds, decides.
     pub fn reads(&self, option: OptionId, opposite: OptionId) -> bool
         ensures { result ≡ reads self.now option opposite }
     {
@@ -292,8 +292,8 @@ impl<'m, 'w> Options<'m, 'w> {
         self.has(OptionId::Count) || self.has(OptionId::CountMatches)
     }
 
-    // Whether single matches are counted, and not lines: across lines `-c` counts them too. An
-    // inverted count is one of lines.
+    // Whether single matches are counted, and not lines. Across lines `-c` counts them too. With
+    // `-v` lines are counted in any case.
     fn counts_matches(&self, is_across: bool) -> bool
         ensures { result ≡ counts_matches self.now is_across }
     {
@@ -320,8 +320,9 @@ impl<'m, 'w> Options<'m, 'w> {
         }
     }
 
-    /// Whether paths are written: always in JSON and in summaries of paths; else, unless they are
-    /// asked not to be, if they are asked for or several files may be searched.
+    /// Whether paths are written. In JSON, and if paths are all that is written, they always are.
+    /// Otherwise they are written if an option asks for them or several files may be searched,
+    /// unless an option refuses them.
     pub fn shows_paths(&self, searches_several: bool) -> bool
         ensures { result ≡ shows_paths self.now searches_several }
     {
@@ -332,8 +333,8 @@ impl<'m, 'w> Options<'m, 'w> {
             && (self.has(OptionId::WithFilename) || self.has(OptionId::Vimgrep) || searches_several)
     }
 
-    /// The file that isn't searched, if there is one: that which the lines are written to. Without
-    /// lines nothing grows while it is searched.
+    /// The file that isn't searched, if there is one: the file that lines are written to. If no
+    /// lines are written, it doesn't grow while it is searched.
     pub fn left_out(&self) -> Option<FileId>
         ensures { result
             ≡ (if is_summary self.now then None else self.now.streams.output) }
@@ -374,8 +375,8 @@ impl<'m, 'w> Options<'m, 'w> {
         self.has(OptionId::Vimgrep) && !self.has(OptionId::OnlyMatching)
     }
 
-    /// Whether lines are numbered. For a terminal they are, if nothing else is asked for and not
-    /// standard input alone is searched.
+    /// Whether lines are numbered. For a terminal they are, unless an option says otherwise, or
+    /// only standard input is searched.
     pub fn shows_numbers(&self) -> bool
         ensures { result ≡ shows_numbers self.now }
     {
@@ -388,8 +389,8 @@ impl<'m, 'w> Options<'m, 'w> {
                 || self.streams.is_terminal && !self.searches_input())
     }
 
-    /// Whether a path is written once, above the lines of its file. For a terminal it is, if
-    /// nothing else is asked for.
+    /// Whether a path is written once, above the lines of its file. For a terminal it is, unless an
+    /// option says otherwise.
     pub fn shows_headings(&self) -> bool
         ensures { result ≡ shows_headings self.now }
     {
@@ -400,8 +401,8 @@ impl<'m, 'w> Options<'m, 'w> {
                 || self.streams.is_terminal)
     }
 
-    /// Whether each line is written at once, and not many together. For a terminal it is, if nothing
-    /// else is asked for.
+    /// Whether each line is written at once, and not many together. For a terminal it is, unless an
+    /// option says otherwise.
     pub fn is_line_buffered(&self) -> bool
         ensures { result ≡ is_line_buffered self.now }
     {
@@ -436,8 +437,8 @@ impl<'m, 'w> Options<'m, 'w> {
         self.context_of(self.value(OptionId::BeforeContext, self.before_context))
     }
 
-    // How many lines of context are on a side: by its own option, or else by the one for both. Where
-    // all lines are written there are none besides.
+    // How many lines of context are on a side: as its own option says, or else the option for both
+    // sides. If all lines are written, there is no context.
     fn context_of(&self, own: Option<u64>) -> usize
         ensures { result ≡ context_lines self.now own }
     {
@@ -455,7 +456,8 @@ impl<'m, 'w> Options<'m, 'w> {
         if self.has(option) { value } else { None }
     }
 
-    /// What is done about a file with a NUL, which is binary unless it is to be searched as text.
+    /// What is done about a file with a NUL. Such a file is binary, unless it is to be searched as
+    /// text.
     pub fn binary_detection(&self) -> BinaryDetection
         ensures { result ≡ detection_of self.now }
     {
@@ -478,7 +480,7 @@ fn number_for(uses: &[Use<'_>], option: OptionId) -> Option<u64>
     }
 }
 
-// Texts, if there are any.
+// A list of texts, if it isn't empty.
 fn listed<'m, 'w>(texts: &'m Vec<&'w str>) -> Option<&'m [&'w str]>
     ensures { AreListed texts.entry.now.items result }
 {
@@ -496,7 +498,7 @@ fn reads_patterns(files: &[&str]) -> bool
     files.iter().any(|file| is_input(file))
 }
 
-// Whether the uses of options name the patterns, or that files are listed.
+// Whether uses of options name the patterns, or ask that files are listed.
 fn names_patterns(uses: &[Use<'_>]) -> bool
     ensures { result ≡ names_patterns uses.now }
 {

@@ -27,10 +27,10 @@ use linegrep_options::{OptionId, Use, is_same, last_place};
 use std::alloc::{AllocError, Global};
 use std::{fs, io};
 
-/// Reads the texts of the patterns: those of `-e` and those in the lines of the files of `-f`, of
-/// which `-` is standard input, in the order of these options, or if neither is used the first
-/// operand. An error is that there is no pattern, that it isn't UTF-8, that a file can't be read, or
-/// that there is no memory.
+/// Reads the texts of the patterns. These are the texts of `-e`, and the lines of the files of
+/// `-f`, in the order of these options; `-` is standard input. If neither option is used, the
+/// pattern is the first operand. An error is that there is no pattern, that it isn't UTF-8, that a
+/// file can't be read, or that there is no memory.
 pub fn read_patterns<R: Source>(
     rt: &HostRuntime,
     options: &Options<'_, '_>,
@@ -61,7 +61,7 @@ fn name_patterns(uses: &[Use<'_>]) -> bool
     last_place(uses, OptionId::Regexp) > 0 || last_place(uses, OptionId::File) > 0
 }
 
-// A pattern alone.
+// A list of one pattern.
 fn only_pattern(alloc: Global, pattern: &str) -> Result<Vec<String>, Failure>
     ensures refused { IfErr result (λ failure. has_cause failure ≡ false) }
     ensures pattern { IfOk result (λ patterns. map string_bytes patterns.items ≡ pattern.now ∷ []) }
@@ -95,7 +95,7 @@ fn read_named<R: Source>(
     Ok(patterns)
 }
 
-// Adds the patterns that a use of an option names, if it does.
+// Adds the patterns that a use of an option names, if it names any.
 fn add_use<R: Source>(
     rt: &HostRuntime,
     one: &Use<'_>,
@@ -192,9 +192,9 @@ fn push_text(alloc: Global, texts: &mut Vec<String>, text: &str) -> Result<(), A
     Ok(())
 }
 
-/// Compiles patterns as the options say; where files are listed the literal that is searched for each
-/// path, and where a template may name groups all as one, each in a group without a number. An error is that of a
-/// pattern, or that there is no memory.
+/// Compiles patterns as the options say. If files are listed, it compiles the literal that is
+/// searched for each path. If a template may name groups, it compiles all patterns as one, each in
+/// a group without a number. An error is that of a pattern, or that there is no memory.
 pub fn compile(
     alloc: Global,
     options: &Options<'_, '_>,
@@ -220,7 +220,7 @@ pub fn compile(
     }
 }
 
-// Compiles patterns, as one where a template may name groups of several.
+// Compiles patterns. If there are several and a template may name groups, they are compiled as one.
 fn compile_searched(
     alloc: Global,
     options: &Options<'_, '_>,
@@ -252,7 +252,7 @@ fn names_groups(options: &Options<'_, '_>) -> bool
     }
 }
 
-// Compiles patterns as one. Each of them has to be a pattern by itself too.
+// Compiles patterns as one pattern. Each of them has to be a pattern by itself too.
 fn compile_joined(
     alloc: Global,
     builder: &RegexMatcherBuilder,
@@ -276,7 +276,7 @@ fn compile_joined(
     }
 }
 
-// The text of several patterns as one: each in a group that has no number.
+// The text of several patterns as one pattern: each of them is in a group that has no number.
 fn joined_text(alloc: Global, texts: &[&str]) -> Result<String, AllocError>
     ensures { IfOk result (λ text.
         string_bytes text ≡ joined_text (map (λ text. text.now) texts.now)) }
@@ -332,7 +332,7 @@ pub fn texts_of<'p>(alloc: Global, patterns: &'p [String]) -> Result<Vec<&'p str
     Ok(texts)
 }
 
-// How the patterns are compiled. Where a match may run over lines no terminator is declared.
+// How the patterns are compiled. If a match may run over lines, no terminator is declared.
 fn builder(options: &Options<'_, '_>, patterns: &[String]) -> RegexMatcherBuilder
     ensures { result ≡ searched_options options.now patterns.now }
 {
@@ -386,7 +386,7 @@ fn have_capital(patterns: &[String], is_literal: bool) -> bool
         .any(|text| has_capital(text.as_str(), is_literal))
 }
 
-// Whether a pattern has a capital letter, but for one right after an escape.
+// Whether a pattern has a capital letter that isn't right after an escape.
 #[tactic(auto, unfolding(crate::specs::PatternOptions::has_capital))]
 fn has_capital(pattern: &str, is_literal: bool) -> bool
     ensures { result ≡ has_capital is_literal pattern.now }

@@ -13,7 +13,7 @@ use grep_replace::CapturesAt;
 use grep_searcher::{SearchError, Searcher, Source};
 use std::io;
 
-/// What writes what is found.
+/// What writes what searches find.
 #[derive(Drop)]
 pub enum Printer<'c, M> {
     /// Writes lines.

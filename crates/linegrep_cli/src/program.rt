@@ -32,8 +32,8 @@ use std::io;
 pub struct Streams {
     /// Whether the output is a terminal.
     pub is_terminal: bool,
-    /// Whether the input is a file, a pipe or a socket, and no terminal or other device: then it is
-    /// searched if there is no path.
+    /// Whether the input is a file, a pipe or a socket, and not a terminal or another device. Then
+    /// it is searched if there is no path.
     pub has_input: bool,
     /// The file that the input comes from, if it is a regular one.
     pub input: Option<FileId>,
@@ -41,15 +41,16 @@ pub struct Streams {
     pub output: Option<FileId>,
 }
 
-/// Does what the arguments ask for, which are without the program's name and as the system has
-/// them, whether they are UTF-8 or not: searches the files at their paths and in their folders or,
-/// if there are none, what `input` gives or the files of the current folder, writes to `output` what
-/// is found, and says on `errors` what goes wrong. `system` is asked about the paths.
+/// Does what the arguments ask for. They are without the program's name, and need not be UTF-8.
+///
+/// It searches the files at their paths and in their folders. If there are no paths, it searches
+/// what `input` gives, or the files of the current folder. It writes to `output` what is found, and
+/// says on `errors` what goes wrong. `system` is asked about the paths.
 ///
 /// The result has the status that the program exits with: 0 if a line matches, or help or the
-/// version is written; 1 if none does; and 2 if something can't be read or written, or the
+/// version is written; 1 if no line matches; and 2 if something can't be read or written, or the
 /// arguments are wrong. With `-q` it is 0 once a line matches, and it is 0 if nobody reads the
-/// output any more. It has the streams too.
+/// output any more. The result has the streams too.
 pub fn run<S: System, R: Source + Drop, W: Output + Drop, E: Output>(
     rt: &HostRuntime,
     system: &S,
@@ -184,7 +185,8 @@ fn text_asked(options: &Options<'_, '_>) -> Option<&'static str>
     }
 }
 
-// The patterns of a command line; none, where files are listed. An error is as in `read_patterns`.
+// The patterns of a command line. If files are listed, there are none. Errors are as for
+// `read_patterns`.
 #[inline(never)]
 fn patterns_of<R: Source>(
     rt: &HostRuntime,
@@ -204,7 +206,7 @@ fn patterns_of<R: Source>(
     }
 }
 
-// What is wrong with options together that each are right, if something is.
+// What is wrong with options that are each right, and don't go together, if something is.
 fn fault_of(lists: &Lists<'_>, options: &Options<'_, '_>) -> Option<&'static str>
     requires unrestricted { lists.now.unrestricted.items
         ≡ places_of OptionId.Unrestricted 1 options.now.uses.now }

@@ -1,11 +1,11 @@
-//! Options that ripgrep has and this program hasn't.
+//! Options that ripgrep has and this program doesn't have.
 use linegrep_options::OptionId;
 
 const NO_PROGRAM: &str = "no other program is started, so files are searched as they are";
 
 const NO_ENGINE: &str = "there is no engine with look-around or backreferences";
 
-/// Why an option of ripgrep can't be used, in one line, if it is one.
+/// Why an option can't be used, in one line, if it is one of ripgrep's.
 pub fn reason(option: &str) -> Option<&'static str> {
     match option {
         "-z" | "--search-zip" | "--pre" | "--pre-glob" | "--hostname-bin" => Some(NO_PROGRAM),
@@ -14,7 +14,7 @@ pub fn reason(option: &str) -> Option<&'static str> {
     }
 }
 
-/// Why an option has none of the other values that ripgrep may take.
+/// Why an option takes none of the other values that it has in ripgrep.
 pub fn refused_value(option: OptionId) -> Option<&'static str> {
     match option {
         OptionId::Engine => Some(NO_ENGINE),

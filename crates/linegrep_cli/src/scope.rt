@@ -24,16 +24,16 @@ pub struct Scope {
     /// Whether the paths of files are written, and nothing is searched.
     pub lists_files: bool,
     shows_paths: bool,
-    /// What is said of what goes wrong.
+    /// What standard error says of what goes wrong.
     pub messages: Messages,
     quiet: Option<Quiet>,
     /// The file that isn't searched.
     pub left_out: Option<FileId>,
-    /// Whether that is standard input.
+    /// Whether that file is standard input.
     pub leaves_out_input: bool,
 }
 
-/// What standard error gets of what goes wrong. Why a run ends early is said in any case.
+/// What standard error says of what goes wrong. Why a run ends early is said in any case.
 #[derive(Clone, Copy)]
 pub enum Messages {
     /// What can't be read, and what is wrong with ignore files.
@@ -44,12 +44,12 @@ pub enum Messages {
     Silent,
 }
 
-/// What a run looks for that writes nothing of what it finds.
+/// What a run looks for, if it writes nothing of what it finds.
 #[derive(Clone, Copy)]
 struct Quiet {
-    // A file without a match, and not a match.
+    // Whether it looks for a file without a match, and not for a match.
     seeks_unmatched: bool,
-    // All matches, and not the first alone.
+    // Whether it counts all matches, and doesn't end at the first.
     counts_all: bool,
 }
 
@@ -88,7 +88,7 @@ impl Scope {
         }
     }
 
-    // Whether a file is looked for that has no match.
+    // Whether the run looks for a file without a match.
     fn seeks_unmatched(&self) -> bool
         ensures { result ≡ seeks_unmatched self.now.quiet }
     {
@@ -98,7 +98,7 @@ impl Scope {
         }
     }
 
-    /// The path that is written for a haystack with a name, if paths are.
+    /// The path that is written, by the name of what is searched, if paths are written.
     pub fn path_of<'n>(&self, name: &'n str) -> Option<&'n str>
         ensures { result ≡ path_of self.now name.entry }
     {
@@ -150,14 +150,14 @@ impl Messages {
         }
     }
 
-    /// Whether it is said what can't be read.
+    /// Whether standard error says what can't be read.
     pub fn says_errors(self) -> bool
         ensures { result ≡ says_errors self }
     {
         !matches!(self, Messages::Silent)
     }
 
-    /// Whether it is said what is wrong with ignore files.
+    /// Whether standard error says what is wrong with ignore files.
     pub fn says_warnings(self) -> bool
         ensures { result ≡ says_warnings self }
     {
@@ -182,7 +182,7 @@ impl Quiet {
     }
 }
 
-/// Whether both are files, and the same one.
+/// Whether both are the same file.
 pub fn is_same(one: Option<FileId>, other: Option<FileId>) -> bool
     ensures { result ≡ is_same one other }
 {
@@ -192,7 +192,8 @@ pub fn is_same(one: Option<FileId>, other: Option<FileId>) -> bool
     }
 }
 
-// Whether several files may be searched: there isn't one path alone, or it is that of a folder.
+// Whether several files may be searched: there is no path, there are several, or the only one is
+// that of a folder.
 fn searches_several<S: System>(system: &S, paths: &[&str]) -> bool
     ensures { MaySearch (S.finds system.now) paths.now result }
 {

@@ -44,12 +44,12 @@ pub struct Ended<R, W> {
     pub status: u8,
     /// Standard input.
     pub input: R,
-    /// What was written to.
+    /// The output.
     pub output: W,
 }
 
 impl<R, W> Ended<R, W> {
-    /// A run that is refused, which is said.
+    /// A run that is refused. The failure is written to `errors`.
     pub fn refused<E: Output>(errors: &mut E, failure: &Failure, input: R, output: W) -> Ended<R, W>
         ensures status { result.status ≡ 2 }
         ensures input { result.input ≡ input }
@@ -82,9 +82,9 @@ struct Layout {
     path_separator: Option<u8>,
 }
 
-// The expression that the options ask for, and what else a search is made with. An error is that of
-// a setting, of a pattern that can't be compiled, of a glob that isn't well formed, or of being out
-// of memory.
+// The expression that the options ask for, and what else a search is made with. An error is that a
+// setting is wrong, that a pattern can't be compiled, that a glob isn't well formed, or that there
+// is no memory.
 fn prepare<'r, S: System>(
     rt: &'r HostRuntime,
     system: &S,
@@ -129,7 +129,8 @@ fn prepare<'r, S: System>(
     }
 }
 
-// What is written besides what is found. An error is that of a setting, or of being out of memory.
+// What is written besides what is found. An error is that a setting is wrong, or that there is no
+// memory.
 fn layout_of(alloc: Global, options: &Options<'_, '_>) -> Result<Layout, Failure>
     ensures layout { IfOk result (IsLayout options.now) }
     ensures refused { IfErr result (λ failure. has_cause failure ≡ true
@@ -154,7 +155,7 @@ fn layout_of(alloc: Global, options: &Options<'_, '_>) -> Result<Layout, Failure
 }
 
 // The expression that the options ask for, and the template for its groups, if they ask for one. An
-// error is that of a pattern, or of being out of memory.
+// error is that of a pattern, or that there is no memory.
 fn compile_with_template(
     alloc: Global,
     options: &Options<'_, '_>,
@@ -179,11 +180,13 @@ fn compile_with_template(
 }
 
 /// Searches the files at the paths of the options, one after another, and writes to `output` what
-/// is found. If there is no path, it searches what `input` gives, or the current folder if the input
-/// is a terminal or another device. The status is 0 if there is a match, 1 if there is none, and 2 if
-/// a file can't be read, which standard error says unless `--no-messages` is given. If nothing is to
-/// be written, the first match ends it with 0. It is 2 too, and nothing is read or written, for a
-/// setting, a pattern or a glob that isn't well formed, or without memory.
+/// is found. If there is no path, it searches what `input` gives, or the current folder, if the
+/// input is a terminal or another device.
+///
+/// The status is 0 if there is a match, 1 if there is none, and 2 if a file can't be read; then
+/// standard error says so, unless `--no-messages` is given. If nothing is to be written, the first
+/// match ends the run with 0. If a setting, a pattern or a glob isn't well formed, or there is no
+/// memory, the status is 2 and nothing is read or written.
 #[inline(never)]
 pub fn search_all<S: System, R: Source + Drop, W: Output + Drop, E: Output>(
     rt: &HostRuntime,
@@ -209,8 +212,9 @@ pub fn search_all<S: System, R: Source + Drop, W: Output + Drop, E: Output>(
     }
 }
 
-// Searches for a compiled expression: by the matcher of a literal, if it is one and matches aren't
-// replaced, and otherwise by one that `N` names, no call of which compares texts.
+// Searches for a compiled expression. If it is a literal and matches aren't replaced, that is done
+// by the matcher of a literal, and otherwise by a matcher that `N` names, no call of which compares
+// texts.
 fn search_named<'r, N: Naming, S: System, R: Source + Drop, W: Output + Drop, E: Output>(
     rt: &'r HostRuntime,
     system: &'r S,
@@ -254,7 +258,7 @@ where
     }
 }
 
-// Searches with a matcher what the options choose.
+// Searches what the options choose, with a matcher.
 fn search_with<'r, M: CapturesAt + Copy, S: System, R: Source + Drop, W: Output + Drop, E: Output>(
     rt: &'r HostRuntime,
     system: &'r S,

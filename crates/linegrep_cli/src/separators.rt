@@ -1,4 +1,4 @@
-//! What sets fields, groups of lines, and the names in paths apart.
+//! The separators of fields, of groups of lines, and of the names in paths.
 ghost use Rattle.std.specs.Prelude.{◌≡◌, true, IfErr, IfOk, codes, string_bytes};
 ghost use Rattle.linegrep_cli.specs.PathSeparators.{first_byte, is_path_separator};
 ghost use Rattle.linegrep_cli.specs.PathSeparators.{path_separator_of, refuses_path_separator};
@@ -48,7 +48,7 @@ fn asks_for_separators(options: &Options<'_, '_>) -> bool
         || options.has(OptionId::NoContextSeparator)
 }
 
-// What is between two groups of lines.
+// What comes between two groups of lines.
 fn context(alloc: Global, options: &Options<'_, '_>) -> Result<Option<Vec<u8>>, AllocError>
     ensures { IfOk result (IsContext options.now) }
 {
@@ -71,9 +71,9 @@ fn text(alloc: Global, option: Option<&str>, other: &str) -> Result<Vec<u8>, All
     }
 }
 
-/// The byte that the options ask for in place of each slash of a path that is written, if they ask for
-/// one: none in JSON. An error is that of a separator that isn't one byte of ASCII, or that there is
-/// no memory.
+/// The byte that the options ask for in place of each slash of a path that is written, if they ask
+/// for one. In JSON there is none. An error is that the separator isn't one byte of ASCII, or that
+/// there is no memory.
 pub fn path_separator(alloc: Global, options: &Options<'_, '_>) -> Result<Option<u8>, Failure>
     ensures separator { IfOk result (λ separator. separator ≡ path_separator_of options.now) }
     ensures refused { IfErr result (λ failure. has_cause failure ≡ true
@@ -92,7 +92,7 @@ pub fn path_separator(alloc: Global, options: &Options<'_, '_>) -> Result<Option
     }
 }
 
-// Whether bytes are a separator of the names in a path, or none.
+// Whether some bytes are one byte of ASCII, or none.
 fn is_path_separator(bytes: &[u8]) -> bool
     ensures { result ≡ is_path_separator bytes.now }
 {

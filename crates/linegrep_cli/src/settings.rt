@@ -33,9 +33,8 @@ use std::alloc::Global;
 
 const ENCODINGS: &str = "-E takes auto, none, utf-8, utf-16, utf-16le or utf-16be";
 
-/// The searcher that the options ask for; where files are listed any does. Lines are numbered for a
-/// terminal, if nothing else is asked for. An error is that of a label of an encoding that isn't
-/// known, or that there is no memory.
+/// The searcher that the options ask for. If files are listed, it has the default settings. An
+/// error is that the label of an encoding isn't known, or that there is no memory.
 pub fn build_searcher(alloc: Global, options: &Options<'_, '_>) -> Result<Searcher, Failure>
     ensures settings { IfOk result (λ searcher.
         searcher ≡ record { settings = searcher_settings options.now; has_buffers = true }) }
@@ -50,7 +49,7 @@ pub fn build_searcher(alloc: Global, options: &Options<'_, '_>) -> Result<Search
     }
 }
 
-// The searcher. An error is that of a label that isn't known, or that there is no memory.
+// The searcher. An error is that a label isn't known, or that there is no memory.
 fn try_searcher(alloc: Global, options: &Options<'_, '_>) -> Result<Searcher, ConfigError>
     ensures settings { IfOk result (λ searcher.
         searcher ≡ record { settings = searcher_settings options.now; has_buffers = true }) }
@@ -107,7 +106,7 @@ fn surround(builder: &mut SearcherBuilder, options: &Options<'_, '_>)
         .passthru(options.has(OptionId::Passthru));
 }
 
-// The encoding that a label names, if it is one of an encoding.
+// The encoding that a label names, if it names one.
 fn encoding(alloc: Global, label: Option<&str>) -> Result<Option<Encoding>, ConfigError>
     ensures encoding { IfOk result (λ encoding. encoding ≡ encoding_of_label label.entry) }
     ensures known { IfOk result (λ _. is_unknown_label label.entry ≡ false) }
@@ -131,8 +130,7 @@ fn looks_for_mark(label: Option<&str>) -> bool
 }
 
 /// The printer that the options ask for, which writes what searches find, by line or across lines.
-/// If there is a template, each match is replaced by it, for the groups that the matcher finds. A
-/// terminal gets headings, and colors.
+/// If there is a template, it replaces each match, for the groups that the matcher finds.
 pub fn build_printer<'c, M: Copy>(
     rt: &HostRuntime,
     options: &Options<'_, '_>,
@@ -171,7 +169,7 @@ pub fn build_printer<'c, M: Copy>(
     }
 }
 
-// What each match is replaced by, if there is a template.
+// What replaces each match, if there is a template.
 fn replacer<'t, M: Copy>(
     matcher: M,
     template: Option<&'t Template>,
@@ -274,7 +272,7 @@ fn show(builder: &mut StandardBuilder<'_>, options: &Options<'_, '_>)
         .trim_ascii(options.has(OptionId::Trim));
 }
 
-// How many bytes a line has at most that is written. 0 is no limit.
+// The limit of bytes of a line that is written. With `-M 0` there is none.
 fn max_columns(options: &Options<'_, '_>) -> Option<u64>
     ensures { result ≡ column_limit options.now.max_columns }
 {
@@ -294,8 +292,9 @@ fn path_terminator(options: &Options<'_, '_>) -> Option<u8>
     }
 }
 
-// Headings are set apart by an empty line. Without them groups of lines of two files are set apart
-// as those of one are.
+// What comes between two files. Files with headings have an empty line between them. Without
+// headings, if lines have a context, what comes between two groups of lines of one file comes there
+// too.
 fn separator(options: &Options<'_, '_>, heading: bool) -> SearchSeparator
     requires { heading ≡ shows_headings options.now }
     ensures { result ≡ separator_of options.now }

@@ -9,19 +9,20 @@ use std::fs::OpenFile;
 use std::rt::Files;
 use std::{fs, io};
 
-/// What opens files by their paths, and knows folders and files. It is given by what it may return.
+/// A system that opens files by their paths, and knows folders and files. Clauses know it by what
+/// it may return.
 pub trait System: Open + Folders {
     /// What looking for a folder at a path may return.
     ghost finds: { Self → List ℕ → Result Bool Error → Type 0 };
 
-    /// Which file one that was opened may be.
+    /// Which file of the system an opened file may be.
     ghost identifies: { Self → Self.File → Option FileId → Type 0 };
 
     /// Whether there is a folder at a path, or something else. An error is the system's own.
     fn is_folder(&self, path: &str) -> io::Result<bool>
         ensures { finds self.now path.now result };
 
-    /// Which file of the system one is that was opened, if it is a regular one.
+    /// Which file of the system an opened file is, if it is a regular one.
     fn id_of(&self, file: &Self::File) -> Option<FileId>
         ensures { identifies self.now file.now result };
 }

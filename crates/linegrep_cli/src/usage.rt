@@ -11,20 +11,21 @@ const USAGE: &str = "\nUsage: linegrep [OPTIONS] PATTERN [PATH ...]";
 
 const PATTERN_TIP: &str = "\nA pattern that begins with a hyphen goes after -e.";
 
-// How alike a name is at least to one that is suggested, from 0 to 1.
+// How alike a name has to be to one that is suggested, from 0 to 1.
 const ALIKE: f64 = 0.8;
 
-/// Why the arguments can't be used, and how to get help.
+/// The failure that the arguments can't be used, and why, and how to get help.
 pub fn arguments_failure(alloc: Global, text: &str) -> Failure {
     Failure::of_text(arguments_text(alloc, text, ""))
 }
 
-/// That the arguments have no pattern, and what they are to be.
+/// The failure that the arguments have no pattern, and what they have to be.
 pub fn no_pattern_failure(alloc: Global) -> Failure {
     Failure::of_text(arguments_text(alloc, "there is no pattern", USAGE))
 }
 
-/// What is wrong with some words: which option it is about, and what may help.
+/// The failure that something is wrong with some words: which option it is about, and what may
+/// help.
 pub fn fault_failure(alloc: Global, words: &[Vec<u8>], fault: &Fault<'_>) -> Failure {
     Failure::of_text(match fault {
         Fault::UnknownName(name) => unknown_name_text(alloc, words, name),
@@ -58,8 +59,8 @@ fn unknown_letter_text(
     unknown_text(alloc, option.as_str(), None, may_be_pattern)
 }
 
-// Why an option can't be used: it is one of ripgrep that isn't here, or none at all. Then what may help
-// is an option with a similar name, or that a pattern was meant.
+// Why an option can't be used: it is one of ripgrep's that isn't here, or there is no such option.
+// Then what may help is an option with a similar name, or that a pattern was meant.
 fn unknown_text(
     alloc: Global,
     option: &str,
@@ -94,8 +95,8 @@ fn similar_name(alloc: Global, name: &str) -> Result<Option<&'static str>, Alloc
     Ok(similar)
 }
 
-// Whether a word that begins with hyphens and a name may be meant as the pattern: it is before the first
-// operand.
+// Whether a word that begins with hyphens and a name may be meant as the pattern: it comes before
+// the first operand.
 fn may_be_pattern(words: &[Vec<u8>], hyphens: &[u8], name: &[u8]) -> bool {
     words
         .iter()
@@ -134,7 +135,8 @@ fn not_text(alloc: Global, row: &Row, value: &[u8]) -> Result<String, AllocError
     arguments_text(alloc, cause.as_str(), "")
 }
 
-// That an option hasn't a value, and what it has; or why it hasn't those of ripgrep.
+// That an option doesn't take a value, and which it takes; or why it doesn't take those that it has
+// in ripgrep.
 fn wrong_text(alloc: Global, row: &Row, value: &[u8]) -> Result<String, AllocError> {
     if let Some(reason) = refused_value(row.id) {
         let name = name_of(row.id);
