@@ -3,4 +3,4 @@ pub mod DigitLemmas
 pub mod FolderLemmas
 pub mod OperandLemmas
 pub mod PatternLemmas
-pub mod RunLemmas
+pub mod WordLemmas

@@ -1,84 +1,98 @@
--- The patterns that uses of options name, and texts of operands.
-use Rattle.std.proofs.Common.{◌≡◌, ℕ, ◌+◌, ◌<◌, Bool, false, true, List, [], ◌∷◌, ◌++◌, append_assoc, arith, get_or}
-use Rattle.std.proofs.Common.{inl, inr, length, refl, suc, sym, zero}
-use Rattle.std.proofs.lemmas.Bool.{cases_Bool}
-use Rattle.std.proofs.Common.{Err, IfOk, Ok, Result, map, string_bytes, subst, take}
-use Rattle.std.proofs.lemmas.List.{append-nil, map-append, take_more}
-use Rattle.std.proofs.lemmas.Str.{IsUtf8-from_is_utf8}
-use Rattle.std.specs.Prelude.{◌||◌, String}
-use Rattle.std.specs.Borrow.{Bor}
+-- The patterns that uses of options name.
+use Rattle.std.proofs.Common.{◌≡◌, ℕ, ◌+◌, ◌<◌, true, List, [], ◌∷◌, ◌++◌, ◌∙◌, ap, append-nil}
+use Rattle.std.proofs.Common.{append_assoc, drop, get_or, length, refl, subst, sym, take}
+use Rattle.std.proofs.lemmas.List.{drop_more, take-append-drop, take_more}
+use Rattle.std.proofs.lemmas.List.Folds.{concat-append}
 use Rattle.std.specs.Global.{Global}
-use Rattle.std.specs.List.{list_any}
-use Rattle.std.specs.Str.{IsUtf8, is_utf8}
+use Rattle.std.specs.List.{concat}
+use Rattle.std.specs.Prelude.{Err, IfErr, IfOk, Ok, Option, Result, Vec}
+use Rattle.std.specs.declared.io.Error.{Error}
+use Rattle.grep_searcher.specs.Source.{Pulls, ReadResult, Reads}
 use Rattle.linegrep_options.specs.declared.uses.Use.{Use}
-use Rattle.linegrep_cli.specs.NamedPatterns.{AreNamed, IsNamed}
-use Rattle.linegrep_cli.specs.OperandTexts.{AreTexts}
+use Rattle.linegrep_cli.specs.NamedPatterns.{AreNamed, AreUnnamed, IsFileRead, IsNamed, IsUnnamed, IsUnread}
+use Rattle.linegrep_cli.specs.NamedPatterns.{of_failed_input, of_input}
+use Rattle.linegrep_cli.specs.OperandRuns.{is_input}
+use Rattle.linegrep_files.specs.Failures.{has_cause}
+use Rattle.linegrep_files.specs.declared.failures.Failure.{Failure}
 
--- one more use
-pub named-next : (done : List Use) (one : Use) (patterns own : List (List ℕ)) → AreNamed done patterns
-    → IsNamed one own → AreNamed (done ++ one ∷ []) (patterns ++ own)
-named-next [] one patterns own none named = (own, [], named, refl, rw none (sym (append-nil own)))
-named-next (first ∷ later) one patterns own (firsts, rest, are-first, are-later, split) named =
-    (firsts, rest ++ own, are-first, named-next later one rest own are-later named, rw (split, append_assoc) refl)
+module _ {R : Type 0} (remaining : R → Option (List ℕ)) (read_step : R → ReadResult → R → Type 0)
+    (reads : List ℕ → Result (Vec ℕ Global) Error → Type 0) where
+  -- one more use
+  named-next : (done : List Use) (one : Use) (input mid last : R) (patterns own : List (List ℕ))
+      → AreNamed remaining read_step reads done input patterns mid
+      → IsNamed remaining read_step reads one mid own last
+      → AreNamed remaining read_step reads (done ++ one ∷ []) input (patterns ++ own) last
+  named-next [] one input mid last patterns own (none, same) named = (
+    own,
+    [],
+    last,
+    subst (λ i. IsNamed remaining read_step reads one i own last) same named,
+    (refl, refl),
+    rw none (sym (append-nil own)),
+  )
+  named-next (first ∷ later) one input mid last patterns own (firsts, rest, after, is, are, split) named = (
+    firsts,
+    rest ++ own,
+    after,
+    is,
+    named-next later one after mid last rest own are named,
+    ap (λ l. l ++ own) split ∙ append_assoc firsts rest own,
+  )
 
--- one more operand
-pub texts-next : (operands texts : List (List ℕ)) (operand text : List ℕ) → AreTexts operands texts
-    → (is_utf8 operand ≡ true → text ≡ operand)
-    → AreTexts (operands ++ operand ∷ []) (texts ++ text ∷ [])
-texts-next [] [] operand text are is = (is, tt)
-texts-next [] (first ∷ texts) operand text are is = absurd are
-texts-next (first ∷ operands) [] operand text are is = absurd are
-texts-next (first ∷ operands) (other ∷ texts) operand text (here, later) is =
-    (here, texts-next operands texts operand text later is)
+  -- the uses up to one more, as a loop goes over them
+  pub named-more : (uses : List Use) (i : ℕ) (d : Use) (input mid last : R) (patterns own new : List (List ℕ))
+      → i < length uses → AreNamed remaining read_step reads (take i uses) input patterns mid
+      → IsNamed remaining read_step reads (get_or uses i d) mid own last → new ≡ patterns ++ own
+      → AreNamed remaining read_step reads (take (i + 1) uses) input new last
+  named-more uses i d input mid last patterns own new below are named split =
+      rw (take_more uses i d below, split)
+      (named-next (take i uses) (get_or uses i d) input mid last patterns own are named)
 
--- a test that no element passes
-pub none-at : {X : Type 0} (p : X → Bool) (xs : List X) (i : ℕ) (d : X) → i < length xs
-    → list_any p xs ≡ false → p (get_or xs i d) ≡ false
-none-at p [] i d below none = absurd (omega arith)
-none-at p (x ∷ xs) zero d below none = first (p x) none
-  where
-    first : (b : Bool) → (b || list_any p xs) ≡ false → b ≡ false
-    first true is = is
-    first false is = refl
-none-at p (x ∷ xs) (suc i) d below none = none-at p xs i d (omega arith) (later (p x) none)
-  where
-    later : (b : Bool) → (b || list_any p xs) ≡ false → list_any p xs ≡ false
-    later true is = absurd (cc)
-    later false is = is
+  -- a use whose file can't be read, after others
+  pub unnamed-at : (uses : List Use) (i : ℕ) (d : Use) (input mid last : R) (patterns : List (List ℕ))
+      → i < length uses → AreNamed remaining read_step reads (take i uses) input patterns mid
+      → IsUnnamed remaining read_step reads (get_or uses i d) mid last
+      → AreUnnamed remaining read_step reads uses input last
+  unnamed-at uses i d input mid last patterns below are unnamed = (
+    take i uses,
+    get_or uses i d,
+    drop (i + 1) uses,
+    patterns,
+    mid,
+    sym (take-append-drop i uses) ∙ ap (λ l. take i uses ++ l) (drop_more uses i d below),
+    are,
+    unnamed,
+  )
 
--- the uses up to one more, as a loop goes over them
-pub named-more : (uses : List Use) (i : ℕ) (d : Use) (patterns own new : List (List ℕ)) → i < length uses
-    → AreNamed (take i uses) patterns → IsNamed (get_or uses i d) own → new ≡ patterns ++ own
-    → AreNamed (take (i + 1) uses) new
-named-more uses i d patterns own new below are named split =
-    rw (take_more uses i d below, split) (named-next (take i uses) (get_or uses i d) patterns own are named)
+  -- standard input is read as a file, or can't be
+  pub input-read : (file : List ℕ) (input input' : R) (result : Result (Vec ℕ Global) Failure) → is_input file ≡ true
+      → IfOk result (λ contents. (pieces : List (List ℕ)) × (contents.items ≡ concat pieces)
+      × Reads remaining read_step true input pieces input')
+      → IfOk result (λ contents. IsFileRead remaining read_step reads file input contents.items input')
+  input-read file input input' (Ok contents) named (pieces, is, read) =
+      subst (λ bytes. IsFileRead remaining read_step reads file input bytes input') (sym is)
+      (of_input pieces named read)
+  input-read file input input' (Err failure) named read = tt
 
--- a text of bytes that aren't UTF-8 may be any
-pub any-text : {E : Type 0} (bytes : List ℕ) (result : Result (String Global) E) → (IsUtf8 bytes → ⊥)
-    → IfOk result (λ text. is_utf8 bytes ≡ true → string_bytes text ≡ bytes)
-any-text bytes (Ok text) other = λ is. absurd (other (IsUtf8-from_is_utf8 bytes is))
-any-text bytes (Err error) other = tt
+  pub input-unread : (file : List ℕ) (input input' : R) (result : Result (Vec ℕ Global) Failure) → is_input file ≡ true
+      → IfErr result (λ failure. has_cause failure ≡ true → (pieces : List (List ℕ)) × (mid : R) × (error : Error)
+      × Pulls read_step input pieces mid × read_step mid (Err error) input')
+      → IfErr result (λ failure. has_cause failure ≡ true → IsUnread remaining read_step reads file input input')
+  input-unread file input input' (Ok contents) named failed = tt
+  input-unread file input input' (Err failure) named failed = λ caused.
+      let (pieces, mid, error, pulled, gave) = failed caused in of_failed_input pieces mid error named pulled gave
 
--- the operands up to one more, as a loop goes over them
-pub texts-more : (operands : List (Bor (List ℕ))) (i : ℕ) (d : Bor (List ℕ)) (texts new : List (String Global))
-    (text : String Global) → i < length operands
-    → AreTexts (map (λ operand. operand.now) (take i operands)) (map string_bytes texts)
-    → (is_utf8 (get_or operands i d).now ≡ true → string_bytes text ≡ (get_or operands i d).now)
-    → new ≡ texts ++ text ∷ []
-    → AreTexts (map (λ operand. operand.now) (take (i + 1) operands)) (map string_bytes new)
-texts-more operands i d texts new text below are is grown =
-    rw (
-      take_more operands i d below,
-      grown,
-      map-append (λ (operand : Bor (List ℕ)). operand.now) (take i operands),
-      map-append (λ (text : String Global). string_bytes text) texts,
-    )
-    (texts-next (map (λ operand. operand.now) (take i operands)) (map string_bytes texts)
-    (get_or operands i d).now (string_bytes text) are is)
+-- a piece more of what is read
+pub pulls-more : {R : Type 0} (step : R → ReadResult → R → Type 0) (old mid new : R) (pieces : List (List ℕ))
+    (piece : List ℕ) → Pulls step old pieces mid → 0 < length piece → step mid (Ok piece) new
+    → Pulls step old (pieces ++ piece ∷ []) new
+pulls-more step old mid new [] piece same some gave =
+    (some, (new, subst (λ s. step s (Ok piece) new) (sym same) gave, refl))
+pulls-more step old mid new (first ∷ later) piece (more, (after, gave-first, rest)) some gave =
+    (more, (after, gave-first, pulls-more step after mid new later piece rest some gave))
 
--- texts of operands, by what is the same
-pub texts-same : (operands others texts same : List (List ℕ)) → operands ≡ others → texts ≡ same
-    → AreTexts operands texts → AreTexts others same
-texts-same operands others texts same is are texted =
-    subst (λ (operands : List (List ℕ)). AreTexts operands same) is
-    (subst (λ (texts : List (List ℕ)). AreTexts operands texts) are texted)
+pub contents-more : (pieces : List (List ℕ)) (piece old new : List ℕ) → old ≡ concat pieces → new ≡ old ++ piece
+    → new ≡ concat (pieces ++ piece ∷ [])
+contents-more pieces piece old new is grown =
+    grown ∙ ap (λ l. l ++ piece) is ∙ ap (λ l. concat pieces ++ l) (sym (append-nil piece))
+    ∙ sym (concat-append pieces (piece ∷ []))

@@ -1,11 +1,11 @@
 -- What the program does, by its arguments.
 use Rattle.std.specs.Prelude.{◌≡◌, ◌≢◌, ◌⊎◌, ℕ, Bool, true, false, not, ◌&&◌, ◌||◌, if◌then◌else◌, List, []}
-use Rattle.std.specs.Prelude.{length, map, nat_lt, slice_get, Option, None, Some, Result, Ok, Err, String}
+use Rattle.std.specs.Prelude.{length, map, nat_lt, MatchBool, Option, None, Some, Result, Ok, Err, String}
 use Rattle.std.specs.Prelude.{string_bytes, Vec}
 use Rattle.std.specs.Borrow.{Bor}
 use Rattle.std.specs.Global.{Global}
 use Rattle.std.specs.IoError.{error_kind}
-use Rattle.std.specs.List.{count_by, list_any}
+use Rattle.std.specs.List.{count_by}
 use Rattle.std.specs.declared.alloc.AllocError.{AllocError}
 use Rattle.std.specs.declared.io.Error.{Error}
 use Rattle.std.specs.declared.io.ErrorKind.TheVariants.{BrokenPipe}
@@ -19,12 +19,12 @@ use Rattle.linegrep_options.specs.declared.command_line.Parsed.{Parsed}
 use Rattle.linegrep_options.specs.declared.option_id.OptionId.TheVariants.{File, Files, Help, ShortHelp}
 use Rattle.linegrep_options.specs.declared.option_id.OptionId.TheVariants.{TypeList, Unrestricted, Version}
 use Rattle.linegrep_options.specs.declared.uses.Use.{Use}
-use Rattle.linegrep_cli.specs.NamedPatterns.{ArePatterns, name_patterns, names_files}
-use Rattle.linegrep_cli.specs.OperandRuns.{is_escaped, is_input}
-use Rattle.linegrep_cli.specs.OperandTexts.{AreTexts}
-use Rattle.linegrep_cli.specs.OptionMeanings.{operands_of, paths_of}
+use Rattle.linegrep_cli.specs.NamedPatterns.{ArePatterns, LackPatterns}
+use Rattle.linegrep_cli.specs.OperandRuns.{is_input}
+use Rattle.linegrep_cli.specs.OperandTexts.{operand_texts}
+use Rattle.linegrep_cli.specs.OptionMeanings.{paths_of}
 use Rattle.linegrep_cli.specs.OptionUses.{has}
-use Rattle.linegrep_cli.specs.OptionValues.{AreLists, AreOptions}
+use Rattle.linegrep_cli.specs.OptionValues.{AreLists, AreOptions, names_input}
 use Rattle.linegrep_cli.specs.Refusals.{IsRefusedFor, IsSaid}
 use Rattle.linegrep_cli.specs.WholeRuns.{IsRefused, IsWholeRun}
 use Rattle.linegrep_cli.specs.declared.help.TheConstants.{HELP, SHORT_HELP, VERSION}
@@ -33,6 +33,7 @@ use Rattle.linegrep_cli.specs.declared.options.Options.{Options}
 use Rattle.linegrep_cli.specs.declared.program.Streams.{Streams}
 use Rattle.linegrep_files.specs.Failures.{has_cause, text_of}
 use Rattle.linegrep_files.specs.FolderFacts.{FolderFacts}
+use Rattle.linegrep_files.specs.TypeDefinitions.{HaveMalformed, IsTypeListOf}
 use Rattle.linegrep_files.specs.declared.failures.Failure.{Failure}
 use Rattle.linegrep_files.specs.declared.file_id.FileId.{FileId}
 
@@ -63,40 +64,20 @@ text_asked options = if has options Help then Some help
     else if has options ShortHelp then Some short_help
     else if has options Version then Some version else None
 
--- the patterns that are searched for: none, where files are listed
-abbrev pub ArePatternsFor : Options → List (List ℕ) → Type 0
-ArePatternsFor options patterns = by_list (has options Files)
-  where
-    by_list : Bool → Type 0
-    by_list true = patterns ≡ []
-    by_list false = ArePatterns options patterns
-
 -- how many of the files of patterns are standard input
 abbrev pub inputs_named : List Use → ℕ
 inputs_named uses = count_by (λ file. is_input file.now) (values_of File uses)
+
+-- standard input is searched, as one of the paths
+abbrev pub searches_named_input : Options → Bool
+searches_named_input options = not (has options Files) && names_input (paths_of options)
 
 -- options don't go together: `-u` is given more than three times, or standard input is to be read
 -- twice
 abbrev pub exclude_each_other : Options → Bool
 exclude_each_other options = nat_lt 3 (length (places_of Unrestricted 1 options.uses.now))
     || nat_lt 1 (inputs_named options.uses.now)
-    || (nat_lt 0 (inputs_named options.uses.now)
-    && list_any (λ path. is_input path.now) (paths_of options) && not (has options Files))
-
--- there may be no pattern: files of them are read, or there is no first operand that is a text
-abbrev pub may_lack_patterns : Options → Bool
-may_lack_patterns options = names_files options.uses.now
-    || (not (name_patterns options.uses.now)
-    && is_no_text (slice_get (operands_of options.operands) 0))
-  where
-    is_no_text : Option (Bor (List ℕ)) → Bool
-    is_no_text None = true
-    is_no_text (Some first) = is_escaped first.now
-
--- why options may be refused before anything is searched for
-abbrev pub may_be_refused : Options → Bool
-may_be_refused options =
-    has options TypeList || exclude_each_other options || may_lack_patterns options
+    || (nat_lt 0 (inputs_named options.uses.now) && searches_named_input options)
 
 -- a run that is refused, which is said
 pub record IsRefusal {R W X : Type 0} (say_step : X → OutputCall → X → Type 0) (input : R)
@@ -104,6 +85,24 @@ pub record IsRefusal {R W X : Type 0} (say_step : X → OutputCall → X → Typ
     (errors' : X) : Type 0 where
   pub refused : IsRefused input writer status input' writer'
   pub said : IsSaid say_step (text_of failure) errors errors'
+
+module _ {R : Type 0} (remaining : R → Option (List ℕ)) (read_step : R → ReadResult → R → Type 0)
+    (folders : FolderFacts) where
+  -- the patterns that are searched for: none, where files are listed
+  abbrev pub ArePatternsFor : Options → R → List (List ℕ) → R → Type 0
+  ArePatternsFor options input patterns input' = MatchBool (has options Files)
+      ((patterns ≡ []) × (input' ≡ input))
+      (ArePatterns remaining read_step folders.reads options input patterns input')
+
+  -- why options are refused before anything is searched for: a definition of a type isn't well formed
+  -- whose list is asked for, they don't go together, or there is no pattern
+  pub data AreRefused (options : Options) (input : R) : R → Type 0 where
+    of_definition : has options TypeList ≡ true → HaveMalformed options.types
+        → AreRefused options input input
+    of_contraries : exclude_each_other options ≡ true → AreRefused options input input
+    of_patterns : {input' : R} → has options Files ≡ false
+        → LackPatterns remaining read_step folders.reads options input input'
+        → AreRefused options input input'
 
 module _ {F R W X : Type 0} (output : AllocError → Option (List ℕ))
     (write_step : W → OutputCall → W → Type 0) (say_step : X → OutputCall → X → Type 0)
@@ -120,19 +119,19 @@ module _ {F R W X : Type 0} (output : AllocError → Option (List ℕ))
         → IsAnswered write_step text writer status writer'
         → IsOptionsRun options input writer errors status input' writer' errors'
     of_types : {status : ℕ} {input' : R} {writer' : W} {errors' : X} (text : List ℕ)
-        → text_asked options ≡ None → has options TypeList ≡ true → input' ≡ input
-        → IsAnswered write_step text writer status writer'
+        → text_asked options ≡ None → has options TypeList ≡ true → IsTypeListOf options.types text
+        → input' ≡ input → IsAnswered write_step text writer status writer'
         → IsOptionsRun options input writer errors status input' writer' errors'
     of_refusal : {status : ℕ} {input' : R} {writer' : W} {errors' : X} (mid : R) (failure : Failure)
-        → text_asked options ≡ None → (names_files options.uses.now ≡ false → mid ≡ input)
-        → (has_cause failure ≡ true → may_be_refused options ≡ true)
+        → text_asked options ≡ None → (has_cause failure ≡ true
+        → AreRefused remaining read_step folders options input mid)
         → IsRefusal say_step mid writer errors failure status input' writer' errors'
         → IsOptionsRun options input writer errors status input' writer' errors'
     of_search : {status : ℕ} {input' : R} {writer' : W} {errors' : X}
         (patterns : List (String Global)) (mid : R)
         → text_asked options ≡ None → has options TypeList ≡ false
-        → ArePatternsFor options (map string_bytes patterns)
-        → (names_files options.uses.now ≡ false → mid ≡ input)
+        → exclude_each_other options ≡ false
+        → ArePatternsFor remaining read_step folders options input (map string_bytes patterns) mid
         → IsRefusedFor say_step options patterns mid writer errors status input' writer' errors'
         ⊎ IsWholeRun output write_step file_remaining remaining read_step folders finds opens
         identifies options patterns mid writer errors status input' writer'
@@ -148,8 +147,7 @@ module _ {F R W X : Type 0} (output : AllocError → Option (List ℕ))
     of_options : {status : ℕ} {input' : R} {writer' : W} {errors' : X} (options : Options)
         (uses : Bor (List Use)) (operands : List (Bor (List ℕ))) (lists : Lists)
         → uses.now ≡ parsed.uses.items
-        → AreTexts (map (λ operand. operand.now) parsed.operands.items)
-        (map (λ operand. operand.now) operands)
+        → map (λ operand. operand.now) operands ≡ operand_texts parsed.operands.items
         → AreLists uses.now operands lists → AreOptions uses lists streams options
         → IsOptionsRun options input writer errors status input' writer' errors'
         → IsParsedRun parsed streams input writer errors status input' writer' errors'

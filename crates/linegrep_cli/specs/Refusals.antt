@@ -16,7 +16,7 @@ use Rattle.linegrep_cli.specs.SearcherOptions.{refuses_label}
 use Rattle.linegrep_cli.specs.WholeRuns.{IsRefused}
 use Rattle.linegrep_options.specs.declared.option_id.OptionId.TheVariants.{Sort, Sortr}
 use Rattle.linegrep_cli.specs.declared.options.Options.{Options}
-use Rattle.linegrep_files.specs.Choices.{may_be_refused}
+use Rattle.linegrep_files.specs.Choices.{AreFilesRefused}
 use Rattle.linegrep_files.specs.Failures.{has_cause, text_of}
 use Rattle.linegrep_files.specs.Orders.{names_time}
 use Rattle.linegrep_files.specs.declared.failures.Failure.{Failure}
@@ -41,7 +41,7 @@ pub data IsCause (options : Options) (patterns : List (String Global)) : Type 0 
   of_path_separator : refuses_path_separator options ≡ true → IsCause options patterns
   of_colors : refuses_colors options ≡ true → IsCause options patterns
   of_order : sorts_by_time options ≡ true → IsCause options patterns
-  of_files : (files : FileOptions) → AreFileOptions options files → may_be_refused files ≡ true
+  of_files : (files : FileOptions) → AreFileOptions options files → AreFilesRefused files
       → IsCause options patterns
 
 -- a text is said, and nothing else: it is written, or writing it fails

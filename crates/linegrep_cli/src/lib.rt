@@ -18,6 +18,7 @@ mod help;
 mod json_run;
 mod lists;
 mod looks;
+mod named_patterns;
 mod options;
 mod patterns;
 mod printers;

@@ -15,13 +15,13 @@ ghost use Rattle.linegrep_cli.specs.SearcherOptions.{terminator_of};
 ghost use Rattle.linegrep_cli.specs.Refusals.{sorts_by_time};
 ghost use Rattle.linegrep_cli.specs.RunScopes.{order_for, searches_binary};
 ghost use Rattle.linegrep_cli.specs.OptionUses.{has};
-ghost use Rattle.linegrep_cli.specs.OptionValues.{AreListed, AreOptions, names_input, names_patterns};
+ghost use Rattle.linegrep_cli.specs.OptionValues.{AreListed, AreOptions, names_patterns};
 ghost use Rattle.linegrep_cli.specs.OptionValues.{number_for, unrestricted_at};
 ghost use Rattle.linegrep_files.specs.Orders.{is_by_time};
 
 use crate::lists::Lists;
 use crate::program::Streams;
-use crate::words::is_input;
+use crate::words::{is_input, names_input};
 use grep_printer::SummaryKind;
 use grep_searcher::{BinaryDetection, LineTerminator};
 use linegrep_files::{FileId, Order, TypeOptions};
@@ -139,7 +139,7 @@ impl<'m, 'w> Options<'m, 'w> {
             sortr: last_value(uses, OptionId::Sortr),
             unrestricted: Unrestricted::new(&lists.unrestricted),
             operands: listed(&lists.operands),
-            reads_patterns: reads_patterns(&lists.pattern_files),
+            reads_patterns: names_input(&lists.pattern_files),
             names_patterns: names_patterns(uses),
         }
     }
@@ -489,13 +489,6 @@ fn listed<'m, 'w>(texts: &'m Vec<&'w str>) -> Option<&'m [&'w str]>
     } else {
         Some(texts.as_slice())
     }
-}
-
-// Whether one of some files is standard input.
-fn reads_patterns(files: &[&str]) -> bool
-    ensures { result ≡ names_input files.now }
-{
-    files.iter().any(|file| is_input(file))
 }
 
 // Whether uses of options name the patterns, or ask that files are listed.

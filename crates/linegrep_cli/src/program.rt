@@ -1,24 +1,29 @@
 //! The program, by its arguments.
-ghost use Rattle.std.specs.Prelude.{◌≡◌, IfErr, IfOk, IfSome, false, map, string_bytes, true};
+ghost use Rattle.std.specs.Prelude.{◌≡◌, ◌&&◌, IfErr, IfOk, false, is_some, map, nat_lt};
+ghost use Rattle.std.specs.Prelude.{string_bytes, true};
+ghost use Rattle.std.specs.List.{count_by};
+ghost use Rattle.linegrep_cli.specs.OperandRuns.{is_input};
 ghost use Rattle.grep_output.specs.PendingTexts.{Flushes};
-ghost use Rattle.linegrep_cli.specs.NamedPatterns.{names_files};
+ghost use Rattle.linegrep_cli.specs.NamedPatterns.{LackPatterns};
 ghost use Rattle.linegrep_cli.specs.ProgramRuns.{IsAnswered, IsOptionsRun, IsParsedRun};
 ghost use Rattle.linegrep_cli.specs.ProgramRuns.{IsProgramRun};
-ghost use Rattle.linegrep_cli.specs.ProgramRuns.{ArePatternsFor, exclude_each_other, may_lack_patterns};
-ghost use Rattle.linegrep_cli.specs.ProgramRuns.{text_asked};
+ghost use Rattle.linegrep_cli.specs.ProgramRuns.{ArePatternsFor, exclude_each_other};
+ghost use Rattle.linegrep_cli.specs.ProgramRuns.{searches_named_input, text_asked};
 ghost use Rattle.linegrep_files.specs.Failures.{has_cause};
+ghost use Rattle.linegrep_cli.specs.OptionUses.{has};
 ghost use Rattle.linegrep_options.specs.OptionUses.{places_of, values_of};
 ghost use Rattle.std.specs.Option.{option_map};
 
 use crate::failures::{Failure, output_failure};
 use crate::help::{long_text, short_text, version_text};
 use crate::lists::Lists;
+use crate::named_patterns::read_patterns;
 use crate::options::Options;
-use crate::patterns::{read_patterns, texts_of};
+use crate::patterns::texts_of;
 use crate::search::{Ended, search_all};
 use crate::system::System;
 use crate::usage::{arguments_failure, fault_failure};
-use crate::words::{is_input, texts};
+use crate::words::{is_input, names_input, texts};
 use grep_output::{Output, write_all};
 use grep_searcher::Source;
 use linegrep_files::{FileId, type_list};
@@ -164,7 +169,7 @@ fn run_options<S: System, R: Source + Drop, W: Output + Drop, E: Output>(
     if let Some(fault) = fault_of(lists, options) {
         return Ended::refused(errors, &arguments_failure(rt.alloc(), fault), input, output);
     }
-    match patterns_of(rt, options, &mut input) {
+    match patterns_of(rt.alloc(), system, options, &mut input) {
         Ok(patterns) => search_all(rt, system, options, &patterns, input, output, errors),
         Err(failure) => Ended::refused(errors, &failure, input, output),
     }
@@ -188,21 +193,22 @@ fn text_asked(options: &Options<'_, '_>) -> Option<&'static str>
 // The patterns of a command line. If files are listed, there are none. Errors are as for
 // `read_patterns`.
 #[inline(never)]
-fn patterns_of<R: Source>(
-    rt: &HostRuntime,
+fn patterns_of<S: System, R: Source>(
+    alloc: Global,
+    system: &S,
     options: &Options<'_, '_>,
     input: &mut R,
 ) -> Result<Vec<String>, Failure>
-    ensures patterns { IfOk result (λ patterns.
-        ArePatternsFor options.now (map string_bytes patterns.items)) }
-    ensures input { names_files options.now.uses.now ≡ false → input.new ≡ input.old }
+    ensures patterns { IfOk result (λ patterns. ArePatternsFor R.remaining R.step
+        (S.facts system.now) options.now input.old (map string_bytes patterns.items) input.new) }
     ensures refused { IfErr result (λ failure. has_cause failure ≡ true
-        → may_lack_patterns options.now ≡ true) }
+        → (has options.now OptionId.Files ≡ false) × LackPatterns R.remaining R.step
+        (S.facts system.now).reads options.now input.old input.new) }
 {
     if options.has(OptionId::Files) {
-        Ok(Vec::new(rt.alloc()))
+        Ok(Vec::new(alloc))
     } else {
-        read_patterns(rt, options, input)
+        read_patterns(alloc, system, options, input)
     }
 }
 
@@ -211,21 +217,37 @@ fn fault_of(lists: &Lists<'_>, options: &Options<'_, '_>) -> Option<&'static str
     requires unrestricted { lists.now.unrestricted.items
         ≡ places_of OptionId.Unrestricted 1 options.now.uses.now }
     requires files { lists.now.pattern_files.items ≡ values_of OptionId.File options.now.uses.now }
-    ensures { IfSome result (λ _. exclude_each_other options.now ≡ true) }
+    ensures { is_some result ≡ exclude_each_other options.now }
 {
-    let inputs = lists
-        .pattern_files
-        .iter()
-        .filter(|file| is_input(file))
-        .count();
-    let searches_input = options.paths().iter().any(|path| is_input(path));
+    let inputs = count_inputs(&lists.pattern_files);
     if lists.unrestricted.len() > 3 {
         Some("-u can be given three times at most")
     } else if inputs > 1 {
         Some("patterns can be read from standard input once")
-    } else if inputs > 0 && searches_input && !options.has(OptionId::Files) {
+    } else if is_read_and_searched(inputs, options) {
         Some("patterns are read from standard input, so that it can't be searched")
     } else {
         None
     }
+}
+
+// How many of some files are standard input.
+fn count_inputs(files: &[&str]) -> usize
+    ensures { result ≡ count_by (λ file. is_input file.now) files.now }
+{
+    files.iter().filter(|file| is_input(file)).count()
+}
+
+// Whether patterns are read from standard input, which is a path that is searched too.
+fn is_read_and_searched(inputs: usize, options: &Options<'_, '_>) -> bool
+    ensures { result ≡ (nat_lt 0 inputs && searches_named_input options.now) }
+{
+    inputs > 0 && searches_named_input(options)
+}
+
+// Whether standard input is searched, as one of the paths.
+fn searches_named_input(options: &Options<'_, '_>) -> bool
+    ensures { result ≡ searches_named_input options.now }
+{
+    !options.has(OptionId::Files) && names_input(options.paths())
 }

@@ -118,7 +118,7 @@ choice-end closed text choices texts (inr (inner, is, are)) stands =
     (sym (append_assoc inner (44 ∷ []) text) ∙ ap (λ l. l ++ text) (sym is))
     (next_choice are stands)
 
-inside-some : (braces : List Brace) (brace : Brace) → is_inside (braces ++ brace ∷ []) ≡ true
+pub inside-some : (braces : List Brace) (brace : Brace) → is_inside (braces ++ brace ∷ []) ≡ true
 inside-some [] brace = refl
 inside-some (first ∷ later) brace = refl
 

@@ -1,13 +1,14 @@
 -- The members of a class, and the set of their bytes.
-use Rattle.std.proofs.Common.{◌≡◌, ◌≢◌, ℕ, ◌≤◌, Bool, true, false, not, ◌&&◌, ◌||◌, List, [], ◌∷◌, ◌∙◌}
+use Rattle.std.proofs.Common.{◌≡◌, ◌≢◌, ℕ, ◌≤◌, ◌<◌, Bool, true, false, not, ◌&&◌, ◌||◌, List, [], ◌∷◌, ◌∙◌}
 use Rattle.std.proofs.Common.{ap, arith, drop, inl, inr, nat_lt, refl, subst, sym}
-use Rattle.std.specs.Prelude.{◌⊎◌, Err, IfOk, Ok, Result}
+use Rattle.std.specs.Prelude.{◌⊎◌, Err, IfErr, IfOk, Ok, Result}
 use Rattle.std.specs.List.{list_any}
 use Rattle.grep_matcher.specs.ByteSets.{holds}
 use Rattle.grep_ignore.specs.Classes.{AddsRanges, begins_range, begins_with, is_either, is_in_range, is_negated}
 use Rattle.grep_ignore.specs.Classes.{other_case}
 use Rattle.grep_ignore.proofs.ClassLemmas.{begins-is, ranges-more}
-use Rattle.linegrep_files.specs.ClassTexts.{AreRanges, HasRanges, IsClassOf, IsRange, of_byte, of_end}
+use Rattle.linegrep_files.specs.ClassTexts.{AreCut, AreRanges, HasRanges, IsClassOf, IsMalformedClass, IsRange}
+use Rattle.linegrep_files.specs.ClassTexts.{IsReversed, of_byte, of_end}
 use Rattle.linegrep_files.specs.declared.class.Class.{Class}
 use Rattle.linegrep_files.specs.declared.class.Member.{Member}
 
@@ -133,3 +134,62 @@ pub set-marked : (ignores : Bool) (members set : List Bool) (text rest : List �
     → IsClassOf ignores set text rest
 set-marked ignores members set text rest marked (ranges, some, are, has) others =
     rw marked (ranges, some, are, λ byte. others byte ∙ ap (λ b. nat_lt byte 256 && not b) (has byte))
+
+-- what holds, holds of each error
+pub for-errors : {X E : Type 0} (result : Result X E) {P : Type 0} → P → IfErr result (λ _. P)
+for-errors (Ok value) holds = tt
+for-errors (Err e) holds = holds
+
+-- a member that isn't read: its range ends before it begins
+pub range-cut : {X E : Type 0} (result : Result X E) (text after : List ℕ) (first last : ℕ) → text ≡ first ∷ after
+    → after ≡ 45 ∷ last ∷ drop 2 after → last ≢ 93 → IfErr result (λ _. last < first)
+    → IfErr result (λ _. (text ≡ []) ⊎ IsReversed text)
+range-cut (Ok member) text after first last is ranges other less = tt
+range-cut (Err e) text after first last is ranges other less = inr (
+  first,
+  first,
+  last,
+  drop 2 after,
+  rw is (subst (λ l. IsRange (first, first) (first ∷ after) l) ranges (of_byte first after)),
+  other,
+  less,
+)
+
+-- a byte alone is always read
+pub byte-uncut : {X E : Type 0} (result : Result X E) (P : Type 0) (first : ℕ) → IfErr result (λ _. first < first)
+    → IfErr result (λ _. P)
+byte-uncut (Ok member) P first less = tt
+byte-uncut (Err e) P first less = absurd (omega (arith, less))
+
+-- a member's range goes on, but ends before it begins
+pub cut-end : (ignores : Bool) (set : List Bool) (text : List ℕ) (first middle last : ℕ) (rest : List ℕ)
+    → IsAtMember ignores set text (first, middle) rest → rest ≡ 45 ∷ last ∷ drop 2 rest → last ≢ 93 → last < first
+    → AreCut text
+cut-end ignores set text first middle last rest at ranges other less = (
+  at.ranges,
+  at.mid,
+  at.are,
+  at.begins,
+  inr (first, middle, last, drop 2 rest, subst (λ l. IsRange (first, middle) at.mid l) ranges at.is, other, less),
+)
+
+-- no member follows
+pub cut-next : (ignores : Bool) (set : List Bool) (text : List ℕ) (range : ℕ × ℕ) (rest : List ℕ)
+    → IsAtMember ignores set text range rest → begins_with 93 rest ≡ false → begins_range rest ≡ false
+    → (rest ≡ []) ⊎ IsReversed rest → AreCut text
+cut-next ignores set text range rest at opens ends cut =
+    (range ∷ at.ranges, rest, (at.mid, at.are, at.begins, at.is, ends), inr opens, cut)
+
+-- nor does a first one
+pub cut-first : (text : List ℕ) → (text ≡ []) ⊎ IsReversed text → AreCut text
+cut-first text cut = ([], text, refl, inl refl, cut)
+
+-- a class by its members that can't be read, with a mark before them and without one
+pub cut-plain : {X E : Type 0} (result : Result X E) (text : List ℕ) → is_negated text ≡ false
+    → IfErr result (λ _. AreCut text) → IfErr result (λ _. IsMalformedClass text)
+cut-plain (Ok class) text plain cut = tt
+cut-plain (Err e) text plain cut = rw plain cut
+
+pub cut-marked : (text rest : List ℕ) → is_negated text ≡ true → rest ≡ drop 1 text → AreCut rest
+    → IsMalformedClass text
+cut-marked text rest marked is cut = rw (marked, sym is) cut

@@ -8,6 +8,7 @@ pub mod GlobRuleLemmas
 pub mod GlobTextLemmas
 pub mod FoundLemmas
 pub mod IgnoreFileLemmas
+pub mod MalformedLemmas
 pub mod ParentLemmas
 pub mod PartLemmas
 pub mod PieceLemmas
@@ -16,4 +17,6 @@ pub mod ClassTextLemmas
 pub mod SizeLemmas
 pub mod TreeLemmas
 pub mod TypeDefinitionLemmas
+pub mod TypeListLemmas
+pub mod TypeFaultLemmas
 pub mod WalkLemmas

@@ -1,23 +1,24 @@
 -- The texts of pieces of a glob, one after another.
-use Rattle.std.proofs.Common.{◌≡◌, ℕ, ◌<◌, Bool, true, false, ap, sym, ◌∙◌, replicate}
-use Rattle.std.proofs.Common.{List, [], ◌∷◌, ◌++◌, length, refl, subst, arith, length-append, inl}
+use Rattle.std.proofs.Common.{◌≡◌, ℕ, ◌<◌, Bool, true, false, ap, sym, ◌∙◌}
+use Rattle.std.proofs.Common.{List, [], ◌∷◌, ◌++◌, drop, length, refl, subst, arith, length-append, inl}
 use Rattle.std.proofs.Common.{inr}
-use Rattle.std.proofs.Common.{append_assoc, ◌==◌, ◌≤◌, ◌||◌, if◌then◌else◌, nat_le, not}
-use Rattle.std.proofs.lemmas.Bool.{and_parts, false≢true, leb-true, not-true, or_right, true≢false}
-use Rattle.std.specs.List.{list_any}
-use Rattle.std.specs.Prelude.{Err, IfOk, MatchResult, Ok, Result}
+use Rattle.std.proofs.Common.{◌==◌, ◌≤◌, ◌||◌, if◌then◌else◌, nat_le, not}
+use Rattle.std.proofs.lemmas.Bool.{and_parts, false≢true, leb-true, not-true, true≢false}
+use Rattle.std.specs.Prelude.{Err, IfOk, MatchResult, Ok, OnErr, Result}
 use Rattle.grep_ignore.specs.Classes.{IsSet, begins_with, is_either}
-use Rattle.grep_ignore.specs.Globs.{IsFault, IsPieceText as IsIgnoreText}
+use Rattle.grep_ignore.specs.Globs.{IsFault as IsIgnoreFault, IsPieceText as IsIgnoreText}
 use Rattle.grep_ignore.proofs.ClassLemmas.{begins-is}
 use Rattle.grep_ignore.proofs.GlobLemmas.{piece-shorter as ignore-shorter}
 use Rattle.grep_ignore.specs.declared.glob.Step.{Step}
 use Rattle.grep_ignore.specs.declared.wildcards.Piece.{Piece}
-use Rattle.grep_ignore.specs.declared.wildcards.Piece.TheVariants.{Folders, Many, One}
+use Rattle.grep_ignore.specs.declared.wildcards.Piece.TheVariants.{Folders, One}
 use Rattle.grep_ignore.specs.Globs.{is_special}
 use Rattle.grep_ignore.specs.Tails.{IsHead, are_plain, byte_pieces, byte_set, is_tail}
 use Rattle.grep_ignore.specs.Matches.{AreStarted, Matches}
 use Rattle.grep_ignore.proofs.ByteLemmas.{byte-set, heads, matches-plain, plain-piece as ignore-plain, started}
-use Rattle.linegrep_files.specs.Globs.{ArePieceTexts, IsGlob, IsPieceText, has_brackets, has_stars}
+use Rattle.linegrep_files.specs.ClassTexts.{IsMalformedClass}
+use Rattle.linegrep_files.specs.MalformedGlobs.{IsFault}
+use Rattle.linegrep_files.specs.Globs.{ArePieceTexts, IsGlob, IsPieceText, has_stars}
 use Rattle.linegrep_files.specs.Globs.{of_class, of_other, of_stars}
 
 -- the text of a piece after those of some others
@@ -44,54 +45,31 @@ piece-shorter ignores begins text piece next rest (of_stars set r stars is bytes
 piece-shorter ignores begins text piece next rest (of_other class stars other) =
     ignore-shorter ignores begins text piece next rest other
 
--- a piece has the front of a text
-ignore-front : (ignores begins : Bool) (text : List ℕ) (piece : Piece) (next : Bool) (rest : List ℕ)
-    → begins_with 91 text ≡ false → IsIgnoreText ignores begins text piece next rest
-    → (front : List ℕ) × (text ≡ front ++ rest)
-ignore-front ignores begins text (One set) next rest class (inl any) = (63 ∷ [], any.0)
-ignore-front ignores begins text (One set) next rest class (inr (inl (byte, inl plain, is, other))) =
-    (byte ∷ [], plain.1)
-ignore-front ignores begins text (One set) next rest class (inr (inl (byte, inr escaped, is, other))) =
-    (92 ∷ byte ∷ [], escaped)
-ignore-front ignores begins text (One set) next rest class (inr (inr (members, is, after, other))) =
-    absurd (false≢true (sym class ∙ ap (begins_with 91) is))
-ignore-front ignores begins text (Many set) next rest class (more, stars, after, other) =
-    (42 ∷ replicate more 42, stars.0)
-ignore-front ignores begins text Folders next rest class (more, stars, after, other) = (
-  42 ∷ (replicate more 42 ++ 47 ∷ []),
-  stars.0 ∙ ap (λ l. 42 ∷ l) (sym (append_assoc (replicate more 42) (47 ∷ []) rest)),
-)
-
-piece-front : (ignores begins : Bool) (text : List ℕ) (piece : Piece) (next : Bool) (rest : List ℕ)
-    → IsPieceText ignores begins text piece next rest → (front : List ℕ) × (text ≡ front ++ rest)
-piece-front ignores begins text piece next rest (of_class set class r is closes of) =
-    (91 ∷ (class ++ 93 ∷ []), is ∙ ap (λ l. 91 ∷ l) (sym (append_assoc class (93 ∷ []) r)))
-piece-front ignores begins text piece next rest (of_stars set r stars is bytes) = (42 ∷ [], is)
-piece-front ignores begins text piece next rest (of_other class stars other) =
-    ignore-front ignores begins text piece next rest class other
-
-any-after : (p : ℕ → Bool) (front rest : List ℕ) → list_any p rest ≡ true
-    → list_any p (front ++ rest) ≡ true
-any-after p [] rest has = has
-any-after p (byte ∷ front) rest has = or_right (p byte) _ (any-after p front rest has)
-
--- what is left after the texts of pieces has brackets, so the text has
-pub brackets-before : (ignores begins : Bool) (text : List ℕ) (pieces : List Piece) (next : Bool) (rest : List ℕ)
-    → ArePieceTexts ignores begins text pieces next rest → has_brackets rest ≡ true
-    → has_brackets text ≡ true
-brackets-before ignores begins text [] next rest are has = subst (λ t. has_brackets t ≡ true) are.1 has
-brackets-before ignores begins text (piece ∷ later) next rest (m, mid, one, are) has =
-    let front : (front : List ℕ) × (text ≡ front ++ mid) = piece-front ignores begins text piece m mid one in
-    subst (λ t. has_brackets t ≡ true) (sym front.1)
-    (any-after _ front.0 mid (brackets-before ignores m mid later next rest are has))
-
 -- a piece that is read as in an ignore file
 pub ignore-step : {E : Type 0} (result : Result Step E) (ignores begins : Bool) (text : List ℕ)
     → begins_with 91 text ≡ false → has_stars text ≡ false
-    → MatchResult result (λ s. IsIgnoreText ignores begins text s.piece s.begins_name s.rest.now) (λ _. IsFault text)
+    → MatchResult result (λ s. IsIgnoreText ignores begins text s.piece s.begins_name s.rest.now) (λ _. IsIgnoreFault text)
     → IfOk result (λ s. IsPieceText ignores begins text s.piece s.begins_name s.rest.now)
 ignore-step (Ok s) ignores begins text class stars is = of_other class stars is
 ignore-step (Err e) ignores begins text class stars is = tt
+
+-- what holds, holds of each error
+pub on-errors : {X E : Type 0} (result : Result X E) {P : Type 0} → P → OnErr result P
+on-errors (Ok value) holds = tt
+on-errors (Err e) holds = holds
+
+-- one that isn't read ends in a backslash
+pub ignore-fault : {X E : Type 0} (result : Result X E) (P : X → Type 0) (text : List ℕ) → begins_with 91 text ≡ false
+    → MatchResult result P (λ _. IsIgnoreFault text) → OnErr result (IsFault text)
+ignore-fault (Ok s) P text class is = tt
+ignore-fault (Err e) P text class (inl is) = inl is
+ignore-fault (Err e) P text class (inr (members, is, cut)) =
+    absurd (false≢true (sym class ∙ ap (begins_with 91) is))
+
+-- no class is read
+pub class-fault : (text class : List ℕ) → begins_with 91 text ≡ true → class ≡ drop 1 text → IsMalformedClass class
+    → IsFault text
+class-fault text class begins is cut = inr (class, begins-is 91 text begins ∙ ap (λ l. 91 ∷ l) (sym is), cut)
 
 pub stars-begin : (text : List ℕ) → has_stars text ≡ true → begins_with 42 text ≡ true
 stars-begin text stars = grind (arith, stars)

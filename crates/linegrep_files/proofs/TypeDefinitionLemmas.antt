@@ -1,6 +1,6 @@
 -- Definitions of types, one change after another.
 use Rattle.std.proofs.Common.{◌≡◌, ℕ, Bool, true, false, not, ◌&&◌, ◌||◌, ◌==◌, if◌then◌else◌, List, [], ◌∷◌, ◌++◌}
-use Rattle.std.proofs.Common.{◌∙◌, ◌+◌, ◌<◌, ap, append-nil, append_assoc, arith, filter, get_or, length, map, refl, rules}
+use Rattle.std.proofs.Common.{◌∙◌, ◌+◌, ◌<◌, ap, append-nil, append_assoc, arith, filter, fold, get_or, length, map, refl, rules}
 use Rattle.std.proofs.Common.{subst, sym, take}
 use Rattle.std.proofs.Math.ListN.{get_or-map}
 use Rattle.std.proofs.lemmas.List.{get_or_append_left, length-map, map_push, take_more}
@@ -11,9 +11,11 @@ use Rattle.std.proofs.lemmas.Bool.{eqb-true, false≢true}
 use Rattle.std.specs.Option.{option_and_then}
 use Rattle.std.specs.Prelude.{None, Option, Some}
 use Rattle.std.specs.Str.{bytes_eq}
+use Rattle.std.specs.Str.Lines.{lines}
 use Rattle.linegrep_files.specs.FileTypes.{AreNames, AreTypeGlobs, AreTypes, are_none, selected_globs, with_choice}
 use Rattle.linegrep_files.specs.TypeDefinitions.{Definitions, Known, Selections, all_changed, all_changes}
-use Rattle.linegrep_files.specs.TypeDefinitions.{change_of, changed, changes_of, cleared, known_types}
+use Rattle.linegrep_files.specs.TypeDefinitions.{change_of, changed, changes_of, cleared, known_at_start, known_table}
+use Rattle.linegrep_files.specs.TypeDefinitions.{known_types}
 use Rattle.linegrep_files.specs.TypeDefinitions.{chosen_of, globs_of, is_colon, is_comma, is_known, known_of}
 use Rattle.linegrep_files.specs.TypeDefinitions.{line_definitions, names_after, pair_of, pairs_of, with_glob}
 use Rattle.linegrep_files.specs.declared.type_definitions.Change.{Change}
@@ -212,7 +214,7 @@ last-next definitions at d below is =
     ∙ sym (ap (last_name []) (pairs-more definitions at d below)
     ∙ last-more [] (pairs_of (take at definitions)) (pair_of (get_or definitions at d)))
 
-names-next : (definitions : List Definition) (at : ℕ) (d : Definition) (last : List ℕ) → at < length definitions
+pub names-next : (definitions : List Definition) (at : ℕ) (d : Definition) (last : List ℕ) → at < length definitions
     → d ≡ get_or definitions at d → last ≡ last_name [] (pairs_of (take at definitions))
     → names_after [] (pairs_of (take (at + 1) definitions)) ≡ names_after [] (pairs_of (take at definitions))
     ++ (if bytes_eq d.name.now last then [] else d.name.now ∷ [])
@@ -252,10 +254,22 @@ selects-same definitions at d last is_exclusion old mid below is named same are 
     ∙ ap (λ b. names ++ (if b then [] else d.name.now ∷ [])) same ∙ append-nil names in
     are ∙ ap (λ l. old ++ map (λ one. (one, is_exclusion)) l) (sym next)
 
-pub known-start : (types : KnownTypes) (definitions : Definitions) → pairs_of types.definitions.items ≡ definitions
+known-start : (types : KnownTypes) (definitions : Definitions) → pairs_of types.definitions.items ≡ definitions
     → chosen_of types.selections.items ≡ []
     → known_of types ≡ record { definitions = definitions; selections = [] }
 known-start types definitions are none = rw (are, none) refl
+
+-- what is known once a table is read
+pub table-known : (types empty : KnownTypes) (table : List ℕ) → table ≡ known_table → empty.definitions.items ≡ []
+    → empty.selections.items ≡ []
+    → pairs_of types.definitions.items ≡ fold (λ definitions line. definitions ++ line_definitions line)
+    (pairs_of empty.definitions.items) (lines table)
+    → types.selections ≡ empty.selections → known_of types ≡ known_at_start
+table-known types empty table is none nothing read same = known-start types known_types
+    (read ∙ ap (λ t. fold (λ definitions line. definitions ++ line_definitions line)
+    (pairs_of empty.definitions.items) (lines t)) is
+    ∙ ap (λ l. fold (λ definitions line. definitions ++ line_definitions line) (pairs_of l) (lines known_table)) none)
+    (ap (λ s. chosen_of s.items) same ∙ ap chosen_of nothing)
 
 -- a glob more of a selected type
 pub chosen-more : (before : List (List ℕ × Bool)) (globs new : List TypeGlob) (definitions : List Definition)

@@ -6,11 +6,12 @@ use Rattle.grep_ignore.specs.Classes.{begins_with}
 use Rattle.grep_ignore.specs.Decisions.{is_kept}
 use Rattle.grep_ignore.specs.Layers.{IsFirst}
 use Rattle.grep_ignore.specs.declared.rules.Decision.{Decision}
-use Rattle.linegrep_files.specs.FileTypes.{AreTypes, IsTypeChoice, are_none}
+use Rattle.linegrep_files.specs.FileTypes.{AreTypesRefused, AreTypes, IsTypeChoice}
 use Rattle.linegrep_files.specs.FolderFacts.{FolderFacts}
-use Rattle.linegrep_files.specs.Globs.{AreGlobs, IsGlobChoice, may_be_malformed_in, is_chosen}
+use Rattle.linegrep_files.specs.Globs.{AreGlobs, IsGlobChoice, is_chosen}
 use Rattle.linegrep_files.specs.IgnoreFiles.{AreWithin, HasSource, ReadsTheSame}
 use Rattle.linegrep_files.specs.Limits.{AreLimits, has_no_size}
+use Rattle.linegrep_files.specs.MalformedGlobs.{HaveMalformed}
 use Rattle.linegrep_files.specs.ParentFiles.{AreBegun, AreIgnores, base_of}
 use Rattle.linegrep_files.specs.declared.choices.Choices.{Choices}
 use Rattle.linegrep_files.specs.declared.file_options.FileOptions.{FileOptions}
@@ -104,11 +105,13 @@ pub record IsWithin (folders : FolderFacts) (folder below names : List ℕ) (old
   pub shows_hidden : new.shows_hidden ≡ old.shows_hidden
   pub ignores : AreWithin folders folder below names old.ignores new.ignores
 
--- what options say of files may be refused: one of the globs has brackets, braces or backslashes,
--- types are named or defined, or a size is given that is none
-abbrev pub may_be_refused : FileOptions → Bool
-may_be_refused options = may_be_malformed_in options.globs.now || may_be_malformed_in options.iglobs.now
-    || not (are_none options.types) || has_no_size options.max_filesize
+-- why what options say of files is refused: a glob can't be read, a type can't be used, or a size is
+-- given that is none
+pub data AreFilesRefused (options : FileOptions) : Type 0 where
+  of_glob : HaveMalformed options.ignores_glob_case options.globs.now → AreFilesRefused options
+  of_iglob : HaveMalformed true options.iglobs.now → AreFilesRefused options
+  of_types : AreTypesRefused options.types → AreFilesRefused options
+  of_size : has_no_size options.max_filesize ≡ true → AreFilesRefused options
 
 -- choices are what options say, with the ignore files that count everywhere
 pub record AreChoices (folders : FolderFacts) (options : FileOptions) (choices : Choices) : Type 0

@@ -57,3 +57,18 @@ abbrev pub IsClassOf : Bool → List Bool → List ℕ → List ℕ → Type 0
 IsClassOf ignores_case set text rest = (ranges : List (ℕ × ℕ)) × (0 < length ranges)
     × AreRanges ranges (members_of text) (93 ∷ rest)
     × IsSet set (is_of_class ignores_case (is_negated text) ranges)
+
+-- a text begins with a range that ends before it begins
+abbrev pub IsReversed : List ℕ → Type 0
+IsReversed text = (first middle last : ℕ) × (rest : List ℕ)
+    × IsRange (first, middle) text (45 ∷ last ∷ rest) × (last ≢ 93) × (last < first)
+
+-- members can't be read up to a closing bracket: after some of them the text is at its end, or a
+-- range ends before it begins
+abbrev pub AreCut : List ℕ → Type 0
+AreCut text = (ranges : List (ℕ × ℕ)) × (rest : List ℕ) × AreRanges ranges text rest
+    × ((ranges ≡ []) ⊎ (begins_with 93 rest ≡ false)) × ((rest ≡ []) ⊎ IsReversed rest)
+
+-- a class, after its opening bracket, isn't closed, or a range of it ends before it begins
+abbrev pub IsMalformedClass : List ℕ → Type 0
+IsMalformedClass text = AreCut (members_of text)

@@ -3,9 +3,11 @@ use Rattle.std.specs.Prelude.{◌≡◌, ℕ, ◌+◌, ◌<◌, ◌≤◌, ◌�
 use Rattle.std.specs.Prelude.{[], ◌∷◌, ◌++◌, false, true, not, length, map, nat_eq, IsTrue}
 use Rattle.std.specs.Prelude.{slice_index_or, string_bytes}
 use Rattle.std.specs.Borrow.{Bor}
-use Rattle.std.specs.List.{ends_with, list_all, list_any}
+use Rattle.std.specs.List.{Any, ends_with, list_all, list_any}
 use Rattle.linegrep_files.specs.Globs.{IsGlobOf, MatchesOne}
-use Rattle.linegrep_files.specs.TypeDefinitions.{Definitions, IsKnownBy, Known, Selections, globs_of}
+use Rattle.linegrep_files.specs.MalformedGlobs.{IsMalformedGlob}
+use Rattle.linegrep_files.specs.TypeDefinitions.{Definitions, HaveMalformed, IsKnownBy, Known}
+use Rattle.linegrep_files.specs.TypeDefinitions.{Selections, globs_of}
 use Rattle.linegrep_files.specs.TypeDefinitions.{is_known}
 use Rattle.linegrep_files.specs.declared.file_options.TypeOptions.{TypeOptions}
 use Rattle.linegrep_files.specs.declared.globs.Choice.{Choice}
@@ -91,3 +93,17 @@ pub record AreTypes (options : TypeOptions) (types : Types) : Type 0 where
   pub known : Known
   pub is_known : IsKnownBy options known
   pub are : AreSelected known types
+
+-- a selected type can't be used: it isn't known, or one of its globs can't be read
+abbrev pub IsUnusable : Definitions → List ℕ → Type 0
+IsUnusable definitions name =
+    (is_known definitions name ≡ false) ⊎ Any (IsMalformedGlob false) (globs_of definitions name)
+
+-- what is selected can't be used
+abbrev pub HaveUnusable : Known → Type 0
+HaveUnusable known = Any (λ one. IsUnusable known.definitions one.0) known.selections
+
+-- what options say of types is refused: a definition isn't well formed, or a type can't be used
+abbrev pub AreTypesRefused : TypeOptions → Type 0
+AreTypesRefused options =
+    HaveMalformed options ⊎ ((known : Known) × IsKnownBy options known × HaveUnusable known)

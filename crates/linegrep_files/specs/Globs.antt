@@ -1,11 +1,11 @@
 -- Which paths globs match, and what several of them say of a path: the last that matches it
 -- decides.
-use Rattle.std.specs.Prelude.{◌≡◌, ℕ, ◌+◌, ◌<◌, ◌≤◌, ◌⊎◌, Bool, true, false, ◌||◌, ◌&&◌, ◌==◌}
+use Rattle.std.specs.Prelude.{◌≡◌, ℕ, ◌+◌, ◌<◌, ◌≤◌, ◌⊎◌, Bool, true, false, ◌||◌, ◌&&◌}
 use Rattle.std.specs.Prelude.{if◌then◌else◌}
 use Rattle.std.specs.Prelude.{List, [], ◌∷◌, ◌++◌, length, codes, drop, slice_index_or, not}
 use Rattle.std.specs.Prelude.{MatchBool}
 use Rattle.std.specs.Borrow.{Bor}
-use Rattle.std.specs.List.{list_all, list_any}
+use Rattle.std.specs.List.{list_all}
 use Rattle.std.specs.Str.{bytes_eq}
 use Rattle.grep_ignore.specs.Classes.{IsSet, begins_with, is_empty, is_name_byte}
 use Rattle.grep_ignore.specs.Globs.{IsPieceText as IsIgnoreText}
@@ -13,7 +13,7 @@ use Rattle.grep_ignore.specs.Lines.{glob_of, is_anchored, keeps_of, names_folder
 use Rattle.grep_ignore.specs.Matches.{Matches}
 use Rattle.grep_ignore.specs.declared.wildcards.Piece.{Piece}
 use Rattle.grep_ignore.specs.declared.wildcards.Piece.TheVariants.{Folders, One, Many}
-use Rattle.linegrep_files.specs.Braces.{AreTextsOf, has_braces}
+use Rattle.linegrep_files.specs.Braces.{AreTextsOf}
 use Rattle.linegrep_files.specs.ClassTexts.{IsClassOf, is_class}
 use Rattle.linegrep_files.specs.declared.glob.Glob.{Glob}
 use Rattle.linegrep_files.specs.declared.globs.Choice.{Choice}
@@ -112,14 +112,6 @@ ArePieces is_of_names ignores_case text pieces = (spelled : List Piece)
     × IsGlob ignores_case text spelled
     × (pieces ≡ (if is_of_names then Folders ∷ spelled else spelled))
 
--- a text has a bracket that opens a class, or a backslash
-abbrev pub has_brackets : List ℕ → Bool
-has_brackets text = list_any (λ byte. (byte == 91) || (byte == 92)) text
-
--- it may not be well formed
-abbrev pub may_be_malformed : List ℕ → Bool
-may_be_malformed text = has_braces text || has_brackets text
-
 -- each of some choices has the pieces of one of some texts
 abbrev pub AreOfTexts : Bool → Bool → List (List ℕ) → List (List Piece) → Type 0
 AreOfTexts is_of_names ignores_case [] choices = choices ≡ []
@@ -176,7 +168,3 @@ pub record AreGlobs (texts iglobs : List (Bor (List ℕ))) (ignores_case : Bool)
     pub are_first : AreRules ignores_case texts first
     pub are_later : AreRules true iglobs later
     pub exclusions : globs.are_exclusions ≡ list_all (λ rule. rule.is_exclusion) globs.rules
-
--- one of some globs may not be well formed: it has braces, brackets or backslashes
-abbrev pub may_be_malformed_in : List (Bor (List ℕ)) → Bool
-may_be_malformed_in texts = list_any (λ text. may_be_malformed (glob_text text.now)) texts

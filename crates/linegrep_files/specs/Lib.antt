@@ -10,9 +10,11 @@ pub mod GitFiles
 pub mod Globs
 pub mod IgnoreFiles
 pub mod Limits
+pub mod MalformedGlobs
 pub mod Orders
 pub mod ParentFiles
 pub mod Paths
 pub mod Trees
 pub mod TypeDefinitions
 pub mod Walks
+pub mod Words

@@ -4,10 +4,13 @@ use Rattle.std.specs.Prelude.{◌∷◌, ◌++◌, None, Option, Some, codes, fi
 use Rattle.std.specs.Borrow.{Bor}
 use Rattle.std.specs.Char.Unicode.Alphabetic.{is_alphabetic}
 use Rattle.std.specs.Char.Unicode.Numeric.{is_numeric}
-use Rattle.std.specs.List.{after_first, before_first, list_all, list_any, slice_split, zip}
-use Rattle.std.specs.List.Sorted.{IsPermutation, IsSortedByKey}
+use Rattle.std.specs.Cmp.Lexicographic.{slice_cmp}
+use Rattle.std.specs.List.{after_first, before_first, flat_map, join_by, list_all, list_any, slice_split}
+use Rattle.std.specs.List.{zip}
+use Rattle.std.specs.List.Sorted.{IsPermutation, IsSortedBy, IsSortedByKey}
 use Rattle.std.specs.Option.{option_and_then}
-use Rattle.std.specs.Ordering.{nat_cmp}
+use Rattle.std.specs.Ordering.{is_lt, nat_cmp, ordering_then}
+use Rattle.std.specs.declared.cmp.Ordering.{Ordering}
 use Rattle.std.specs.Str.{bytes_eq, chars}
 use Rattle.std.specs.Str.Lines.{lines}
 use Rattle.grep_ignore.specs.Classes.{is_empty}
@@ -20,6 +23,8 @@ use Rattle.linegrep_files.specs.declared.type_definitions.Change.{Change}
 use Rattle.linegrep_files.specs.declared.type_definitions.Definition.{Definition}
 use Rattle.linegrep_files.specs.declared.type_definitions.KnownTypes.{KnownTypes}
 use Rattle.linegrep_files.specs.declared.type_definitions.Selection.{Selection}
+use Rattle.linegrep_files.specs.declared.type_definitions.TypeError.{TypeError}
+use Rattle.linegrep_files.specs.declared.type_definitions.TypeError.TheVariants.{OutOfMemory}
 
 -- definitions: names of types, each with a glob
 abbrev pub Definitions : Type 0
@@ -171,8 +176,47 @@ pub record AreChanges (options : TypeOptions) (changes : List Change) : Type 0 w
   pub same : IsPermutation (all_changes options) changes
   pub sorted : IsSortedByKey (λ change. change.place) nat_cmp changes
 
+-- what is known if options say nothing
+abbrev pub known_at_start : Known
+known_at_start = record { definitions = known_types; selections = [] }
+
 -- what options know and select
 pub record IsKnownBy (options : TypeOptions) (known : Known) : Type 0 where
   pub changes : List Change
   pub are : AreChanges options changes
-  pub is : all_changed (record { definitions = known_types; selections = [] }) changes ≡ Some known
+  pub is : all_changed known_at_start changes ≡ Some known
+
+-- a definition of options isn't well formed
+abbrev pub HaveMalformed : TypeOptions → Type 0
+HaveMalformed options = (changes : List Change) × AreChanges options changes
+    × (all_changed known_at_start changes ≡ None)
+
+-- a fact, unless an error is that memory is out
+abbrev pub OnFault : TypeError → Type 0 → Type 0
+OnFault OutOfMemory P = Unit {0}
+OnFault error P = P
+
+-- the order of definitions: that of their names, and among those of a type that of their globs
+abbrev pub definition_order : Definition → Definition → Ordering
+definition_order one other = ordering_then (slice_cmp nat_cmp one.name.now other.name.now)
+    (slice_cmp nat_cmp one.glob.now other.glob.now)
+
+-- the line of a type: its name, a colon, and its globs with commas between them
+abbrev pub type_line : Definitions → List ℕ → List ℕ
+type_line definitions name = name ++ (codes ": "
+    ++ (join_by (λ glob. glob) (codes ", ") (globs_of definitions name) ++ 10 ∷ []))
+
+-- a line for each type
+abbrev pub type_lines : Definitions → List ℕ
+type_lines definitions = flat_map (type_line definitions) (names_after [] definitions)
+
+-- a text lists definitions in order
+abbrev pub IsTypeList : Definitions → List ℕ → Type 0
+IsTypeList definitions text = (sorted : List Definition) × IsPermutation definitions (pairs_of sorted)
+    × IsSortedBy (λ one other. is_lt (definition_order one other)) sorted
+    × (text ≡ type_lines (pairs_of sorted))
+
+-- a text lists the types that options know
+abbrev pub IsTypeListOf : TypeOptions → List ℕ → Type 0
+IsTypeListOf options text = (known : Known) × IsKnownBy options known
+    × IsTypeList known.definitions text

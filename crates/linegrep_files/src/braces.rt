@@ -1,10 +1,12 @@
 //! The braces of a glob: the texts without them that it stands for, each with one of their choices
 //! in their place.
 ghost use Rattle.std.specs.Prelude.{◌≡◌, ◌≢◌, ◌<◌, ◌≤◌, ◌&&◌, ◌++◌, ◌∷◌, [], Bool, List, ℕ, false};
-ghost use Rattle.std.specs.Prelude.{IfOk, OnOk, length, map, take, true};
+ghost use Rattle.std.specs.Prelude.{◌+◌, ◌⊎◌, IfErr, IfOk, OnOk, length, map, take, true};
 ghost use Rattle.grep_ignore.specs.Classes.{begins_with};
 ghost use Rattle.linegrep_files.specs.Braces.{BeginsPart, HasPart, IsPartBefore, IsRead, StandsFor};
 ghost use Rattle.linegrep_files.specs.Braces.{bytes_of, each_with, has_braces, is_brace, is_inside};
+ghost use Rattle.grep_ignore.specs.Globs.{OnMalformed};
+ghost use Rattle.linegrep_files.specs.MalformedGlobs.{AreMalformed, IsFault};
 
 use crate::class::{begins_with, is_empty, read_class, tail};
 use grep_ignore::GlobError;
@@ -38,7 +40,8 @@ fn is_brace(byte: u8) -> bool
 /// The texts that a glob stands for. An error is that a brace isn't opened or closed, that a class
 /// isn't well formed, that there are more than 1000 texts, or that there is no memory.
 pub fn texts_of(alloc: Global, glob: &[u8]) -> Result<Vec<Vec<u8>>, GlobError>
-    ensures { IfOk result (λ texts. StandsFor false glob.now (bytes_of texts.items)) }
+    ensures ok { IfOk result (λ texts. StandsFor false glob.now (bytes_of texts.items)) }
+    ensures err { IfErr result (λ e. OnMalformed e (AreMalformed glob.now)) }
 {
     let mut texts = match Texts::new(alloc) {
         Ok(texts) => texts,
@@ -86,6 +89,9 @@ impl Texts {
         ensures read { IfOk result (λ rest. (part : List ℕ) × (glob.now ≡ part ++ rest.now)
             × ((done : List ℕ) → IsRead self.old.braces.items (bytes_of self.old.texts.items) done
             → IsRead self.new.braces.items (bytes_of self.new.texts.items) (done ++ part))) }
+        ensures err { IfErr result (λ e. OnMalformed e ((done : List ℕ)
+            → IsRead self.old.braces.items (bytes_of self.old.texts.items) done
+            → AreMalformed (done ++ glob.now))) }
     {
         if begins_with(glob, b'{') {
             return match self.open() {
@@ -115,6 +121,7 @@ impl Texts {
         ensures braces { self.new.braces ≡ self.old.braces }
         ensures part { IfOk result (λ rest. IsPartBefore (is_inside self.old.braces.items) glob.now
             (bytes_of self.old.texts.items) rest.now (bytes_of self.new.texts.items)) }
+        ensures err { IfErr result (λ e. OnMalformed e (IsFault glob.now)) }
     {
         let count = part_len(glob)?;
         let (part, rest) = glob.split_at(count);
@@ -169,10 +176,14 @@ impl Texts {
 
     // Closes the innermost brace.
     fn close(&mut self) -> Result<(), GlobError>
-        ensures { OnOk result ((brace : Brace)
+        ensures ok { OnOk result ((brace : Brace)
             × (self.old.braces.items ≡ self.new.braces.items ++ brace ∷ [])
             × (bytes_of self.new.texts.items ≡ each_with (bytes_of brace.before.items)
             (bytes_of brace.choices.items ++ bytes_of self.old.texts.items))) }
+        ensures err { IfErr result (λ e. OnMalformed e ((self.old.braces.items ≡ [])
+            ⊎ ((outer : List Brace) × (brace : Brace) × (self.old.braces.items ≡ outer ++ brace ∷ [])
+            × (MOST_TEXTS < length (each_with (bytes_of brace.before.items)
+            (bytes_of brace.choices.items ++ bytes_of self.old.texts.items)))))) }
     {
         match self.braces.pop() {
             Some(mut brace) => match brace.choices.append(&mut self.texts) {
@@ -192,7 +203,8 @@ impl Texts {
 
     // The texts, if no brace is open.
     fn complete(self) -> Result<Vec<Vec<u8>>, GlobError>
-        ensures { IfOk result (λ texts. (self.braces.items ≡ []) × (texts ≡ self.texts)) }
+        ensures ok { IfOk result (λ texts. (self.braces.items ≡ []) × (texts ≡ self.texts)) }
+        ensures err { IfErr result (λ _. is_inside self.braces.items ≡ true) }
     {
         if self.braces.is_empty() {
             Ok(self.texts)
@@ -205,8 +217,9 @@ impl Texts {
 // How many bytes there are in the part without braces that a glob begins with.
 fn part_len(glob: &[u8]) -> Result<usize, GlobError>
     requires { glob.now ≢ [] }
-    ensures { (is_choice : Bool) → BeginsPart is_choice glob.now
+    ensures ok { (is_choice : Bool) → BeginsPart is_choice glob.now
         → IfOk result (HasPart is_choice glob.now) }
+    ensures err { IfErr result (λ e. OnMalformed e (IsFault glob.now)) }
 {
     if begins_with(glob, b'[') {
         return class_len(glob);
@@ -220,7 +233,8 @@ fn part_len(glob: &[u8]) -> Result<usize, GlobError>
 // How many bytes there are in the backslash and the byte after it that a glob begins with.
 fn escape_len(glob: &[u8]) -> Result<usize, GlobError>
     requires { begins_with 92 glob.now ≡ true }
-    ensures { (is_choice : Bool) → IfOk result (HasPart is_choice glob.now) }
+    ensures ok { (is_choice : Bool) → IfOk result (HasPart is_choice glob.now) }
+    ensures err { IfErr result (λ e. OnMalformed e (IsFault glob.now)) }
 {
     if is_empty(tail(glob)) {
         Err(GlobError::Malformed(ENDS_IN_BACKSLASH))
@@ -232,7 +246,8 @@ fn escape_len(glob: &[u8]) -> Result<usize, GlobError>
 // How many bytes there are in the class that a glob begins with.
 fn class_len(glob: &[u8]) -> Result<usize, GlobError>
     requires { begins_with 91 glob.now ≡ true }
-    ensures { (is_choice : Bool) → IfOk result (HasPart is_choice glob.now) }
+    ensures ok { (is_choice : Bool) → IfOk result (HasPart is_choice glob.now) }
+    ensures err { IfErr result (λ e. OnMalformed e (IsFault glob.now)) }
 {
     match read_class(tail(glob), false) {
         Ok(class) => Ok(glob.len() - class.rest.len()),
@@ -262,8 +277,10 @@ fn extend_each(texts: &mut Vec<Vec<u8>>, bytes: &[u8]) -> Result<(), AllocError>
 
 // Each text before a brace with each of its choices after it.
 fn joined(alloc: Global, before: &[Vec<u8>], choices: &[Vec<u8>]) -> Result<Vec<Vec<u8>>, GlobError>
-    ensures { IfOk result (λ texts. bytes_of texts.items
+    ensures ok { IfOk result (λ texts. bytes_of texts.items
         ≡ each_with (bytes_of before.now) (bytes_of choices.now)) }
+    ensures err { IfErr result (λ e. OnMalformed e
+        (MOST_TEXTS < length (each_with (bytes_of before.now) (bytes_of choices.now)))) }
 {
     let mut texts = Vec::new(alloc);
     for text in before {
@@ -279,8 +296,10 @@ fn add_joined(
     text: &[u8],
     choices: &[Vec<u8>],
 ) -> Result<(), GlobError>
-    ensures { OnOk result (bytes_of texts.new.items ≡ bytes_of texts.old.items
+    ensures ok { OnOk result (bytes_of texts.new.items ≡ bytes_of texts.old.items
         ++ map (λ choice. text.now ++ choice) (bytes_of choices.now)) }
+    ensures err { IfErr result (λ e. OnMalformed e
+        (MOST_TEXTS < length texts.old.items + length choices.now)) }
 {
     for choice in choices {
         if texts.len() >= MOST_TEXTS {

@@ -3,7 +3,7 @@ ghost use Rattle.std.specs.Prelude.{◌≡◌, [], false, true, IfErr, IfOk, OnO
 ghost use Rattle.linegrep_files.specs.Choices.{AreChoices, AreTakenUp, IsChosen, IsUnmatchedChosen};
 ghost use Rattle.linegrep_files.specs.Choices.{IsWithin};
 ghost use Rattle.linegrep_files.specs.Folders.{name_of};
-ghost use Rattle.linegrep_files.specs.Choices.{SaysTheSame, is_shown, may_be_refused, warnings_of};
+ghost use Rattle.linegrep_files.specs.Choices.{AreFilesRefused, SaysTheSame, is_shown, warnings_of};
 ghost use Rattle.linegrep_files.specs.Failures.{has_cause};
 
 use crate::class::begins_with;
@@ -38,7 +38,7 @@ impl<'r> Choices<'r> {
     ) -> Result<Choices<'r>, Failure>
         ensures ok { IfOk result (AreChoices (S.facts system.now) options.now) }
         ensures err { IfErr result (λ failure. has_cause failure ≡ true
-            → may_be_refused options.now ≡ true) }
+            → AreFilesRefused options.now) }
     {
         let globs = Globs::read(
             rt.alloc(),

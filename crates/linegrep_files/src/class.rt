@@ -1,12 +1,13 @@
 //! A class of a glob, which is in brackets: the bytes that it stands for.
 ghost use Rattle.std.specs.Prelude.{◌≡◌, ◌≢◌, ◌≤◌, ◌∷◌, ◌&&◌, ◌||◌, ◌==◌, ℕ, drop, false, not};
-ghost use Rattle.std.specs.Prelude.{nat_lt, IfOk, MatchOption};
+ghost use Rattle.std.specs.Prelude.{nat_lt, ◌<◌, ◌⊎◌, [], IfErr, IfOk, MatchOption, length};
 ghost use Rattle.grep_ignore.specs.Classes.{begins_range, begins_with, is_empty, is_negated};
 ghost use Rattle.std.specs.Str.{bytes_eq};
 ghost use Rattle.grep_ignore.specs.Lines.{ends_with};
 ghost use Rattle.grep_matcher.specs.ByteSets.{holds};
-ghost use Rattle.linegrep_files.specs.ClassTexts.{AreMembersBefore, HasRanges, IsClassBefore};
-ghost use Rattle.linegrep_files.specs.ClassTexts.{IsClassOf, IsRange};
+ghost use Rattle.linegrep_files.specs.ClassTexts.{AreCut, AreMembersBefore, HasRanges};
+ghost use Rattle.linegrep_files.specs.ClassTexts.{IsClassBefore, IsClassOf, IsMalformedClass};
+ghost use Rattle.linegrep_files.specs.ClassTexts.{IsRange, IsReversed};
 
 use grep_ignore::add_range;
 use grep_matcher::ByteSet;
@@ -39,6 +40,7 @@ const REVERSED: &str = "a range ends before it begins";
 pub fn read_class(text: &[u8], ignores_case: bool) -> Result<Class<'_>, &'static str>
     ensures text { IfOk result (λ class. IsClassBefore text.now class.rest.now) }
     ensures set { IfOk result (λ class. IsClassOf ignores_case class.set text.now class.rest.now) }
+    ensures malformed { IfErr result (λ _. IsMalformedClass text.now) }
 {
     if is_negated(text) {
         let class = read_members(tail(text), ignores_case)?;
@@ -61,30 +63,26 @@ fn read_members(text: &[u8], ignores_case: bool) -> Result<Class<'_>, &'static s
     ensures text { IfOk result (λ class. AreMembersBefore text.now (93 ∷ class.rest.now)) }
     ensures set { IfOk result (λ class. HasRanges ignores_case class.set text.now
         (93 ∷ class.rest.now)) }
+    ensures cut { IfErr result (λ _. AreCut text.now) }
 {
     let mut set = ByteSet::empty();
     let mut member = read_member(text)?;
-    for _ in text {
-        if begins_with(member.rest, b']') {
-            add_range(&mut set, member.first, member.last, ignores_case);
-            return Ok(Class {
-                set,
-                rest: tail(member.rest),
-            });
-        }
+    while !begins_with(member.rest, b']') {
         match range_end(member.rest) {
             Some(last) => {
                 member = range(member.first, last, tail(tail(member.rest)))?;
-                continue;
             }
             None => {
                 add_range(&mut set, member.first, member.last, ignores_case);
                 member = read_member(member.rest)?;
-                continue;
             }
         }
     }
-    Err(UNCLOSED)
+    add_range(&mut set, member.first, member.last, ignores_case);
+    Ok(Class {
+        set,
+        rest: tail(member.rest),
+    })
 }
 
 // The first of some members of a class: a byte, or two bytes with a dash between them, which make a
@@ -93,6 +91,7 @@ fn read_member(text: &[u8]) -> Result<Member<'_>, &'static str>
     ensures text { IfOk result (λ member. AreMembersBefore text.now member.rest.now) }
     ensures range { IfOk result (λ member. IsRange (member.first, member.last) text.now
         member.rest.now) }
+    ensures cut { IfErr result (λ _. (text.now ≡ []) ⊎ IsReversed text.now) }
 {
     match text {
         [] => Err(UNCLOSED),
@@ -123,8 +122,9 @@ fn range_end(after: &[u8]) -> Option<u8>
 }
 
 fn range(first: u8, last: u8, rest: &[u8]) -> Result<Member<'_>, &'static str>
-    ensures { IfOk result (λ member. (member.first ≡ first) × (member.last ≡ last)
+    ensures range { IfOk result (λ member. (member.first ≡ first) × (member.last ≡ last)
         × (first ≤ last) × (member.rest.now ≡ rest.now)) }
+    ensures reversed { IfErr result (λ _. last < first) }
 {
     if first > last {
         Err(REVERSED)

@@ -8,7 +8,9 @@ ghost use Rattle.grep_ignore.specs.Tails.{byte_pieces};
 ghost use Rattle.grep_ignore.specs.declared.wildcards.Piece.{Piece};
 ghost use Rattle.linegrep_files.specs.Braces.{bytes_of};
 ghost use Rattle.linegrep_files.specs.Globs.{AreOfTexts, ArePieces, IsGlob, IsGlobOf, IsPieceText};
-ghost use Rattle.linegrep_files.specs.Globs.{MatchesOne, has_brackets, has_stars, may_be_malformed};
+ghost use Rattle.linegrep_files.specs.Globs.{MatchesOne, has_stars};
+ghost use Rattle.linegrep_files.specs.MalformedGlobs.{IsFault, IsMalformedGlob, IsMalformedText};
+ghost use Rattle.std.specs.List.{Any};
 
 use crate::braces::{has_braces, texts_of};
 use crate::class::{begins_with, read_class, tail};
@@ -26,8 +28,8 @@ pub struct Glob {
 
 impl Glob {
     /// Reads a glob: one of names in any folder, or of whole paths. Its letters of ASCII match in
-    /// either case if `ignores_case` is set. A text without brackets, braces and backslashes is a
-    /// glob.
+    /// either case if `ignores_case` is set. An error is that its braces or one of the texts that
+    /// it stands for can't be read, or that there is no memory.
     pub fn read(
         alloc: Global,
         text: &[u8],
@@ -35,7 +37,7 @@ impl Glob {
         ignores_case: bool,
     ) -> Result<Glob, GlobError>
         ensures ok { IfOk result (IsGlobOf is_of_names ignores_case text.now) }
-        ensures err { IfErr result (λ e. OnMalformed e (may_be_malformed text.now ≡ true)) }
+        ensures err { IfErr result (λ e. OnMalformed e (IsMalformedGlob ignores_case text.now)) }
     {
         let mut glob = Glob {
             choices: Vec::new(alloc),
@@ -58,8 +60,10 @@ impl Glob {
         ignores_case: bool,
     ) -> Result<(), GlobError>
         requires { self.old.choices.items ≡ [] }
-        ensures { OnOk result (AreOfTexts is_of_names ignores_case (bytes_of texts.now)
+        ensures ok { OnOk result (AreOfTexts is_of_names ignores_case (bytes_of texts.now)
             self.new.choices.items) }
+        ensures err { IfErr result (λ e. OnMalformed e
+            (Any (IsMalformedText ignores_case) (bytes_of texts.now))) }
     {
         for text in texts {
             self.add(alloc, text.as_slice(), is_of_names, ignores_case)?;
@@ -78,7 +82,7 @@ impl Glob {
         ensures ok { IfOk result (λ _. (pieces : List Piece)
             × (self.new.choices.items ≡ self.old.choices.items ++ pieces ∷ [])
             × ArePieces is_of_names ignores_case text.now pieces) }
-        ensures err { IfErr result (λ e. OnMalformed e (has_brackets text.now ≡ true)) }
+        ensures err { IfErr result (λ e. OnMalformed e (IsMalformedText ignores_case text.now)) }
     {
         let wildcards = read_text(alloc, text, is_of_names, ignores_case)?;
         match self.choices.push(wildcards) {
@@ -131,7 +135,7 @@ fn read_text(
     ignores_case: bool,
 ) -> Result<Wildcards, GlobError>
     ensures ok { IfOk result (ArePieces is_of_names ignores_case text.now) }
-    ensures err { IfErr result (λ e. OnMalformed e (has_brackets text.now ≡ true)) }
+    ensures err { IfErr result (λ e. OnMalformed e (IsMalformedText ignores_case text.now)) }
 {
     let Ok(mut pieces) = folder_pieces(alloc, !is_of_names) else {
         return Err(GlobError::OutOfMemory);
@@ -154,7 +158,7 @@ fn add_pieces(
     ensures ok { IfOk result (λ tail. (spelled : List Piece)
         × (pieces.new.items ≡ pieces.old.items ++ spelled)
         × IsGlob ignores_case text.now (spelled ++ byte_pieces tail.items)) }
-    ensures err { IfErr result (λ e. OnMalformed e (has_brackets text.now ≡ true)) }
+    ensures err { IfErr result (λ e. OnMalformed e (IsMalformedText ignores_case text.now)) }
 {
     let longest = tail_len(text, ignores_case);
     let mut rest = text;
@@ -183,7 +187,7 @@ fn first_piece(text: &[u8], begins_name: bool, ignores_case: bool) -> Result<Ste
     requires { text.now ≢ [] }
     ensures ok { IfOk result (λ step. IsPieceText ignores_case begins_name text.now step.piece
         step.begins_name step.rest.now) }
-    ensures err { OnErr result (has_brackets text.now ≡ true) }
+    ensures err { OnErr result (IsFault text.now) }
 {
     if begins_with(text, b'[') {
         class_step(text, ignores_case)
@@ -197,8 +201,9 @@ fn first_piece(text: &[u8], begins_name: bool, ignores_case: bool) -> Result<Ste
 // A step after a class.
 fn class_step(text: &[u8], ignores_case: bool) -> Result<Step<'_>, &'static str>
     requires { begins_with 91 text.now ≡ true }
-    ensures { (begins : Bool) → IfOk result (λ step. IsPieceText ignores_case begins text.now
+    ensures ok { (begins : Bool) → IfOk result (λ step. IsPieceText ignores_case begins text.now
         step.piece step.begins_name step.rest.now) }
+    ensures err { OnErr result (IsFault text.now) }
 {
     let class = read_class(tail(text), ignores_case)?;
     Ok(Step {

@@ -1,12 +1,12 @@
 //! Globs, which choose among the files of folders.
-ghost use Rattle.std.specs.Prelude.{◌≡◌, ◌↔◌, ◌||◌, true, if◌then◌else◌, IfErr, IfOk, IsTrue};
+ghost use Rattle.std.specs.Prelude.{◌≡◌, ◌↔◌, ◌⊎◌, ◌||◌, true, if◌then◌else◌, IfErr, IfOk, IsTrue};
 ghost use Rattle.std.specs.List.{list_all};
 ghost use Rattle.grep_ignore.specs.Globs.{OnMalformed};
 ghost use Rattle.linegrep_files.specs.Failures.{has_cause};
 ghost use Rattle.linegrep_files.specs.Globs.{AreAdded, AreGlobs, IsAbout, IsAdded, IsGlobChoice};
 ghost use Rattle.linegrep_files.specs.Globs.{IsGlobRule, IsLastChoice, choice_of, glob_text};
-ghost use Rattle.linegrep_files.specs.Globs.{may_be_malformed};
-ghost use Rattle.linegrep_files.specs.Globs.{may_be_malformed_in, is_chosen, path_from_here};
+ghost use Rattle.linegrep_files.specs.Globs.{is_chosen, path_from_here};
+ghost use Rattle.linegrep_files.specs.MalformedGlobs.{HaveMalformed, IsMalformedGlob};
 ghost use Rattle.linegrep_files.specs.Globs.{said_glob};
 
 use crate::class::is_empty;
@@ -69,7 +69,7 @@ impl Globs {
     ) -> Result<Globs, Failure>
         ensures ok { IfOk result (AreGlobs texts.now iglobs.now ignores_case) }
         ensures err { IfErr result (λ failure. has_cause failure ≡ true
-            → (may_be_malformed_in texts.now || may_be_malformed_in iglobs.now) ≡ true) }
+            → HaveMalformed ignores_case texts.now ⊎ HaveMalformed true iglobs.now) }
     {
         let mut globs = Globs {
             rules: PathTests::new(alloc),
@@ -86,7 +86,7 @@ impl Globs {
         ensures ok { IfOk result (λ _. AreAdded ignores_case texts.now self.old.rules
             self.new.rules) }
         ensures err { IfErr result (λ failure. has_cause failure ≡ true
-            → may_be_malformed_in texts.now ≡ true) }
+            → HaveMalformed ignores_case texts.now) }
     {
         for text in texts {
             match self.add(alloc, text, ignores_case) {
@@ -102,7 +102,8 @@ impl Globs {
     fn add(&mut self, alloc: Global, text: &str, ignores_case: bool) -> Result<(), GlobError>
         ensures ok { IfOk result (λ _. IsAdded ignores_case text.now self.old.rules
             self.new.rules) }
-        ensures err { IfErr result (λ e. OnMalformed e (may_be_malformed (glob_text text.now) ≡ true)) }
+        ensures err { IfErr result (λ e. OnMalformed e
+            (IsMalformedGlob ignores_case (glob_text text.now))) }
     {
         if is_empty(text.as_bytes()) {
             return Ok(());
@@ -213,7 +214,8 @@ fn path_from_here(path: &[u8]) -> &[u8]
 // Without any other slash it is about names in any folder.
 fn read_rule(alloc: Global, text: &[u8], ignores_case: bool) -> Result<GlobRule, GlobError>
     ensures ok { IfOk result (IsGlobRule ignores_case text.now) }
-    ensures err { IfErr result (λ e. OnMalformed e (may_be_malformed (glob_text text.now) ≡ true)) }
+    ensures err { IfErr result (λ e. OnMalformed e
+        (IsMalformedGlob ignores_case (glob_text text.now))) }
 {
     let parts = split_rule(said_glob(text));
     match Glob::read(alloc, parts.glob, !parts.is_anchored, ignores_case) {

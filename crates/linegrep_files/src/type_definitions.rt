@@ -1,9 +1,14 @@
 //! The types of files that are known, and those that options select.
-ghost use Rattle.std.specs.Prelude.{◌≡◌, ◌++◌, ◌∷◌, [], OnOk, IfOk, Some, codes, fold, map, true};
+ghost use Rattle.std.specs.Prelude.{◌≡◌, ◌++◌, ◌∷◌, [], OnOk, IfErr, IfOk, MatchBool, None, Some};
+ghost use Rattle.std.specs.Prelude.{codes, fold, map, string_bytes};
 ghost use Rattle.std.specs.List.{after_first, before_first, list_all, slice_split};
+ghost use Rattle.std.specs.List.Sorted.{IsPermutation, IsSortedBy};
+ghost use Rattle.std.specs.Ordering.{is_lt};
 ghost use Rattle.std.specs.Str.{bytes_eq, chars};
 ghost use Rattle.std.specs.Str.Lines.{lines};
-ghost use Rattle.linegrep_files.specs.TypeDefinitions.{AreChanges, IsKnownBy, added, all_changed};
+ghost use Rattle.linegrep_files.specs.TypeDefinitions.{AreChanges, HaveMalformed, IsKnownBy};
+ghost use Rattle.linegrep_files.specs.TypeDefinitions.{IsTypeList, OnFault, added, all_changed};
+ghost use Rattle.linegrep_files.specs.TypeDefinitions.{definition_order, globs_of, type_line, type_lines};
 ghost use Rattle.linegrep_files.specs.TypeDefinitions.{changed, changes_of, chosen_of, cleared};
 ghost use Rattle.linegrep_files.specs.TypeDefinitions.{has_colon, is_colon, is_comma, is_known, is_letter};
 ghost use Rattle.linegrep_files.specs.TypeDefinitions.{is_type_name, known_of, known_table, line_definitions};
@@ -14,6 +19,7 @@ use crate::class::{is_empty, is_same};
 use crate::file_options::{TypeOptions, Values};
 use crate::known_types::TYPES;
 use std::alloc::{AllocError, AllocFailed, Global};
+use std::cmp::Ordering;
 
 /// The types that are known, and those that are selected.
 #[derive(Drop)]
@@ -71,12 +77,22 @@ pub enum TypeError<'t> {
 }
 
 impl<'t> From<AllocError> for TypeError<'t> {
+    ghost use Rattle.std.specs.Prelude.{◌≡◌};
+    ghost use Rattle.linegrep_files.specs.declared.type_definitions.TypeError.TheVariants.{OutOfMemory};
+
+    ghost from_gives = { λ _ e. e ≡ OutOfMemory };
+
     fn from(_: AllocError) -> TypeError<'t> {
         TypeError::OutOfMemory
     }
 }
 
 impl<'t, T: Drop> From<AllocFailed<T>> for TypeError<'t> {
+    ghost use Rattle.std.specs.Prelude.{◌≡◌};
+    ghost use Rattle.linegrep_files.specs.declared.type_definitions.TypeError.TheVariants.{OutOfMemory};
+
+    ghost from_gives = { λ _ e. e ≡ OutOfMemory };
+
     fn from(_: AllocFailed<T>) -> TypeError<'t> {
         TypeError::OutOfMemory
     }
@@ -89,6 +105,13 @@ impl Definition<'_> {
     {
         self.name == name
     }
+
+    // Which of two comes first.
+    fn compare(&self, other: &Definition<'_>) -> Ordering
+        ensures { result ≡ definition_order self.now other.now }
+    {
+        self.name.cmp(other.name).then(self.glob.cmp(other.glob))
+    }
 }
 
 impl<'t> KnownTypes<'t> {
@@ -98,7 +121,8 @@ impl<'t> KnownTypes<'t> {
         alloc: Global,
         options: &TypeOptions<'_, 't>,
     ) -> Result<KnownTypes<'t>, TypeError<'t>>
-        ensures { IfOk result (λ known. IsKnownBy options.now (known_of known)) }
+        ensures known { IfOk result (λ known. IsKnownBy options.now (known_of known)) }
+        ensures malformed { IfErr result (λ e. OnFault e (HaveMalformed options.now)) }
     {
         let mut known = KnownTypes {
             definitions: Vec::new(alloc),
@@ -146,8 +170,10 @@ impl<'t> KnownTypes<'t> {
 
     // Makes changes, one after another.
     fn apply_all(&mut self, changes: &[Change<'t>]) -> Result<(), TypeError<'t>>
-        ensures { OnOk result (all_changed (known_of self.old) changes.now
+        ensures changed { OnOk result (all_changed (known_of self.old) changes.now
             ≡ Some (known_of self.new)) }
+        ensures malformed { IfErr result (λ e. OnFault e
+            (all_changed (known_of self.old) changes.now ≡ None)) }
     {
         for change in changes {
             self.apply(change)?;
@@ -156,8 +182,10 @@ impl<'t> KnownTypes<'t> {
     }
 
     fn apply(&mut self, change: &Change<'t>) -> Result<(), TypeError<'t>>
-        ensures { OnOk result (changed (known_of self.old) change.now
+        ensures changed { OnOk result (changed (known_of self.old) change.now
             ≡ Some (known_of self.new)) }
+        ensures malformed { IfErr result (λ e. OnFault e
+            (changed (known_of self.old) change.now ≡ None)) }
     {
         match change.action {
             Action::Add => {
@@ -189,6 +217,8 @@ impl<'t> KnownTypes<'t> {
     fn add(&mut self, text: &'t str) -> Result<(), TypeError<'t>>
         ensures definitions { OnOk result (added (pairs_of self.old.definitions.items) text.now
             ≡ Some (pairs_of self.new.definitions.items)) }
+        ensures malformed { IfErr result (λ e. OnFault e
+            (added (pairs_of self.old.definitions.items) text.now ≡ None)) }
         ensures selections { self.new.selections ≡ self.old.selections }
     {
         let (name, meaning) = split_colon(text);
@@ -200,9 +230,10 @@ impl<'t> KnownTypes<'t> {
 
     // Adds what follows the name of a type and a colon, if it is well formed.
     fn add_meaning(&mut self, name: &'t str, meaning: &'t str) -> Result<bool, AllocError>
-        ensures definitions { IfOk result (λ is_added. is_added ≡ true
-            → with_meaning name.now (pairs_of self.old.definitions.items) meaning.now
-            ≡ Some (pairs_of self.new.definitions.items)) }
+        ensures definitions { IfOk result (λ is_added. MatchBool is_added
+            (with_meaning name.now (pairs_of self.old.definitions.items) meaning.now
+            ≡ Some (pairs_of self.new.definitions.items))
+            (with_meaning name.now (pairs_of self.old.definitions.items) meaning.now ≡ None)) }
         ensures selections { self.new.selections ≡ self.old.selections }
     {
         if has_colon(meaning) {
@@ -310,32 +341,76 @@ impl<'t> KnownTypes<'t> {
         Ok(self.selections.push(Selection { name, is_exclusion })?)
     }
 
-    /// The list of the known types, one a line with its globs. An error is one of being out of
-    /// memory.
-    pub fn list(&mut self, alloc: Global) -> Result<String, AllocError> {
-        let mut text = String::new(alloc);
-        self.definitions.sort_unstable_by(|a, b| {
-            a.name.cmp(b.name).then_with(|| a.glob.cmp(b.glob))
-        });
-        let mut last = "";
-        for definition in self.definitions.iter() {
-            if definition.name == last {
-                text.push_str(", ")?;
-            } else {
-                if !text.is_empty() {
-                    text.push('\n')?;
-                }
-                text.push_str(definition.name)?;
-                text.push_str(": ")?;
-            }
-            text.push_str(definition.glob)?;
-            last = definition.name;
-        }
-        if !text.is_empty() {
-            text.push('\n')?;
-        }
-        Ok(text)
+    /// The list of the known types, one a line with its globs, both in order. An error is one of
+    /// being out of memory.
+    pub fn list(&mut self, alloc: Global) -> Result<String, AllocError>
+        ensures { IfOk result (λ text. IsTypeList (pairs_of self.old.definitions.items)
+            (string_bytes text)) }
+    {
+        sort(&mut self.definitions);
+        list_text(alloc, self.definitions.as_slice())
     }
+}
+
+// Puts definitions in order.
+fn sort(definitions: &mut Vec<Definition<'_>>)
+    ensures same { IsPermutation definitions.old.items definitions.new.items }
+    ensures sorted { IsSortedBy (λ one other. is_lt (definition_order one other))
+        definitions.new.items }
+{
+    definitions.sort_unstable_by(|one, other| one.compare(other));
+}
+
+// A line for each type of some definitions in order.
+fn list_text(alloc: Global, definitions: &[Definition<'_>]) -> Result<String, AllocError>
+    ensures { IfOk result (λ text. string_bytes text ≡ type_lines (pairs_of definitions.now)) }
+{
+    let mut text = String::new(alloc);
+    let mut last: &[u8] = b"";
+    for definition in definitions {
+        if is_same(definition.name.as_bytes(), last) {
+            continue;
+        }
+        push_line(alloc, &mut text, definition.name, definitions)?;
+        last = definition.name.as_bytes();
+    }
+    Ok(text)
+}
+
+// Adds the line of a type.
+fn push_line(
+    alloc: Global,
+    text: &mut String,
+    name: &str,
+    definitions: &[Definition<'_>],
+) -> Result<(), AllocError>
+    ensures { OnOk result (string_bytes text.new
+        ≡ string_bytes text.old ++ type_line (pairs_of definitions.now) name.now) }
+{
+    let globs = globs_of(alloc, definitions, name)?.join(alloc, ", ")?;
+    text.push_str(name)?;
+    text.push_str(": ")?;
+    text.push_str(globs.as_str())?;
+    text.push_str("\n")
+}
+
+// The globs of a type.
+fn globs_of<'t>(
+    alloc: Global,
+    definitions: &[Definition<'t>],
+    name: &str,
+) -> Result<Vec<&'t str>, AllocError>
+    ensures { IfOk result (λ globs. map (λ glob. glob.now) globs.items
+        ≡ globs_of (pairs_of definitions.now) name.now) }
+{
+    let mut globs = Vec::new(alloc);
+    for definition in definitions {
+        if definition.is_of(name) {
+            globs.push(definition.glob)?;
+            continue;
+        }
+    }
+    Ok(globs)
 }
 
 // The table of the types that are known.

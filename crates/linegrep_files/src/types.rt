@@ -1,11 +1,14 @@
 //! Types of files, which choose among the files of folders by their names.
 ghost use Rattle.std.specs.Prelude.{◌≡◌, ◌↔◌, ◌++◌, ℕ, Bool, List, false, true, if◌then◌else◌};
-ghost use Rattle.std.specs.Prelude.{IfErr, IfOk, IsTrue, OnErr, OnOk, not};
-ghost use Rattle.std.specs.List.{list_any};
+ghost use Rattle.std.specs.Prelude.{IfErr, IfOk, IsTrue, OnOk, not, string_bytes};
+ghost use Rattle.std.specs.List.{Any, list_any};
 ghost use Rattle.grep_ignore.specs.Endings.{EndsIn, HasStart};
-ghost use Rattle.linegrep_files.specs.FileTypes.{AreNames, AreSelected, AreTypeGlobs, AreTypes, Have};
-ghost use Rattle.linegrep_files.specs.FileTypes.{IsTypeChoice, are_none, has_wildcard, is_wildcard};
+ghost use Rattle.linegrep_files.specs.FileTypes.{AreNames, AreTypesRefused, AreSelected, AreTypeGlobs};
+ghost use Rattle.linegrep_files.specs.FileTypes.{AreTypes, Have, HaveUnusable, IsTypeChoice};
+ghost use Rattle.linegrep_files.specs.FileTypes.{has_wildcard, is_wildcard};
 ghost use Rattle.linegrep_files.specs.FileTypes.{type_choice_of, with_choice};
+ghost use Rattle.linegrep_files.specs.MalformedGlobs.{IsMalformedGlob};
+ghost use Rattle.linegrep_files.specs.TypeDefinitions.{HaveMalformed, IsTypeListOf, OnFault};
 ghost use Rattle.linegrep_files.specs.TypeDefinitions.{globs_of, known_of, pairs_of};
 ghost use Rattle.linegrep_files.specs.Failures.{has_cause};
 
@@ -47,7 +50,7 @@ impl Types {
     pub fn read(alloc: Global, options: &TypeOptions<'_, '_>) -> Result<Types, Failure>
         ensures ok { IfOk result (AreTypes options.now) }
         ensures err { IfErr result (λ failure. has_cause failure ≡ true
-            → are_none options.now ≡ false) }
+            → AreTypesRefused options.now) }
     {
         match try_read(alloc, options) {
             Ok(types) => Ok(types),
@@ -80,6 +83,8 @@ impl Types {
             ++ with_choice selection.entry.is_exclusion
             (globs_of (pairs_of known.now.definitions.items) selection.entry.name.now))
             self.new.globs) }
+        ensures malformed { IfErr result (λ e. OnFault e (Any (IsMalformedGlob false)
+            (globs_of (pairs_of known.now.definitions.items) selection.entry.name.now))) }
     {
         for definition in known.definitions.iter() {
             if definition.is_of(selection.name) {
@@ -144,8 +149,12 @@ impl PathTest for TypeGlob {
 }
 
 /// The list of all types, one a line with its globs, with what options add to it or clear. An error
-/// is as in `Types::read`.
-pub fn type_list(alloc: Global, options: &TypeOptions<'_, '_>) -> Result<String, Failure> {
+/// is that a definition isn't well formed, or that there is no memory.
+pub fn type_list(alloc: Global, options: &TypeOptions<'_, '_>) -> Result<String, Failure>
+    ensures list { IfOk result (λ text. IsTypeListOf options.now (string_bytes text)) }
+    ensures malformed { IfErr result (λ failure. has_cause failure ≡ true
+        → HaveMalformed options.now) }
+{
     match try_list(alloc, options) {
         Ok(text) => Ok(text),
         Err(error) => Err(failure(alloc, error)),
@@ -154,7 +163,7 @@ pub fn type_list(alloc: Global, options: &TypeOptions<'_, '_>) -> Result<String,
 
 fn try_read<'t>(alloc: Global, options: &TypeOptions<'_, 't>) -> Result<Types, TypeError<'t>>
     ensures types { IfOk result (AreTypes options.now) }
-    ensures err { OnErr result (are_none options.now ≡ false) }
+    ensures err { IfErr result (λ e. OnFault e (AreTypesRefused options.now)) }
 {
     if options.are_none() {
         return Ok(Types {
@@ -166,13 +175,17 @@ fn try_read<'t>(alloc: Global, options: &TypeOptions<'_, 't>) -> Result<Types, T
     build(alloc, &known)
 }
 
-fn try_list<'t>(alloc: Global, options: &TypeOptions<'_, 't>) -> Result<String, TypeError<'t>> {
+fn try_list<'t>(alloc: Global, options: &TypeOptions<'_, 't>) -> Result<String, TypeError<'t>>
+    ensures list { IfOk result (λ text. IsTypeListOf options.now (string_bytes text)) }
+    ensures malformed { IfErr result (λ e. OnFault e (HaveMalformed options.now)) }
+{
     Ok(KnownTypes::read(alloc, options)?.list(alloc)?)
 }
 
 // The types that are selected.
 fn build<'t>(alloc: Global, known: &KnownTypes<'t>) -> Result<Types, TypeError<'t>>
-    ensures { IfOk result (AreSelected (known_of known.now)) }
+    ensures selected { IfOk result (AreSelected (known_of known.now)) }
+    ensures unusable { IfErr result (λ e. OnFault e (HaveUnusable (known_of known.now))) }
 {
     let mut types = Types {
         globs: PathTests::new(alloc),
@@ -231,7 +244,8 @@ impl Names {
 
 // The names that a glob matches.
 fn names_of<'t>(alloc: Global, glob: &'t str) -> Result<Names, TypeError<'t>>
-    ensures { IfOk result (AreNames glob.now) }
+    ensures names { IfOk result (AreNames glob.now) }
+    ensures malformed { IfErr result (λ e. OnFault e (IsMalformedGlob false glob.now)) }
 {
     if !has_wildcard(glob.as_bytes()) {
         return Ok(Names::Only(String::from_str(alloc, glob)?));
@@ -245,7 +259,8 @@ fn names_of<'t>(alloc: Global, glob: &'t str) -> Result<Names, TypeError<'t>>
 }
 
 fn matching<'t>(alloc: Global, glob: &'t str) -> Result<Names, TypeError<'t>>
-    ensures { IfOk result (AreNames glob.now) }
+    ensures names { IfOk result (AreNames glob.now) }
+    ensures malformed { IfErr result (λ e. OnFault e (IsMalformedGlob false glob.now)) }
 {
     match Glob::read(alloc, glob.as_bytes(), false, false) {
         Ok(matching) => Ok(Names::Matching(matching)),
@@ -268,7 +283,9 @@ fn is_wildcard(byte: u8) -> bool
 }
 
 // What is wrong with types.
-fn failure(alloc: Global, error: TypeError<'_>) -> Failure {
+fn failure(alloc: Global, error: TypeError<'_>) -> Failure
+    ensures { error.entry ≡ TypeError.OutOfMemory → has_cause result ≡ false }
+{
     match error {
         TypeError::Unknown(name) => {
             Failure::of_text(format!(in alloc; "linegrep: there is no type of files {name}\n"))

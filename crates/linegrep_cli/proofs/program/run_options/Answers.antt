@@ -1,13 +1,10 @@
-use Rattle.std.proofs.Common.{◌∙◌, ℕ, List, ap, map, refl, string_bytes, subst, sym}
+use Rattle.std.proofs.Common.{◌∙◌, ℕ, List, ap, map, string_bytes, subst, sym}
 use Rattle.std.specs.Borrow.{Bor}
 use Rattle.std.specs.Global.{Global}
 use Rattle.std.specs.Option.{option_map}
-use Rattle.std.specs.Prelude.{String}
-use Rattle.linegrep_options.specs.declared.option_id.OptionId.TheVariants.{TypeList}
-use Rattle.linegrep_cli.proofs.RunLemmas.{first-cause, last-cause, second-cause}
-use Rattle.linegrep_cli.specs.OptionUses.{has}
-use Rattle.linegrep_cli.specs.ProgramRuns.{ArePatternsFor, exclude_each_other, may_lack_patterns}
-use Rattle.linegrep_cli.specs.ProgramRuns.{of_refusal, of_search, of_text, of_types}
+use Rattle.std.specs.Prelude.{String, is_some}
+use Rattle.linegrep_cli.specs.ProgramRuns.{ArePatternsFor, of_contraries, of_definition, of_patterns, of_refusal}
+use Rattle.linegrep_cli.specs.ProgramRuns.{of_search, of_text, of_types}
 use Rattle.linegrep_cli.proofs.program.run_options.Goals as goal
 
 pub returns-in-Some : goal.returns-in-Some
@@ -18,17 +15,14 @@ returns-in-Some g c = of_text c.in-Some.text.now
 pub returns-in-Ok : goal.returns-in-Ok
 returns-in-Ok g c = of_types c.as_str.result.now
     (sym c.text_asked.ensures ∙ ap (option_map (λ (text : Bor (List ℕ)). text.now)) c.in_default.is)
-    (sym c.has.ensures ∙ c.if-has.true)
+    (sym c.has.ensures ∙ c.if-has.true) (rw c.as_str.ensures.value c.in-Ok.ensures.list)
     c.write_answer-in-Ok.ensures.input c.write_answer-in-Ok.ensures.answered
 
 pub returns-in-Err : goal.returns-in-Err
 returns-in-Err g c =
-    let options = c.args.options.now in
     of_refusal c.args.input c.in-Err.failure
     (sym c.text_asked.ensures ∙ ap (option_map (λ (text : Bor (List ℕ)). text.now)) c.in_default.is)
-    (λ none. refl)
-    (λ caused. first-cause (has options TypeList) (exclude_each_other options) (may_lack_patterns options)
-    (sym c.has.ensures ∙ c.if-has.true))
+    (λ caused. of_definition (sym c.has.ensures ∙ c.if-has.true) (c.in-Err.ensures.malformed caused))
     (record {
       refused = record {
         status_is = c.refused.ensures.status;
@@ -40,12 +34,9 @@ returns-in-Err g c =
 
 pub returns-in-Some-fault_of : goal.returns-in-Some-fault_of
 returns-in-Some-fault_of g c =
-    let options = c.args.options.now in
     of_refusal c.args.input c.arguments_failure.result
     (sym c.text_asked.ensures ∙ ap (option_map (λ (text : Bor (List ℕ)). text.now)) c.in_default.is)
-    (λ none. refl)
-    (λ caused. second-cause (has options TypeList) (exclude_each_other options) (may_lack_patterns options)
-    c.in-Some-fault_of.ensures)
+    (λ caused. of_contraries (sym c.fault_of.ensures ∙ ap is_some c.in-Some-fault_of.is))
     (record {
       refused = record {
         status_is = c.refused-in-Some-fault_of.ensures.status;
@@ -58,19 +49,17 @@ returns-in-Some-fault_of g c =
 pub returns-in-Ok-patterns_of : goal.returns-in-Ok-patterns_of
 returns-in-Ok-patterns_of g c = of_search c.deref.result.now c.patterns_of.new.input
     (sym c.text_asked.ensures ∙ ap (option_map (λ (text : Bor (List ℕ)). text.now)) c.in_default.is)
-    (sym c.has.ensures ∙ c.if-has.false)
-    (subst (λ (patterns : List (String Global)). ArePatternsFor c.args.options.now (map string_bytes patterns))
-    (sym c.deref.ensures.value) c.in-Ok-patterns_of.ensures.patterns)
-    c.patterns_of.ensures.input c.search_all.ensures
+    (sym c.has.ensures ∙ c.if-has.false) (sym c.fault_of.ensures ∙ ap is_some c.in_default-fault_of.is)
+    (subst (λ (patterns : List (String Global)). ArePatternsFor g.R.Source.remaining g.R.Source.step
+    (g.S.Folders.facts c.args.system.now) c.args.options.now c.args.input (map string_bytes patterns)
+    c.patterns_of.new.input) (sym c.deref.ensures.value) c.in-Ok-patterns_of.ensures.patterns)
+    c.search_all.ensures
 
 pub returns-in-Err-patterns_of : goal.returns-in-Err-patterns_of
 returns-in-Err-patterns_of g c =
-    let options = c.args.options.now in
     of_refusal c.patterns_of.new.input c.in-Err-patterns_of.failure
     (sym c.text_asked.ensures ∙ ap (option_map (λ (text : Bor (List ℕ)). text.now)) c.in_default.is)
-    c.patterns_of.ensures.input
-    (λ caused. last-cause (has options TypeList) (exclude_each_other options) (may_lack_patterns options)
-    (c.in-Err-patterns_of.ensures.refused caused))
+    (λ caused. let (searched, lack) = c.in-Err-patterns_of.ensures.refused caused in of_patterns searched lack)
     (record {
       refused = record {
         status_is = c.refused-in-Err-patterns_of.ensures.status;

@@ -1,9 +1,8 @@
-use Rattle.std.proofs.Common.{◌∙◌, ℕ, List, ap, map, string_bytes, subst, sym}
-use Rattle.std.specs.Borrow.{Bor}
+use Rattle.std.proofs.Common.{◌∙◌, List, ap, map, string_bytes, subst, sym}
 use Rattle.std.specs.Global.{Global}
 use Rattle.std.specs.Prelude.{String}
 use Rattle.linegrep_options.specs.declared.uses.Use.{Use}
-use Rattle.linegrep_cli.proofs.PatternLemmas.{texts-same}
+use Rattle.linegrep_cli.specs.OperandTexts.{operand_texts}
 use Rattle.linegrep_cli.specs.OptionValues.{AreLists}
 use Rattle.linegrep_cli.specs.ProgramRuns.{of_options, out_of_memory}
 use Rattle.linegrep_cli.proofs.program.run_parsed.Goals as goal
@@ -45,9 +44,8 @@ pub returns : goal.returns
 returns g c =
     let operands = c.in-Ok-texts_of.operands.items in
     of_options c.new-options.result c.deref-4.result operands c.in-Ok-read.lists c.deref-4.ensures.value
-    (texts-same _ _ _ _ (ap (map (λ (operand : Bor (List ℕ)). operand.now)) c.deref.ensures.value)
-    (ap (map (λ (text : String Global). string_bytes text)) (sym c.deref-2.ensures.value)
-    ∙ sym c.in-Ok-texts_of.ensures) c.in-Ok.ensures)
+    (c.in-Ok-texts_of.ensures ∙ ap (map (λ (text : String Global). string_bytes text)) c.deref-2.ensures.value
+    ∙ c.in-Ok.ensures ∙ ap operand_texts c.deref.ensures.value)
     (subst (λ (uses : List Use). AreLists uses operands c.in-Ok-read.lists)
     (c.deref-3.ensures.value ∙ sym c.deref-4.ensures.value) c.in-Ok-read.ensures)
     c.new-options.ensures c.run_options.ensures

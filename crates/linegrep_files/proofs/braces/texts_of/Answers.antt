@@ -1,5 +1,9 @@
+use Rattle.std.proofs.lemmas.Result.{err_from_is_err_and}
 use Rattle.std.proofs.Common.{◌++◌, ◌∙◌, [], ap, append_assoc, refl, sym}
+use Rattle.std.proofs.lemmas.Bool.{eqb-true}
+use Rattle.std.proofs.lemmas.List.{nil_from_length}
 use Rattle.linegrep_files.proofs.BraceLemmas.{read-none}
+use Rattle.linegrep_files.proofs.MalformedLemmas.{end-malformed, rest-malformed}
 use Rattle.linegrep_files.proofs.braces.texts_of.Goals as goal
 
 pub loop-rest-init : goal.loop-rest-init
@@ -13,3 +17,17 @@ loop-rest-preserved c =
       is ∙ ap (λ l. done ++ l) ends ∙ sym (append_assoc done part _),
       more done read,
     )
+
+pub returns-in_err-rest-clause-err : goal.returns-in_err-rest-clause-err
+returns-in_err-rest-clause-err c =
+    let (done, is, read) = c.loop-rest.invariant in
+    let error = err_from_is_err_and c.from_residual.result c.from_residual.ensures.1 in
+    rw (error.1, error.2) (rest-malformed _ _ _ c.args.glob.now done c.loop-rest.rest.now is read
+    c.in_err-rest.ensures.err)
+
+pub returns-clause-err : goal.returns-clause-err
+returns-clause-err c =
+    let (done, is, read) = c.loop-rest.invariant in
+    let none = nil_from_length _ (eqb-true _ 0 (sym c.is_empty.ensures ∙ c.loop-rest-test.false)) in
+    end-malformed c.complete.result _ _ c.args.glob.now done (is ∙ ap (λ l. done ++ l) none) read
+    c.complete.ensures.err

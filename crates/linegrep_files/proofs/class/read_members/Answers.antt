@@ -1,40 +1,39 @@
 use Rattle.std.proofs.Common.{◌∙◌, ap, drop, sym}
-use Rattle.linegrep_files.proofs.ClassSetLemmas.{adds-one, at-close, at-end, at-first, at-next}
+use Rattle.linegrep_files.proofs.ClassSetLemmas.{adds-one, at-close, at-end, at-next, cut-next, for-errors}
 use Rattle.linegrep_files.proofs.ClassTextLemmas.{members-next, members-range}
 use Rattle.linegrep_files.proofs.class.read_members.Goals as goal
 
-pub loop-init : goal.loop-init
-loop-init c = record {
-  text = c.in_ok-member.ensures.text;
-  ranges = at-first c.args.ignores_case _ c.args.text.now _ _ c.empty-set.ensures c.in_ok-member.ensures.range;
-}
-
-pub returns-then-begins_with-clause-set : goal.returns-then-begins_with-clause-set
-returns-then-begins_with-clause-set c = at-close c.args.ignores_case _ _ c.args.text.now
-    (c.loop.member.first, c.loop.member.last) c.loop.member.rest.now c.tail.result.now c.loop.invariant.ranges
-    (sym c.begins_with.ensures ∙ c.if-begins_with.true) c.tail.ensures
-    (adds-one c.args.ignores_case (c.loop.member.first, c.loop.member.last) _ _ c.add_range.ensures)
-
-pub loop-preserved-in-Some : goal.loop-preserved-in-Some
-loop-preserved-in-Some c =
-    let (begins, ends, ordered, goes) = c.in_ok-member-in-Some.ensures in
-    let rest = goes ∙ c.tail-in-Some-2.ensures ∙ ap (drop 1) c.tail-in-Some.ensures in
+pub loop-last-preserved-in-Some : goal.loop-last-preserved-in-Some
+loop-last-preserved-in-Some c =
+    let (begins, ends, ordered, goes) = c.in_ok-member-in-Some.ensures.range in
+    let rest = goes ∙ c.tail-in-Some.ensures ∙ ap (drop 1) c.tail.ensures in
     record {
-      text = members-range c.args.text.now c.loop.member.rest.now _ c.in-Some.last c.loop.invariant.text
+      text = members-range c.args.text.now c.loop-last.member.rest.now _ c.in-Some.last c.loop-last.invariant.text
           c.in-Some.ensures.0 c.in-Some.ensures.1 rest;
-      ranges = rw (begins, ends) (at-end c.args.ignores_case _ c.args.text.now c.loop.member.first
-          c.loop.member.last c.in-Some.last c.loop.member.rest.now _ c.loop.invariant.ranges c.in-Some.ensures.0
-          c.in-Some.ensures.1 ordered rest);
+      ranges = rw (begins, ends) (at-end c.args.ignores_case _ c.args.text.now c.loop-last.member.first
+          c.loop-last.member.last c.in-Some.last c.loop-last.member.rest.now _ c.loop-last.invariant.ranges
+          c.in-Some.ensures.0 c.in-Some.ensures.1 ordered rest);
     }
 
-pub loop-preserved : goal.loop-preserved
-loop-preserved c =
-    let opens = sym c.begins_with.ensures ∙ c.if-begins_with.false in
+pub returns-in_err-member-in-None-clause-cut : goal.returns-in_err-member-in-None-clause-cut
+returns-in_err-member-in-None-clause-cut c = for-errors c.from_residual-in_err-member-in-None.result
+    (cut-next c.args.ignores_case _ c.args.text.now _ c.loop-last.member.rest.now c.loop-last.invariant.ranges
+    (sym c.begins_with.ensures ∙ c.loop-last-test.true) c.in-None.ensures c.in_err-member-in-None.ensures.cut)
+
+pub loop-last-preserved : goal.loop-last-preserved
+loop-last-preserved c =
+    let opens = sym c.begins_with.ensures ∙ c.loop-last-test.true in
     record {
-      text = members-next c.args.text.now c.loop.member.rest.now _ c.loop.invariant.text opens
+      text = members-next c.args.text.now c.loop-last.member.rest.now _ c.loop-last.invariant.text opens
           c.in_ok-member-in-None.ensures.text;
-      ranges = at-next c.args.ignores_case _ _ c.args.text.now _ _ c.loop.member.rest.now _ c.loop.invariant.ranges opens
-          c.in-None.ensures
-          (adds-one c.args.ignores_case (c.loop.member.first, c.loop.member.last) _ _ c.add_range-in-None.ensures)
+      ranges = at-next c.args.ignores_case _ _ c.args.text.now _ _ c.loop-last.member.rest.now _
+          c.loop-last.invariant.ranges opens c.in-None.ensures
+          (adds-one c.args.ignores_case (c.loop-last.member.first, c.loop-last.member.last) _ _ c.add_range.ensures)
           c.in_ok-member-in-None.ensures.range;
     }
+
+pub returns-clause-set : goal.returns-clause-set
+returns-clause-set c = at-close c.args.ignores_case _ _ c.args.text.now
+    (c.loop-last.member.first, c.loop-last.member.last) c.loop-last.member.rest.now c.tail-2.result.now
+    c.loop-last.invariant.ranges (sym c.begins_with.ensures ∙ c.loop-last-test.false) c.tail-2.ensures
+    (adds-one c.args.ignores_case (c.loop-last.member.first, c.loop-last.member.last) _ _ c.add_range-2.ensures)

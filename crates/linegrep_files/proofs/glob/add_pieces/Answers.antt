@@ -1,5 +1,5 @@
 use Rattle.std.proofs.Common.{◌∷◌, ◌++◌, [], ◌∙◌, ap, append_assoc, sym}
-use Rattle.linegrep_files.proofs.PieceLemmas.{brackets-before, glob-tail, piece-shorter, texts-more}
+use Rattle.linegrep_files.proofs.PieceLemmas.{glob-tail, piece-shorter, texts-more}
 use Rattle.linegrep_files.proofs.glob.add_pieces.Goals as goal
 
 pub loop-rest-smaller : goal.loop-rest-smaller
@@ -16,7 +16,7 @@ loop-rest-preserved c = (
 pub returns-in-Err : goal.returns-in-Err
 returns-in-Err c = record {
   ok = tt;
-  err = brackets-before _ _ _ _ _ _ c.loop-rest.invariant.2 c.in-Err.ensures.err;
+  err = (c.loop-rest.invariant.0, _, _, c.loop-rest.invariant.2, c.in-Err.ensures.err);
 }
 
 pub returns-in-Ok-from_slice-clause-ok : goal.returns-in-Ok-from_slice-clause-ok

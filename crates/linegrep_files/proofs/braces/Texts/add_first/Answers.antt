@@ -2,6 +2,7 @@ use Rattle.std.proofs.Common.{◌∙◌, ◌∷◌, [], ap, sym}
 use Rattle.grep_ignore.proofs.ClassLemmas.{begins-is}
 use Rattle.linegrep_files.specs.Braces.{bytes_of}
 use Rattle.linegrep_files.proofs.BraceLemmas.{choice-begins, choices-with, part-read, read-choice, read-close, read-open}
+use Rattle.linegrep_files.proofs.MalformedLemmas.{close-at, parts-at}
 use Rattle.linegrep_files.proofs.braces.Texts.add_first.Goals as goal
 
 pub returns-in-Ok-clause-read : goal.returns-in-Ok-clause-read
@@ -15,7 +16,7 @@ returns-in-Ok-clause-read c =
 
 pub returns-in-Ok-close-clause-read : goal.returns-in-Ok-close-clause-read
 returns-in-Ok-close-clause-read c =
-    let (brace, is, texts) = c.in-Ok-close.ensures in (
+    let (brace, is, texts) = c.in-Ok-close.ensures.ok in (
       125 ∷ [],
       begins-is 125 c.args.glob.now (sym c.begins_with-2.ensures ∙ c.if-begins_with-2.true)
           ∙ ap (λ l. 125 ∷ l) (sym c.tail-in-Ok-close.ensures),
@@ -36,3 +37,10 @@ returns-in-Ok-begin_choice-clause-read c =
 pub returns-clause-read : goal.returns-clause-read
 returns-clause-read c = part-read c.add_part.result _ _ _ _ c.args.glob.now
     (ap (λ braces. braces.items) c.add_part.ensures.braces) c.add_part.ensures.part
+
+pub returns-in-Err-close-clause-err : goal.returns-in-Err-close-clause-err
+returns-in-Err-close-clause-err c = close-at _ _ _ c.args.glob.now (sym c.begins_with-2.ensures ∙ c.if-begins_with-2.true)
+    c.in-Err-close.ensures.err
+
+pub returns-clause-err : goal.returns-clause-err
+returns-clause-err c = parts-at c.add_part.result _ _ c.args.glob.now c.add_part.ensures.err

@@ -8,3 +8,6 @@ returns-in-Ok-push-clause-ok c = added-one c.args.ignores_case c.args.text.now _
     c.push.new.self c.in-Ok.rule c.as_bytes-2.ensures.value
     (ap is_empty (sym c.as_bytes.ensures.value) ∙ sym c.is_empty.ensures ∙ c.if-is_empty.false)
     c.in-Ok-push.ensures.ok c.in-Ok.ensures.ok
+
+pub returns-in-Err-clause-err : goal.returns-in-Err-clause-err
+returns-in-Err-clause-err c = rw c.as_bytes-2.ensures.value at c.in-Err.ensures.err
