@@ -1,5 +1,5 @@
--- Which of the files and folders of a folder are visited: globs decide first, then ignore files,
--- and of files types.
+-- Which of the files and folders of a folder are visited. Globs decide first, then ignore files,
+-- and for a file its types.
 use Rattle.std.specs.Prelude.{◌≡◌, ℕ, ◌-◌, Bool, true, false, not, ◌||◌, if◌then◌else◌, List}
 use Rattle.std.specs.Prelude.{◌++◌, length, MatchBool, Option, Some, slice_get}
 use Rattle.grep_ignore.specs.Classes.{begins_with}
@@ -20,8 +20,8 @@ use Rattle.linegrep_files.specs.declared.globs.Choice.{Choice}
 use Rattle.linegrep_files.specs.declared.globs.Choice.TheVariants.{Chosen, LeftOut, Unmatched}
 use Rattle.linegrep_files.specs.declared.ignores.Ignores.{Ignores}
 
--- the depth of the nearest repository that the folder is in, if it is in one. If none is needed, all
--- folders are in one
+-- the depth of the nearest repository that the folder is in, if it is in one. If no repository is
+-- needed, each folder counts as in one
 abbrev pub repository_of : Ignores → Option ℕ
 repository_of ignores =
     if ignores.sources.needs_repository then last_of ignores.repositories.items else Some 0
@@ -35,8 +35,8 @@ IsIgnoreDecision ignores name is_folder decision =
     IsFirst (ignores.path.items ++ name) is_folder ignores.start (repository_of ignores)
     ignores.layers decision
 
--- what no glob says anything about is visited: by what ignore files say, and of files types; or if
--- nothing says something it is shown
+-- whether something is visited that no glob is about. Ignore files decide, and for a file its
+-- types. If none of these is about it, it is visited if it is shown
 abbrev pub IsUnmatchedChosen : Choices → List ℕ → Bool → Bool → Bool → Type 0
 IsUnmatchedChosen choices name is_folder is_shown chosen = (decision : Decision)
     × IsIgnoreDecision choices.ignores name is_folder decision
@@ -48,7 +48,7 @@ IsUnmatchedChosen choices name is_folder is_shown chosen = (decision : Decision)
 abbrev pub is_shown : Choices → List ℕ → Bool
 is_shown choices name = choices.shows_hidden || not (begins_with 46 name)
 
--- what has a name in the folder, and is at a path, is visited
+-- whether something with a name in the folder, which is at a path, is visited
 pub data IsChosen (choices : Choices) (path name : List ℕ) (is_folder : Bool) : Bool → Type 0 where
   of_glob : IsGlobChoice choices.globs path is_folder Chosen
       → IsChosen choices path name is_folder true
@@ -77,7 +77,7 @@ pub record SaysTheSame (old new : Choices) : Type 0 where
 abbrev pub warnings_of : Choices → List Failure
 warnings_of choices = choices.ignores.warnings.items
 
--- choices differ from others in the ignore files alone that belong to folders
+-- choices differ from others only in the ignore files that belong to folders
 pub record AreAlike (one other : Choices) : Type 0 where
   pub globs : other.globs ≡ one.globs
   pub types : other.types ≡ one.types
@@ -86,7 +86,7 @@ pub record AreAlike (one other : Choices) : Type 0 where
   pub ignores : ReadsTheSame one.ignores other.ignores
   pub base : base_of other.ignores.layers ≡ base_of one.ignores.layers
 
--- a folder is taken up, with a name for the system: choices say the same, but for the ignore files
+-- a folder is taken up, by its name for the system: choices say the same, but for the ignore files
 -- that count there
 pub record AreTakenUp (folders : FolderFacts) (name : List ℕ) (old new : Choices) : Type 0 where
   pub globs : new.globs ≡ old.globs
@@ -95,8 +95,8 @@ pub record AreTakenUp (folders : FolderFacts) (name : List ℕ) (old new : Choic
   pub shows_hidden : new.shows_hidden ≡ old.shows_hidden
   pub ignores : AreBegun folders name old.ignores new.ignores
 
--- in a folder with some names, at a path below the one that is searched, choices say the same, but
--- for the ignore files that count there, by what a system may say of files
+-- choices go on in a folder, by the names in it and its path below the folder that is searched:
+-- they say the same, but for the ignore files that count there, by what a system may say of files
 pub record IsWithin (folders : FolderFacts) (folder below names : List ℕ) (old new : Choices) :
     Type 0 where
   pub globs : new.globs ≡ old.globs

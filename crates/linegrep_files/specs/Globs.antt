@@ -1,5 +1,4 @@
--- Which paths globs match, and what several of them say of a path: the last that matches it
--- decides.
+-- Which paths globs match, and what several globs say of a path: the last one that matches decides.
 use Rattle.std.specs.Prelude.{◌≡◌, ℕ, ◌+◌, ◌<◌, ◌≤◌, ◌⊎◌, Bool, true, false, ◌||◌, ◌&&◌}
 use Rattle.std.specs.Prelude.{if◌then◌else◌}
 use Rattle.std.specs.Prelude.{List, [], ◌∷◌, ◌++◌, length, codes, drop, slice_index_or, not}
@@ -21,19 +20,19 @@ use Rattle.linegrep_files.specs.declared.globs.Choice.TheVariants.{Chosen, LeftO
 use Rattle.linegrep_files.specs.declared.globs.GlobRule.{GlobRule}
 use Rattle.linegrep_files.specs.declared.globs.Globs.{Globs}
 
--- what is chosen or left out is visited or not, and what nothing is said about as what is said
--- besides
+-- whether something is visited, by what is said of it. If nothing is said, a value that is given
+-- decides
 abbrev pub is_chosen : Choice → Bool → Bool
 is_chosen Chosen unmatched = true
 is_chosen LeftOut unmatched = false
 is_chosen Unmatched unmatched = unmatched
 
--- a path matches one of the texts that a glob stands for, each by its pieces
+-- a path matches one of the texts that a glob stands for. Each text is given by its pieces
 abbrev pub MatchesOne : List (List Piece) → List ℕ → Type 0
 MatchesOne choices path = (at : ℕ) × (choice : List Piece) × (at < length choices)
     × (slice_index_or choices at choice ≡ choice) × Matches choice path
 
--- it matches none of those from a position on
+-- a path matches none of the texts from a position on
 abbrev pub MatchesNoneFrom : ℕ → List (List Piece) → List ℕ → Type 0
 MatchesNoneFrom start choices path = (k : ℕ) (choice : List Piece) → start ≤ k → k < length choices
     → Matches (slice_index_or choices k choice) path → ⊥
@@ -52,7 +51,7 @@ abbrev pub NoneFrom : ℕ → List GlobRule → List ℕ → Bool → Type 0
 NoneFrom start rules path is_folder = (k : ℕ) (rule : GlobRule) → start ≤ k → k < length rules
     → IsAbout path is_folder (slice_index_or rules k rule) → ⊥
 
--- what globs say of what none is about: files are left out if a glob asks for some
+-- what globs say of something that none is about: a file is left out if a glob asks for files
 abbrev pub unmatched_choice : Globs → Bool → Choice
 unmatched_choice globs is_folder =
     if globs.are_exclusions || is_folder then Unmatched else LeftOut
@@ -65,7 +64,7 @@ IsLastChoice globs path is_folder choice =
     × (slice_index_or globs.rules last rule ≡ rule) × IsAbout path is_folder rule
     × (choice ≡ choice_of rule) × NoneFrom (last + 1) globs.rules path is_folder)
 
--- a path without what names the current folder at its start
+-- a path without a dot and a slash at its start
 abbrev pub path_from_here : List ℕ → List ℕ
 path_from_here path = if begins_here path then drop 2 path else path
   where
@@ -80,10 +79,10 @@ IsGlobChoice globs path is_folder choice = IsLastChoice globs (path_from_here pa
 abbrev pub has_stars : List ℕ → Bool
 has_stars text = begins_with 42 text && begins_with 42 (drop 1 text) && begins_with 42 (drop 2 text)
 
--- A text without braces begins with the text of a piece, and goes on with a rest: a class in
--- brackets, which is one byte of a set; a star before two more, which are no whole name; or as in a
--- line of an ignore file. `begins` says whether a name begins where the text does, and `next` where
--- the rest does.
+-- A text without braces begins with the text of a piece, and goes on with a rest. A class in
+-- brackets is one byte of a set, and a star before two more stars is any bytes of a name; all else
+-- is as in a line of an ignore file. `begins` says whether a name begins where the text does, and
+-- `next` whether one begins where the rest does.
 pub data IsPieceText (ignores_case begins : Bool) (text : List ℕ) : Piece → Bool → List ℕ → Type 0 where
   of_class : (set : List Bool) (class rest : List ℕ) → text ≡ 91 ∷ (class ++ 93 ∷ rest)
       → is_class class ≡ true → IsClassOf ignores_case set (class ++ 93 ∷ rest) rest
@@ -94,19 +93,20 @@ pub data IsPieceText (ignores_case begins : Bool) (text : List ℕ) : Piece → 
       → has_stars text ≡ false → IsIgnoreText ignores_case begins text piece next rest
       → IsPieceText ignores_case begins text piece next rest
 
--- a text is the texts of some pieces, one after another, and a rest
+-- a text consists of the texts of some pieces, one after another, and a rest
 abbrev pub ArePieceTexts : Bool → Bool → List ℕ → List Piece → Bool → List ℕ → Type 0
 ArePieceTexts ignores_case begins text [] next rest = (next ≡ begins) × (rest ≡ text)
 ArePieceTexts ignores_case begins text (piece ∷ later) next rest =
     (middle : Bool) × (mid : List ℕ) × IsPieceText ignores_case begins text piece middle mid
     × ArePieceTexts ignores_case middle mid later next rest
 
--- a text without braces is the texts of some pieces
+-- a text without braces consists of the texts of some pieces
 abbrev pub IsGlob : Bool → List ℕ → List Piece → Type 0
 IsGlob ignores_case text pieces =
     (next : Bool) × ArePieceTexts ignores_case true text pieces next []
 
--- pieces are those of a text without braces: of names in any folder, or of whole paths
+-- pieces are those of a text without braces, which is about names in any folder, or about whole
+-- paths
 abbrev pub ArePieces : Bool → Bool → List ℕ → List Piece → Type 0
 ArePieces is_of_names ignores_case text pieces = (spelled : List Piece)
     × IsGlob ignores_case text spelled
@@ -120,7 +120,7 @@ AreOfTexts is_of_names ignores_case (text ∷ later) choices =
     × ArePieces is_of_names ignores_case text pieces
     × AreOfTexts is_of_names ignores_case later others
 
--- the glob of a text: what the texts match that it stands for
+-- the glob of a text: it matches what one of the texts matches that the text stands for
 abbrev pub IsGlobOf : Bool → Bool → List ℕ → Glob → Type 0
 IsGlobOf is_of_names ignores_case text glob = (texts : List (List ℕ)) × AreTextsOf text texts
     × AreOfTexts is_of_names ignores_case texts glob.choices.items
@@ -129,12 +129,13 @@ IsGlobOf is_of_names ignores_case text glob = (texts : List (List ℕ)) × AreTe
 abbrev pub said_glob : List ℕ → List ℕ
 said_glob text = if bytes_eq text (codes "!") then codes "!*" else text
 
--- it without an exclamation mark at its start, and without a slash at its start and its end
+-- the text of a glob without an exclamation mark at its start, and without a slash at its start and
+-- at its end
 abbrev pub glob_text : List ℕ → List ℕ
 glob_text text = path_glob (glob_of (said_glob text))
 
--- the glob of a text: an exclamation mark leaves paths out, a slash at the end means folders alone,
--- and without another slash it is about names in any folder
+-- the glob of a text. With an exclamation mark at its start it leaves paths out, with a slash at
+-- its end it means folders alone, and without another slash it is about names in any folder
 pub record IsGlobRule (ignores_case : Bool) (text : List ℕ) (rule : GlobRule) : Type 0 where
   pub exclusion : rule.is_exclusion ≡ keeps_of (said_glob text)
   pub folders : rule.names_folders ≡ names_folders_of (said_glob text)

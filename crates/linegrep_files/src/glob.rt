@@ -27,9 +27,9 @@ pub struct Glob {
 }
 
 impl Glob {
-    /// Reads a glob: one of names in any folder, or of whole paths. Its letters of ASCII match in
-    /// either case if `ignores_case` is set. An error is that its braces or one of the texts that
-    /// it stands for can't be read, or that there is no memory.
+    /// Reads a glob, which is about names in any folder, or about whole paths. Its letters of ASCII
+    /// match in either case if `ignores_case` is set. An error is that its braces or one of the
+    /// texts that it stands for can't be read, or that there is no memory.
     pub fn read(
         alloc: Global,
         text: &[u8],
@@ -106,7 +106,7 @@ impl Glob {
         Ok(false)
     }
 
-    /// A text that any path ends in that matches.
+    /// A text in which each path that matches ends.
     pub fn ending(&self) -> &[u8]
         ensures { (path : List ℕ) → MatchesOne self.now.choices.items path → EndsIn path result.now }
     {
@@ -116,7 +116,7 @@ impl Glob {
         }
     }
 
-    /// A text that a name begins with, in any path that matches.
+    /// A text with which some name begins in each path that matches.
     pub fn start(&self) -> &[u8]
         ensures { (path : List ℕ) → MatchesOne self.now.choices.items path → HasStart path result.now }
     {
@@ -147,8 +147,8 @@ fn read_text(
     }
 }
 
-// Adds the pieces of a text without braces but for the bytes at its end that are returned, each of
-// which is meant as itself.
+// Adds the pieces of a text without braces, and returns the bytes at its end that stand for
+// themselves, whose pieces aren't added.
 fn add_pieces(
     alloc: Global,
     pieces: &mut Vec<Piece>,

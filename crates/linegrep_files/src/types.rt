@@ -25,7 +25,7 @@ use std::alloc::{AllocError, Global};
 pub struct Types {
     // Their globs, in the order of the options.
     globs: PathTests<TypeGlob>,
-    // Whether a type is asked for, so that files of no such type are left out.
+    // Whether a type is asked for. Then files of no such type are left out.
     are_asked: bool,
 }
 
@@ -58,9 +58,9 @@ impl Types {
         }
     }
 
-    /// What the types say of a file with a name: the last that has it decides. If none does, it is
-    /// left out if one is asked for. `row` is room to work in. An error is one of being out of
-    /// memory.
+    /// What the types say of a file with a name. The last type that has the name decides. If none
+    /// has it, the file is left out if a type is asked for. `row` is room to work in. An error is
+    /// one of being out of memory.
     pub fn choice(&self, row: &mut Vec<bool>, name: &[u8]) -> Result<Choice, AllocError>
         ensures { IfOk result (IsTypeChoice self.now name.now) }
     {
@@ -99,7 +99,7 @@ impl Types {
         Ok(())
     }
 
-    // What they say of a file that none of them has.
+    // What the types say of a file whose name none of them has.
     fn default_choice(&self) -> Choice
         ensures { result ≡ (if self.now.are_asked then Choice.LeftOut else Choice.Unmatched) }
     {
@@ -112,7 +112,7 @@ impl Types {
 }
 
 impl TypeGlob {
-    // What it says of a file that it has.
+    // What the type says of a file whose name it has.
     fn choice(&self) -> Choice
         ensures { result ≡ type_choice_of self.now }
     {
@@ -148,8 +148,8 @@ impl PathTest for TypeGlob {
     }
 }
 
-/// The list of all types, one a line with its globs, with what options add to it or clear. An error
-/// is that a definition isn't well formed, or that there is no memory.
+/// The list of all types, after what options add and clear: a line for each, with its globs. An
+/// error is that a definition isn't well formed, or that there is no memory.
 pub fn type_list(alloc: Global, options: &TypeOptions<'_, '_>) -> Result<String, Failure>
     ensures list { IfOk result (λ text. IsTypeListOf options.now (string_bytes text)) }
     ensures malformed { IfErr result (λ failure. has_cause failure ≡ true
@@ -200,7 +200,7 @@ fn build<'t>(alloc: Global, known: &KnownTypes<'t>) -> Result<Types, TypeError<'
     Ok(types)
 }
 
-// Whether one of some types is asked for.
+// Whether one of some selected types is asked for.
 fn are_asked(selections: &[Selection<'_>]) -> bool
     ensures { result ≡ list_any (λ one. not one.is_exclusion) selections.now }
 {
@@ -219,7 +219,7 @@ impl Names {
         }
     }
 
-    // A text that any of these ends in.
+    // A text in which each of these names ends.
     fn ending(&self) -> &[u8]
         ensures { (name : List ℕ) → Have self.now name → EndsIn name result.now }
     {
@@ -230,7 +230,7 @@ impl Names {
         }
     }
 
-    // A text that any of these begins with.
+    // A text with which each of these names begins.
     fn start(&self) -> &[u8]
         ensures { (name : List ℕ) → Have self.now name → HasStart name result.now }
     {
