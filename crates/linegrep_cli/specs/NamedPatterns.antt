@@ -19,7 +19,7 @@ use Rattle.linegrep_cli.specs.declared.options.Options.{Options}
 abbrev pub name_patterns : List Use → Bool
 name_patterns uses = nat_lt 0 (last_place uses Regexp) || nat_lt 0 (last_place uses File)
 
--- the first operand is no pattern: there is none, or it isn't UTF-8
+-- the first operand isn't a pattern: there is none, or it isn't UTF-8
 abbrev pub is_no_pattern : Option (Bor (List ℕ)) → Bool
 is_no_pattern None = true
 is_no_pattern (Some first) = is_escaped first.now
@@ -56,7 +56,7 @@ module _ {R : Type 0} (remaining : R → Option (List ℕ)) (read_step : R → R
           × IsFileRead file.now input contents input' × IsUtf8 contents × (own ≡ lines contents)
       by_option false false (Some value) = (own ≡ []) × (input' ≡ input)
 
-  -- the file of patterns can't be read that one use names
+  -- one use names a file of patterns that can't be read
   abbrev pub IsUnnamed : Use → R → R → Type 0
   IsUnnamed one input input' = (file : Bor (List ℕ)) × (is_same one.id File ≡ true)
       × (one.value ≡ Some file) × IsUnread file.now input input'
@@ -68,7 +68,7 @@ module _ {R : Type 0} (remaining : R → Option (List ℕ)) (read_step : R → R
       × (mid : R) × IsNamed one input own mid × AreNamed later mid rest input'
       × (patterns ≡ own ++ rest)
 
-  -- after the patterns of some uses a file can't be read
+  -- some uses name a file of patterns that can't be read. The uses before it were read
   abbrev pub AreUnnamed : List Use → R → R → Type 0
   AreUnnamed uses input input' = (done : List Use) × (one : Use) × (later : List Use)
       × (patterns : List (List ℕ)) × (mid : R) × (uses ≡ done ++ one ∷ later)
@@ -84,8 +84,8 @@ module _ {R : Type 0} (remaining : R → Option (List ℕ)) (read_step : R → R
           × (slice_get (operands_of options.operands) 0 ≡ Some pattern)
           × (patterns ≡ pattern.now ∷ []) × (input' ≡ input)
 
-  -- why a command line has none: a file of patterns can't be read, or no option names one and the
-  -- first operand is none
+  -- why a command line has no patterns: a file of patterns can't be read; or no option names a
+  -- pattern, and the first operand isn't one
   abbrev pub LackPatterns : Options → R → R → Type 0
   LackPatterns options input input' = by_names (name_patterns options.uses.now)
     where

@@ -88,14 +88,14 @@ pub record IsRefusal {R W X : Type 0} (say_step : X → OutputCall → X → Typ
 
 module _ {R : Type 0} (remaining : R → Option (List ℕ)) (read_step : R → ReadResult → R → Type 0)
     (folders : FolderFacts) where
-  -- the patterns that are searched for: none, where files are listed
+  -- the patterns that are searched for. If files are listed, there are none
   abbrev pub ArePatternsFor : Options → R → List (List ℕ) → R → Type 0
   ArePatternsFor options input patterns input' = MatchBool (has options Files)
       ((patterns ≡ []) × (input' ≡ input))
       (ArePatterns remaining read_step folders.reads options input patterns input')
 
-  -- why options are refused before anything is searched for: a definition of a type isn't well formed
-  -- whose list is asked for, they don't go together, or there is no pattern
+  -- why options are refused before anything is searched for: they ask for the list of types, and a
+  -- definition of a type isn't well formed; they don't go together; or there is no pattern
   pub data AreRefused (options : Options) (input : R) : R → Type 0 where
     of_definition : has options TypeList ≡ true → HaveMalformed options.types
         → AreRefused options input input

@@ -183,7 +183,7 @@ fn read_contents<S: System, R: Source>(
     }
 }
 
-// What standard input gives up to its end. It is named by the word for it.
+// What standard input gives up to its end. A failure names it by `name`.
 fn read_input<R: Source>(alloc: Global, name: &str, input: &mut R) -> Result<Vec<u8>, Failure>
     ensures read { IfOk result (λ contents. (pieces : List (List ℕ))
         × (contents.items ≡ concat pieces)

@@ -105,8 +105,8 @@ pub record IsWithin (folders : FolderFacts) (folder below names : List ℕ) (old
   pub shows_hidden : new.shows_hidden ≡ old.shows_hidden
   pub ignores : AreWithin folders folder below names old.ignores new.ignores
 
--- why what options say of files is refused: a glob can't be read, a type can't be used, or a size is
--- given that is none
+-- why what options say of files is refused: a glob can't be read, a type can't be used, or the size
+-- isn't one
 pub data AreFilesRefused (options : FileOptions) : Type 0 where
   of_glob : HaveMalformed options.ignores_glob_case options.globs.now → AreFilesRefused options
   of_iglob : HaveMalformed true options.iglobs.now → AreFilesRefused options

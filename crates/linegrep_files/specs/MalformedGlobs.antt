@@ -17,8 +17,8 @@ abbrev pub IsMalformedText : Bool → List ℕ → Type 0
 IsMalformedText ignores_case text = (pieces : List Piece) × (next : Bool) × (rest : List ℕ)
     × ArePieceTexts ignores_case true text pieces next rest × IsFault rest
 
--- a text ends where a choice of a brace begins that isn't closed: before each such brace is a text
--- that stands for some, and after it are choices at their ends
+-- a text ends where a choice of an open brace begins. Before each open brace is a text that stands
+-- for some texts, and after it are choices that have ended
 pub data EndsOpen : List ℕ → Type 0 where
   outermost : {text closed : List ℕ} {texts choices : List (List ℕ)} → StandsFor false text texts
       → AreClosed closed choices → EndsOpen (text ++ 123 ∷ closed)
@@ -34,8 +34,8 @@ pub record IsReadTo (is_inside : Bool) (texts : List (List ℕ)) (glob rest : Li
   pub is_open : MatchBool is_inside (EndsOpen outer) (outer ≡ [])
   pub stands : StandsFor is_inside text texts
 
--- the braces of a glob can't be read: one isn't opened, or isn't closed, a part between them can't be
--- read, or they stand for too many texts
+-- the braces of a glob can't be read: a brace isn't opened or isn't closed; a part between braces
+-- can't be read; or the glob stands for too many texts
 pub data AreMalformed (glob : List ℕ) : Type 0 where
   unopened : {texts : List (List ℕ)} {rest : List ℕ} → IsReadTo false texts glob (125 ∷ rest)
       → AreMalformed glob

@@ -196,7 +196,7 @@ abbrev pub OnFault : TypeError → Type 0 → Type 0
 OnFault OutOfMemory P = Unit {0}
 OnFault error P = P
 
--- the order of definitions: that of their names, and among those of a type that of their globs
+-- the order of definitions: by their names, and within a type by their globs
 abbrev pub definition_order : Definition → Definition → Ordering
 definition_order one other = ordering_then (slice_cmp nat_cmp one.name.now other.name.now)
     (slice_cmp nat_cmp one.glob.now other.glob.now)
