@@ -113,8 +113,8 @@ module _ {looks : Bool → List ℕ → Result Found Error → Type 0} {follows 
       of_left_out entry valid
       (subst (λ l. IsAt looks follows top root l (joined folder name) (Some entry)) same.limits at)
       (chosen-same old new _ name _ false same left)
-  found-same old new folder name _ same (of_escaped text error invalid chosen kind) =
-      of_escaped text error invalid (unmatched-same old new name false true true same chosen) kind
+  found-same old new folder name _ same (of_escaped text error invalid chosen kind is) =
+      of_escaped text error invalid (unmatched-same old new name false true true same chosen) kind is
   found-same old new folder name _ same (of_unescaped invalid left) =
       of_unescaped invalid (unmatched-same old new name false true false same left)
 

@@ -13,6 +13,7 @@ use Rattle.linegrep_files.specs.Choices.{IsChosen, IsUnmatchedChosen}
 use Rattle.linegrep_files.specs.FileIds.{is_beside, is_same_file}
 use Rattle.linegrep_files.specs.Limits.{allows_size}
 use Rattle.linegrep_files.specs.Paths.{joined, parts_of}
+use Rattle.linegrep_files.specs.Words.{escaped}
 use Rattle.linegrep_files.specs.declared.choices.Choices.{Choices}
 use Rattle.linegrep_files.specs.declared.entry.Entry.{Entry}
 use Rattle.linegrep_files.specs.declared.entry.Entry.TheVariants.{File, Folder, Unread}
@@ -135,7 +136,7 @@ module _ (looks : Bool → List ℕ → Result Found Error → Type 0) (follows 
         → found.kind ≢ IsFolder → IsAt path None
 
   -- what is found that a name in a folder stands for: what is at its path, if that is chosen; or if
-  -- the name isn't UTF-8 and is chosen, that it can't be read
+  -- the name isn't UTF-8 and is chosen, that what has its word as its name can't be read
   pub data IsFound (choices : Choices) (folder name : List ℕ) : Option Entry → Type 0 where
     of_nothing : IsUtf8 name → IsAt (joined folder name) None → IsFound choices folder name None
     of_chosen : (entry : Entry) → IsUtf8 name → IsAt (joined folder name) (Some entry)
@@ -146,6 +147,7 @@ module _ (looks : Bool → List ℕ → Result Found Error → Type 0) (follows 
         → IsFound choices folder name None
     of_escaped : (text : String Global) (error : Error) → (IsUtf8 name → ⊥)
         → IsUnmatchedChosen choices name false true true → error_kind error ≡ InvalidFilename
+        → string_bytes text ≡ joined folder (escaped name)
         → IsFound choices folder name (Some (Unread text error))
     of_unescaped : (IsUtf8 name → ⊥) → IsUnmatchedChosen choices name false true false
         → IsFound choices folder name None

@@ -90,6 +90,13 @@ pub record AreRulesAdded (ignores_case : Bool) (origin : Origin) (depth start : 
   pub some : rules ≢ []
       → IsInserted old (record { origin = origin; depth = depth; start = start; rules = rules }) new
 
+-- so many lines of a file aren't well formed
+pub record HaveFaults (ignores_case : Bool) (contents : List ℕ) (count : ℕ) : Type 0 where
+  pub rules : List Rule
+  pub faults : List Misread
+  pub are : AreOfLines ignores_case 1 (lines_of contents) rules faults
+  pub count_is : count ≡ length faults
+
 -- By what reading a file may return.
 module _ (reads : List ℕ → Result (Vec ℕ Global) Error → Type 0) where
   -- the file at a path was read, and the rules of its lines count
@@ -100,6 +107,15 @@ module _ (reads : List ℕ → Result (Vec ℕ Global) Error → Type 0) where
     of_lines : {new : List Layer} (contents : Vec ℕ Global) → reads path (Ok contents)
         → AreRulesAdded ignores_case origin depth start contents.items old new
         → IsFileRead ignores_case origin depth start path old new
+
+  -- so much is wrong with the file at a path: each of its lines that isn't well formed, or that it
+  -- isn't read, which is no fault of one that needn't be there
+  pub data AreFaultsOf (ignores_case is_needed : Bool) (path : List ℕ) (count : ℕ) : Type 0 where
+    of_absent : (error : Error) → reads path (Err error) → (is_needed ≡ true → count ≡ 1)
+        → AreFaultsOf ignores_case is_needed path count
+    of_contents : (contents : Vec ℕ Global) → reads path (Ok contents)
+        → HaveFaults ignores_case contents.items count
+        → AreFaultsOf ignores_case is_needed path count
 
   -- the files of a folder were read that it has and that are asked for
   pub record AreFilesRead (sources : Sources) (marks : Marks) (depth start : ℕ) (folder : List ℕ)

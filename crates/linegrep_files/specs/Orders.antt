@@ -3,9 +3,11 @@ use Rattle.std.specs.Prelude.{ℕ, Bool, true, false, ◌||◌, ◌&&◌, not, i
 use Rattle.std.specs.Prelude.{Option, Some, codes}
 use Rattle.std.specs.Borrow.{Bor}
 use Rattle.std.specs.Cmp.Lexicographic.{slice_cmp}
-use Rattle.std.specs.Ordering.{nat_cmp}
+use Rattle.std.specs.Ordering.{nat_cmp, ordering_then}
 use Rattle.std.specs.declared.cmp.Ordering.{Ordering}
+use Rattle.std.specs.declared.cmp.Ordering.TheVariants.{Equal, Greater, Less}
 use Rattle.std.specs.Str.{bytes_eq}
+use Rattle.linegrep_files.specs.declared.order.Dated.{Dated}
 use Rattle.linegrep_files.specs.declared.order.Order.{Order}
 use Rattle.linegrep_files.specs.declared.order.SortKey.{SortKey}
 use Rattle.linegrep_files.specs.declared.order.SortKey.TheVariants.{Accessed, Created, Modified, Path}
@@ -43,3 +45,17 @@ named_order (Some name) is_reversed =
 abbrev pub order_of : Order → List ℕ → List ℕ → Ordering
 order_of order one other = if order.is_reversed && not (is_by_time order)
     then slice_cmp nat_cmp other one else slice_cmp nat_cmp one other
+
+-- how two times are sorted: what has none comes after what has one
+abbrev pub by_time : Option ℕ → Option ℕ → Ordering
+by_time (Some one) (Some other) = nat_cmp one other
+by_time (Some one) None = Less
+by_time None (Some other) = Greater
+by_time None None = Equal
+
+-- how two files are sorted by their times, or the other way round; of one time the first that was
+-- found comes first
+abbrev pub times_order : Order → Dated → Dated → Ordering
+times_order order one other = ordering_then
+    (if order.is_reversed then by_time other.time one.time else by_time one.time other.time)
+    (nat_cmp one.place other.place)

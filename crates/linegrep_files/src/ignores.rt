@@ -1,11 +1,12 @@
 //! The ignore files that count in a folder, and what they say of what is in it.
 ghost use Rattle.std.specs.Prelude.{◌≡◌, ◌&&◌, ◌||◌, ◌++◌, ◌∷◌, [], ℕ, Bool, IfOk, List, OnOk};
-ghost use Rattle.std.specs.Prelude.{if◌then◌else◌, filter, length, nat_lt, take, MatchBool};
+ghost use Rattle.std.specs.Prelude.{◌+◌, if◌then◌else◌, filter, length, nat_lt, take, true};
+ghost use Rattle.std.specs.Prelude.{MatchBool};
 ghost use Rattle.grep_ignore.specs.declared.layers.Origin.TheVariants.{GitExclude};
 ghost use Rattle.linegrep_files.specs.Choices.{IgnoresTheSame, IsIgnoreDecision, repository_of};
 ghost use Rattle.linegrep_files.specs.GitFiles.{IsExcludePath};
 ghost use Rattle.linegrep_files.specs.IgnoreFiles.{AreFilesRead, AreRulesAdded, AreWithin};
-ghost use Rattle.linegrep_files.specs.IgnoreFiles.{HasPlace};
+ghost use Rattle.linegrep_files.specs.IgnoreFiles.{AreFaultsOf, HasPlace, HaveFaults};
 ghost use Rattle.linegrep_files.specs.IgnoreFiles.{HasSource, IsFileRead, depth_in, is_idle};
 ghost use Rattle.linegrep_files.specs.IgnoreFiles.{ReadsTheSame};
 ghost use Rattle.linegrep_files.specs.IgnoreFiles.{marks_of, path_below, with_mark};
@@ -492,6 +493,10 @@ impl<'r> Ignores<'r> {
     ) -> Result<(), AllocError>
         ensures file { OnOk result (IsFileRead (S.facts system.now).reads self.old.sources.ignores_case
             origin depth (length self.old.path.items) path.now self.old.layers self.new.layers) }
+        ensures warned { OnOk result ((count : ℕ)
+            × AreFaultsOf (S.facts system.now).reads self.old.sources.ignores_case is_needed
+            path.now count
+            × (length self.new.warnings.items ≡ length self.old.warnings.items + count)) }
         ensures place { HasPlace self.old self.new }
     {
         match system.read(self.rt.alloc(), path) {
@@ -514,6 +519,9 @@ impl<'r> Ignores<'r> {
         error: &io::Error,
         is_needed: bool,
     ) -> Result<(), AllocError>
+        ensures warned { OnOk result ((count : ℕ)
+            × (length self.new.warnings.items ≡ length self.old.warnings.items + count)
+            × (is_needed ≡ true → count ≡ 1)) }
         ensures layers { self.new.layers ≡ self.old.layers }
         ensures place { HasPlace self.old self.new }
     {
@@ -525,6 +533,8 @@ impl<'r> Ignores<'r> {
 
     // Adds something that is wrong.
     fn warn(&mut self, failure: Failure) -> Result<(), AllocError>
+        ensures warned { OnOk result
+            (self.new.warnings.items ≡ self.old.warnings.items ++ failure ∷ []) }
         ensures layers { self.new.layers ≡ self.old.layers }
         ensures place { HasPlace self.old self.new }
     {
@@ -533,6 +543,8 @@ impl<'r> Ignores<'r> {
 
     // Adds what is wrong with some lines of the file at a path.
     fn warn_of(&mut self, path: &str, misread: &[Misread]) -> Result<(), AllocError>
+        ensures warned { OnOk result (length self.new.warnings.items
+            ≡ length self.old.warnings.items + length misread.now) }
         ensures layers { self.new.layers ≡ self.old.layers }
         ensures place { HasPlace self.old self.new }
     {
@@ -552,6 +564,9 @@ impl<'r> Ignores<'r> {
     ) -> Result<(), AllocError>
         ensures rules { OnOk result (AreRulesAdded self.old.sources.ignores_case origin depth
             (length self.old.path.items) contents.now self.old.layers self.new.layers) }
+        ensures warned { OnOk result ((count : ℕ)
+            × HaveFaults self.old.sources.ignores_case contents.now count
+            × (length self.new.warnings.items ≡ length self.old.warnings.items + count)) }
         ensures place { HasPlace self.old self.new }
     {
         let mut rules = Rules::new(self.rt.alloc());

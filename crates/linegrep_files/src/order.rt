@@ -1,11 +1,11 @@
 //! In which order files are found.
 ghost use Rattle.std.specs.Prelude.{◌≡◌, false, true, OnErr};
-ghost use Rattle.linegrep_files.specs.Orders.{by_path, is_by_time, named_order};
-ghost use Rattle.linegrep_files.specs.Orders.{names_time, order_of};
+ghost use Rattle.linegrep_files.specs.Orders.{by_path, by_time, is_by_time, named_order};
+ghost use Rattle.linegrep_files.specs.Orders.{names_time, order_of, times_order};
 
 use crate::failures::Failure;
 use std::cmp::Ordering;
-use std::time::SystemTime;
+use std::time::{SystemTime, UNIX_EPOCH};
 use std::{fs, io};
 
 /// What files are sorted by.
@@ -33,7 +33,8 @@ pub struct Order {
 pub struct Dated {
     /// The path.
     pub path: String,
-    time: Option<SystemTime>,
+    // In nanoseconds from the start of 1970 on.
+    time: Option<u128>,
     // How many were found before it.
     place: usize,
 }
@@ -94,27 +95,28 @@ impl Order {
         }
     }
 
-    /// How two files are sorted by a time. One without it comes after others.
-    pub fn compare_times(&self, one: &Dated, other: &Dated) -> Ordering {
-        let ordering = match (one.time, other.time) {
-            (Some(one), Some(other)) => one.cmp(&other),
-            (Some(_), None) => Ordering::Less,
-            (None, Some(_)) => Ordering::Greater,
-            (None, None) => Ordering::Equal,
-        };
+    /// How two files are sorted by a time. One without it comes after others, or before them in the
+    /// reversed order.
+    pub fn compare_times(&self, one: &Dated, other: &Dated) -> Ordering
+        ensures { result ≡ times_order self.now one.now other.now }
+    {
         let ordering = if self.is_reversed {
-            ordering.reverse()
+            by_time(other.time, one.time)
         } else {
-            ordering
+            by_time(one.time, other.time)
         };
         ordering.then(one.place.cmp(&other.place))
     }
 
     /// The file at a path with the time that it is sorted by, which was found after some others.
     pub fn date(&self, rt: &HostRuntime, path: String, place: usize) -> Dated
-        ensures { result.path ≡ path }
+        ensures path { result.path ≡ path }
+        ensures place { result.place ≡ place }
     {
-        let time = self.time(rt, path.as_str()).ok();
+        let time = match self.time(rt, path.as_str()) {
+            Ok(time) => nanoseconds(time),
+            Err(_) => None,
+        };
         Dated { path, time, place }
     }
 
@@ -125,5 +127,25 @@ impl Order {
             SortKey::Created => metadata.created(),
             SortKey::Path | SortKey::Modified => metadata.modified(),
         }
+    }
+}
+
+// How two times are sorted.
+fn by_time(one: Option<u128>, other: Option<u128>) -> Ordering
+    ensures { result ≡ by_time one other }
+{
+    match (one, other) {
+        (Some(one), Some(other)) => one.cmp(&other),
+        (Some(_), None) => Ordering::Less,
+        (None, Some(_)) => Ordering::Greater,
+        (None, None) => Ordering::Equal,
+    }
+}
+
+// A time in nanoseconds from the start of 1970 on.
+fn nanoseconds(time: SystemTime) -> Option<u128> {
+    match time.duration_since(UNIX_EPOCH) {
+        Ok(duration) => Some(duration.as_nanos()),
+        Err(_) => None,
     }
 }

@@ -1,13 +1,15 @@
 //! The files of a folder and of the folders in it.
 ghost use Rattle.std.specs.Prelude.{◌≡◌, ◌++◌, ◌∷◌, [], false, true, OnOk, not, filter, map};
-ghost use Rattle.std.specs.Prelude.{IfOk, IfSome, String, string_bytes};
+ghost use Rattle.std.specs.Prelude.{IfOk, IfSome, String, string_bytes, vec_len};
 ghost use Rattle.std.specs.Global.{Global};
 ghost use Rattle.std.specs.List.Sorted.{IsPermutation, IsSortedBy};
+ghost use Rattle.std.specs.Ordering.{is_lt};
 ghost use Rattle.linegrep_files.specs.Folders.{is_folder, path_of};
-ghost use Rattle.linegrep_files.specs.Orders.{is_by_time};
+ghost use Rattle.linegrep_files.specs.Orders.{is_by_time, times_order};
 ghost use Rattle.linegrep_files.specs.Walks.{AreAdded, AreNamesAdded, GoesOn, IsBegun, IsEntered};
 ghost use Rattle.linegrep_files.specs.Walks.{IsPopped, IsWith, comes_before, waits};
 ghost use Rattle.linegrep_files.specs.declared.entry.Entry.TheVariants.{Folder, Unread};
+ghost use Rattle.linegrep_files.specs.declared.order.Dated.{Dated};
 
 use crate::choices::Choices;
 use crate::entry::Entry;
@@ -129,6 +131,9 @@ impl<'r, S: Folders> Walk<'r, S> {
     // Sorts the files that are sorted by a time, the next one last.
     fn sort_dated(&mut self)
         ensures dated { IsPermutation self.old.dated.items self.new.dated.items }
+        ensures sorted { self.old.is_sorted ≡ false
+            → IsSortedBy (λ one other. is_lt (times_order self.old.order other one))
+            self.new.dated.items }
         ensures same { self.new.pending ≡ self.old.pending }
         ensures memory { self.new.is_out_of_memory ≡ self.old.is_out_of_memory }
         ensures on { GoesOn self.old self.new }
@@ -258,6 +263,8 @@ impl<'r, S: Folders> Walk<'r, S> {
     }
 
     fn push_dated(&mut self, path: String) -> Result<(), AllocError>
+        ensures dated { OnOk result ((file : Dated) × (file.place ≡ vec_len self.old.dated)
+            × (self.new.dated.items ≡ self.old.dated.items ++ file ∷ [])) }
         ensures later { OnOk result (map (λ file. string_bytes file.path) self.new.dated.items
             ≡ map (λ file. string_bytes file.path) self.old.dated.items ++ string_bytes path ∷ []) }
         ensures pending { self.new.pending ≡ self.old.pending }
