@@ -1,4 +1,5 @@
--- What is found in a folder: of each name that listing it returned, what looking at its path did.
+-- What is found in a folder, by what listing it returned, and for each name by what looking at its
+-- path returned.
 use Rattle.std.specs.Prelude.{◌≡◌, ◌≢◌, ℕ, Bool, true, false, not, ◌||◌, ◌==◌, if◌then◌else◌}
 use Rattle.std.specs.Prelude.{List, [], ◌∷◌, None, Option, Some, Result, Ok, Err, String, codes}
 use Rattle.std.specs.Prelude.{string_bytes}
@@ -23,7 +24,7 @@ use Rattle.linegrep_files.specs.declared.folders.Kind.TheVariants.{File as IsFil
 use Rattle.linegrep_files.specs.declared.folders.Kind.TheVariants.{Folder as IsFolder, Link as IsLink}
 use Rattle.linegrep_files.specs.declared.limits.Limits.{Limits}
 
--- a name isn't that of the folder itself, nor of the one that it is in
+-- a name isn't the one of the folder itself, nor of the folder that it is in
 abbrev pub is_name : List ℕ → Bool
 is_name name = not (bytes_eq name (codes ".") || bytes_eq name (codes ".."))
 
@@ -31,7 +32,7 @@ is_name name = not (bytes_eq name (codes ".") || bytes_eq name (codes ".."))
 abbrev pub names_of : List ℕ → List (List ℕ)
 names_of listing = filter is_name (parts_of 0 listing)
 
--- the path of a folder below the walk's own, the path of which has so many bytes
+-- the path of a folder from the walk's own folder on, by how many bytes the path of that has
 abbrev pub without_slashes : List ℕ → List ℕ
 without_slashes [] = []
 without_slashes (byte ∷ rest) = if byte == 47 then without_slashes rest else byte ∷ rest
@@ -39,11 +40,11 @@ without_slashes (byte ∷ rest) = if byte == 47 then without_slashes rest else b
 abbrev pub below_of : ℕ → List ℕ → List ℕ
 below_of root folder = without_slashes (drop root folder)
 
--- how many folders below the walk's own a folder is, the path of which has so many bytes
+-- how many levels a folder is below the walk's own, by how many bytes the path of that has
 abbrev pub depth_of : ℕ → List ℕ → ℕ
 depth_of root folder = length (parts_of 47 (drop root folder))
 
--- the name of a folder for the system, which has none for an empty path
+-- the name of a folder for the system: the path, or a dot for an empty path
 abbrev pub name_of : List ℕ → List ℕ
 name_of folder = if is_empty folder then codes "." else folder
 
@@ -62,7 +63,7 @@ is_folder (File path) = false
 is_folder (Folder path) = true
 is_folder (Unread path error) = false
 
--- By what looking at paths may return, with whether links are followed.
+-- By what looking at paths may return, if links are followed or aren't.
 module _ (looks : Bool → List ℕ → Result Found Error → Type 0) where
   -- whether what is at a path has an id
   pub data HasId (id : FileId) (path : List ℕ) : Bool → Type 0 where
@@ -70,8 +71,9 @@ module _ (looks : Bool → List ℕ → Result Found Error → Type 0) where
         → HasId id path (is_same_file there.id id)
     of_unseen : (error : Error) → looks true path (Err error) → HasId id path false
 
-  -- whether one of the folders that a path goes through has an id: the walk's own, which has a name
-  -- and a path of so many bytes, or one below it, after the path of which comes a slash
+  -- whether one of the folders that a path goes through has an id. These are the walk's own folder,
+  -- which has a name for the system and a path of `root` bytes, and each folder below it, which is
+  -- before a slash of the path
   pub data GoesThrough (top : List ℕ) (root : ℕ) (id : FileId) (path : List ℕ) : Bool → Type 0
     where
       of_top : HasId id top true → GoesThrough top root id path true
@@ -82,7 +84,8 @@ module _ (looks : Bool → List ℕ → Result Found Error → Type 0) where
           → HasId id (take at path) false)
           → GoesThrough top root id path false
 
-  -- whether there is a link at a path, which was followed to a folder of an id that it is in
+  -- whether there is a link at a path that was followed to a folder with an id, and the link is in
+  -- that folder
   pub data LeadsBack (follows : Bool) (top : List ℕ) (root : ℕ) (id : FileId) (path : List ℕ)
       : Bool → Type 0 where
     of_unfollowed : follows ≡ false → LeadsBack follows top root id path false
@@ -94,13 +97,13 @@ module _ (looks : Bool → List ℕ → Result Found Error → Type 0) where
         → link.kind ≡ IsLink → GoesThrough top root id path leads_back
         → LeadsBack follows top root id path leads_back
 
--- By what looking at paths may return, with whether links are followed; `top` is the name of the
--- walk's own folder for the system, the path of which has so many bytes without the slashes at its
--- end.
+-- By what looking at paths may return, if links are followed or aren't. `top` is the name of the
+-- walk's own folder for the system, and `root` is how many bytes the path of that has, without the
+-- slashes at its end.
 module _ (looks : Bool → List ℕ → Result Found Error → Type 0) (follows : Bool) (top : List ℕ)
     (root : ℕ) (limits : Limits) where
-  -- a folder may be entered, by the file system that it is on: that of the walk's own, unless that
-  -- isn't asked or can't be told
+  -- whether a folder may be entered, by the file system that it is on. It has to be the one of the
+  -- walk's own folder, unless the options don't ask for that, or it can't be told
   pub data MayEnter (id : FileId) : Bool → Type 0 where
     of_any : limits.is_one_system ≡ false → MayEnter id true
     of_system : (found : Found) → limits.is_one_system ≡ true → looks true top (Ok found)
@@ -108,7 +111,7 @@ module _ (looks : Bool → List ℕ → Result Found Error → Type 0) (follows 
     of_untold : (error : Error) → limits.is_one_system ≡ true → looks true top (Err error)
         → MayEnter id true
 
-  -- a folder of an id at a path, or that it can't be read, as a link that leads back
+  -- the folder with an id at a path; or that it can't be read, since it is a link that leads back
   abbrev pub IsFolderAt : List ℕ → FileId → Entry → Type 0
   IsFolderAt path id (File text) = ⊥
   IsFolderAt path id (Folder text) = LeadsBack looks follows top root id path false
@@ -116,9 +119,9 @@ module _ (looks : Bool → List ℕ → Result Found Error → Type 0) (follows 
   IsFolderAt path id (Unread text error) = LeadsBack looks follows top root id path true
       × (string_bytes text ≡ path) × (error_kind error ≡ FilesystemLoop)
 
-  -- what is found at a path by what looking at it returned: a regular file that isn't too large, a
-  -- folder that may be entered, or that it can't be read. A link that was followed can't be if it
-  -- leads to a folder that it is in
+  -- what is found at a path, by what looking at it returned: a regular file that isn't too large, a
+  -- folder that may be entered, or that it can't be read. A link that is followed to a folder that
+  -- it is in can't be read
   pub data IsAt (path : List ℕ) : Option Entry → Type 0 where
     of_file : (found : Found) (text : String Global) → looks follows path (Ok found)
         → found.kind ≡ IsFile → allows_size limits found.size ≡ true → string_bytes text ≡ path
@@ -135,8 +138,9 @@ module _ (looks : Bool → List ℕ → Result Found Error → Type 0) (follows 
     of_other : (found : Found) → looks follows path (Ok found) → found.kind ≢ IsFile
         → found.kind ≢ IsFolder → IsAt path None
 
-  -- what is found that a name in a folder stands for: what is at its path, if that is chosen; or if
-  -- the name isn't UTF-8 and is chosen, that what has its word as its name can't be read
+  -- what is found for a name in a folder: what is at its path, if that is chosen. If the name isn't
+  -- UTF-8 and is chosen, it is found that something can't be read, which has the name's word as its
+  -- name
   pub data IsFound (choices : Choices) (folder name : List ℕ) : Option Entry → Type 0 where
     of_nothing : IsUtf8 name → IsAt (joined folder name) None → IsFound choices folder name None
     of_chosen : (entry : Entry) → IsUtf8 name → IsAt (joined folder name) (Some entry)
@@ -152,7 +156,7 @@ module _ (looks : Bool → List ℕ → Result Found Error → Type 0) (follows 
     of_unescaped : (IsUtf8 name → ⊥) → IsUnmatchedChosen choices name false true false
         → IsFound choices folder name None
 
-  -- what is found of some names, in their order: each once
+  -- what is found for some names, in their order, for each once
   pub data AreFound (choices : Choices) (folder : List ℕ) : List (List ℕ) → List Entry → Type 0 where
     no_name : AreFound choices folder [] []
     found_name : (name : List ℕ) (names : List (List ℕ)) (entry : Entry) (entries : List Entry)

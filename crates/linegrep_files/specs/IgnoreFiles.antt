@@ -1,5 +1,5 @@
--- Which ignore files count in a folder, and in which order: those of the folders that it is in,
--- with its own, by what reading each returned.
+-- Which ignore files count in a folder, and in which order, by what reading each returned: those of
+-- the folder, and of the folders that it is in.
 use Rattle.std.specs.Prelude.{◌≡◌, ◌≢◌, ℕ, ◌+◌, Bool, ◌&&◌, ◌||◌, ◌++◌, ◌∷◌, ◌==◌, [], List, length}
 use Rattle.std.specs.Prelude.{take, codes, true, false, is_ok}
 use Rattle.std.specs.Prelude.{not, if◌then◌else◌, MatchBool, Result, Ok, Err, Vec, filter, nat_lt}
@@ -48,7 +48,7 @@ with_mark marks name = record {
   has_jj = marks.has_jj || bytes_eq name (codes ".jj");
 }
 
--- how many folders a folder is in, and one more, by its path with a slash at its end
+-- the depth of a folder: how many folders it is in, and one more. Its path has a slash at its end
 abbrev pub depth_in : List ℕ → ℕ
 depth_in path = length (filter (λ byte. byte == 47) path)
 
@@ -67,7 +67,7 @@ pub record ReadsTheSame (old new : Ignores) : Type 0 where
   pub sources : new.sources ≡ old.sources
   pub named : new.has_named ≡ old.has_named
 
--- and where the folder is
+-- which files are read stays, and so does where the folder is
 pub record HasSource (old new : Ignores) : Type 0 where
   pub sources : new.sources ≡ old.sources
   pub named : new.has_named ≡ old.has_named
@@ -79,8 +79,8 @@ pub record HasPlace (old new : Ignores) : Type 0 where
   pub path : new.path ≡ old.path
   pub repositories : new.repositories ≡ old.repositories
 
--- the rules of the lines of a file count, if it has some, as those of a folder of a depth, the path
--- of which has so many bytes
+-- the rules of a file's lines count, if it has any. They belong to a folder, by its depth and by
+-- how many bytes its path has
 pub record AreRulesAdded (ignores_case : Bool) (origin : Origin) (depth start : ℕ) (contents : List ℕ)
     (old new : List Layer) : Type 0 where
   pub rules : List Rule
@@ -90,7 +90,7 @@ pub record AreRulesAdded (ignores_case : Bool) (origin : Origin) (depth start : 
   pub some : rules ≢ []
       → IsInserted old (record { origin = origin; depth = depth; start = start; rules = rules }) new
 
--- so many lines of a file aren't well formed
+-- how many lines of a file aren't well formed
 pub record HaveFaults (ignores_case : Bool) (contents : List ℕ) (count : ℕ) : Type 0 where
   pub rules : List Rule
   pub faults : List Misread
@@ -108,8 +108,8 @@ module _ (reads : List ℕ → Result (Vec ℕ Global) Error → Type 0) where
         → AreRulesAdded ignores_case origin depth start contents.items old new
         → IsFileRead ignores_case origin depth start path old new
 
-  -- so much is wrong with the file at a path: each of its lines that isn't well formed, or that it
-  -- isn't read, which is no fault of one that needn't be there
+  -- how much is wrong with the file at a path: each of its lines that isn't well formed; or that it
+  -- can't be read, which is one fault if the file is needed, and may be one if it isn't
   pub data AreFaultsOf (ignores_case is_needed : Bool) (path : List ℕ) (count : ℕ) : Type 0 where
     of_absent : (error : Error) → reads path (Err error) → (is_needed ≡ true → count ≡ 1)
         → AreFaultsOf ignores_case is_needed path count
@@ -117,7 +117,7 @@ module _ (reads : List ℕ → Result (Vec ℕ Global) Error → Type 0) where
         → HaveFaults ignores_case contents.items count
         → AreFaultsOf ignores_case is_needed path count
 
-  -- the files of a folder were read that it has and that are asked for
+  -- of a folder the ignore files were read that it has and that options ask for
   pub record AreFilesRead (sources : Sources) (marks : Marks) (depth start : ℕ) (folder : List ℕ)
       (old new : List Layer) : Type 0 where
     pub with_exclude : List Layer
@@ -144,7 +144,7 @@ module _ (folders : FolderFacts) where
   IsThere folder name is_there = (found : Result Found Error)
       × folders.looks true (joined folder name) found × (is_there ≡ is_ok found)
 
-  -- and the same of a name that the folder may not have
+  -- the same of a name, if the folder may have it. Otherwise there is nothing with the name
   abbrev pub IsMarkThere : List ℕ → List ℕ → Bool → Bool → Type 0
   IsMarkThere folder name is_marked is_there =
       MatchBool is_marked (IsThere folder name is_there) (is_there ≡ false)
@@ -155,9 +155,9 @@ module _ (folders : FolderFacts) where
     of_jj : {is_top : Bool} → IsMarkThere folder (codes ".git") marks.has_git false
         → IsMarkThere folder (codes ".jj") marks.has_jj is_top → IsTopAt folder marks is_top
 
-  -- in a folder with some names, at a path below the one that is searched, the files count that did
-  -- in the folders that it is in, and its own. It is in the repositories that they are in, or is
-  -- one's top
+  -- the ignore files that count in a folder, by the names in it and its path below the folder that
+  -- is searched: those that count in the folders that it is in, and its own. It is in the
+  -- repositories that those folders are in, and may be the top of another
   pub record AreOfFolder (folder below names : List ℕ) (old new : Ignores) : Type 0 where
     pub source : HasSource old new
     pub path : new.path.items ≡ path_below old below
@@ -171,7 +171,7 @@ module _ (folders : FolderFacts) where
         (length new.path.items) folder
         (filter (λ layer. nat_lt layer.depth (depth_in new.path.items)) old.layers) new.layers
 
-  -- unless no ignore file is read
+  -- these files count in a folder, unless no ignore file is read
   abbrev pub AreWithin : List ℕ → List ℕ → List ℕ → Ignores → Ignores → Type 0
   AreWithin folder below names old new =
       MatchBool (is_idle old) (new ≡ old) (AreOfFolder folder below names old new)

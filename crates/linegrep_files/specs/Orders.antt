@@ -20,7 +20,7 @@ is_time _ = true
 abbrev pub is_by_time : Order → Bool
 is_by_time order = is_time order.key
 
--- a name of an order is that of a time
+-- a name of an order names a time
 abbrev pub names_time : Option (Bor (List ℕ)) → Bool
 names_time None = false
 names_time (Some name) = bytes_eq name.now (codes "modified") || bytes_eq name.now (codes "accessed")
@@ -30,7 +30,8 @@ names_time (Some name) = bytes_eq name.now (codes "modified") || bytes_eq name.n
 abbrev pub by_path : Order
 by_path = record { key = Path; is_reversed = false }
 
--- the order that a name stands for, or the other way round; that of paths if it is none
+-- the order that a name stands for, or the same backwards. If it stands for none, the order of
+-- paths
 abbrev pub named_order : Option (Bor (List ℕ)) → Bool → Order
 named_order None is_reversed = by_path
 named_order (Some name) is_reversed =
@@ -40,21 +41,20 @@ named_order (Some name) is_reversed =
     else if bytes_eq name.now (codes "path") then record { key = Path; is_reversed = is_reversed }
     else by_path
 
--- how two paths are sorted: by their bytes, or if the order of paths is reversed the other way
--- round
+-- how two paths are sorted: by their bytes, or backwards if the order of paths is reversed
 abbrev pub order_of : Order → List ℕ → List ℕ → Ordering
 order_of order one other = if order.is_reversed && not (is_by_time order)
     then slice_cmp nat_cmp other one else slice_cmp nat_cmp one other
 
--- how two times are sorted: what has none comes after what has one
+-- how two times are sorted. A time that isn't known comes after others
 abbrev pub by_time : Option ℕ → Option ℕ → Ordering
 by_time (Some one) (Some other) = nat_cmp one other
 by_time (Some one) None = Less
 by_time None (Some other) = Greater
 by_time None None = Equal
 
--- how two files are sorted by their times, or the other way round; of one time the first that was
--- found comes first
+-- how two files are sorted by their times, or backwards. Of two files with the same time, the one
+-- that was found first comes first
 abbrev pub times_order : Order → Dated → Dated → Ordering
 times_order order one other = ordering_then
     (if order.is_reversed then by_time other.time one.time else by_time one.time other.time)

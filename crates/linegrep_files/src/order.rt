@@ -21,26 +21,26 @@ pub enum SortKey {
     Created,
 }
 
-/// The order of files: by a key, or the other way round.
+/// The order of files: by a key, or the same backwards.
 #[derive(Clone, Copy)]
 pub struct Order {
     key: SortKey,
     is_reversed: bool,
 }
 
-/// The path of a file, and when what happened that it is sorted by.
+/// The path of a file, and the time that it is sorted by.
 #[derive(Drop)]
 pub struct Dated {
     /// The path.
     pub path: String,
     // In nanoseconds from the start of 1970 on.
     time: Option<u128>,
-    // How many were found before it.
+    // How many files were found before it.
     place: usize,
 }
 
 impl Order {
-    /// That of paths.
+    /// The order of paths.
     pub fn by_path() -> Order
         ensures { result ≡ by_path }
     {
@@ -77,7 +77,7 @@ impl Order {
         }
     }
 
-    /// Whether files are sorted by a time, for which all of them have to be found first.
+    /// Whether files are sorted by a time. Then all of them have to be found first.
     pub fn is_by_time(&self) -> bool
         ensures { result ≡ is_by_time self.now }
     {
@@ -95,8 +95,8 @@ impl Order {
         }
     }
 
-    /// How two files are sorted by a time. One without it comes after others, or before them in the
-    /// reversed order.
+    /// How two files are sorted by a time. A file whose time isn't known comes after the others, or
+    /// before them if the order is reversed.
     pub fn compare_times(&self, one: &Dated, other: &Dated) -> Ordering
         ensures { result ≡ times_order self.now one.now other.now }
     {
@@ -108,7 +108,8 @@ impl Order {
         ordering.then(one.place.cmp(&other.place))
     }
 
-    /// The file at a path with the time that it is sorted by, which was found after some others.
+    /// The file at a path, with the time that it is sorted by. `place` is how many files were found
+    /// before it.
     pub fn date(&self, rt: &HostRuntime, path: String, place: usize) -> Dated
         ensures path { result.path ≡ path }
         ensures place { result.place ≡ place }

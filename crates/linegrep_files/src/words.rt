@@ -4,11 +4,11 @@ ghost use Rattle.linegrep_files.specs.Words.{escaped, escaped_byte, hex_digit};
 
 use std::alloc::{AllocError, Global};
 
-/// What is said of a name of a file that isn't UTF-8.
+/// What is said if the name of a file isn't UTF-8.
 pub const NOT_UTF8: &str = "the name isn't UTF-8";
 
-/// A word for bytes that aren't UTF-8, which no such bytes are: a NUL and two hexadecimal digits
-/// stand for each byte that isn't ASCII. An error is one of being out of memory.
+/// A word for bytes that aren't UTF-8. A NUL and two hexadecimal digits stand for each byte that
+/// isn't ASCII, so that no name is such a word. An error is one of being out of memory.
 pub fn escape(alloc: Global, bytes: &[u8]) -> Result<String, AllocError>
     ensures { IfOk result (λ word. string_bytes word ≡ escaped bytes.now) }
 {
@@ -43,8 +43,8 @@ fn hex_digit(value: u8) -> char
     }
 }
 
-/// The text of a word, with `\x` and two digits for each byte that isn't ASCII if it stands for
-/// bytes that aren't UTF-8. An error is one of being out of memory.
+/// A word as it is written in a message. If it stands for bytes that aren't UTF-8, each byte that
+/// isn't ASCII is `\x` and two digits. An error is one of being out of memory.
 pub fn shown(alloc: Global, word: &str) -> Result<String, AllocError> {
     let mut text = String::new(alloc);
     for letter in word.chars() {
