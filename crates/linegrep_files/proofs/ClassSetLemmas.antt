@@ -1,6 +1,6 @@
 -- The members of a class, and the set of their bytes.
 use Rattle.std.proofs.Common.{◌≡◌, ◌≢◌, ℕ, ◌≤◌, ◌<◌, Bool, true, false, not, ◌&&◌, ◌||◌, List, [], ◌∷◌, ◌∙◌}
-use Rattle.std.proofs.Common.{ap, arith, drop, inl, inr, nat_lt, refl, subst, sym}
+use Rattle.std.proofs.Common.{ap, arith, drop, inr, nat_lt, refl, subst, sym}
 use Rattle.std.specs.Prelude.{◌⊎◌, Err, IfErr, IfOk, Ok, Result}
 use Rattle.std.specs.List.{list_any}
 use Rattle.grep_matcher.specs.ByteSets.{holds}
@@ -41,22 +41,6 @@ pub byte-member : {E : Type 0} (result : Result Member E) (text after : List ℕ
 byte-member (Ok member) text after first is (begins, ends, ordered, goes) =
     rw (begins, ends, goes, is) (of_byte first after)
 byte-member (Err e) text after first is goes = tt
-
--- the first member
-pub at-first : (ignores : Bool) (set : List Bool) (text : List ℕ) (range : ℕ × ℕ) (rest : List ℕ)
-    → ((byte : ℕ) → holds set byte ≡ false) → IsRange range text rest → IsAtMember ignores set text range rest
-at-first ignores set text range rest empty is = record {
-  ranges = [];
-  mid = text;
-  are = refl;
-  begins = inl refl;
-  is = is;
-  set_is = λ byte. empty byte ∙ none ignores;
-}
-  where
-    none : (i : Bool) → false ≡ (false || (i && false))
-    none true = refl
-    none false = refl
 
 -- a member's range goes on
 pub at-end : (ignores : Bool) (set : List Bool) (text : List ℕ) (first middle last : ℕ) (rest new : List ℕ)
@@ -161,18 +145,6 @@ pub byte-uncut : {X E : Type 0} (result : Result X E) (P : Type 0) (first : ℕ)
 byte-uncut (Ok member) P first less = tt
 byte-uncut (Err e) P first less = absurd (omega (arith, less))
 
--- a member's range goes on, but ends before it begins
-pub cut-end : (ignores : Bool) (set : List Bool) (text : List ℕ) (first middle last : ℕ) (rest : List ℕ)
-    → IsAtMember ignores set text (first, middle) rest → rest ≡ 45 ∷ last ∷ drop 2 rest → last ≢ 93 → last < first
-    → AreCut text
-cut-end ignores set text first middle last rest at ranges other less = (
-  at.ranges,
-  at.mid,
-  at.are,
-  at.begins,
-  inr (first, middle, last, drop 2 rest, subst (λ l. IsRange (first, middle) at.mid l) ranges at.is, other, less),
-)
-
 -- no member follows
 pub cut-next : (ignores : Bool) (set : List Bool) (text : List ℕ) (range : ℕ × ℕ) (rest : List ℕ)
     → IsAtMember ignores set text range rest → begins_with 93 rest ≡ false → begins_range rest ≡ false
@@ -180,16 +152,8 @@ pub cut-next : (ignores : Bool) (set : List Bool) (text : List ℕ) (range : ℕ
 cut-next ignores set text range rest at opens ends cut =
     (range ∷ at.ranges, rest, (at.mid, at.are, at.begins, at.is, ends), inr opens, cut)
 
--- nor does a first one
-pub cut-first : (text : List ℕ) → (text ≡ []) ⊎ IsReversed text → AreCut text
-cut-first text cut = ([], text, refl, inl refl, cut)
-
--- a class by its members that can't be read, with a mark before them and without one
+-- a class without a mark, by its members that can't be read
 pub cut-plain : {X E : Type 0} (result : Result X E) (text : List ℕ) → is_negated text ≡ false
     → IfErr result (λ _. AreCut text) → IfErr result (λ _. IsMalformedClass text)
 cut-plain (Ok class) text plain cut = tt
 cut-plain (Err e) text plain cut = rw plain cut
-
-pub cut-marked : (text rest : List ℕ) → is_negated text ≡ true → rest ≡ drop 1 text → AreCut rest
-    → IsMalformedClass text
-cut-marked text rest marked is cut = rw (marked, sym is) cut

@@ -1,7 +1,7 @@
 -- Where the braces of a glob can't be read.
 use Rattle.std.proofs.Common.{◌≡◌, ℕ, ◌+◌, ◌<◌, ◌≤◌, Bool, true, false, List, [], ◌∷◌, ◌++◌, ◌∙◌, inl, inr}
 use Rattle.std.proofs.Common.{ap, append-nil, append_assoc, arith, drop, get_or, length, length-append, refl, subst, sym, take}
-use Rattle.std.proofs.lemmas.List.{drop_more, length-map, length-take-le, map-append, take-append-drop}
+use Rattle.std.proofs.lemmas.List.{drop_more, length-map, map-append, take-append-drop}
 use Rattle.std.specs.Borrow.{Bor}
 use Rattle.std.specs.Global.{Global}
 use Rattle.std.specs.Prelude.{◌⊎◌, Err, IfErr, MatchBool, Ok, Result, Vec, map}
@@ -100,25 +100,6 @@ pub escape-fault : (glob : List ℕ) → begins_with 92 glob ≡ true → is_emp
 escape-fault [] begins empty = absurd (false≢true begins)
 escape-fault (mark ∷ []) begins empty = inl (ap (λ m. m ∷ []) (eqb-true mark 92 begins))
 escape-fault (mark ∷ byte ∷ later) begins empty = absurd (false≢true empty)
-
--- some choices are more than there may be, after some texts
-pub choices-many : (old new choices : List (Vec ℕ Global)) (at : ℕ) (text : List ℕ)
-    → bytes_of new ≡ bytes_of old ++ map (λ choice. text ++ choice) (bytes_of (take at choices))
-    → at < length choices → MOST_TEXTS ≤ length new → MOST_TEXTS < length old + length choices
-choices-many old new choices at text are below many =
-    let size : length (bytes_of new) ≡ length (bytes_of old)
-    + length (map (λ choice. text ++ choice) (bytes_of (take at choices))) =
-    ap length are ∙ length-append (bytes_of old) _ in
-    let of = length-map (bytes_of (take at choices)) (λ choice. text ++ choice) in
-    omega (
-      arith,
-      size,
-      of,
-      length-map new (λ (t : Vec ℕ Global). t.items),
-      length-map old (λ (t : Vec ℕ Global). t.items),
-      length-map (take at choices) (λ (t : Vec ℕ Global). t.items),
-      length-take-le at choices (omega (arith, below)),
-    )
 
 each-append : (xs ys choices : List (List ℕ))
     → each_with (xs ++ ys) choices ≡ each_with xs choices ++ each_with ys choices

@@ -7,14 +7,11 @@ use Rattle.std.specs.List.{Any}
 use Rattle.std.specs.Option.{option_and_then}
 use Rattle.std.specs.Prelude.{None, Option, Some}
 use Rattle.std.specs.Str.{bytes_eq}
-use Rattle.std.proofs.lemmas.Bool.{false≢true}
-use Rattle.linegrep_files.specs.Failures.{has_cause}
 use Rattle.linegrep_files.specs.FileTypes.{IsUnusable}
 use Rattle.linegrep_files.specs.MalformedGlobs.{IsMalformedGlob}
 use Rattle.linegrep_files.specs.TypeDefinitions.{AreChanges, Definitions, HaveMalformed, Known, OnFault, all_changed}
 use Rattle.linegrep_files.specs.TypeDefinitions.{changed, chosen_of, globs_of, known_at_start, pairs_of}
 use Rattle.linegrep_files.specs.declared.file_options.TypeOptions.{TypeOptions}
-use Rattle.linegrep_files.specs.declared.failures.Failure.{Failure}
 use Rattle.linegrep_files.specs.declared.type_definitions.Change.{Change}
 use Rattle.linegrep_files.specs.declared.type_definitions.Definition.{Definition}
 use Rattle.linegrep_files.specs.declared.type_definitions.Selection.{Selection}
@@ -27,14 +24,6 @@ fault-weaker (Unknown name) weaker holds = weaker holds
 fault-weaker (Malformed text) weaker holds = weaker holds
 fault-weaker (Glob glob cause) weaker holds = weaker holds
 fault-weaker OutOfMemory weaker holds = tt
-
--- one that has a cause isn't that memory is out
-pub fault-caused : (e : TypeError) (failure : Failure) {P : Type 0} → OnFault e P
-    → (e ≡ OutOfMemory → has_cause failure ≡ false) → has_cause failure ≡ true → P
-fault-caused (Unknown name) failure holds memory caused = holds
-fault-caused (Malformed text) failure holds memory caused = holds
-fault-caused (Glob glob cause) failure holds memory caused = holds
-fault-caused OutOfMemory failure holds memory caused = absurd (false≢true (sym (memory refl) ∙ caused))
 
 -- a change that can't be made, after others that can
 stop-after : (known : Known) (changes : List Change) (change : Change) (later : List Change) (mid : Known)

@@ -19,35 +19,12 @@ use Rattle.std.proofs.lemmas.List.Sorted.{IsPermutation-map}
 use Rattle.linegrep_files.specs.TypeDefinitions.{Definitions, definition_order, globs_of, names_after, pair_of, pairs_of}
 use Rattle.linegrep_files.specs.TypeDefinitions.{IsTypeList, type_line, type_lines}
 use Rattle.linegrep_files.specs.declared.type_definitions.Definition.{Definition}
-use Rattle.linegrep_files.proofs.TypeDefinitionLemmas.{globs-more, last-next, last_name, names-next}
-use Rattle.linegrep_files.proofs.TypeDefinitionLemmas.{pairs-more}
+use Rattle.linegrep_files.proofs.TypeDefinitionLemmas.{last-next, last_name, names-next}
 
 -- the order of definitions is one
 pub definition-ranks : IsStrictWeakOrder (λ one other. is_lt (definition_order one other))
 definition-ranks = ranks_by (then_total (on_texts (λ (d : Definition). d.name.now)) (on_texts (λ (d : Definition). d.glob.now)))
     (λ d. d)
-
--- the globs of a type with a definition of it more
-pub globs-with : (definitions : List Definition) (at : ℕ) (d : Definition) (name : List ℕ) → at < length definitions
-    → bytes_eq (get_or definitions at d).name.now name ≡ true
-    → globs_of (pairs_of (take (at + 1) definitions)) name
-    ≡ globs_of (pairs_of (take at definitions)) name ++ (get_or definitions at d).glob.now ∷ []
-globs-with definitions at d name below same =
-    ap (λ l. globs_of l name) (pairs-more definitions at d below)
-    ∙ globs-more (pairs_of (take at definitions)) (pair_of (get_or definitions at d)) name
-    ∙ ap (λ b. globs_of (pairs_of (take at definitions)) name
-    ++ (if b then (get_or definitions at d).glob.now ∷ [] else [])) same
-
--- and with one of another type
-pub globs-without : (definitions : List Definition) (at : ℕ) (d : Definition) (name : List ℕ) → at < length definitions
-    → bytes_eq (get_or definitions at d).name.now name ≡ false
-    → globs_of (pairs_of (take (at + 1) definitions)) name ≡ globs_of (pairs_of (take at definitions)) name
-globs-without definitions at d name below same =
-    ap (λ l. globs_of l name) (pairs-more definitions at d below)
-    ∙ globs-more (pairs_of (take at definitions)) (pair_of (get_or definitions at d)) name
-    ∙ ap (λ b. globs_of (pairs_of (take at definitions)) name
-    ++ (if b then (get_or definitions at d).glob.now ∷ [] else [])) same
-    ∙ append-nil (globs_of (pairs_of (take at definitions)) name)
 
 -- with a definition more of the type that comes last there is no line more
 pub lines-same : (all : Definitions) (definitions : List Definition) (at : ℕ) (d : Definition) (last text : List ℕ)
