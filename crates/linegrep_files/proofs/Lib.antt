@@ -3,6 +3,8 @@ pub mod BaseLemmas
 pub mod BraceLemmas
 pub mod ChoiceLemmas
 pub mod GitFileLemmas
+pub mod GitSettingExamples
+pub mod GitSettingLemmas
 pub mod GlobExamples
 pub mod GlobRuleLemmas
 pub mod GlobTextLemmas

@@ -7,6 +7,7 @@ pub mod FileTypes
 pub mod FolderFacts
 pub mod Folders
 pub mod GitFiles
+pub mod GitSettings
 pub mod Globs
 pub mod IgnoreFiles
 pub mod Limits
