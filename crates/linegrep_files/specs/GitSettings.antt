@@ -1,6 +1,8 @@
--- The value of `core.excludesFile` in the contents of a file of git's settings, as git-config(1) has
--- its syntax. Bytes: 9 is a tab, 10 a line feed, 13 a carriage return, 32 a space, 34 a quote, 35 `#`,
--- 59 `;`, 61 `=`, 91 `[`, 92 a backslash, 93 `]`.
+-- The value of `core.excludesFile` in the contents of a file of git's settings, by the syntax of
+-- git-config(1). First comes what each byte stands for, by quotes, backslashes and comments; then
+-- lines, and what their headings, names and values are; and then which value is the last.
+-- 9 is a tab, 10 a line feed, 13 a carriage return, 32 a space, 34 a quote, 35 `#`, 59 `;`, 61 `=`,
+-- 91 `[`, 92 a backslash, and 93 `]`.
 use Rattle.std.specs.Prelude.{ℕ, ◌-◌, Bool, true, false, not, ◌&&◌, ◌||◌, ◌==◌, if◌then◌else◌}
 use Rattle.std.specs.Prelude.{List, [], ◌∷◌, ◌++◌, None, Option, Some, codes, drop, length, map, take}
 use Rattle.std.specs.Char.{to_ascii_lowercase}
@@ -12,15 +14,15 @@ use Rattle.linegrep_files.specs.declared.git_settings.Mode.{Mode}
 use Rattle.linegrep_files.specs.declared.git_settings.Mode.TheVariants.{Comment, Escaped, Plain, Quoted}
 use Rattle.linegrep_files.specs.declared.git_settings.Piece.{Piece}
 
--- a byte that may have a meaning, and one that stands for itself alone
+-- a byte that may have a meaning, as a bracket has, and one that stands for itself alone
 abbrev pub plain : ℕ → Piece
 plain byte = record { byte = byte; is_quoted = false }
 
 abbrev pub quoted : ℕ → Piece
 quoted byte = record { byte = byte; is_quoted = true }
 
--- What a byte stands for, and how the next one is read. Outside of quotes: a quote begins them, a
--- backslash quotes the next byte, and `#` or `;` begins a comment
+-- what a byte stands for, and how the next one is read. Outside of quotes: a quote begins them, a
+-- backslash is before a byte that is quoted, and `#` or `;` begins a comment
 abbrev pub read_plain : ℕ → Option Piece × Mode
 read_plain byte = if byte == 34 then (None, Quoted) else if byte == 92 then (None, Escaped false)
     else if (byte == 35) || (byte == 59) then (None, Comment) else (Some (plain byte), Plain)
@@ -38,8 +40,8 @@ read_comment byte = if byte == 10 then (Some (plain byte), Plain) else (None, Co
 abbrev pub escaped : ℕ → ℕ
 escaped byte = if byte == 110 then 10 else if byte == 116 then 9 else if byte == 98 then 8 else byte
 
--- after a backslash, outside of quotes or between them: the end of a line stands for nothing, so that
--- the line goes on
+-- after a backslash, outside of quotes or between them: the end of a line stands for nothing, so
+-- that the line goes on
 abbrev pub read_escaped : Bool → ℕ → Option Piece × Mode
 read_escaped is_quoted byte = if byte == 13 then (None, Escaped is_quoted)
     else if byte == 10 then (None, mode) else (Some (quoted (escaped byte)), mode)
@@ -67,13 +69,14 @@ is_plain byte piece = (piece.byte == byte) && not piece.is_quoted
 abbrev pub lines_of : List Piece → List (List Piece)
 lines_of pieces = slice_split (is_plain 10) pieces
 
--- pieces without the blanks at their start, at their end, and at both
+-- a space, a tab or a carriage return
 abbrev pub is_blank : Piece → Bool
 is_blank piece = is_plain 32 piece || is_plain 9 piece || is_plain 13 piece
 
 abbrev pub is_text : Piece → Bool
 is_text piece = not (is_blank piece)
 
+-- pieces without the blanks at their start, at their end, and at both
 abbrev pub trimmed_start : List Piece → List Piece
 trimmed_start pieces = drop (position_or_len is_text pieces) pieces
 
@@ -83,7 +86,7 @@ trimmed_end pieces = take (length pieces - suffix_len is_blank pieces) pieces
 abbrev pub trimmed : List Piece → List Piece
 trimmed pieces = trimmed_end (trimmed_start pieces)
 
--- pieces are a word, whose letters may be large
+-- pieces are a word, in letters of either case
 abbrev pub is_word : List ℕ → List Piece → Bool
 is_word word pieces = bytes_eq (map (λ piece. to_ascii_lowercase piece.byte) pieces) word
 
@@ -95,6 +98,7 @@ has_heading line = begins (trimmed_start line)
     begins [] = false
     begins (first ∷ rest) = is_plain 91 first
 
+-- what is in these brackets: a subsection too, if there is one
 abbrev pub heading_of : List Piece → List Piece
 heading_of line = before_first (is_plain 93) (after_first (is_plain 91) line)
 
@@ -110,7 +114,8 @@ value_of line = trimmed (after_first (is_plain 61) (setting_of line))
 
 -- whether a line is in the section `core`, by whether the line before is
 abbrev pub is_core_at : Bool → List Piece → Bool
-is_core_at is_core line = if has_heading line then is_word (codes "core") (heading_of line) else is_core
+is_core_at is_core line =
+    if has_heading line then is_word (codes "core") (heading_of line) else is_core
 
 -- the value that a line has for `core.excludesFile`, by whether it is in the section `core`
 abbrev pub value_at : Bool → List Piece → Option (List Piece)

@@ -1,5 +1,5 @@
 //! Git's settings, as far as they name ignore files.
-ghost use Rattle.std.specs.Prelude.{◌≡◌, ◌<◌, ◌++◌, codes, false, IfOk, IfSome, length, OnOk};
+ghost use Rattle.std.specs.Prelude.{◌≡◌, ◌<◌, ◌++◌, false, IfOk, IfSome, length, OnOk};
 ghost use Rattle.std.specs.List.{after_first, before_first, position};
 ghost use Rattle.std.specs.Option.{option_copied, option_map, option_to_list};
 ghost use Rattle.grep_ignore.specs.Lines.{without_mark};
@@ -121,7 +121,7 @@ fn read_comment(byte: u8) -> (Option<Piece>, Mode)
     }
 }
 
-// A backslash at the end of a line lets it go on in the next, whether it ends as in Unix or as in DOS.
+// After a backslash a line goes on in the next, also if a carriage return is at its end.
 fn read_escaped(is_quoted: bool, byte: u8) -> (Option<Piece>, Mode)
     ensures { result ≡ read_escaped is_quoted byte }
 {
