@@ -24,11 +24,6 @@ not-false None other = absurd (other (λ e. grind (arith, e)))
 not-false (Some true) other = absurd (other (λ e. grind (arith, e)))
 not-false (Some false) other = refl
 
--- where nothing may match, all is passed
-pub nowhere-passed : (sets : List (List Bool)) (hay : List ℕ) (from to : ℕ)
-    → Nowhere (MayMatch sets 0 hay) from to → IsPassed (decision sets hay) from to
-nowhere-passed sets hay from to none i low below = not-false (decision sets hay i) (none i low below)
-
 -- of a position at which there may be a match: its byte is no ASCII byte, or it is in the set and there may be more
 pub next-may : (sets : List (List Bool)) (n : ℕ) (hay : List ℕ) (p : ℕ) → n < length sets → p < length hay
     → MayMatch sets n hay p → (128 ≤ get_or hay p 0)
@@ -100,33 +95,6 @@ set-covers P sets n m hay at then later v next one_on within room members after 
       (next-may sets n hay (at + k) within (omega (arith, room)) may);
 }
 
--- the lanes of a set that is passed over, by those of the sets after it: where its byte isn't ASCII, or these may follow
-pub lead-covers : (sets : List (List Bool)) (n m : ℕ) (hay : List ℕ) (at then : ℕ) (bytes later v : List ℕ) → m ≡ suc n
-    → then ≡ at + 1 → n < length sets → at + 32 ≤ length hay → HasLanes bytes (λ k. get_or hay (at + k) 0)
-    → HasLanes v (λ k. bit_or (get_or bytes k 0) (get_or later k 0)) → Covers (MayMatch sets m hay) then later
-    → Covers (MayMatch sets n hay) at v
-lead-covers sets n m hay at then bytes later v next one_on within room loaded lanes after = record {
-  long = lanes.long;
-  each = λ k below may. ⊎_elim
-      (λ big. omega (
-        arith,
-        big,
-        loaded.each k below,
-        lanes.each k below,
-        or_ge_left (get_or bytes k 0) (get_or later k 0),
-      ))
-      (λ one.
-      let far : at + k + 1 ≡ then + k = omega (arith, one_on) in
-      let same : suc n ≡ m = sym next in
-      omega (
-        arith,
-        after.each k below (subst (λ j. MayMatch sets j hay (then + k)) same (subst (MayMatch sets (suc n) hay) far one.2)),
-        lanes.each k below,
-        or_ge_right (get_or bytes k 0) (get_or later k 0),
-      ))
-      (next-may sets n hay (at + k) within (omega (arith, room)) may);
-}
-
 -- where a byte isn't ASCII, sets may follow
 high-may : (sets : List (List Bool)) (n : ℕ) (hay : List ℕ) (p : ℕ) → n < length sets → p < length hay
     → 128 ≤ get_or hay p 0 → MayMatch sets n hay p
@@ -149,30 +117,21 @@ walk-may sets hay p (suc m) within inside low may =
     (λ one. subst (MayMatch sets (suc m) hay) next one.2)
     (next-may sets m hay (p + m) (omega arith) (omega arith) before)
 
--- where all bytes are ASCII, the lanes are those of the sets that are looked up
-pub low-covers : (sets : List (List Bool)) (lead : ℕ) (hay : List ℕ) (at : ℕ) (rare : List ℕ) → lead ≤ 32
-    → lead < length sets → at + lead + 32 ≤ length hay → Covers (MayMatch sets lead hay) (at + lead) rare
-    → ((k : ℕ) → k < 32 → (get_or hay (at + k) 0 < 128) × (get_or rare k 0 < 128))
-    → Covers (MayMatch sets 0 hay) at rare
-low-covers sets lead hay at rare near within room covers low = record {
-  long = covers.long;
-  each = λ k below may.
-      let same : at + k + lead ≡ at + lead + k = omega arith in
-      covers.each k below (subst (MayMatch sets lead hay) same
-      (walk-may sets hay (at + k) lead (omega arith) (omega arith) (λ q from to. all q (omega arith) (omega arith)) may));
-}
+-- where so many ASCII bytes come first, and from there on the sets after as many may follow nowhere, all is passed
+pub lead-passed : (sets : List (List Bool)) (lead : ℕ) (hay : List ℕ) (from to : ℕ) → lead < length sets
+    → from + lead ≤ to → to ≤ length hay → AreLow hay from (from + lead)
+    → Nowhere (MayMatch sets lead hay) (from + lead) to → IsPassed (decision sets hay) from (to - lead)
+lead-passed sets lead hay from to within room fits low none i after before =
+    not-false (decision sets hay i) (λ may.
+    none (i + lead) (omega arith) (omega (arith, before))
+    (walk-may sets hay i lead (omega arith) (omega (arith, before))
+    (λ q above below. all q (omega arith) (omega (arith, before))) may))
   where
-    all : (q : ℕ) → at ≤ q → q < at + lead + 32 → get_or hay q 0 < 128
-    all q from to = ⊎_elim
-        (λ (first : q < at + 32).
-        let same : at + (q - at) ≡ q = omega arith in
-        subst (λ x. get_or hay x 0 < 128) same (low (q - at) (omega arith)).0)
-        (λ (last : at + 32 ≤ q). ⊎_elim
+    all : (q : ℕ) → from ≤ q → q < to → get_or hay q 0 < 128
+    all q above below = ⊎_elim
+        (λ (first : q < from + lead). low q above first)
+        (λ (past : from + lead ≤ q). ⊎_elim
         (λ (is_low : get_or hay q 0 < 128). is_low)
-        (λ high.
-        let same : q ≡ at + lead + (q - (at + lead)) = omega arith in
-        let set = covers.each (q - (at + lead)) (omega arith)
-        (subst (MayMatch sets lead hay) same (high-may sets lead hay q within (omega arith) high)) in
-        absurd (omega (arith, set, (low (q - (at + lead)) (omega arith)).1)))
+        (λ high. absurd (none q past below (high-may sets lead hay q within (omega arith) high)))
         (cases_lt (get_or hay q 0) 128))
-        (cases_lt q (at + 32))
+        (cases_lt q (from + lead))

@@ -5,6 +5,7 @@ ghost use Rattle.grep_regex.specs.Classes.{any_decision, decision, first_size};
 ghost use Rattle.grep_regex.specs.Decisions.{IsPassed, IsStart, IsVerdict};
 ghost use Rattle.grep_regex.specs.Choices.{items_of};
 
+use crate::asked::Asked;
 use crate::prefix::Prefix;
 use grep_matcher::ByteSet;
 
@@ -35,14 +36,15 @@ pub(crate) enum Verdict {
     Unknown,
 }
 
-// Where the first match from a position on starts of a pattern that these sets decide.
+// Where the first match from a position on starts of a pattern that these sets decide. Where one is
+// likely at once, that position is looked at first.
 #[inline]
-pub(crate) fn find_start(prefix: &Prefix, haystack: &[u8], start: usize) -> Start
+pub(crate) fn find_start(prefix: &Prefix, haystack: &[u8], start: usize, asked: Asked) -> Start
     requires { start ≤ length haystack.now }
     ensures { IsStart (any_decision (items_of prefix.now.choices.items) haystack.now)
         (length haystack.now) start result }
 {
-    if prefix.choices.len() != 1 {
+    if !prefix.is_likely(asked) {
         return find_later(prefix, haystack, start, start);
     }
     match decide_choices(&prefix.choices, haystack, start) {

@@ -33,7 +33,7 @@ pub(crate) fn known_by(
         prefix.now.has_sizes ∥₁ }
     ensures { IsKnown regex.now asked haystack.now start result }
 {
-    match find_start(prefix, haystack, start) {
+    match find_start(prefix, haystack, start, asked) {
         Start::Match(at) => match asked {
             Asked::FirstMatch => match first_size(&prefix.choices, haystack, at) {
                 Some(size) if prefix.has_sizes => Known::Answer(Some((at, at + size))),

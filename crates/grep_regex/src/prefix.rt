@@ -14,18 +14,15 @@ use crate::buckets::Buckets;
 use crate::covers::cover_of;
 use crate::folds::Fold;
 use crate::lanes::{
-    WIDTH, all_set, by_high_half, by_low_half, either, either_or_both, highest_bits, in_common,
-    load, none_set, nonzero,
+    WIDTH, all_set, by_high_half, by_low_half, either, either_or_both, in_common, load, none_set,
+    nonzero,
 };
-use crate::rarity::lead_of;
+use crate::rarity::{are_frequent, lead_of};
 use crate::tables::Table;
 use crate::windows::{Target, skip};
 use grep_matcher::ByteSet;
 use std::alloc::{AllocError, Global};
 use std::simd::prelude::*;
-
-// So many bytes before the sets that are looked up are looked at as fast as whether all are ASCII.
-const FEW: usize = 2;
 
 // Sequences of sets of bytes with one of which a match begins. If there is one, three of its sets
 // that are rare in text are tables; if there are several, their first sets are in buckets.
@@ -35,6 +32,8 @@ pub(crate) struct Prefix {
     // Whether a match is a byte of each set of a sequence, and nothing else.
     pub(crate) has_sizes: bool,
     cover: Vec<ByteSet>,
+    // Whether there is one sequence, and bytes of these sets come nearly anywhere in text.
+    is_frequent: bool,
     // How many of those sets come before the ones that are tables.
     lead: usize,
     first: Table,
@@ -42,6 +41,7 @@ pub(crate) struct Prefix {
     third: Table,
     // The same three sets, if each has one byte or two.
     folds: (Fold, Fold, Fold),
+    has_folds: bool,
     buckets: Buckets,
     ghost covered: { All (λ sets. AreCovered cover.items sets.items) choices.items },
     ghost led: { lead ≤ length cover.items },
@@ -78,16 +78,21 @@ impl Prefix {
         let first_fold = Fold::new(&cover, lead);
         let second_fold = Fold::new(&cover, lead + 1);
         let third_fold = Fold::new(&cover, lead + 2);
+        let folds = (first_fold, second_fold, third_fold);
+        let has_folds = are_exact(&folds);
         let buckets = Buckets::new(&choices);
+        let is_frequent = is_frequent(&choices, &cover);
         Ok(Prefix {
             choices,
             has_sizes,
             cover,
+            is_frequent,
             lead,
             first,
             second,
             third,
-            folds: (first_fold, second_fold, third_fold),
+            folds,
+            has_folds,
             buckets,
         })
     }
@@ -97,6 +102,13 @@ impl Prefix {
     #[inline]
     pub(crate) fn answers(&self, asked: Asked) -> bool {
         self.has_sizes || self.choices.len() == 1 || !matches!(asked, Asked::FirstMatch)
+    }
+
+    // Whether a match is likely where a search begins: its sets are frequent, or another match has
+    // just ended there.
+    #[inline]
+    pub(crate) fn is_likely(&self, asked: Asked) -> bool {
+        self.is_frequent || (self.choices.len() == 1 && matches!(asked, Asked::FirstMatch))
     }
 
     // A position up to which it is decided that there is no match.
@@ -142,16 +154,10 @@ impl Prefix {
         ensures within { result ≤ length haystack.now }
         ensures passed { IsPassed (decision self.now.cover.items haystack.now) start result }
     {
-        if self.has_exact_folds() {
+        if self.has_folds {
             return self.skip_by_folds(haystack, start);
         }
         self.skip_by::<3>(haystack, start)
-    }
-
-    // Whether each of the three has one byte or two.
-    #[inline(always)]
-    fn has_exact_folds(&self) -> bool {
-        self.folds.0.is_exact() && self.folds.1.is_exact() && self.folds.2.is_exact()
     }
 
     // A position up to which so many of the sets that cover the others decide it, by tables.
@@ -168,7 +174,7 @@ impl Prefix {
             prefix: self,
             haystack,
         };
-        skip(&rare, haystack, self.lead + SETS, start)
+        self.skip_with(&rare, haystack, SETS, start)
     }
 
     // The same by folds.
@@ -184,7 +190,28 @@ impl Prefix {
             prefix: self,
             haystack,
         };
-        skip(&folded, haystack, self.lead + 3, start)
+        self.skip_with(&folded, haystack, 3, start)
+    }
+
+    // The same by what looks for the sets that are tables. The bytes before these are only looked at
+    // where the search begins: up to where it ends they are among those that it looks at.
+    #[inline(always)]
+    fn skip_with<T: Target>(&self, rare: &T, haystack: &[u8], size: usize, start: usize) -> usize
+        requires haystack { T.haystack rare.now ≡ haystack.now }
+        requires size { T.size rare.now ≡ size }
+        requires some { 0 < size }
+        requires may { (i : ℕ) → MayMatch self.now.cover.items self.now.lead haystack.now i
+            → T.may_follow rare.now i }
+        requires sets { self.now.lead < length self.now.cover.items }
+        requires start { start ≤ length haystack.now }
+        ensures low { start ≤ result }
+        ensures within { result ≤ length haystack.now }
+        ensures passed { IsPassed (decision self.now.cover.items haystack.now) start result }
+    {
+        if !has_ascii(haystack, start, self.lead) {
+            return start;
+        }
+        skip(rare, haystack, size, start + self.lead) - self.lead
     }
 
     // A position up to which no sequence follows, by the buckets of their first sets.
@@ -203,28 +230,6 @@ impl Prefix {
             haystack,
         };
         skip(&first, haystack, SETS, start)
-    }
-
-    // For each position of a vector, whether there may be a match: by the lanes of the sets that
-    // are looked up, where all bytes before them are ASCII.
-    #[inline(always)]
-    fn lanes_with(&self, haystack: &[u8], at: usize, rare: u8x32) -> u8x32
-        requires room { at + self.now.lead + WIDTH ≤ length haystack.now }
-        requires sets { self.now.lead < length self.now.cover.items }
-        requires rare { Covers (MayMatch self.now.cover.items self.now.lead haystack.now)
-            (at + self.now.lead) rare }
-        ensures { Covers (MayMatch self.now.cover.items 0 haystack.now) at result }
-    {
-        if self.lead > FEW && self.lead <= WIDTH && are_low(haystack, at, rare) {
-            return rare;
-        }
-        let mut left = self.lead;
-        let mut lanes = rare;
-        'sets: while left > 0 {
-            left -= 1;
-            lanes = either(load(haystack, at + left), lanes);
-        }
-        lanes
     }
 
     // For each position of a vector, whether there may be a match of the sets from the first fold
@@ -352,16 +357,13 @@ struct RareSets<'a, const SETS: usize> {
 impl<const SETS: usize> Target for RareSets<'_, SETS> {
     ghost haystack = { λ s. s.haystack.now };
 
-    ghost size = { λ s. s.prefix.now.lead + SETS };
+    ghost size = { λ _. SETS };
 
-    ghost may_follow = { λ s. MayMatch s.prefix.now.cover.items 0 s.haystack.now };
+    ghost may_follow = { λ s. MayMatch s.prefix.now.cover.items s.prefix.now.lead s.haystack.now };
 
     #[inline(always)]
     fn lanes(&self, at: usize) -> u8x32 {
-        let rare = self
-            .prefix
-            .first_lanes::<SETS>(self.haystack, at + self.prefix.lead);
-        self.prefix.lanes_with(self.haystack, at, rare)
+        self.prefix.first_lanes::<SETS>(self.haystack, at)
     }
 }
 
@@ -376,14 +378,13 @@ struct FoldedSets<'a> {
 impl Target for FoldedSets<'_> {
     ghost haystack = { λ s. s.haystack.now };
 
-    ghost size = { λ s. s.prefix.now.lead + 3 };
+    ghost size = { λ _. 3 };
 
-    ghost may_follow = { λ s. MayMatch s.prefix.now.cover.items 0 s.haystack.now };
+    ghost may_follow = { λ s. MayMatch s.prefix.now.cover.items s.prefix.now.lead s.haystack.now };
 
     #[inline(always)]
     fn lanes(&self, at: usize) -> u8x32 {
-        let rare = self.prefix.fold_lanes(self.haystack, at + self.prefix.lead);
-        self.prefix.lanes_with(self.haystack, at, rare)
+        self.prefix.fold_lanes(self.haystack, at)
     }
 }
 
@@ -446,12 +447,31 @@ fn lanes_by(fold: &Fold, haystack: &[u8], at: usize, later: u8x32) -> u8x32
     either_or_both(bytes, later, fold.lanes(bytes))
 }
 
-// Whether the bytes from a position on that a vector has are ASCII, and no lane of another is set.
+// Whether so many ASCII bytes follow from a position on.
 #[inline(always)]
-fn are_low(haystack: &[u8], at: usize, lanes: u8x32) -> bool
-    requires { at + WIDTH ≤ length haystack.now }
-    ensures { IsTrue result → (k : ℕ) → k < WIDTH
-        → (slice_index haystack.now (at + k) < 128) × (slice_index lanes k < 128) }
+fn has_ascii(haystack: &[u8], start: usize, count: usize) -> bool
+    requires { start ≤ length haystack.now }
+    ensures fits { IsTrue result → start + count ≤ length haystack.now }
+    ensures low { IsTrue result → (k : ℕ) → start ≤ k → k < start + count
+        → slice_index haystack.now k < 128 }
 {
-    highest_bits(either(load(haystack, at), lanes)) == 0
+    if haystack.len() - start < count {
+        return false;
+    }
+    for k in 0..count {
+        if haystack[start + k] >= 128 {
+            return false;
+        }
+    }
+    true
+}
+
+// Whether there is one sequence, and bytes of the sets that cover it come nearly anywhere in text.
+fn is_frequent(choices: &[Vec<ByteSet>], cover: &[ByteSet]) -> bool {
+    choices.len() == 1 && are_frequent(cover)
+}
+
+// Whether each of the sets has one byte or two.
+fn are_exact(folds: &(Fold, Fold, Fold)) -> bool {
+    folds.0.is_exact() && folds.1.is_exact() && folds.2.is_exact()
 }

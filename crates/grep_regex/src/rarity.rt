@@ -11,6 +11,9 @@ const TOGETHER: usize = 3;
 // looked at, too.
 const GAIN: u64 = 4;
 
+// How often the members of a set come together where about every third byte of text is one of them.
+const FREQUENT: u64 = 1 << 18;
+
 // How many sets come before those that are rarest together in text.
 pub(crate) fn lead_of(sets: &[ByteSet]) -> usize
     ensures { result ≤ length sets.now }
@@ -25,6 +28,16 @@ pub(crate) fn lead_of(sets: &[ByteSet]) -> usize
         }
     }
     lead.min(sets.len())
+}
+
+// Whether bytes of each of the sets come nearly anywhere in text.
+pub(crate) fn are_frequent(sets: &[ByteSet]) -> bool {
+    for k in 0..sets.len() {
+        if frequency_of(&sets[k]) < FREQUENT {
+            return false;
+        }
+    }
+    true
 }
 
 // How often the sets from one on come one after another in text: a number to compare with others.
