@@ -3,7 +3,7 @@
 
 use grep_output::Writing;
 use grep_searcher::Reading;
-use linegrep_cli::{FileId, Streams, run};
+use linegrep_cli::{FileId, Streams, allows_colors, run};
 use std::env::{Env, FillError};
 use std::io::IsTerminal;
 use std::os::unix::fs::FileTypeExt;
@@ -31,6 +31,7 @@ fn grep(rt: &HostRuntime) -> io::Result<u8> {
     let mut errors = Writing::new(rt.stderr());
     let streams = Streams {
         is_terminal,
+        allows_colors: allows_colors(rt.alloc(), rt),
         has_input: has_input(rt),
         input: FileId::at(rt, "/proc/self/fd/0"),
         output: FileId::at(rt, "/proc/self/fd/1"),

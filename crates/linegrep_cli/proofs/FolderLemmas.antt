@@ -35,8 +35,8 @@ module _ {S : Type 0} (facts : S → FolderFacts) (system : Bor S) (route : Rout
 
   -- memory was left if an entry was popped
   left : (old new : Walk S) (entry : Entry) → IsPopped old (Some entry) new → old.is_out_of_memory ≡ false
-  left old new entry (of_pending _ memory is dated on) = memory
-  left old new _ (of_dated file memory empty same pending on) = memory
+  left old new entry (of_pending _ memory is dated on goes_on) = memory
+  left old new entry (of_dated _ sorted memory empty are files none on goes_on) = memory
 
   pub along-next : (visited : List Entry) (walk popped new : Walk S) (inside within : Choices) (entry : Entry)
       → IsAlong visited walk inside → IsPopped walk (Some entry) popped
@@ -58,8 +58,8 @@ module _ {S : Type 0} (facts : S → FolderFacts) (system : Bor S) (route : Rout
       → AreAllOf (facts system.now) route first folder visited
   along-end visited walk end inside first along (of_end memory pending dated still) left taken =
       walks-end facts system route folder begun walk end first choices inside visited taken
-      (along.starts memory) (along.walked memory) memory (of_end memory pending dated still)
-  along-end visited walk end inside first along (of_memory out still) left taken =
+      (along.starts memory) (along.walked memory) (of_end memory pending dated still) left
+  along-end visited walk end inside first along (of_memory still) left taken =
       absurd (true≢false (sym still ∙ left))
 
   pub along-alike : (visited : List Entry) (walk end : Walk S) (inside first : Choices)
@@ -68,5 +68,5 @@ module _ {S : Type 0} (facts : S → FolderFacts) (system : Bor S) (route : Rout
   along-alike visited walk end inside first along (of_end memory pending dated still) left taken =
       walked-alike facts (facts system.now) (name_of folder) begun first choices visited walk inside taken
       (along.walked memory)
-  along-alike visited walk end inside first along (of_memory out still) left taken =
+  along-alike visited walk end inside first along (of_memory still) left taken =
       absurd (true≢false (sym still ∙ left))

@@ -1,3 +1,4 @@
+pub mod AcceptedOptions
 pub mod ColorLooks
 pub mod ColorOptions
 pub mod CountedRuns
@@ -24,5 +25,6 @@ pub mod RunScopes
 pub mod SearcherOptions
 pub mod SeparatorOptions
 pub mod TemplateOptions
+pub mod TerminalColors
 pub mod WholeRuns
 pub mod WriterFlushes

@@ -82,7 +82,7 @@ module _ {R : Type 0} (remaining : R → Option (List ℕ)) (read_step : R → R
       by_names true = AreNamed options.uses.now input patterns input'
       by_names false = (pattern : Bor (List ℕ))
           × (slice_get (operands_of options.operands) 0 ≡ Some pattern)
-          × (patterns ≡ pattern.now ∷ []) × (input' ≡ input)
+          × (is_escaped pattern.now ≡ false) × (patterns ≡ pattern.now ∷ []) × (input' ≡ input)
 
   -- why a command line has no patterns: a file of patterns can't be read; or no option names a
   -- pattern, and the first operand isn't one

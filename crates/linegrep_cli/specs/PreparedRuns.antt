@@ -1,5 +1,6 @@
 -- What a run is prepared with before its operands are visited.
 use Rattle.std.specs.Prelude.{◌≡◌}
+use Rattle.linegrep_cli.specs.AcceptedOptions.{AreAccepted}
 use Rattle.linegrep_cli.specs.ColorOptions.{AreColorTexts}
 use Rattle.linegrep_cli.specs.FileChoices.{AreChoicesOf}
 use Rattle.linegrep_cli.specs.PathSeparators.{path_separator_of}
@@ -16,9 +17,11 @@ pub record IsLayout (options : Options) (layout : Layout) : Type 0 where
   pub colors : AreColorTexts options layout.colors
   pub path_separator : layout.path_separator ≡ path_separator_of options
 
--- a searcher, the choices of files, and the layout of what is written are what options ask for
+-- options are accepted, and a searcher, the choices of files, and the layout of what is written are
+-- what they ask for
 pub record IsPrepared (folders : FolderFacts) (options : Options) (prepared : Prepared) : Type 0
   where
+    pub accepted : AreAccepted folders options
     pub settings : prepared.searcher.settings ≡ searcher_settings options
     pub choices : AreChoicesOf folders options prepared.choices
     pub layout : IsLayout options prepared.layout

@@ -1,12 +1,10 @@
 -- The printer that options ask for, and its settings.
-use Rattle.std.specs.Prelude.{◌≡◌, ◌⊎◌, ℕ, Bool, true, false, not, ◌&&◌, ◌||◌, ◌==◌, if◌then◌else◌}
-use Rattle.std.specs.Prelude.{List, [], codes, nat_lt, Option, None, Some, IfSome}
+use Rattle.std.specs.Prelude.{◌≡◌, ℕ, Bool, true, false, not, ◌&&◌, ◌||◌, ◌==◌, if◌then◌else◌}
+use Rattle.std.specs.Prelude.{List, [], codes, nat_lt, Option, None, Some}
 use Rattle.std.specs.Borrow.{Bor}
 use Rattle.std.specs.Option.{option_map}
-use Rattle.std.specs.Str.{bytes_eq}
 use Rattle.grep_output.specs.PendingTexts.{pending_bytes}
 use Rattle.grep_printer.specs.declared.colors.ColorSpecs.{ColorSpecs}
-use Rattle.grep_printer.specs.declared.colors.ColorSpecs.TheVariants.{Chosen, Default, Plain}
 use Rattle.grep_printer.specs.declared.colors.ColorTexts.{ColorTexts}
 use Rattle.grep_printer.specs.declared.config.Config.{Config}
 use Rattle.grep_printer.specs.declared.config.SearchSeparator.{SearchSeparator}
@@ -27,6 +25,7 @@ use Rattle.grep_printer.specs.VimgrepTexts.{vimgrep_config}
 use Rattle.grep_replace.specs.declared.template.Template.{Template}
 use Rattle.linegrep_cli.specs.OptionMeanings.{after_lines, before_lines, shows_columns}
 use Rattle.linegrep_cli.specs.OptionUses.{has}
+use Rattle.linegrep_cli.specs.TerminalColors.{colors_for}
 use Rattle.linegrep_cli.specs.declared.counted_run.CountedRun.{CountedRun}
 use Rattle.linegrep_options.specs.declared.option_id.OptionId.TheVariants.{BlockBuffered, ByteOffset}
 use Rattle.linegrep_options.specs.declared.option_id.OptionId.TheVariants.{Color, Count}
@@ -117,31 +116,6 @@ separator_of options = if shows_headings options then Blank
 abbrev pub color_choice : Options → Option (List ℕ)
 color_choice options = if has options Color then option_map (λ choice. choice.now) options.color
     else if has options Pretty then Some (codes "always") else None
-
--- the colors, if they are known without the environment. The environment is asked only for a
--- terminal
-abbrev pub open_colors : Bool → Option ColorSpecs
-open_colors is_terminal = if is_terminal then None else Some Plain
-
--- ripgrep's colors, or others that are chosen
-abbrev pub colors_of : Option (Bor ColorTexts) → ColorSpecs
-colors_of None = Default
-colors_of (Some texts) = Chosen texts
-
-abbrev pub known_colors : Option (Bor ColorTexts) → Option (List ℕ) → Bool → Option ColorSpecs
-known_colors chosen None is_terminal = open_colors is_terminal
-known_colors chosen (Some choice) is_terminal =
-    if bytes_eq choice (codes "always") || bytes_eq choice (codes "ansi") then Some
-    (colors_of chosen)
-    else if bytes_eq choice (codes "never") then Some Plain
-    else open_colors is_terminal
-
--- the colors for what options say of when there are colors. If that tells which, they are these;
--- otherwise there are none, or they are those that are chosen
-pub record AreColorsFor (chosen : Option (Bor ColorTexts)) (choice : Option (List ℕ))
-    (is_terminal : Bool) (colors : ColorSpecs) : Type 0 where
-  pub known : IfSome (known_colors chosen choice is_terminal) (λ known. colors ≡ known)
-  pub either : (colors ≡ Plain) ⊎ (colors ≡ colors_of chosen)
 
 -- the settings of the printer of lines, with some colors and separators
 abbrev pub line_settings : Options → ColorSpecs → Option (Bor Separators) → Config
@@ -241,6 +215,5 @@ IsPrinterFor options is_across separators matcher template colors (Messages run)
 abbrev pub IsPrinterOf : {M : Type 0} → Options → Bool → Option (Bor Separators)
     → Option (Bor ColorTexts) → M → Option (Bor Template) → Printer M → Type 0
 IsPrinterOf options is_across separators chosen matcher template printer =
-    (colors : ColorSpecs)
-    × AreColorsFor chosen (color_choice options) options.streams.is_terminal colors
-    × IsPrinterFor options is_across separators matcher template colors printer
+    IsPrinterFor options is_across separators matcher template
+    (colors_for chosen (color_choice options) options.streams) printer

@@ -132,7 +132,7 @@ module _ {F R W X : Type 0} (output : AllocError → Option (List ℕ))
         → text_asked options ≡ None → has options TypeList ≡ false
         → exclude_each_other options ≡ false
         → ArePatternsFor remaining read_step folders options input (map string_bytes patterns) mid
-        → IsRefusedFor say_step options patterns mid writer errors status input' writer' errors'
+        → IsRefusedFor say_step folders options patterns mid writer errors status input' writer' errors'
         ⊎ IsWholeRun output write_step file_remaining remaining read_step folders finds opens
         identifies options patterns mid writer errors status input' writer'
         → IsOptionsRun options input writer errors status input' writer' errors'

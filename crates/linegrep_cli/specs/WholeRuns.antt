@@ -20,6 +20,7 @@ use Rattle.grep_searcher.specs.Meanings.{MatcherFacts}
 use Rattle.grep_searcher.specs.Plans.{is_across}
 use Rattle.grep_searcher.specs.Source.{ReadResult}
 use Rattle.grep_searcher.specs.declared.LineTerminator.{LineTerminator}
+use Rattle.linegrep_cli.specs.AcceptedOptions.{AreAccepted}
 use Rattle.linegrep_cli.specs.ColorOptions.{AreColorsLent}
 use Rattle.linegrep_cli.specs.EngineSteps.{has_failed}
 use Rattle.linegrep_cli.specs.FileChoices.{AreChoicesOf}
@@ -72,10 +73,11 @@ module _ {F M R W X E : Type 0} (output : E → Option (List ℕ)) (facts : M �
     pub path_separator : engine.path_separator ≡ path_separator_of options
     pub detection : engine.detection ≡ (searcher_settings options).binary_detection
 
-  -- a run with a matcher and a template, over the operands of the options, with the choices of
-  -- files and the engine that options ask for
+  -- a run with a matcher and a template, over the operands of options that are accepted, with the
+  -- choices of files and the engine that they ask for
   pub record IsRunWith (options : Options) (matcher : M) (template : Option (Bor Template))
       (input : R) (writer : W) (errors : X) (status : ℕ) (input' : R) (writer' : W) : Type 0 where
+    pub accepted : AreAccepted folders options
     pub scope : Scope
     pub first : PrintingEngine F M R W X
     pub last : PrintingEngine F M R W X

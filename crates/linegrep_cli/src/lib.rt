@@ -34,7 +34,8 @@ mod usage;
 mod visit;
 mod words;
 
-pub use linegrep_files::FileId;
+pub use colors::allows_colors;
+pub use linegrep_files::{FileId, Folders, Found, SortKey};
 pub use program::{Streams, run};
 pub use search::Ended;
 pub use system::System;

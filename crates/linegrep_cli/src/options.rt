@@ -12,7 +12,6 @@ ghost use Rattle.linegrep_cli.specs.PrinterOptions.{is_summary_of_paths, shows_h
 ghost use Rattle.linegrep_cli.specs.PrinterOptions.{shows_paths, summary_kind};
 ghost use Rattle.linegrep_cli.specs.SearcherOptions.{detection_of, is_all_searched, label_of};
 ghost use Rattle.linegrep_cli.specs.SearcherOptions.{terminator_of};
-ghost use Rattle.linegrep_cli.specs.Refusals.{sorts_by_time};
 ghost use Rattle.linegrep_cli.specs.RunScopes.{order_for, searches_binary};
 ghost use Rattle.linegrep_cli.specs.OptionUses.{has};
 ghost use Rattle.linegrep_cli.specs.OptionValues.{AreListed, AreOptions, names_patterns};
@@ -182,8 +181,7 @@ impl<'m, 'w> Options<'m, 'w> {
 
     /// In which order the files of folders are searched.
     pub fn order(&self) -> Order
-        ensures order { result ≡ order_for self.now }
-        ensures time { is_by_time result ≡ sorts_by_time self.now }
+        ensures { result ≡ order_for self.now }
     {
         if self.has(OptionId::Sort) {
             Order::read(self.sort, false)

@@ -37,6 +37,8 @@ use std::io;
 pub struct Streams {
     /// Whether the output is a terminal.
     pub is_terminal: bool,
+    /// Whether the environment allows colors on a terminal, as `allows_colors` says.
+    pub allows_colors: bool,
     /// Whether the input is a file, a pipe or a socket, and not a terminal or another device. Then
     /// it is searched if there is no path.
     pub has_input: bool,

@@ -1,5 +1,5 @@
 //! The search of all that the arguments name.
-ghost use Rattle.std.specs.Prelude.{◌≡◌, ◌⊎◌, List, Option, String, true, IfErr, IfOk};
+ghost use Rattle.std.specs.Prelude.{◌≡◌, ◌⊎◌, List, Option, String, false, true, IfErr, IfOk};
 ghost use Rattle.std.specs.Borrow.{Bor};
 ghost use Rattle.std.specs.Global.{Global};
 ghost use Rattle.std.specs.Option.{option_copied};
@@ -9,7 +9,7 @@ ghost use Rattle.linegrep_cli.specs.PatternOptions.{pattern_options, pattern_tex
 ghost use Rattle.linegrep_cli.specs.ColorOptions.{refuses_colors};
 ghost use Rattle.linegrep_cli.specs.PathSeparators.{refuses_path_separator};
 ghost use Rattle.linegrep_cli.specs.PreparedRuns.{IsLayout, IsPrepared};
-ghost use Rattle.linegrep_cli.specs.Refusals.{IsCause, IsRefusedFor, IsSaid};
+ghost use Rattle.linegrep_cli.specs.Refusals.{ArePatternsRefused, IsCause, IsRefusedFor, IsSaid};
 ghost use Rattle.linegrep_cli.specs.TemplateOptions.{IsTemplate};
 ghost use Rattle.linegrep_cli.specs.WholeRuns.{IsRunFor, IsRunWith, IsWholeRun};
 ghost use Rattle.linegrep_cli.specs.WholeRuns.{literal_facts, literal_first_at, literal_groups_at};
@@ -100,9 +100,9 @@ fn prepare<'r, S: System>(
     ensures template { IfOk result (λ (regex, prepared).
         IsTemplate options.now regex prepared.template) }
     ensures refused { IfErr result (λ failure. has_cause failure ≡ true
-        → IsCause options.now patterns.now) }
+        → IsCause (S.facts system.now) options.now patterns.now) }
 {
-    options.order().check(rt)?;
+    options.order().check(rt.alloc(), system)?;
     let layout = match layout_of(rt.alloc(), options) {
         Ok(layout) => layout,
         Err(failure) => return Err(failure),
@@ -133,6 +133,7 @@ fn prepare<'r, S: System>(
 // memory.
 fn layout_of(alloc: Global, options: &Options<'_, '_>) -> Result<Layout, Failure>
     ensures layout { IfOk result (IsLayout options.now) }
+    ensures known { IfOk result (λ _. refuses_path_separator options.now ≡ false) }
     ensures refused { IfErr result (λ failure. has_cause failure ≡ true
         → (refuses_path_separator options.now ≡ true) ⊎ (refuses_colors options.now ≡ true)) }
 {
@@ -167,7 +168,7 @@ fn compile_with_template(
         regex_patterns regex ≡ pattern_texts options.now patterns.now) }
     ensures template { IfOk result (λ (regex, template). IsTemplate options.now regex template) }
     ensures refused { IfErr result (λ failure. has_cause failure ≡ true
-        → IsCause options.now patterns.now) }
+        → ArePatternsRefused options.now patterns.now) }
 {
     let regex = match compile(alloc, options, patterns) {
         Ok(regex) => regex,
@@ -197,8 +198,8 @@ pub fn search_all<S: System, R: Source + Drop, W: Output + Drop, E: Output>(
     output: W,
     errors: &mut E,
 ) -> Ended<R, W>
-    ensures { IsRefusedFor E.step options.now patterns.now input output errors.old result.status
-        result.input result.output errors.new
+    ensures { IsRefusedFor E.step (S.facts system.now) options.now patterns.now input output
+        errors.old result.status result.input result.output errors.new
         ⊎ IsWholeRun ⟦<AllocError as Display>⟧.output W.step S.File.remaining R.remaining R.step
         (S.facts system.now) (S.finds system.now) (S.opens system.now) (S.identifies system.now)
         options.now patterns.now input output errors.old result.status result.input
@@ -229,8 +230,9 @@ where
     requires named { IsNamed N.options N.patterns regex.now }
     requires prepared { IsPrepared (S.facts system.now) options.now prepared }
     requires template { IsTemplate options.now regex.now prepared.template }
-    ensures { ((patterns : List (String Global)) → IsRefusedFor E.step options.now patterns input
-        output errors.old result.status result.input result.output errors.new)
+    ensures { ((patterns : List (String Global)) → IsRefusedFor E.step (S.facts system.now)
+        options.now patterns input output errors.old result.status result.input result.output
+        errors.new)
         ⊎ (IsRunFor ⟦<AllocError as Display>⟧.output literal_facts literal_first_at
         literal_groups_at W.step S.File.remaining R.remaining R.step (S.facts system.now)
         (S.finds system.now) (S.opens system.now) (S.identifies system.now) options.now regex.now

@@ -1,5 +1,5 @@
 //! The separators of fields, of groups of lines, and of the names in paths.
-ghost use Rattle.std.specs.Prelude.{◌≡◌, true, IfErr, IfOk, codes, string_bytes};
+ghost use Rattle.std.specs.Prelude.{◌≡◌, false, true, IfErr, IfOk, codes, string_bytes};
 ghost use Rattle.linegrep_cli.specs.PathSeparators.{first_byte, is_path_separator};
 ghost use Rattle.linegrep_cli.specs.PathSeparators.{path_separator_of, refuses_path_separator};
 ghost use Rattle.linegrep_cli.specs.PathSeparators.{with_separator, writes_paths_as_they_are};
@@ -76,6 +76,7 @@ fn text(alloc: Global, option: Option<&str>, other: &str) -> Result<Vec<u8>, All
 /// there is no memory.
 pub fn path_separator(alloc: Global, options: &Options<'_, '_>) -> Result<Option<u8>, Failure>
     ensures separator { IfOk result (λ separator. separator ≡ path_separator_of options.now) }
+    ensures known { IfOk result (λ _. refuses_path_separator options.now ≡ false) }
     ensures refused { IfErr result (λ failure. has_cause failure ≡ true
         → refuses_path_separator options.now ≡ true) }
 {

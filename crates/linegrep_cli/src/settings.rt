@@ -143,7 +143,7 @@ pub fn build_printer<'c, M: Copy>(
     ensures { IsPrinterOf options.now is_across separators.entry chosen.entry matcher template.entry
         result }
 {
-    let colors = color_specs(rt, options.color(), chosen, options.streams.is_terminal);
+    let colors = color_specs(options.color(), chosen, options.streams);
     if let Some(kind) = options.summary_kind(is_across) {
         let printer = summary(options, kind, colors).build(rt.alloc());
         Printer::Summary(run_of(rt, options, printer))

@@ -1,16 +1,17 @@
-//! What a run asks of the system about its operands.
+//! What a run asks of the system.
 ghost use Rattle.std.specs.Prelude.{ℕ, Bool, List, Option, Result};
 ghost use Rattle.std.specs.declared.io.Error.{Error};
 ghost use Rattle.linegrep_files.specs.declared.file_id.FileId.{FileId};
 
 use grep_searcher::Open;
 use linegrep_files::{FileId, Folders};
+use std::env::Env;
 use std::fs::OpenFile;
 use std::rt::Files;
 use std::{fs, io};
 
-/// A system that opens files by their paths, and knows folders and files. Clauses know it by what
-/// it may return.
+/// A system that opens files by their paths, and knows folders, files and the environment. Clauses
+/// know it by what it may return.
 pub trait System: Open + Folders {
     /// What looking for a folder at a path may return.
     ghost finds: { Self → List ℕ → Result Bool Error → Type 0 };
@@ -28,7 +29,7 @@ pub trait System: Open + Folders {
 }
 
 /// The system. What it may return isn't known.
-impl<R: Files> System for R {
+impl<R: Files + Env> System for R {
     ghost finds = { λ _ _ _. Unit {0} };
 
     ghost identifies = { λ _ _ _. Unit {0} };

@@ -6,15 +6,14 @@ use Rattle.std.specs.Borrow.{Bor}
 use Rattle.std.specs.Prelude.{None, Some, String, string_bytes}
 use Rattle.std.specs.Global.{Global}
 use Rattle.std.specs.List.Sorted.{IsPermutation}
-use Rattle.std.proofs.lemmas.List.{length-append, map_push, reverse-append}
-use Rattle.std.proofs.lemmas.List.Elements.{All-push}
-use Rattle.std.proofs.lemmas.List.Sorted.{IsPermutation-map, IsPermutation-pop_more, IsPermutation-refl}
-use Rattle.std.proofs.lemmas.List.Sorted.{IsPermutation-to_front, IsPermutation-trans}
+use Rattle.std.proofs.lemmas.List.{length-append, reverse-append}
+use Rattle.std.proofs.lemmas.List.Sorted.{IsPermutation-refl}
 use Rattle.linegrep_files.specs.Choices.{AreTakenUp}
 use Rattle.linegrep_files.specs.FolderFacts.{FolderFacts}
 use Rattle.linegrep_files.specs.Folders.{is_folder, name_of, path_of}
 use Rattle.linegrep_files.specs.Trees.{AreAllOf, AreFirst, AreFirstOf, AreLater, AreVisited, IsFolderOf}
-use Rattle.linegrep_files.specs.Trees.{IsPassed, IsWalked, is_file}
+use Rattle.linegrep_files.specs.Orders.{AreDated, AreSorted, none_dated}
+use Rattle.linegrep_files.specs.Trees.{IsPassed, IsWalked}
 use Rattle.linegrep_files.specs.Trees.{after_folder, are_first, are_of_late, first_entry, first_folder, in_folder}
 use Rattle.linegrep_files.specs.Trees.{is_deep, is_names, is_unread, next_entry, next_folder, no_entry}
 use Rattle.linegrep_files.specs.Trees.{no_first, no_visit, of_file, of_folder}
@@ -28,6 +27,7 @@ use Rattle.linegrep_files.specs.declared.order.Dated.{Dated}
 use Rattle.linegrep_files.specs.declared.order.Order.{Order}
 use Rattle.linegrep_files.specs.declared.walk.Route.{Route}
 use Rattle.linegrep_files.specs.declared.walk.Walk.{Walk}
+use Rattle.linegrep_files.proofs.DatedLemmas.{dated-both, dated-paths, files-only, none-sorted}
 
 -- the paths of the files that wait to be visited
 abbrev paths : {S : Type 0} → Walk S → List (List ℕ)
@@ -196,12 +196,13 @@ module _ {S : Type 0} (facts : S → FolderFacts) where
     next : List Entry
     own : List (List ℕ)
     pending : new.pending.items ≡ popped.pending.items ++ next
-    wait : paths new ≡ paths popped ++ own
+    dates : AreDated (facts popped.finder.system.now).times popped.order popped.dated.items own new.dated.items
     is : IsIn popped.finder popped.order choices folder (reverse next) own inside
 
-  none-added : (popped new : Walk S) → new.dated ≡ popped.dated → paths new ≡ paths popped ++ []
-  none-added popped new dated =
-      ap (λ d. map (λ file. string_bytes file.path) d.items) dated ∙ sym (append-nil (paths popped))
+  none-added : (popped new : Walk S) → new.dated ≡ popped.dated
+      → AreDated (facts popped.finder.system.now).times popped.order popped.dated.items [] new.dated.items
+  none-added popped new dated = subst (λ d. AreDated (facts popped.finder.system.now).times popped.order
+      popped.dated.items [] d.items) (sym dated) none_dated
 
   entered-as : (popped : Walk S) (choices : Choices) (folder : List ℕ) (new : Walk S) (inside : Choices)
       → IsEntered facts popped choices folder new inside → IsEnteredAs popped choices folder new inside
@@ -209,7 +210,7 @@ module _ {S : Type 0} (facts : S → FolderFacts) where
     next = [];
     own = [];
     pending = ap (λ l. l.items) pending ∙ sym (append-nil popped.pending.items);
-    wait = none-added popped new dated;
+    dates = none-added popped new dated;
     is = is_deep deep same;
   }
   entered-as popped choices folder new inside (of_unread path error flat listed named pending dated same) =
@@ -217,14 +218,14 @@ module _ {S : Type 0} (facts : S → FolderFacts) where
         next = Unread path error ∷ [];
         own = [];
         pending = pending;
-        wait = none-added popped new dated;
+        dates = none-added popped new dated;
         is = is_unread path error flat listed named same;
       }
   entered-as popped choices folder new inside (of_names names flat listed added) = record {
     next = added.are_added.next;
     own = map path_of (filter (waits popped.order) added.found);
     pending = added.are_added.pending;
-    wait = added.are_added.later;
+    dates = added.are_added.later;
     is = is_names names added.within added.found added.are_added.next flat listed added.are_within
         added.are_found added.are_added.same added.are_added.sorted added.same;
   }
@@ -248,10 +249,12 @@ module _ {S : Type 0} (facts : S → FolderFacts) where
     former : List Entry
     late : List Entry
     mid : Walk S
+    sorted : List Dated
     before : IsBefore begun choices former mid inside
     all : mid.pending.items ≡ []
-    none : walk.pending.items ≡ []
-    are_late : AreLater (paths mid) late (paths walk)
+    none : walk.dated.items ≡ []
+    are_sorted : AreSorted mid.order mid.dated.items sorted
+    files : map (λ file. File file.path) sorted ≡ walk.pending.items ++ reverse late
     are : visited ≡ former ++ late
 
   data IsSoFar (begun : Walk S) (choices : Choices) (visited : List Entry) (walk : Walk S) (inside : Choices) :
@@ -259,70 +262,103 @@ module _ {S : Type 0} (facts : S → FolderFacts) where
     so_far : IsBefore begun choices visited walk inside → IsSoFar begun choices visited walk inside
     since : IsLate begun choices visited walk inside → IsSoFar begun choices visited walk inside
 
-  popped-path : (walk new : Walk S) (file : Dated) → IsPermutation walk.dated.items (new.dated.items ++ file ∷ [])
-      → IsPermutation (paths walk) (string_bytes file.path ∷ paths new)
-  popped-path walk new file same =
-      IsPermutation-trans (paths walk) (paths new ++ string_bytes file.path ∷ []) _
-      (subst (IsPermutation (paths walk)) (map_push (λ (f : Dated). string_bytes f.path) new.dated.items file)
-      (IsPermutation-map (λ (f : Dated). string_bytes f.path) _ _ same))
-      (IsPermutation-to_front (paths new) (string_bytes file.path))
-
-  -- a file that waited is visited
-  late-next : (begun : Walk S) (choices : Choices) (visited : List Entry) (walk new : Walk S) (inside : Choices)
-      (file : Dated) → IsSoFar begun choices visited walk inside → walk.pending.items ≡ []
-      → IsPermutation walk.dated.items (new.dated.items ++ file ∷ []) → new.pending.items ≡ []
-      → IsLate begun choices (visited ++ File file.path ∷ []) new inside
-  late-next begun choices visited walk new inside file (so_far before) empty same pending = record {
+  -- the first file that waited is visited
+  late-first : (begun : Walk S) (choices : Choices) (visited : List Entry) (walk new : Walk S) (inside : Choices)
+      (entry : Entry) (sorted : List Dated) → IsBefore begun choices visited walk inside
+      → walk.pending.items ≡ [] → AreSorted walk.order walk.dated.items sorted
+      → map (λ file. File file.path) sorted ≡ new.pending.items ++ entry ∷ [] → new.dated.items ≡ []
+      → IsLate begun choices (visited ++ entry ∷ []) new inside
+  late-first begun choices visited walk new inside entry sorted before empty are_sorted files none = record {
     former = visited;
-    late = File file.path ∷ [];
+    late = entry ∷ [];
     mid = walk;
+    sorted = sorted;
     before = before;
     all = empty;
-    none = pending;
-    are_late = record { same = popped-path walk new file same; files = search rules };
+    none = none;
+    are_sorted = are_sorted;
+    files = files;
     are = refl;
   }
-  late-next begun choices visited walk new inside file (since was) empty same pending = record {
+
+  -- the next file that waited is visited
+  late-next : (begun : Walk S) (choices : Choices) (visited : List Entry) (walk new : Walk S) (inside : Choices)
+      (entry : Entry) → IsLate begun choices visited walk inside
+      → walk.pending.items ≡ new.pending.items ++ entry ∷ [] → new.dated ≡ walk.dated
+      → IsLate begun choices (visited ++ entry ∷ []) new inside
+  late-next begun choices visited walk new inside entry was is dated = record {
     former = was.former;
-    late = was.late ++ File file.path ∷ [];
+    late = was.late ++ entry ∷ [];
     mid = was.mid;
+    sorted = was.sorted;
     before = was.before;
     all = was.all;
-    none = pending;
-    are_late = record {
-      same = subst (λ l. IsPermutation (paths was.mid) (l ++ paths new))
-          (sym (map_push path_of was.late (File file.path)))
-          (IsPermutation-pop_more (paths was.mid) (map path_of was.late) (paths walk) (paths new)
-          (string_bytes file.path) was.are_late.same (popped-path walk new file same));
-      files = All-push (λ entry. is_file entry ≡ true) was.late (File file.path) was.are_late.files refl;
-    };
-    are = ap (λ l. l ++ File file.path ∷ []) was.are ∙ append_assoc was.former was.late (File file.path ∷ []);
+    none = ap (λ d. d.items) dated ∙ was.none;
+    are_sorted = was.are_sorted;
+    files = was.files ∙ ap (λ l. l ++ reverse was.late) is
+        ∙ append_assoc new.pending.items (entry ∷ []) (reverse was.late)
+        ∙ ap (λ l. new.pending.items ++ l) (sym (reverse-append was.late (entry ∷ [])));
+    are = ap (λ l. l ++ entry ∷ []) was.are ∙ append_assoc was.former was.late (entry ∷ []);
   }
 
-  -- nothing is pending once a file that waited was visited
-  still-before : (begun : Walk S) (choices : Choices) (visited : List Entry) (walk : Walk S) (inside : Choices)
-      (front : List Entry) (entry : Entry) → IsSoFar begun choices visited walk inside
-      → walk.pending.items ≡ front ++ entry ∷ [] → IsBefore begun choices visited walk inside
-  still-before begun choices visited walk inside front entry (so_far before) is = before
-  still-before begun choices visited walk inside front entry (since was) is =
-      absurd (nothing-last front entry (sym was.none ∙ is))
+  -- what was pending is visited
+  pending-next : (begun : Walk S) (choices : Choices) (visited : List Entry) (walk new : Walk S) (inside : Choices)
+      (entry : Entry) → IsSoFar begun choices visited walk inside
+      → walk.pending.items ≡ new.pending.items ++ entry ∷ [] → new.dated ≡ walk.dated → GoesOn walk new
+      → is_folder entry ≡ false → IsSoFar begun choices (visited ++ entry ∷ []) new inside
+  pending-next begun choices visited walk new inside entry (so_far before) is dated on other =
+      so_far (entry_step entry before is dated on other)
+  pending-next begun choices visited walk new inside entry (since was) is dated on other =
+      since (late-next begun choices visited walk new inside entry was is dated)
+
+  -- no folder is among the files that waited
+  folder-next : (begun : Walk S) (choices : Choices) (visited : List Entry) (walk popped new : Walk S)
+      (inside within : Choices) (path : String Global) → IsSoFar begun choices visited walk inside
+      → walk.pending.items ≡ popped.pending.items ++ Folder path ∷ [] → popped.dated ≡ walk.dated
+      → GoesOn walk popped → IsEntered facts popped inside (string_bytes path) new within → GoesOn popped new
+      → IsSoFar begun choices (visited ++ Folder path ∷ []) new within
+  folder-next begun choices visited walk popped new inside within path (so_far before) is dated on entered goes =
+      so_far (folder_step path before is dated on entered goes)
+  folder-next begun choices visited walk popped new inside within path (since was) is dated on entered goes =
+      absurd (files-only was.sorted popped.pending.items (reverse was.late) path
+      (was.files ∙ ap (λ l. l ++ reverse was.late) is))
+
+  -- the files that waited are visited from the first one on
+  dated-next : (begun : Walk S) (choices : Choices) (visited : List Entry) (walk new : Walk S) (inside : Choices)
+      (entry : Entry) (sorted : List Dated) → IsSoFar begun choices visited walk inside
+      → walk.pending.items ≡ [] → AreSorted walk.order walk.dated.items sorted
+      → map (λ file. File file.path) sorted ≡ new.pending.items ++ entry ∷ [] → new.dated.items ≡ []
+      → IsLate begun choices (visited ++ entry ∷ []) new inside
+  dated-next begun choices visited walk new inside entry sorted (so_far before) empty are files none =
+      late-first begun choices visited walk new inside entry sorted before empty are files none
+  dated-next begun choices visited walk new inside entry sorted (since was) empty are files none =
+      absurd (nothing-last new.pending.items entry
+      (sym (ap (map (λ file. File file.path)) (none-sorted walk.order walk.dated.items sorted are was.none))
+      ∙ files))
 
   walked-so-far : (begun : Walk S) (choices : Choices) (visited : List Entry) (walk : Walk S) (inside : Choices)
       → IsWalked facts begun choices visited walk inside → IsSoFar begun choices visited walk inside
   walked-so-far begun choices _ _ inside no_visit = so_far no_step
   walked-so-far begun choices _ _ inside
-      (of_file {visited = visited} {walk = walk} {new = new} entry before (of_pending _ memory is dated on) other) =
-      so_far (entry_step entry (still-before begun choices visited walk inside _ entry
-      (walked-so-far begun choices visited walk inside before) is) is dated on other)
+      (of_file {visited = visited} {walk = walk} {new = new} entry before
+      (of_pending _ memory is dated on goes_on) other) =
+      pending-next begun choices visited walk new inside entry
+      (walked-so-far begun choices visited walk inside before) is dated on other
   walked-so-far begun choices _ _ inside
-      (of_file {visited = visited} {walk = walk} {new = new} entry before (of_dated file memory empty same pending on) other) =
-      since (late-next begun choices visited walk new inside file
-      (walked-so-far begun choices visited walk inside before) empty same pending)
+      (of_file {visited = visited} {walk = walk} {new = new} entry before
+      (of_dated _ sorted memory empty are files none on goes_on) other) =
+      since (dated-next begun choices visited walk new inside entry sorted
+      (walked-so-far begun choices visited walk inside before) empty are files none)
   walked-so-far begun choices _ _ within
-      (of_folder {visited = visited} {walk = walk} {popped = popped} {inside = inside} path before
-      (of_pending _ memory is dated on) entered goes) =
-      so_far (folder_step path (still-before begun choices visited walk inside _ (Folder path)
-      (walked-so-far begun choices visited walk inside before) is) is dated on entered goes)
+      (of_folder {visited = visited} {walk = walk} {popped = popped} {new = new} {inside = inside} path before
+      (of_pending _ memory is dated on goes_on) entered goes) =
+      folder-next begun choices visited walk popped new inside within path
+      (walked-so-far begun choices visited walk inside before) is dated on entered goes
+  walked-so-far begun choices _ _ within
+      (of_folder {visited = visited} {walk = walk} {popped = popped} {new = new} {inside = inside} path before
+      (of_dated _ sorted memory empty are files none on goes_on) entered goes) =
+      absurd (files-only sorted popped.pending.items [] path
+      (files ∙ sym (append-nil (popped.pending.items ++ Folder path ∷ []))))
 
   -- a walk asks as it did at its start
   kept : (begun : Walk S) (choices : Choices) (walk : Walk S) (inside : Choices) (visited : List Entry)
@@ -334,6 +370,35 @@ module _ {S : Type 0} (facts : S → FolderFacts) where
   kept begun choices _ _ _ (folder_step {visited = visited} {walk = walk} {inside = inside} path before is dated on entered goes) =
       let old = kept begun choices walk inside visited before in
       record { finder = goes.finder ∙ on.finder ∙ old.finder; order = goes.order ∙ on.order ∙ old.order }
+
+  -- the files that wait have their times
+  dated-so-far : (begun : Walk S) (choices : Choices) (walk : Walk S) (inside : Choices) (visited : List Entry)
+      → begun.dated.items ≡ [] → IsBefore begun choices visited walk inside
+      → AreDated (facts begun.finder.system.now).times begun.order [] (paths walk) walk.dated.items
+  dated-so-far begun choices _ _ _ none no_step =
+      subst (λ l. AreDated (facts begun.finder.system.now).times begun.order []
+      (map (λ file. string_bytes file.path) l) l) (sym none) none_dated
+  dated-so-far begun choices _ inside _ none (entry_step {visited = visited} {walk = walk} entry before is dated on other) =
+      subst (λ d. AreDated (facts begun.finder.system.now).times begun.order []
+      (map (λ file. string_bytes file.path) d.items) d.items) (sym dated)
+      (dated-so-far begun choices walk inside visited none before)
+  dated-so-far begun choices _ within _ none
+      (folder_step {visited = visited} {walk = walk} {popped = popped} {new = new} {inside = inside} path
+      before is dated on entered goes) =
+      let old = kept begun choices walk inside visited before in
+      let added = entered-as popped inside (string_bytes path) new within entered in
+      subst (λ l. AreDated (facts begun.finder.system.now).times begun.order [] l new.dated.items)
+      (sym (dated-paths (facts popped.finder.system.now).times popped.order popped.dated.items added.own
+      new.dated.items added.dates))
+      (dated-both (facts begun.finder.system.now).times begun.order [] (paths popped) popped.dated.items added.own
+      new.dated.items
+      (subst (λ d. AreDated (facts begun.finder.system.now).times begun.order []
+      (map (λ file. string_bytes file.path) d.items) d.items) (sym dated)
+      (dated-so-far begun choices walk inside visited none before))
+      (subst (λ f. AreDated (facts f.system.now).times begun.order popped.dated.items added.own new.dated.items)
+      (on.finder ∙ old.finder)
+      (subst (λ o. AreDated (facts popped.finder.system.now).times o popped.dated.items added.own new.dated.items)
+      (on.order ∙ old.order) added.dates)))
 
   -- what was visited of a walk that went on after the next entry, if memory is left
   pub walked-next : (begun : Walk S) (choices : Choices) (visited : List Entry) (walk : Walk S)
@@ -386,7 +451,8 @@ module _ {S : Type 0} (facts : S → FolderFacts) where
       subst (P choices (reverse begun.pending.items) ((visited ++ Folder path ∷ []) ++ rest))
       (sym (append_assoc (paths walk) added.own waiting)
       ∙ ap (λ l. (l ++ added.own) ++ waiting) (sym (ap (λ d. map (λ file. string_bytes file.path) d.items) dated))
-      ∙ ap (λ l. l ++ waiting) (sym added.wait))
+      ∙ ap (λ l. l ++ waiting) (sym (dated-paths (facts popped.finder.system.now).times popped.order
+      popped.dated.items added.own new.dated.items added.dates)))
       (subst (λ l. P choices (reverse begun.pending.items) l (paths walk ++ (added.own ++ waiting)))
       (sym (append_assoc visited (Folder path ∷ []) rest))
       (walks-on P begun of_one of_inner choices walk inside visited (Folder path ∷ rest) (added.own ++ waiting) none
@@ -434,6 +500,30 @@ module _ {S : Type 0} (facts : S → FolderFacts) where
       (subst (λ l. AreOf begun.finder begun.order inside l [] [] inside) (sym (ap reverse pending))
       (no_entry inside))))))
 
+  -- the files that waited are visited in the order of their times
+  are-later : (system : Bor S) (route : Route) (folder : List ℕ) (begun mid : Walk S)
+      (choices inside : Choices) (former late left : List Entry) (sorted : List Dated)
+      → IsBegun system route folder begun → IsBefore begun choices former mid inside
+      → AreSorted mid.order mid.dated.items sorted → map (λ file. File file.path) sorted ≡ left ++ reverse late
+      → AreLater (facts system.now) route.order (paths mid) late left
+  are-later system route folder begun mid choices inside former late left sorted is before are files =
+      as-begun (λ folders by top. AreLater folders by.order (paths mid) late left) system route folder begun is
+      (record {
+        dated = mid.dated.items;
+        sorted = sorted;
+        are_dated = dated-so-far begun choices mid inside former is.dated before;
+        are_sorted = subst (λ o. AreSorted o mid.dated.items sorted) (kept begun choices mid inside former before).order
+            are;
+        are = files;
+      })
+
+  -- nothing that waited is sorted, if nothing waited
+  are-none : (order : Order) (dated : List Dated) → dated ≡ [] → AreSorted order dated []
+  are-none order dated none = record {
+    same = subst (λ l. IsPermutation l []) (sym none) (IsPermutation-refl []);
+    in_order = λ k d low high. absurd (omega (arith, high));
+  }
+
   all-of : (system : Bor S) (route : Route) (folder : List ℕ) (begun walk : Walk S) (first choices inside : Choices)
       (visited : List Entry) → AreTakenUp (facts system.now) (name_of folder) first choices
       → IsBegun system route folder begun → IsSoFar begun choices visited walk inside
@@ -450,10 +540,8 @@ module _ {S : Type 0} (facts : S → FolderFacts) where
     late = [];
     waiting = paths walk;
     are_visited = all-before system route folder begun walk choices inside visited is before pending;
-    are_late = record {
-      same = subst (λ l. IsPermutation (map (λ (f : Dated). string_bytes f.path) l) []) (sym dated) (IsPermutation-refl []);
-      files = search rules;
-    };
+    are_late = are-later system route folder begun walk choices inside visited [] [] [] is before
+        (are-none walk.order walk.dated.items dated) refl;
     are = sym (append-nil visited);
   }
   all-of system route folder begun walk first choices inside visited taken is (since was) pending dated = record {
@@ -468,25 +556,22 @@ module _ {S : Type 0} (facts : S → FolderFacts) where
     late = was.late;
     waiting = paths was.mid;
     are_visited = all-before system route folder begun was.mid choices inside was.former is was.before was.all;
-    are_late = record {
-      same = subst (λ l. IsPermutation (paths was.mid) (map path_of was.late ++ map (λ (f : Dated). string_bytes f.path) l))
-          dated was.are_late.same;
-      files = was.are_late.files;
-    };
+    are_late = are-later system route folder begun was.mid choices inside was.former was.late [] was.sorted is
+        was.before was.are_sorted (was.files ∙ ap (λ l. l ++ reverse was.late) pending);
     are = was.are;
   }
 
   pub walks-end : (system : Bor S) (route : Route) (folder : List ℕ) (begun walk end : Walk S)
       (first choices inside : Choices) (visited : List Entry)
       → AreTakenUp (facts system.now) (name_of folder) first choices → IsBegun system route folder begun
-      → IsWalked facts begun choices visited walk inside → walk.is_out_of_memory ≡ false
-      → IsPopped walk None end → AreAllOf (facts system.now) route first folder visited
-  walks-end system route folder begun walk end first choices inside visited taken is walked memory
-      (of_end left pending dated still) =
+      → IsWalked facts begun choices visited walk inside → IsPopped walk None end
+      → end.is_out_of_memory ≡ false → AreAllOf (facts system.now) route first folder visited
+  walks-end system route folder begun walk end first choices inside visited taken is walked
+      (of_end left pending dated still) memory =
       all-of system route folder begun walk first choices inside visited taken is
       (walked-so-far begun choices visited walk inside walked) pending dated
-  walks-end system route folder begun walk end first choices inside visited taken is walked memory
-      (of_memory out still) = absurd (true≢false (sym out ∙ memory))
+  walks-end system route folder begun walk end first choices inside visited taken is walked (of_memory out) memory =
+      absurd (true≢false (sym out ∙ memory))
 
   -- an entry comes first, whatever it is
   comes-first : (folders : FolderFacts) (route : Route) (top : List ℕ) (root : ℕ) (choices : Choices)
@@ -497,13 +582,13 @@ module _ {S : Type 0} (facts : S → FolderFacts) where
   comes-first folders route top root choices (Unread path error) later =
       first_entry (Unread path error) refl (no_first choices later)
 
-  pub walks-begin : (system : Bor S) (route : Route) (folder : List ℕ) (begun walk new : Walk S)
+  -- what was visited before a file that waited, and an entry that was pending
+  begins-before : (system : Bor S) (route : Route) (folder : List ℕ) (begun walk new : Walk S)
       (first choices inside : Choices) (visited : List Entry) (entry : Entry)
       → AreTakenUp (facts system.now) (name_of folder) first choices → IsBegun system route folder begun
-      → IsWalked facts begun choices visited walk inside → IsPopped walk (Some entry) new
+      → IsBefore begun choices visited walk inside → walk.pending.items ≡ new.pending.items ++ entry ∷ []
       → AreFirstOf (facts system.now) route first folder (visited ++ entry ∷ [])
-  walks-begin system route folder begun walk new first choices inside visited entry taken is walked
-      (of_pending _ memory popped dated on) =
+  begins-before system route folder begun walk new first choices inside visited entry taken is before popped =
       are_first choices is.path begun.finder.root taken is.is is.root
       (as-begun (λ folders by top. AreFirst folders by top begun.finder.root choices (Folder is.path ∷ [])
       (visited ++ entry ∷ [])) system route folder begun is
@@ -512,14 +597,44 @@ module _ {S : Type 0} (facts : S → FolderFacts) where
       (λ by one later rest waiting other are. first_entry one other are)
       (λ by within path inner later rest own waiting entered are.
       folder-first _ _ _ _ by within path inner later rest own entered (first-twice _ _ _ _ within inner later rest are))
-      choices walk inside visited (entry ∷ []) [] is.dated
-      (still-before begun choices visited walk inside _ entry (walked-so-far begun choices visited walk inside walked) popped)
+      choices walk inside visited (entry ∷ []) [] is.dated before
       (subst (λ l. AreBegin begun.finder begun.order inside l (entry ∷ [])) (sym (first-popped _ _ entry popped))
       (comes-first _ _ _ _ inside entry (reverse new.pending.items))))))
-  walks-begin system route folder begun walk new first choices inside visited entry taken is walked
-      (of_dated file memory empty same pending on) =
-      let late = late-next begun choices visited walk new inside file
-      (walked-so-far begun choices visited walk inside walked) empty same pending in
+
+  -- what was visited up to a file that waited
+  begins-late : (system : Bor S) (route : Route) (folder : List ℕ) (begun new : Walk S)
+      (first choices inside : Choices) (visited : List Entry)
+      → AreTakenUp (facts system.now) (name_of folder) first choices → IsBegun system route folder begun
+      → IsLate begun choices visited new inside → AreFirstOf (facts system.now) route first folder visited
+  begins-late system route folder begun new first choices inside visited taken is late =
       subst (AreFirstOf (facts system.now) route first folder) (sym late.are)
       (are_of_late choices is.path begun.finder.root taken is.is is.root
-      (all-before system route folder begun late.mid choices inside late.former is late.before late.all) late.are_late)
+      (all-before system route folder begun late.mid choices inside late.former is late.before late.all)
+      (are-later system route folder begun late.mid choices inside late.former late.late new.pending.items late.sorted
+      is late.before late.are_sorted late.files))
+
+  begins-next : (system : Bor S) (route : Route) (folder : List ℕ) (begun walk new : Walk S)
+      (first choices inside : Choices) (visited : List Entry) (entry : Entry)
+      → AreTakenUp (facts system.now) (name_of folder) first choices → IsBegun system route folder begun
+      → IsSoFar begun choices visited walk inside → walk.pending.items ≡ new.pending.items ++ entry ∷ []
+      → new.dated ≡ walk.dated → AreFirstOf (facts system.now) route first folder (visited ++ entry ∷ [])
+  begins-next system route folder begun walk new first choices inside visited entry taken is (so_far before) popped dated =
+      begins-before system route folder begun walk new first choices inside visited entry taken is before popped
+  begins-next system route folder begun walk new first choices inside visited entry taken is (since was) popped dated =
+      begins-late system route folder begun new first choices inside (visited ++ entry ∷ []) taken is
+      (late-next begun choices visited walk new inside entry was popped dated)
+
+  pub walks-begin : (system : Bor S) (route : Route) (folder : List ℕ) (begun walk new : Walk S)
+      (first choices inside : Choices) (visited : List Entry) (entry : Entry)
+      → AreTakenUp (facts system.now) (name_of folder) first choices → IsBegun system route folder begun
+      → IsWalked facts begun choices visited walk inside → IsPopped walk (Some entry) new
+      → AreFirstOf (facts system.now) route first folder (visited ++ entry ∷ [])
+  walks-begin system route folder begun walk new first choices inside visited entry taken is walked
+      (of_pending _ memory popped dated on goes_on) =
+      begins-next system route folder begun walk new first choices inside visited entry taken is
+      (walked-so-far begun choices visited walk inside walked) popped dated
+  walks-begin system route folder begun walk new first choices inside visited entry taken is walked
+      (of_dated _ sorted memory empty are files none on goes_on) =
+      begins-late system route folder begun new first choices inside (visited ++ entry ∷ []) taken is
+      (dated-next begun choices visited walk new inside entry sorted
+      (walked-so-far begun choices visited walk inside walked) empty are files none)

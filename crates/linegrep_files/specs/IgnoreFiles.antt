@@ -4,9 +4,12 @@ use Rattle.std.specs.Prelude.{◌≡◌, ◌≢◌, ℕ, ◌+◌, Bool, ◌&&◌
 use Rattle.std.specs.Prelude.{take, codes, true, false, is_ok}
 use Rattle.std.specs.Prelude.{not, if◌then◌else◌, MatchBool, Result, Ok, Err, Vec, filter, nat_lt}
 use Rattle.std.specs.Global.{Global}
+use Rattle.std.specs.IoError.{error_kind}
 use Rattle.std.specs.List.{list_any}
 use Rattle.std.specs.Str.{bytes_eq}
 use Rattle.std.specs.declared.io.Error.{Error}
+use Rattle.std.specs.declared.io.ErrorKind.{ErrorKind}
+use Rattle.std.specs.declared.io.ErrorKind.TheVariants.{IsADirectory, NotADirectory, NotFound}
 use Rattle.grep_ignore.specs.Classes.{is_empty}
 use Rattle.grep_ignore.specs.Layers.{IsInserted}
 use Rattle.grep_ignore.specs.Lines.{AreOfLines, lines_of}
@@ -97,6 +100,16 @@ pub record HaveFaults (ignores_case : Bool) (contents : List ℕ) (count : ℕ) 
   pub are : AreOfLines ignores_case 1 (lines_of contents) rules faults
   pub count_is : count ≡ length faults
 
+-- an error is that there is no file at a path
+abbrev pub is_absent : Error → Bool
+is_absent error = is_absence (error_kind error)
+  where
+    is_absence : ErrorKind → Bool
+    is_absence NotFound = true
+    is_absence NotADirectory = true
+    is_absence IsADirectory = true
+    is_absence _ = false
+
 -- By what reading a file may return.
 module _ (reads : List ℕ → Result (Vec ℕ Global) Error → Type 0) where
   -- the file at a path was read, and the rules of its lines count
@@ -109,9 +122,10 @@ module _ (reads : List ℕ → Result (Vec ℕ Global) Error → Type 0) where
         → IsFileRead ignores_case origin depth start path old new
 
   -- how much is wrong with the file at a path: each of its lines that isn't well formed; or that it
-  -- can't be read, which is one fault if the file is needed, and may be one if it isn't
+  -- can't be read, which is one fault unless the file isn't needed and isn't there
   pub data AreFaultsOf (ignores_case is_needed : Bool) (path : List ℕ) (count : ℕ) : Type 0 where
-    of_absent : (error : Error) → reads path (Err error) → (is_needed ≡ true → count ≡ 1)
+    of_failed : (error : Error) → reads path (Err error)
+        → count ≡ (if is_needed || not (is_absent error) then 1 else 0)
         → AreFaultsOf ignores_case is_needed path count
     of_contents : (contents : Vec ℕ Global) → reads path (Ok contents)
         → HaveFaults ignores_case contents.items count

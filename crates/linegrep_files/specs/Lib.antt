@@ -17,5 +17,6 @@ pub mod ParentFiles
 pub mod Paths
 pub mod Trees
 pub mod TypeDefinitions
+pub mod UserFiles
 pub mod Walks
 pub mod Words

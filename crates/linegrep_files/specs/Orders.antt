@@ -1,11 +1,14 @@
 -- In which order files are found.
-use Rattle.std.specs.Prelude.{ℕ, Bool, true, false, ◌||◌, ◌&&◌, not, if◌then◌else◌, List, None}
-use Rattle.std.specs.Prelude.{Option, Some, codes}
+use Rattle.std.specs.Prelude.{◌≡◌, ℕ, Bool, true, false, ◌&&◌, not, if◌then◌else◌, List}
+use Rattle.std.specs.Prelude.{[], ◌∷◌, ◌++◌, length, None, Option, Some, Result, Ok, Err, codes}
+use Rattle.std.specs.Prelude.{string_bytes}
 use Rattle.std.specs.Borrow.{Bor}
 use Rattle.std.specs.Cmp.Lexicographic.{slice_cmp}
-use Rattle.std.specs.Ordering.{nat_cmp, ordering_then}
+use Rattle.std.specs.List.Sorted.{IsPermutation, IsSortedBy}
+use Rattle.std.specs.Ordering.{is_lt, nat_cmp, ordering_then}
 use Rattle.std.specs.declared.cmp.Ordering.{Ordering}
 use Rattle.std.specs.declared.cmp.Ordering.TheVariants.{Equal, Greater, Less}
+use Rattle.std.specs.declared.io.Error.{Error}
 use Rattle.std.specs.Str.{bytes_eq}
 use Rattle.linegrep_files.specs.declared.order.Dated.{Dated}
 use Rattle.linegrep_files.specs.declared.order.Order.{Order}
@@ -19,12 +22,6 @@ is_time _ = true
 
 abbrev pub is_by_time : Order → Bool
 is_by_time order = is_time order.key
-
--- a name of an order names a time
-abbrev pub names_time : Option (Bor (List ℕ)) → Bool
-names_time None = false
-names_time (Some name) = bytes_eq name.now (codes "modified") || bytes_eq name.now (codes "accessed")
-    || bytes_eq name.now (codes "created")
 
 -- the order of paths
 abbrev pub by_path : Order
@@ -59,3 +56,34 @@ abbrev pub times_order : Order → Dated → Dated → Ordering
 times_order order one other = ordering_then
     (if order.is_reversed then by_time other.time one.time else by_time one.time other.time)
     (nat_cmp one.place other.place)
+
+-- some files are sorted by their times, the first one last
+pub record AreSorted (order : Order) (dated sorted : List Dated) : Type 0 where
+  pub same : IsPermutation dated sorted
+  pub in_order : IsSortedBy (λ one other. is_lt (times_order order other one)) sorted
+
+-- By what a system may say of the times of files.
+module _ (times : SortKey → List ℕ → Result (Option ℕ) Error → Type 0) where
+  -- the time of the file at a path: what the system says, or none if it fails
+  pub data IsTimeOf (order : Order) (path : List ℕ) : Option ℕ → Type 0 where
+    of_time : (time : Option ℕ) → times order.key path (Ok time) → IsTimeOf order path time
+    of_failure : (error : Error) → times order.key path (Err error) → IsTimeOf order path None
+
+  -- files that wait, after others that do, in the order in which they are found: each has the time
+  -- that the system says, and how many files were found before it
+  pub data AreDated (order : Order) (before : List Dated) : List (List ℕ) → List Dated → Type 0 where
+    none_dated : AreDated order before [] before
+    next_dated : {paths : List (List ℕ)} {dated : List Dated} (file : Dated)
+        → AreDated order before paths dated → file.place ≡ length dated
+        → IsTimeOf order (string_bytes file.path) file.time
+        → AreDated order before (paths ++ string_bytes file.path ∷ []) (dated ++ file ∷ [])
+
+  -- the system has an order: it knows the current folder's time if files are sorted by times
+  abbrev pub HasOrder : Order → Type 0
+  HasOrder order = is_by_time order ≡ true
+      → (time : Option ℕ) × times order.key (codes ".") (Ok time)
+
+  -- the system doesn't have an order of times, since it fails at the current folder's
+  abbrev pub LacksOrder : Order → Type 0
+  LacksOrder order = (is_by_time order ≡ true)
+      × ((error : Error) × times order.key (codes ".") (Err error))

@@ -1,8 +1,8 @@
 -- Which ignore files count when a folder is taken up, by what a system says of them: those that are
 -- named, the user's own, and those of the folders that the folder is in.
-use Rattle.std.specs.Prelude.{◌≡◌, ◌⊎◌, ℕ, ◌+◌, Bool, true, ◌&&◌, ◌||◌, ◌++◌, ◌∷◌, ◌==◌, []}
+use Rattle.std.specs.Prelude.{◌≡◌, ℕ, ◌+◌, Bool, true, ◌&&◌, ◌||◌, ◌++◌, ◌∷◌, ◌==◌, []}
 use Rattle.std.specs.Prelude.{List, codes, drop, filter, if◌then◌else◌, length, map, nat_lt, take}
-use Rattle.std.specs.Prelude.{slice_index, MatchBool, Ok, Err, String, string_bytes}
+use Rattle.std.specs.Prelude.{slice_index, MatchBool, None, Some, Ok, Err, String, string_bytes}
 use Rattle.std.specs.List.{range_with_len}
 use Rattle.std.specs.Str.{bytes_eq}
 use Rattle.std.specs.Borrow.{Bor}
@@ -15,6 +15,7 @@ use Rattle.linegrep_files.specs.FolderFacts.{FolderFacts}
 use Rattle.linegrep_files.specs.IgnoreFiles.{AreFilesRead, IsFileRead, IsTopAt, ReadsTheSame}
 use Rattle.linegrep_files.specs.IgnoreFiles.{depth_in, is_idle}
 use Rattle.linegrep_files.specs.Paths.{IsRoot}
+use Rattle.linegrep_files.specs.UserFiles.{IsUserFile}
 use Rattle.linegrep_files.specs.declared.ignores.Ignores.{Ignores}
 use Rattle.linegrep_files.specs.declared.ignores.Marks.{Marks}
 use Rattle.linegrep_files.specs.declared.ignores.Sources.{Sources}
@@ -118,11 +119,12 @@ module _ (folders : FolderFacts) where
         → IsFileRead folders.reads ignores_case Named 0 0 path.now mid new
         → AreNamedRead ignores_case (paths ++ path ∷ []) new
 
-  -- the user's own ignore file for all repositories was read, if there is one, at a path that isn't
-  -- known
-  abbrev pub IsGlobalRead : Bool → List Layer → List Layer → Type 0
-  IsGlobalRead ignores_case old new = (new ≡ old)
-      ⊎ ((path : List ℕ) × IsFileRead folders.reads ignores_case GitGlobal 0 0 path old new)
+  -- the user's own ignore file for all repositories was read, if there is one
+  pub data IsGlobalRead (ignores_case : Bool) (old : List Layer) : List Layer → Type 0 where
+    no_global : IsUserFile folders None → IsGlobalRead ignores_case old old
+    of_global : {new : List Layer} (path : List ℕ) → IsUserFile folders (Some path)
+        → IsFileRead folders.reads ignores_case GitGlobal 0 0 path old new
+        → IsGlobalRead ignores_case old new
 
   -- ignore files are those of some sources, and those at some paths
   pub record AreIgnores (sources : Sources) (paths : List (Bor (List ℕ))) (ignores : Ignores) :

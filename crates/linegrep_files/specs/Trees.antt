@@ -3,7 +3,6 @@ use Rattle.std.specs.Prelude.{◌≡◌, ℕ, Bool, true, false, ◌++◌, ◌�
 use Rattle.std.specs.Prelude.{Ok, Err, String, Vec, filter, map, not, string_bytes}
 use Rattle.std.specs.Borrow.{Bor}
 use Rattle.std.specs.Global.{Global}
-use Rattle.std.specs.List.{All}
 use Rattle.std.specs.List.Sorted.{IsPermutation, IsSortedBy}
 use Rattle.std.specs.declared.io.Error.{Error}
 use Rattle.linegrep_files.specs.Choices.{AreTakenUp, IsWithin, SaysTheSame}
@@ -11,19 +10,16 @@ use Rattle.linegrep_files.specs.FolderFacts.{FolderFacts}
 use Rattle.linegrep_files.specs.Folders.{AreFound, below_of, depth_of, is_folder, listed_path}
 use Rattle.linegrep_files.specs.Folders.{name_of, names_of, path_of}
 use Rattle.linegrep_files.specs.Limits.{allows_depth}
+use Rattle.linegrep_files.specs.Orders.{AreDated, AreSorted}
 use Rattle.linegrep_files.specs.Paths.{IsRoot}
 use Rattle.linegrep_files.specs.Walks.{GoesOn, IsBegun, IsEntered, IsPopped, comes_before, waits}
 use Rattle.linegrep_files.specs.declared.choices.Choices.{Choices}
 use Rattle.linegrep_files.specs.declared.entry.Entry.{Entry}
 use Rattle.linegrep_files.specs.declared.entry.Entry.TheVariants.{File, Folder, Unread}
+use Rattle.linegrep_files.specs.declared.order.Dated.{Dated}
+use Rattle.linegrep_files.specs.declared.order.Order.{Order}
 use Rattle.linegrep_files.specs.declared.walk.Route.{Route}
 use Rattle.linegrep_files.specs.declared.walk.Walk.{Walk}
-
--- what is found is a file
-abbrev pub is_file : Entry → Bool
-is_file (File path) = true
-is_file (Folder path) = false
-is_file (Unread path error) = false
 
 -- By what a system may say of folders and files, and by the route of a walk. The system knows the
 -- walk's own folder by the name `top`, and the path of that has `root` bytes, without the slashes
@@ -86,11 +82,15 @@ module _ (folders : FolderFacts) (route : Route) (top : List ℕ) (root : ℕ) w
         → AreVisited inside inner below under mid → AreFirst mid later visited
         → AreFirst choices (Folder path ∷ later) (Folder path ∷ (below ++ visited))
 
--- the files that wait are visited once nothing else is left, each once, but for some that are left
--- over
-pub record AreLater (waiting : List (List ℕ)) (late : List Entry) (left : List (List ℕ)) : Type 0 where
-  pub same : IsPermutation waiting (map path_of late ++ left)
-  pub files : All (λ entry. is_file entry ≡ true) late
+-- the files that wait are visited once nothing else is left, each once, in the order of their times,
+-- but for some that are left over. The list `sorted` has the first one last
+pub record AreLater (folders : FolderFacts) (order : Order) (waiting : List (List ℕ))
+    (late left : List Entry) : Type 0 where
+  pub dated : List Dated
+  pub sorted : List Dated
+  pub are_dated : AreDated folders.times order [] waiting dated
+  pub are_sorted : AreSorted order dated sorted
+  pub are : map (λ file. File file.path) sorted ≡ left ++ reverse late
 
 -- By what a system may say of folders and files.
 module _ (folders : FolderFacts) (route : Route) (choices : Choices) (folder : List ℕ) where
@@ -109,7 +109,7 @@ module _ (folders : FolderFacts) (route : Route) (choices : Choices) (folder : L
     pub waiting : List (List ℕ)
     pub are_visited : AreVisited folders route (name_of folder) root begun (Folder path ∷ []) former
         waiting after
-    pub are_late : AreLater waiting late []
+    pub are_late : AreLater folders route.order waiting late []
     pub are : visited ≡ former ++ late
 
   -- the beginning of what is visited of a folder
@@ -120,12 +120,12 @@ module _ (folders : FolderFacts) (route : Route) (choices : Choices) (folder : L
         → IsRoot folder root
         → AreFirst folders route (name_of folder) root begun (Folder path ∷ []) visited
         → AreFirstOf visited
-    are_of_late : {former late : List Entry} {waiting left : List (List ℕ)} {after : Choices}
+    are_of_late : {former late left : List Entry} {waiting : List (List ℕ)} {after : Choices}
         (begun : Choices) (path : String Global) (root : ℕ)
         → AreTakenUp folders (name_of folder) choices begun → string_bytes path ≡ folder
         → IsRoot folder root
         → AreVisited folders route (name_of folder) root begun (Folder path ∷ []) former waiting after
-        → AreLater waiting late left → AreFirstOf (former ++ late)
+        → AreLater folders route.order waiting late left → AreFirstOf (former ++ late)
 
 -- By what a system may say of folders and files.
 module _ {S : Type 0} (facts : S → FolderFacts) where
@@ -155,8 +155,8 @@ module _ {S : Type 0} (facts : S → FolderFacts) where
       (first choices inside : Choices) (visited : List Entry)
       → AreTakenUp (facts system.now) (name_of folder) first choices
       → IsBegun system route folder begun
-      → IsWalked begun choices visited walk inside → walk.is_out_of_memory ≡ false
-      → IsPopped walk None end → AreAllOf (facts system.now) route first folder visited
+      → IsWalked begun choices visited walk inside → IsPopped walk None end
+      → end.is_out_of_memory ≡ false → AreAllOf (facts system.now) route first folder visited
 
   -- when an entry is popped, what the walk has visited so far, and this entry, are the beginning of
   -- what is visited of its folder

@@ -1,6 +1,6 @@
 -- What a walk through folders finds, in which order.
 use Rattle.std.specs.Prelude.{◌≡◌, ℕ, Bool, true, false, not, ◌++◌, ◌∷◌, [], List, map, filter}
-use Rattle.std.specs.Prelude.{None, Option, Some, Ok, Err, String, Vec, string_bytes}
+use Rattle.std.specs.Prelude.{None, Option, Result, Some, Ok, Err, String, Vec, string_bytes}
 use Rattle.std.specs.Borrow.{Bor}
 use Rattle.std.specs.Global.{Global}
 use Rattle.std.specs.List.Sorted.{IsPermutation, IsSortedBy}
@@ -12,13 +12,14 @@ use Rattle.linegrep_files.specs.Folders.{AreFound, below_of, depth_of, listed_pa
 use Rattle.linegrep_files.specs.Folders.{names_of}
 use Rattle.linegrep_files.specs.Folders.{path_of}
 use Rattle.linegrep_files.specs.Limits.{allows_depth}
-use Rattle.linegrep_files.specs.Orders.{is_by_time, order_of}
+use Rattle.linegrep_files.specs.Orders.{AreDated, AreSorted, is_by_time, order_of}
 use Rattle.linegrep_files.specs.Paths.{IsRoot}
 use Rattle.linegrep_files.specs.declared.choices.Choices.{Choices}
 use Rattle.linegrep_files.specs.declared.entry.Entry.{Entry}
 use Rattle.linegrep_files.specs.declared.entry.Entry.TheVariants.{File, Folder, Unread}
 use Rattle.linegrep_files.specs.declared.order.Dated.{Dated}
 use Rattle.linegrep_files.specs.declared.order.Order.{Order}
+use Rattle.linegrep_files.specs.declared.order.SortKey.{SortKey}
 use Rattle.linegrep_files.specs.declared.walk.Route.{Route}
 use Rattle.linegrep_files.specs.declared.walk.Walk.{Walk}
 
@@ -58,15 +59,15 @@ pub record IsBegun {S : Type 0} (system : Bor S) (route : Route) (folder : List 
     pub dated : walk.dated.items ≡ []
 
 -- what was found is added. It is visited next, in the order of paths, and what is visited first
--- stands last. The files that are sorted by a time are visited once nothing else is left
-pub record AreAdded {S : Type 0} (old : Walk S) (found : List Entry) (new : Walk S) : Type 0 where
+-- comes last. The files that are sorted by a time are visited once nothing else is left
+pub record AreAdded {S : Type 0} (times : SortKey → List ℕ → Result (Option ℕ) Error → Type 0)
+    (old : Walk S) (found : List Entry) (new : Walk S) : Type 0 where
   pub next : List Entry
   pub same : IsPermutation (filter (λ entry. not (waits old.order entry)) found) next
   pub sorted : IsSortedBy (λ one other. comes_before old.order other one) next
   pub pending : new.pending.items ≡ old.pending.items ++ next
-  pub later : map (λ file. string_bytes file.path) new.dated.items
-      ≡ map (λ file. string_bytes file.path) old.dated.items
-      ++ map path_of (filter (waits old.order) found)
+  pub later : AreDated times old.order old.dated.items
+      (map path_of (filter (waits old.order) found)) new.dated.items
 
 -- a walk asks the same system by the same route, and what waits to be visited stays
 pub record GoesOn {S : Type 0} (old new : Walk S) : Type 0 where
@@ -82,7 +83,7 @@ pub record AreNamesAdded {S : Type 0} (facts : S → FolderFacts) (old : Walk S)
       (below_of old.finder.root folder) names choices within
   pub are_found : AreFound (facts old.finder.system.now).looks old.finder.follows_links
       (string_bytes old.finder.top) old.finder.root within.limits within folder (names_of names) found
-  pub are_added : AreAdded old found new
+  pub are_added : AreAdded (facts old.finder.system.now).times old found new
   pub same : SaysTheSame within inside
 
 -- By what a system may say of folders and files.
@@ -107,16 +108,17 @@ module _ {S : Type 0} (facts : S → FolderFacts) where
         → AreNamesAdded facts old choices folder names.items new inside
         → IsEntered old choices folder new inside
 
--- what is visited next is the last entry of those that were added. If there is none, it is one of
--- the files that are sorted by a time, and each of these is visited once
+-- what is visited next is the last entry of those that were added. If there is none, the files that
+-- are sorted by a time are sorted, and added so that the first one comes last
 pub data IsPopped {S : Type 0} (old : Walk S) : Option Entry → Walk S → Type 0 where
   of_pending : {new : Walk S} (entry : Entry) → old.is_out_of_memory ≡ false
       → old.pending.items ≡ new.pending.items ++ entry ∷ [] → new.dated ≡ old.dated → GoesOn old new
+      → new.is_out_of_memory ≡ false → IsPopped old (Some entry) new
+  of_dated : {new : Walk S} (entry : Entry) (sorted : List Dated) → old.is_out_of_memory ≡ false
+      → old.pending.items ≡ [] → AreSorted old.order old.dated.items sorted
+      → map (λ file. File file.path) sorted ≡ new.pending.items ++ entry ∷ []
+      → new.dated.items ≡ [] → GoesOn old new → new.is_out_of_memory ≡ false
       → IsPopped old (Some entry) new
-  of_dated : {new : Walk S} (file : Dated) → old.is_out_of_memory ≡ false → old.pending.items ≡ []
-      → IsPermutation old.dated.items (new.dated.items ++ file ∷ []) → new.pending.items ≡ []
-      → GoesOn old new → IsPopped old (Some (File file.path)) new
   of_end : {new : Walk S} → old.is_out_of_memory ≡ false → old.pending.items ≡ []
       → old.dated.items ≡ [] → new.is_out_of_memory ≡ false → IsPopped old None new
-  of_memory : {new : Walk S} → old.is_out_of_memory ≡ true → new.is_out_of_memory ≡ true
-      → IsPopped old None new
+  of_memory : {new : Walk S} → new.is_out_of_memory ≡ true → IsPopped old None new

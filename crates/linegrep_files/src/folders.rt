@@ -1,12 +1,16 @@
-//! What a walk asks of the system: what a folder holds, and what is at a path.
+//! What is asked of the system about files: what a folder holds, what is at a path, and which
+//! variables the environment has.
 ghost use Rattle.linegrep_files.specs.FolderFacts.{FolderFacts};
 
 use crate::file_id::FileId;
-use std::alloc::Global;
+use crate::order::SortKey;
+use std::alloc::{AllocError, Global};
+use std::env::{Env, VarError};
 use std::fs::{File, Metadata};
 use std::io::Read;
 use std::rt::Files;
-use std::{fs, io};
+use std::time::{SystemTime, UNIX_EPOCH};
+use std::{env, fs, io};
 
 // How many bytes of names are read at a time when a folder is read.
 const ROOM: usize = 8192;
@@ -35,7 +39,7 @@ pub struct Found {
     pub id: FileId,
 }
 
-/// A system that lists folders and looks at paths. Clauses know it by what it may return.
+/// A system that has folders, files and an environment. Clauses know it by what it may return.
 pub trait Folders {
     /// What it may return.
     ghost facts: { Self → FolderFacts };
@@ -57,15 +61,27 @@ pub trait Folders {
     /// system's own, or one of being out of memory.
     fn resolve(&self, alloc: Global, path: &str) -> io::Result<String>
         ensures { (facts self.now).resolves path.now result };
+
+    /// A time of the file at a path, in nanoseconds from the start of 1970 on, or `None` if it is
+    /// before that. Of a link it is that of the file where it leads. An error is the system's own.
+    fn time(&self, path: &str, key: SortKey) -> io::Result<Option<u128>>
+        ensures { (facts self.now).times key path.now result };
+
+    /// The value of a variable of the environment, or `None` if it isn't set. An error is that the
+    /// value isn't UTF-8 (`InvalidData`), or one of being out of memory.
+    fn variable(&self, alloc: Global, name: &str) -> io::Result<Option<String>>
+        ensures { (facts self.now).variables name.now result };
 }
 
 /// The system. What it may return isn't known.
-impl<R: Files> Folders for R {
+impl<R: Files + Env> Folders for R {
     ghost facts = { λ _. record {
       lists = λ _ _. Unit {0};
       looks = λ _ _ _. Unit {0};
       reads = λ _ _. Unit {0};
       resolves = λ _ _. Unit {0};
+      times = λ _ _ _. Unit {0};
+      variables = λ _ _. Unit {0};
     } };
 
     fn names(&self, alloc: Global, path: &str) -> io::Result<Vec<u8>> {
@@ -103,6 +119,33 @@ impl<R: Files> Folders for R {
     fn resolve(&self, alloc: Global, path: &str) -> io::Result<String> {
         let path = self.canonicalize(alloc, path)?;
         Ok(String::from_str(alloc, path.as_str())?)
+    }
+
+    fn time(&self, path: &str, key: SortKey) -> io::Result<Option<u128>> {
+        let metadata = fs::metadata(self, path)?;
+        let time = match key {
+            SortKey::Accessed => metadata.accessed()?,
+            SortKey::Created => metadata.created()?,
+            SortKey::Path | SortKey::Modified => metadata.modified()?,
+        };
+        Ok(nanoseconds(time))
+    }
+
+    fn variable(&self, alloc: Global, name: &str) -> io::Result<Option<String>> {
+        match env::var(&(self, alloc), name) {
+            Ok(value) => Ok(Some(value)),
+            Err(VarError::NotPresent) => Ok(None),
+            Err(VarError::NotUnicode) => Err(io::Error::from(io::ErrorKind::InvalidData)),
+            Err(VarError::OutOfMemory) => Err(io::Error::from(AllocError)),
+        }
+    }
+}
+
+// A time in nanoseconds from the start of 1970 on.
+fn nanoseconds(time: SystemTime) -> Option<u128> {
+    match time.duration_since(UNIX_EPOCH) {
+        Ok(duration) => Some(duration.as_nanos()),
+        Err(_) => None,
     }
 }
 

@@ -9,6 +9,7 @@ use crate::class::begins_with;
 use crate::folders::Folders;
 use crate::paths::join;
 use std::alloc::{AllocError, Global};
+use std::io;
 
 /// The path of the exclude file of the repository at a folder, as a system has it. The only error is
 /// being out of memory.
@@ -37,7 +38,7 @@ fn repository_folder<S: Folders>(
         (bytes_in at)) }
 {
     let path = join(alloc, folder, ".git")?;
-    match read_text(alloc, system, path.as_str()) {
+    match read_text(alloc, system, path.as_str())? {
         Some(text) => named_folder(alloc, system, folder, text.as_str()),
         None => Ok(None),
     }
@@ -71,22 +72,27 @@ fn shared_folder<S: Folders>(alloc: Global, system: &S, folder: &str) -> Result<
     ensures { IfOk result (λ at. IsShared (S.facts system.now).reads folder.now (string_bytes at)) }
 {
     let path = join(alloc, folder, "commondir")?;
-    match read_text(alloc, system, path.as_str()) {
+    match read_text(alloc, system, path.as_str())? {
         Some(text) => resolve(alloc, folder, text.as_str().trim_ascii()),
         None => String::from_str(alloc, folder),
     }
 }
 
 // The text of the file at a path, if there is one.
-fn read_text<S: Folders>(alloc: Global, system: &S, path: &str) -> Option<String>
-    ensures { IsTextRead (S.facts system.now).reads path.now (bytes_in result) }
+fn read_text<S: Folders>(
+    alloc: Global,
+    system: &S,
+    path: &str,
+) -> Result<Option<String>, AllocError>
+    ensures { IfOk result (λ text. IsTextRead (S.facts system.now).reads path.now (bytes_in text)) }
 {
     match system.read(alloc, path) {
         Ok(contents) => match String::from_utf8(contents) {
-            Ok(text) => Some(text),
-            Err(_) => None,
+            Ok(text) => Ok(Some(text)),
+            Err(_) => Ok(None),
         },
-        Err(_) => None,
+        Err(error) if error.kind() == io::ErrorKind::OutOfMemory => Err(AllocError),
+        Err(_) => Ok(None),
     }
 }
 

@@ -1,14 +1,14 @@
 //! The ignore files that count in a folder, and what they say of what is in it.
 ghost use Rattle.std.specs.Prelude.{◌≡◌, ◌&&◌, ◌||◌, ◌++◌, ◌∷◌, [], ℕ, Bool, IfOk, List, OnOk};
-ghost use Rattle.std.specs.Prelude.{◌+◌, if◌then◌else◌, filter, length, nat_lt, take, true};
+ghost use Rattle.std.specs.Prelude.{◌+◌, if◌then◌else◌, filter, length, nat_lt, not, take, true};
 ghost use Rattle.std.specs.Prelude.{MatchBool};
 ghost use Rattle.grep_ignore.specs.declared.layers.Origin.TheVariants.{GitExclude};
 ghost use Rattle.linegrep_files.specs.Choices.{IgnoresTheSame, IsIgnoreDecision, repository_of};
 ghost use Rattle.linegrep_files.specs.GitFiles.{IsExcludePath};
 ghost use Rattle.linegrep_files.specs.IgnoreFiles.{AreFilesRead, AreRulesAdded, AreWithin};
 ghost use Rattle.linegrep_files.specs.IgnoreFiles.{AreFaultsOf, HasPlace, HaveFaults};
-ghost use Rattle.linegrep_files.specs.IgnoreFiles.{HasSource, IsFileRead, depth_in, is_idle};
-ghost use Rattle.linegrep_files.specs.IgnoreFiles.{ReadsTheSame};
+ghost use Rattle.linegrep_files.specs.IgnoreFiles.{HasSource, IsFileRead, depth_in, is_absent};
+ghost use Rattle.linegrep_files.specs.IgnoreFiles.{ReadsTheSame, is_idle};
 ghost use Rattle.linegrep_files.specs.IgnoreFiles.{marks_of, path_below, with_mark};
 ghost use Rattle.linegrep_files.specs.ParentFiles.{AreBegun, AreIgnores, AreNamedRead};
 ghost use Rattle.linegrep_files.specs.ParentFiles.{IsGlobalRead, has_git};
@@ -23,11 +23,11 @@ use crate::failures::Failure;
 use crate::finder::{name_of, root_of};
 use crate::folders::Folders;
 use crate::git_files::exclude_path;
-use crate::git_settings;
 use crate::paths::{join, split_part};
+use crate::user_file::user_file;
 use grep_ignore::{Decision, Layer, Layers, Misread, Origin, Rules};
 use std::alloc::{AllocError, Global};
-use std::{env, fs, io, str};
+use std::io;
 
 /// Which ignore files are read, and how.
 #[derive(Clone, Copy)]
@@ -197,6 +197,7 @@ impl<'r> Ignores<'r> {
                 self.begin_at(system, without_slashes(path.as_str()))?;
                 Ok(())
             }
+            Err(error) if error.kind() == io::ErrorKind::OutOfMemory => Err(AllocError),
             Err(_) => {
                 self.begin_at(system, "")?;
                 Ok(())
@@ -407,54 +408,19 @@ impl<'r> Ignores<'r> {
         Ok(())
     }
 
-    // Adds the rules of the user's file for all repositories, if it is there. It is the file that
-    // git's settings name, or else the one that git reads by default.
+    // Adds the rules of the user's file for all repositories, if it is there.
     fn add_global<S: Folders>(&mut self, system: &S) -> Result<(), AllocError>
         requires { self.old.path.items ≡ [] }
         ensures global { OnOk result (IsGlobalRead (S.facts system.now)
             self.old.sources.ignores_case self.old.layers self.new.layers) }
         ensures place { HasPlace self.old self.new }
     {
-        match self.global_path()? {
-            Some(path) => self.add_file(system, Origin::GitGlobal, 0, path.as_str(), false),
+        match user_file(self.rt.alloc(), system)? {
+            Some(path) => {
+                self.add_file(system, Origin::GitGlobal, 0, path.as_str(), false)?;
+                Ok(())
+            }
             None => Ok(()),
-        }
-    }
-
-    // The path of the user's file for all repositories, if there is one.
-    fn global_path(&self) -> Result<Option<String>, AllocError> {
-        let home = variable(self.rt, "HOME")?;
-        let config = config_folder(self.rt, home.as_str())?;
-        let home = home.as_str();
-        let config = config.as_str();
-        if let Some(path) = self.excludes_file(home, home, ".gitconfig")? {
-            return Ok(Some(path));
-        }
-        match self.excludes_file(home, config, "git/config")? {
-            Some(path) => Ok(Some(path)),
-            None if config.is_empty() => Ok(None),
-            None => Ok(Some(join(self.rt.alloc(), config, "git/ignore")?)),
-        }
-    }
-
-    // The path of the file for all repositories that git's settings in a folder name, if there are
-    // settings and they name one.
-    fn excludes_file(
-        &self,
-        home: &str,
-        folder: &str,
-        name: &str,
-    ) -> Result<Option<String>, AllocError> {
-        if folder.is_empty() {
-            return Ok(None);
-        }
-        let path = join(self.rt.alloc(), folder, name)?;
-        let Ok(contents) = fs::read(self.rt, path.as_str()) else {
-            return Ok(None);
-        };
-        match git_settings::excludes_file(self.rt.alloc(), contents.as_slice())? {
-            Some(file) => in_home(self.rt, home, file.as_slice()),
-            None => Ok(None),
         }
     }
 
@@ -519,9 +485,9 @@ impl<'r> Ignores<'r> {
         error: &io::Error,
         is_needed: bool,
     ) -> Result<(), AllocError>
-        ensures warned { OnOk result ((count : ℕ)
-            × (length self.new.warnings.items ≡ length self.old.warnings.items + count)
-            × (is_needed ≡ true → count ≡ 1)) }
+        ensures warned { OnOk result (length self.new.warnings.items
+            ≡ length self.old.warnings.items
+            + (if is_needed || not (is_absent error.now) then 1 else 0)) }
         ensures layers { self.new.layers ≡ self.old.layers }
         ensures place { HasPlace self.old self.new }
     {
@@ -605,7 +571,9 @@ fn without_slashes(path: &str) -> &str
 }
 
 // Whether an error is that there is no file at a path.
-fn is_absent(error: &io::Error) -> bool {
+fn is_absent(error: &io::Error) -> bool
+    ensures { result ≡ is_absent error.now }
+{
     matches!(
         error.kind(),
         io::ErrorKind::NotFound | io::ErrorKind::NotADirectory | io::ErrorKind::IsADirectory
@@ -617,32 +585,4 @@ fn misread_failure(rt: &HostRuntime, path: &str, line: &Misread) -> Failure {
     let number = line.number;
     let cause = line.cause;
     Failure::of_text(format!(in rt.alloc(); "linegrep: {path}: line {number}: {cause}\n"))
-}
-
-// The value of a variable of the environment, or an empty text.
-fn variable(rt: &HostRuntime, name: &str) -> Result<String, AllocError> {
-    match env::var(rt, name) {
-        Ok(value) => Ok(value),
-        Err(_) => String::from_str(rt.alloc(), ""),
-    }
-}
-
-// The path of the folder in which the folder of git's settings is, or an empty text.
-fn config_folder(rt: &HostRuntime, home: &str) -> Result<String, AllocError> {
-    let folder = variable(rt, "XDG_CONFIG_HOME")?;
-    if !folder.is_empty() || home.is_empty() {
-        return Ok(folder);
-    }
-    join(rt.alloc(), home, ".config")
-}
-
-// The path that a setting names. It may begin with a tilde, which stands for the user's folder.
-fn in_home(rt: &HostRuntime, home: &str, path: &[u8]) -> Result<Option<String>, AllocError> {
-    let Ok(path) = str::from_utf8(path) else {
-        return Ok(None);
-    };
-    Ok(Some(match path.strip_prefix("~/") {
-        Some(rest) => join(rt.alloc(), home, rest)?,
-        None => String::from_str(rt.alloc(), path)?,
-    }))
 }

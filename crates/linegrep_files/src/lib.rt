@@ -25,6 +25,7 @@ mod order;
 mod paths;
 mod type_definitions;
 mod types;
+mod user_file;
 mod walk;
 mod words;
 

@@ -1,12 +1,13 @@
 //! In which order files are found.
-ghost use Rattle.std.specs.Prelude.{◌≡◌, false, true, OnErr};
+ghost use Rattle.std.specs.Prelude.{◌≡◌, false, true, string_bytes, OnErr, OnOk};
+ghost use Rattle.linegrep_files.specs.Orders.{HasOrder, IsTimeOf, LacksOrder};
 ghost use Rattle.linegrep_files.specs.Orders.{by_path, by_time, is_by_time, named_order};
-ghost use Rattle.linegrep_files.specs.Orders.{names_time, order_of, times_order};
+ghost use Rattle.linegrep_files.specs.Orders.{order_of, times_order};
 
 use crate::failures::Failure;
+use crate::folders::Folders;
+use std::alloc::Global;
 use std::cmp::Ordering;
-use std::time::{SystemTime, UNIX_EPOCH};
-use std::{fs, io};
 
 /// What files are sorted by.
 #[derive(Clone, Copy)]
@@ -52,8 +53,7 @@ impl Order {
 
     /// The order that the value of an option names.
     pub fn read(name: Option<&str>, is_reversed: bool) -> Order
-        ensures order { result ≡ named_order name.entry is_reversed }
-        ensures time { is_by_time result ≡ names_time name.entry }
+        ensures { result ≡ named_order name.entry is_reversed }
     {
         let key = match name {
             Some("modified") => SortKey::Modified,
@@ -65,15 +65,18 @@ impl Order {
         Order { key, is_reversed }
     }
 
-    /// Says why the system has no such order, if it has none.
-    pub fn check(&self, rt: &HostRuntime) -> Result<(), Failure>
-        ensures { OnErr result (is_by_time self.now ≡ true) }
+    /// Says why a system has no such order, if it has none: it doesn't know the time of the current
+    /// folder by which files are to be sorted.
+    pub fn check<S: Folders>(&self, alloc: Global, system: &S) -> Result<(), Failure>
+        ensures known { OnOk result (HasOrder (S.facts system.now).times self.now) }
+        ensures unknown { OnErr result (LacksOrder (S.facts system.now).times self.now) }
     {
-        match self.time(rt, ".") {
-            Err(error) if self.is_by_time() => {
-                Err(Failure::of_cause(rt.alloc(), "files can't be sorted", &error))
-            }
-            _ => Ok(()),
+        if !self.is_by_time() {
+            return Ok(());
+        }
+        match system.time(".", self.key) {
+            Ok(_) => Ok(()),
+            Err(error) => Err(Failure::of_cause(alloc, "files can't be sorted", &error)),
         }
     }
 
@@ -108,25 +111,25 @@ impl Order {
         ordering.then(one.place.cmp(&other.place))
     }
 
-    /// The file at a path, with the time that it is sorted by. `place` is how many files were found
-    /// before it.
-    pub fn date(&self, rt: &HostRuntime, path: String, place: usize) -> Dated
+    /// The file at a path, with the time that it is sorted by, as a system has it. `place` is how
+    /// many files were found before it.
+    pub fn date<S: Folders>(&self, system: &S, path: String, place: usize) -> Dated
         ensures path { result.path ≡ path }
         ensures place { result.place ≡ place }
+        ensures time { IsTimeOf (S.facts system.now).times self.now (string_bytes path)
+            result.time }
     {
-        let time = match self.time(rt, path.as_str()) {
-            Ok(time) => nanoseconds(time),
-            Err(_) => None,
-        };
+        let time = self.time(system, path.as_str());
         Dated { path, time, place }
     }
 
-    fn time(&self, rt: &HostRuntime, path: &str) -> io::Result<SystemTime> {
-        let metadata = fs::metadata(rt, path)?;
-        match self.key {
-            SortKey::Accessed => metadata.accessed(),
-            SortKey::Created => metadata.created(),
-            SortKey::Path | SortKey::Modified => metadata.modified(),
+    // The time of the file at a path, if a system knows it.
+    fn time<S: Folders>(&self, system: &S, path: &str) -> Option<u128>
+        ensures { IsTimeOf (S.facts system.now).times self.now path.now result }
+    {
+        match system.time(path, self.key) {
+            Ok(time) => time,
+            Err(_) => None,
         }
     }
 }
@@ -140,13 +143,5 @@ fn by_time(one: Option<u128>, other: Option<u128>) -> Ordering
         (Some(_), None) => Ordering::Less,
         (None, Some(_)) => Ordering::Greater,
         (None, None) => Ordering::Equal,
-    }
-}
-
-// A time in nanoseconds from the start of 1970 on.
-fn nanoseconds(time: SystemTime) -> Option<u128> {
-    match time.duration_since(UNIX_EPOCH) {
-        Ok(duration) => Some(duration.as_nanos()),
-        Err(_) => None,
     }
 }

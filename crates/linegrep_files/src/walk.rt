@@ -1,14 +1,13 @@
 //! The files of a folder and of the folders in it.
 ghost use Rattle.std.specs.Prelude.{◌≡◌, ◌++◌, ◌∷◌, [], false, true, OnOk, not, filter, map};
-ghost use Rattle.std.specs.Prelude.{IfOk, IfSome, String, string_bytes, vec_len};
+ghost use Rattle.std.specs.Prelude.{IfOk, IfSome, List, String, string_bytes};
 ghost use Rattle.std.specs.Global.{Global};
 ghost use Rattle.std.specs.List.Sorted.{IsPermutation, IsSortedBy};
-ghost use Rattle.std.specs.Ordering.{is_lt};
 ghost use Rattle.linegrep_files.specs.Folders.{is_folder, path_of};
-ghost use Rattle.linegrep_files.specs.Orders.{is_by_time, times_order};
+ghost use Rattle.linegrep_files.specs.Orders.{AreDated, AreSorted, is_by_time};
 ghost use Rattle.linegrep_files.specs.Walks.{AreAdded, AreNamesAdded, GoesOn, IsBegun, IsEntered};
 ghost use Rattle.linegrep_files.specs.Walks.{IsPopped, IsWith, comes_before, waits};
-ghost use Rattle.linegrep_files.specs.declared.entry.Entry.TheVariants.{Folder, Unread};
+ghost use Rattle.linegrep_files.specs.declared.entry.Entry.TheVariants.{File, Folder, Unread};
 ghost use Rattle.linegrep_files.specs.declared.order.Dated.{Dated};
 
 use crate::choices::Choices;
@@ -16,8 +15,8 @@ use crate::entry::Entry;
 use crate::finder::{Finder, listed_path, name_of, root_of};
 use crate::folders::Folders;
 use crate::order::{Dated, Order};
-use std::alloc::AllocError;
-use std::io;
+use std::alloc::{AllocError, Global};
+use std::{io, mem};
 
 /// How a walk goes through folders: whether it follows links, and in which order it finds files.
 #[derive(Clone, Copy)]
@@ -35,12 +34,11 @@ pub struct Walk<'r, S> {
     rt: &'r HostRuntime,
     finder: Finder<'r, S>,
     order: Order,
-    // What is still to be visited. What is visited next stands last.
+    // What is still to be visited. What is visited next comes last.
     pending: Vec<Entry>,
     // The files that were found and are sorted by a time. They are visited once nothing else is
-    // left, and then the next one stands last.
+    // left.
     dated: Vec<Dated>,
-    is_sorted: bool,
     is_out_of_memory: bool,
 }
 
@@ -83,7 +81,6 @@ impl<'r, S: Folders> Walk<'r, S> {
             order: route.order,
             pending: Vec::new(rt.alloc()),
             dated: Vec::new(rt.alloc()),
-            is_sorted: false,
             is_out_of_memory: false,
         }
     }
@@ -115,36 +112,41 @@ impl<'r, S: Folders> Walk<'r, S> {
         }
     }
 
-    // The next of the files that are sorted by a time.
+    // The first of the files that are sorted by a time, if there are any. The others are visited
+    // next.
     fn pop_dated(&mut self) -> Option<Entry>
         requires memory { self.old.is_out_of_memory ≡ false }
         requires pending { self.old.pending.items ≡ [] }
         ensures { IsPopped self.old result self.new }
     {
-        self.sort_dated();
-        match self.dated.pop() {
-            Some(file) => Some(Entry::File(file.path)),
-            None => None,
+        match self.add_dated() {
+            Ok(()) => match self.pending.pop() {
+                Some(entry) => Some(entry),
+                None => None,
+            },
+            Err(_) => {
+                self.is_out_of_memory = true;
+                None
+            }
         }
     }
 
-    // Sorts the files that are sorted by a time, the next one last.
-    fn sort_dated(&mut self)
-        ensures dated { IsPermutation self.old.dated.items self.new.dated.items }
-        ensures sorted { self.old.is_sorted ≡ false
-            → IsSortedBy (λ one other. is_lt (times_order self.old.order other one))
-            self.new.dated.items }
-        ensures same { self.new.pending ≡ self.old.pending }
+    // Adds the files that are sorted by a time to what is visited next.
+    fn add_dated(&mut self) -> Result<(), AllocError>
+        requires { self.old.pending.items ≡ [] }
+        ensures added { OnOk result ((sorted : List Dated)
+            × AreSorted self.old.order self.old.dated.items sorted
+            × (self.new.pending.items ≡ map (λ file. File file.path) sorted)) }
+        ensures none { OnOk result (self.new.dated.items ≡ []) }
         ensures memory { self.new.is_out_of_memory ≡ self.old.is_out_of_memory }
         ensures on { GoesOn self.old self.new }
     {
-        if self.is_sorted {
-            return;
-        }
         let order = self.order;
         self.dated
             .sort_unstable_by(|a, b| order.compare_times(b, a));
-        self.is_sorted = true;
+        let dated = mem::replace(&mut self.dated, Vec::new(self.rt.alloc()));
+        self.pending = files(self.rt.alloc(), dated)?;
+        Ok(())
     }
 
     /// Whether it ended early.
@@ -214,7 +216,8 @@ impl<'r, S: Folders> Walk<'r, S> {
 
     // Adds what was found in a folder.
     fn add(&mut self, found: Vec<Entry>) -> Result<(), AllocError>
-        ensures added { OnOk result (AreAdded self.old found.items self.new) }
+        ensures added { OnOk result (AreAdded (S.facts self.old.finder.system.now).times self.old
+            found.items self.new) }
         ensures on { GoesOn self.old self.new }
     {
         let mut next = self.date_files(found)?;
@@ -227,9 +230,9 @@ impl<'r, S: Folders> Walk<'r, S> {
     fn date_files(&mut self, found: Vec<Entry>) -> Result<Vec<Entry>, AllocError>
         ensures next { IfOk result (λ next. next.items
             ≡ filter (λ entry. not (waits self.old.order entry)) found.items) }
-        ensures later { OnOk result (map (λ file. string_bytes file.path) self.new.dated.items
-            ≡ map (λ file. string_bytes file.path) self.old.dated.items
-            ++ map path_of (filter (waits self.old.order) found.items)) }
+        ensures later { OnOk result (AreDated (S.facts self.old.finder.system.now).times
+            self.old.order self.old.dated.items
+            (map path_of (filter (waits self.old.order) found.items)) self.new.dated.items) }
         ensures pending { self.new.pending ≡ self.old.pending }
         ensures on { GoesOn self.old self.new }
     {
@@ -249,9 +252,9 @@ impl<'r, S: Folders> Walk<'r, S> {
         requires { is_by_time self.old.order ≡ true }
         ensures next { OnOk result (next.new.items ≡ next.old.items
             ++ filter (λ entry. not (waits self.old.order entry)) (entry ∷ [])) }
-        ensures later { OnOk result (map (λ file. string_bytes file.path) self.new.dated.items
-            ≡ map (λ file. string_bytes file.path) self.old.dated.items
-            ++ map path_of (filter (waits self.old.order) (entry ∷ []))) }
+        ensures later { OnOk result (AreDated (S.facts self.old.finder.system.now).times
+            self.old.order self.old.dated.items
+            (map path_of (filter (waits self.old.order) (entry ∷ []))) self.new.dated.items) }
         ensures pending { self.new.pending ≡ self.old.pending }
         ensures on { GoesOn self.old self.new }
     {
@@ -263,15 +266,13 @@ impl<'r, S: Folders> Walk<'r, S> {
     }
 
     fn push_dated(&mut self, path: String) -> Result<(), AllocError>
-        ensures dated { OnOk result ((file : Dated) × (file.place ≡ vec_len self.old.dated)
-            × (self.new.dated.items ≡ self.old.dated.items ++ file ∷ [])) }
-        ensures later { OnOk result (map (λ file. string_bytes file.path) self.new.dated.items
-            ≡ map (λ file. string_bytes file.path) self.old.dated.items ++ string_bytes path ∷ []) }
+        ensures later { OnOk result (AreDated (S.facts self.old.finder.system.now).times
+            self.old.order self.old.dated.items (string_bytes path ∷ []) self.new.dated.items) }
         ensures pending { self.new.pending ≡ self.old.pending }
         ensures on { GoesOn self.old self.new }
     {
         let place = self.dated.len();
-        let file = self.order.date(self.rt, path, place);
+        let file = self.order.date(self.finder.system(), path, place);
         Ok(self.dated.push(file)?)
     }
 
@@ -286,7 +287,18 @@ impl<'r, S: Folders> Walk<'r, S> {
     }
 }
 
-// Sorts what was found in a folder. What is visited first stands last.
+// Files, without their times.
+fn files(alloc: Global, dated: Vec<Dated>) -> Result<Vec<Entry>, AllocError>
+    ensures { IfOk result (λ files. files.items ≡ map (λ file. File file.path) dated.items) }
+{
+    let mut files = Vec::new(alloc);
+    for file in dated {
+        files.push(Entry::File(file.path))?;
+    }
+    Ok(files)
+}
+
+// Sorts what was found in a folder. What is visited first comes last.
 fn sort(found: &mut Vec<Entry>, order: Order)
     ensures same { IsPermutation found.old.items found.new.items }
     ensures sorted { IsSortedBy (λ one other. comes_before order other one) found.new.items }

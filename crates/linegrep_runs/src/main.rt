@@ -5,6 +5,7 @@
 mod report;
 mod row;
 mod streams;
+mod system;
 
 use crate::report::report;
 use crate::row::Row;

@@ -1,8 +1,9 @@
-//! A row: a command line, and what its standard streams are.
+//! A row: a command line, what its standard streams are, and what it says of the system.
 use crate::streams::{Kept, Text};
+use crate::system::{RowSystem, Said};
 use grep_output::Writing;
 use grep_searcher::Reading;
-use linegrep_cli::{FileId, Streams, run};
+use linegrep_cli::{FileId, Streams, allows_colors, run};
 use percent_encoding::percent_decode_str;
 use std::alloc::{AllocError, Global};
 use std::io;
@@ -12,6 +13,7 @@ use std::io;
 pub struct Row {
     arguments: Vec<Vec<u8>>,
     streams: Streams,
+    said: Said,
     input: Text,
     output: Kept,
     errors: Kept,
@@ -19,17 +21,19 @@ pub struct Row {
 
 impl Row {
     /// The row of a line: its words, with one space between them, are the arguments, but for those
-    /// that begin with `<` or `>` and say what a standard stream is. A `%` and two hexadecimal
-    /// digits stand for a byte.
+    /// that begin with `<` or `>`: these say what a standard stream is, or what the system
+    /// has. A `%` and two hexadecimal digits stand for a byte.
     pub fn read(rt: &HostRuntime, line: &str) -> io::Result<Row> {
         let mut row = Row {
             arguments: Vec::new(rt.alloc()),
             streams: Streams {
                 is_terminal: false,
+                allows_colors: false,
                 has_input: false,
                 input: None,
                 output: None,
             },
+            said: Said::new(rt.alloc()),
             input: Text::new(rt.alloc()),
             output: Kept::new(rt.alloc()),
             errors: Kept::new(rt.alloc()),
@@ -40,10 +44,16 @@ impl Row {
         Ok(row)
     }
 
-    // Adds an argument, or says what a standard stream is.
+    // Adds an argument, or what the row says of streams and of the system.
     fn add(&mut self, rt: &HostRuntime, word: &str) -> io::Result<()> {
         if let Some(path) = word.strip_prefix("<=") {
             self.streams.input = FileId::at(rt, path);
+        } else if let Some(text) = word.strip_prefix("<$") {
+            self.said.set_variable(rt.alloc(), text)?;
+        } else if let Some(text) = word.strip_prefix("<:") {
+            self.said.set_file(rt.alloc(), text)?;
+        } else if let Some(text) = word.strip_prefix("<@") {
+            self.said.set_time(rt.alloc(), text)?;
         } else if let Some(text) = word.strip_prefix('<') {
             self.streams.has_input = true;
             self.input.set(text)?;
@@ -66,13 +76,19 @@ impl Row {
 
     /// Runs it, and gives the status.
     pub fn run(&mut self, rt: &HostRuntime) -> u8 {
+        let system = RowSystem {
+            rt,
+            said: &self.said,
+        };
+        let mut streams = self.streams;
+        streams.allows_colors = allows_colors(rt.alloc(), &system);
         let input = Reading::new(&mut self.input);
         let output = Writing::new(&mut self.output);
         let mut errors = Writing::new(&mut self.errors);
         let ended = run(
             rt,
-            rt,
-            self.streams,
+            &system,
+            streams,
             &self.arguments,
             input,
             output,

@@ -12,6 +12,7 @@ use crate::class::{begins_with, is_empty};
 use crate::folders::Folders;
 use crate::paths::join;
 use std::alloc::{AllocError, Global};
+use std::io;
 
 // Which ignore files a folder may have, if its names aren't known.
 const ANY_MARKS: Marks = Marks {
@@ -34,7 +35,7 @@ impl Ignores<'_> {
             self.old.layers (parents_of path.now) self.new.layers self.new.repositories.items) }
     {
         self.root = path.len();
-        self.start = start_of(self.rt.alloc(), system, path.as_bytes());
+        self.start = start_of(self.rt.alloc(), system, path.as_bytes())?;
         self.add_parents(system, path)?;
         self.set_path(path)
     }
@@ -153,12 +154,13 @@ fn is_there<S: Folders>(
 
 // Where the path of a folder begins relative to the current folder. If it isn't in that, it begins
 // after its first slash.
-fn start_of<S: Folders>(alloc: Global, system: &S, folder: &[u8]) -> usize
-    ensures { IsStart (S.facts system.now) folder.now result }
+fn start_of<S: Folders>(alloc: Global, system: &S, folder: &[u8]) -> Result<usize, AllocError>
+    ensures { IfOk result (IsStart (S.facts system.now) folder.now) }
 {
     match system.resolve(alloc, ".") {
-        Ok(here) => start_in(without_slashes(here.as_str()).as_bytes(), folder),
-        Err(_) => 1,
+        Ok(here) => Ok(start_in(without_slashes(here.as_str()).as_bytes(), folder)),
+        Err(error) if error.kind() == io::ErrorKind::OutOfMemory => Err(AllocError),
+        Err(_) => Ok(1),
     }
 }
 

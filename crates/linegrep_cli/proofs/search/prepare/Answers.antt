@@ -1,4 +1,4 @@
-use Rattle.linegrep_cli.specs.Refusals.{of_colors, of_files, of_path_separator}
+use Rattle.linegrep_cli.specs.Refusals.{of_colors, of_files, of_path_separator, of_patterns}
 use Rattle.std.proofs.Common.{inl, inr}
 use Rattle.linegrep_cli.proofs.search.prepare.Goals as goal
 
@@ -11,3 +11,6 @@ returns-in-Err-clause-refused g c = λ caused. elim (c.in-Err.ensures.refused ca
 pub returns-in-Err-read-clause-refused : goal.returns-in-Err-read-clause-refused
 returns-in-Err-read-clause-refused g c = λ caused.
     of_files c.file_options.result c.file_options.ensures (c.in-Err-read.ensures.err caused)
+
+pub returns-clause-refused : goal.returns-clause-refused
+returns-clause-refused g c = λ caused. of_patterns (c.in-Err-compile_with_template.ensures.refused caused)

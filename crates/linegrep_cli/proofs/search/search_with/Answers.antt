@@ -17,6 +17,7 @@ returns g c =
       template,
       c.as_ref-3.ensures.value,
       record {
+        accepted = c.requires.accepted;
         scope = c.new-scope.result;
         first = c.new-engine.result;
         last = c.complete-status.new.engine;

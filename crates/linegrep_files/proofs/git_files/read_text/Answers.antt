@@ -19,4 +19,4 @@ returns-in-Ok g c = of_other c.in-Ok.contents (rw c.in-Ok.is at c.read.ensures)
     (λ utf8. false≢true (c.in-Err-from_utf8.ensures.succeeds utf8))
 
 pub returns : goal.returns
-returns g c = of_unread c.in-Err.field-0 (rw c.in-Err.is at c.read.ensures)
+returns g c = of_unread c.in-Err-2.field-0 (rw c.in-Err-2.is at c.read.ensures)

@@ -1,5 +1,5 @@
-use Rattle.std.proofs.Common.{length, subst, sym}
-use Rattle.linegrep_files.specs.IgnoreFiles.{IsFileRead, of_absent, of_contents, of_lines, of_unread}
+use Rattle.std.proofs.Common.{length, refl, subst, sym}
+use Rattle.linegrep_files.specs.IgnoreFiles.{IsFileRead, of_contents, of_failed, of_lines, of_unread}
 use Rattle.linegrep_files.proofs.ignores.Ignores.add_file.Goals as goal
 
 pub returns-in_ok-add_rules-in-Ok-clause-file : goal.returns-in_ok-add_rules-in-Ok-clause-file
@@ -20,6 +20,8 @@ returns-in_ok-add_rules-in-Ok-clause-warned g c =
     (count, of_contents c.in-Ok.contents (rw c.in-Ok.is at c.read.ensures) (rw c.as_slice.ensures.value at faults), is)
 
 pub returns-in_ok-warn_unread-in-Err-2-clause-warned : goal.returns-in_ok-warn_unread-in-Err-2-clause-warned
-returns-in_ok-warn_unread-in-Err-2-clause-warned g c =
-    let (count, is, needed) = c.in_ok-warn_unread-in-Err-2.ensures.warned in
-    (count, of_absent c.in-Err.error (rw c.in-Err.is at c.read.ensures) needed, is)
+returns-in_ok-warn_unread-in-Err-2-clause-warned g c = (
+  _,
+  of_failed c.in-Err.error (rw c.in-Err.is at c.read.ensures) refl,
+  rw c.in-Err.error-is at c.in_ok-warn_unread-in-Err-2.ensures.warned,
+)

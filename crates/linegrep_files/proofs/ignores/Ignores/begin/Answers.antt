@@ -19,14 +19,14 @@ returns-in_ok-begin_at-in-Ok-clause-begun g c =
       parents = rw c.leave.ensures at begun.parents;
     })
 
-pub returns-in_ok-begin_at-in-Err-clause-begun : goal.returns-in_ok-begin_at-in-Err-clause-begun
-returns-in_ok-begin_at-in-Err-clause-begun g c =
-    let begun = c.in_ok-begin_at-in-Err.ensures in
+pub returns-in_ok-begin_at-in-Err-2-clause-begun : goal.returns-in_ok-begin_at-in-Err-2-clause-begun
+returns-in_ok-begin_at-in-Err-2-clause-begun g c =
+    let begun = c.in_ok-begin_at-in-Err-2.ensures in
     taken-up _ _ _ _ (sym c.is_idle.ensures ∙ c.if-is_idle.false)
     (record { sources = begun.same.sources; named = begun.same.named })
     (record {
       place = [];
-      is_place = of_none c.in-Err.field-0 (rw (c.in-Err.is, c.name_of.ensures) at c.resolve.ensures);
+      is_place = of_none c.in-Err-2.field-0 (rw (c.in-Err-2.is, c.name_of.ensures) at c.resolve.ensures);
       root = begun.root;
       start = begun.start;
       path = begun.path;

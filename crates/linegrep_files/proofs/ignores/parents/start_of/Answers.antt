@@ -20,9 +20,9 @@ returns-in-Ok g c = (
   c.start_in.ensures ∙ ap (λ other. start_in other c.args.folder.now) c.as_bytes.ensures.value,
 )
 
-pub returns-in-Err : goal.returns-in-Err
-returns-in-Err g c = (
+pub returns-in-Err-2 : goal.returns-in-Err-2
+returns-in-Err-2 g c = (
   [],
-  of_none c.in-Err.field-0 (rw c.in-Err.is at c.resolve.ensures),
+  of_none c.in-Err-2.field-0 (rw c.in-Err-2.is at c.resolve.ensures),
   start-alone c.args.folder.now,
 )

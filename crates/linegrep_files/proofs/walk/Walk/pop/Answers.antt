@@ -3,8 +3,8 @@ use Rattle.linegrep_files.specs.Walks.{of_memory, of_pending}
 use Rattle.linegrep_files.proofs.walk.Walk.pop.Goals as goal
 
 pub returns-then-self : goal.returns-then-self
-returns-then-self g c = of_memory c.if-self.true c.if-self.true
+returns-then-self g c = of_memory c.if-self.true
 
 pub returns-in-Some : goal.returns-in-Some
 returns-in-Some g c = of_pending c.in-Some.entry c.if-self.false (search rules) refl
-    (record { finder = refl; order = refl })
+    (record { finder = refl; order = refl }) c.if-self.false

@@ -1,16 +1,23 @@
-use Rattle.std.proofs.Common.{◌∙◌, ap, rules, subst}
-use Rattle.std.specs.List.Sorted.{IsPermutation}
-use Rattle.linegrep_files.proofs.WalkLemmas.{none-before}
-use Rattle.linegrep_files.specs.Walks.{of_dated, of_end}
+use Rattle.std.proofs.Common.{◌≡◌, ◌++◌, ◌∷◌, ◌∙◌, [], refl, rules, sym}
+use Rattle.linegrep_files.specs.Walks.{of_dated, of_end, of_memory}
+use Rattle.linegrep_files.proofs.DatedLemmas.{none-waiting}
 use Rattle.linegrep_files.proofs.walk.Walk.pop_dated.Goals as goal
 
 pub returns-in-Some : goal.returns-in-Some
-returns-in-Some g c = of_dated c.in-Some.file c.requires.memory c.requires.pending
-    (subst (IsPermutation c.args.self.now.dated.items) c.in-Some.ensures.items c.sort_dated.ensures.dated)
-    (ap (λ pending. pending.items) c.sort_dated.ensures.same ∙ c.requires.pending)
-    (record { finder = c.sort_dated.ensures.on.finder; order = c.sort_dated.ensures.on.order })
+returns-in-Some g c =
+    let (sorted, are, files) = c.in-Ok.ensures.added in
+    let next : c.add_dated.new.self.pending.items ≡ c.pop.new.self.items ++ c.in-Some.entry ∷ [] = (search rules) in
+    of_dated {new = record c.add_dated.new.self { pending = c.pop.new.self }} c.in-Some.entry sorted
+    c.requires.memory c.requires.pending are (sym files ∙ next) c.in-Ok.ensures.none
+    (record { finder = c.in-Ok.ensures.on.finder; order = c.in-Ok.ensures.on.order })
+    (c.in-Ok.ensures.memory ∙ c.requires.memory)
 
 pub returns-in-None : goal.returns-in-None
-returns-in-None g c = of_end c.requires.memory c.requires.pending
-    (none-before _ _ c.sort_dated.ensures.dated (search rules))
-    (c.sort_dated.ensures.memory ∙ c.requires.memory)
+returns-in-None g c =
+    let (sorted, are, files) = c.in-Ok.ensures.added in
+    let none : c.add_dated.new.self.pending.items ≡ [] = (search rules) in
+    of_end c.requires.memory c.requires.pending (none-waiting _ _ sorted are (sym files ∙ none))
+    (c.in-Ok.ensures.memory ∙ c.requires.memory)
+
+pub returns-in-Err : goal.returns-in-Err
+returns-in-Err g c = of_memory refl

@@ -1,14 +1,15 @@
-use Rattle.std.proofs.Common.{ap, ◌∙◌, ◌∷◌, [], refl}
-use Rattle.std.specs.Prelude.{map, string_bytes}
-use Rattle.std.proofs.lemmas.List.{map-append}
+use Rattle.std.proofs.Common.{◌≡◌, ◌∷◌, [], length, rules, subst, sym}
+use Rattle.std.specs.Prelude.{string_bytes}
+use Rattle.linegrep_files.specs.Orders.{AreDated}
+use Rattle.linegrep_files.proofs.DatedLemmas.{dated-pushed}
 use Rattle.linegrep_files.proofs.walk.Walk.push_dated.Goals as goal
 
 pub returns-clause-later : goal.returns-clause-later
 returns-clause-later g c =
-    ap (map (λ file. string_bytes file.path)) c.in_ok-push.ensures.items
-    ∙ map-append (λ file. string_bytes file.path) c.args.self.now.dated.items (c.date-file.result ∷ [])
-    ∙ rw c.date-file.ensures.path refl
-
-pub returns-clause-dated : goal.returns-clause-dated
-returns-clause-dated g c =
-    (c.date-file.result, c.date-file.ensures.place ∙ c.len-place.ensures, c.in_ok-push.ensures.items)
+    let times = (g.S.Folders.facts c.args.self.now.finder.system.now).times in
+    let place : c.date-file.result.place ≡ length c.args.self.now.dated.items = (search rules) in
+    subst (AreDated times c.args.self.now.order c.args.self.now.dated.items (string_bytes c.args.path ∷ []))
+    (sym c.in_ok-push.ensures.items)
+    (dated-pushed times c.args.self.now.order c.args.self.now.dated.items c.args.path c.date-file.result
+    c.date-file.ensures.path place
+    (rw c.system.ensures at c.date-file.ensures.time))
