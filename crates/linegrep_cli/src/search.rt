@@ -187,7 +187,7 @@ fn compile_with_template(
 /// The status is 0 if there is a match, 1 if there is none, and 2 if a file can't be read; then
 /// standard error says so, unless `--no-messages` is given. If nothing is to be written, the first
 /// match ends the run with 0. If a setting, a pattern or a glob isn't well formed, or there is no
-/// memory, the status is 2 and nothing is read or written.
+/// memory, the status is 2, and nothing is searched or written to `output`.
 #[inline(never)]
 pub fn search_all<S: System, R: Source + Drop, W: Output + Drop, E: Output>(
     rt: &HostRuntime,

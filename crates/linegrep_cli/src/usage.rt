@@ -174,16 +174,22 @@ fn words_text(alloc: Global, value: Value) -> Result<String, AllocError> {
     Ok(text)
 }
 
-// An option by its letter and its name, and what help calls its value.
+// An option by its letter and its name, as far as it has these, and what help calls its value.
 fn option_text(alloc: Global, row: &Row) -> Result<String, AllocError> {
     let mut text = String::new(alloc);
     if let Some(letter) = letter_of(row.id) {
         text.push('-')?;
         text.push(char::from(letter))?;
-        text.push_str(", ")?;
     }
-    text.push_str("--")?;
-    text.push_str(name_of(row.id))?;
+    let name = name_of(row.id);
+    if !name.is_empty() {
+        text.push_str(if text.as_str().is_empty() {
+            "--"
+        } else {
+            ", --"
+        })?;
+        text.push_str(name)?;
+    }
     let value = value_name(row.value);
     if !value.is_empty() {
         text.push_str(" <")?;
