@@ -8,7 +8,7 @@ use memchr::arch::all::packedpair::{DefaultFrequencyRank, HeuristicFrequencyRank
 const TOGETHER: usize = 3;
 
 // How many times rarer later sets have to be than the first ones, since the bytes before them are
-// looked at, too.
+// looked at where a search begins.
 const GAIN: u64 = 4;
 
 // How often the members of a set come together where about every third byte of text is one of them.
