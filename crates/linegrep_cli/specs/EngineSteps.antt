@@ -7,7 +7,8 @@ use Rattle.std.specs.declared.io.ErrorKind.TheVariants.{Other}
 use Rattle.grep_searcher.specs.declared.SearchError.{SearchError}
 use Rattle.grep_searcher.specs.declared.SearchError.TheVariants.{Io}
 use Rattle.linegrep_cli.specs.declared.printers.Printer.{Printer}
-use Rattle.linegrep_cli.specs.declared.printers.Printer.TheVariants.{Json, Lines, Parts, ReplacedLines}
+use Rattle.linegrep_cli.specs.declared.printers.Printer.TheVariants.{Json, Lines, Parts}
+use Rattle.linegrep_cli.specs.declared.printers.Printer.TheVariants.{ReplacedLines}
 use Rattle.linegrep_cli.specs.declared.printers.Printer.TheVariants.{ReplacedParts, Summary}
 
 -- the writer of a printer failed

@@ -1,17 +1,25 @@
 -- What options say of which files of folders are searched.
-use Rattle.std.specs.Prelude.{◌≡◌, ℕ, Bool, ◌&&◌, ◌||◌, not, if◌then◌else◌, List, [], None, Option, Some}
+use Rattle.std.specs.Prelude.{◌≡◌, ℕ, Bool, ◌&&◌, ◌||◌, not, if◌then◌else◌, List, [], None, Option}
+use Rattle.std.specs.Prelude.{Some}
 use Rattle.std.specs.Prelude.{nat_le, nat_lt}
 use Rattle.std.specs.Borrow.{Bor}
 use Rattle.linegrep_cli.specs.OptionUses.{has, last_use}
 use Rattle.linegrep_options.specs.declared.option_id.OptionId.{OptionId}
-use Rattle.linegrep_options.specs.declared.option_id.OptionId.TheVariants.{GlobCaseInsensitive, Hidden, Ignore}
+use Rattle.linegrep_options.specs.declared.option_id.OptionId.TheVariants.{GlobCaseInsensitive}
+use Rattle.linegrep_options.specs.declared.option_id.OptionId.TheVariants.{Hidden, Ignore}
 use Rattle.linegrep_options.specs.declared.option_id.OptionId.TheVariants.{IgnoreDot, IgnoreExclude}
-use Rattle.linegrep_options.specs.declared.option_id.OptionId.TheVariants.{IgnoreFileCaseInsensitive, IgnoreGlobal}
-use Rattle.linegrep_options.specs.declared.option_id.OptionId.TheVariants.{IgnoreParent, IgnoreVcs, NoHidden}
-use Rattle.linegrep_options.specs.declared.option_id.OptionId.TheVariants.{NoIgnore, NoIgnoreDot, NoIgnoreExclude}
-use Rattle.linegrep_options.specs.declared.option_id.OptionId.TheVariants.{NoIgnoreFiles, NoIgnoreGlobal}
-use Rattle.linegrep_options.specs.declared.option_id.OptionId.TheVariants.{NoIgnoreParent, NoIgnoreVcs}
-use Rattle.linegrep_options.specs.declared.option_id.OptionId.TheVariants.{NoRequireGit, OneFileSystem}
+use Rattle.linegrep_options.specs.declared.option_id.OptionId.TheVariants.{IgnoreFileCaseInsensitive}
+use Rattle.linegrep_options.specs.declared.option_id.OptionId.TheVariants.{IgnoreGlobal}
+use Rattle.linegrep_options.specs.declared.option_id.OptionId.TheVariants.{IgnoreParent, IgnoreVcs}
+use Rattle.linegrep_options.specs.declared.option_id.OptionId.TheVariants.{NoHidden}
+use Rattle.linegrep_options.specs.declared.option_id.OptionId.TheVariants.{NoIgnore, NoIgnoreDot}
+use Rattle.linegrep_options.specs.declared.option_id.OptionId.TheVariants.{NoIgnoreExclude}
+use Rattle.linegrep_options.specs.declared.option_id.OptionId.TheVariants.{NoIgnoreFiles}
+use Rattle.linegrep_options.specs.declared.option_id.OptionId.TheVariants.{NoIgnoreGlobal}
+use Rattle.linegrep_options.specs.declared.option_id.OptionId.TheVariants.{NoIgnoreParent}
+use Rattle.linegrep_options.specs.declared.option_id.OptionId.TheVariants.{NoIgnoreVcs}
+use Rattle.linegrep_options.specs.declared.option_id.OptionId.TheVariants.{NoRequireGit}
+use Rattle.linegrep_options.specs.declared.option_id.OptionId.TheVariants.{OneFileSystem}
 use Rattle.linegrep_cli.specs.declared.options.Options.{Options}
 use Rattle.linegrep_files.specs.Choices.{AreChoices}
 use Rattle.linegrep_files.specs.FolderFacts.{FolderFacts}

@@ -7,7 +7,8 @@ use Rattle.grep_searcher.specs.FileSearches.{IsFileRead}
 use Rattle.grep_searcher.specs.Source.{ReadResult}
 use Rattle.linegrep_cli.specs.declared.haystacks.Haystack.{Haystack}
 
-module _ {F R : Type 0} (file_remaining : F → Option (List ℕ)) (remaining : R → Option (List ℕ)) where
+module _ {F R : Type 0} (file_remaining : F → Option (List ℕ))
+    (remaining : R → Option (List ℕ)) where
   -- the bytes that remain, if the file or the reader says which
   abbrev pub remaining_in : Option F → R → Option (List ℕ)
   remaining_in (Some file) reader = file_remaining file

@@ -49,7 +49,8 @@ module _ {W : Type 0} (write_step : W → OutputCall → W → Type 0) where
       (λ e. FailsToPutText write_step writer old (json_line (summary_json totals elapsed)) e
       writer' new)
 
-module _ {T M W E : Type 0} (text_at : T → TextAt) (output : E → Option (List ℕ)) (facts : M → MatcherFacts E)
+module _ {T M W E : Type 0} (text_at : T → TextAt) (output : E → Option (List ℕ))
+    (facts : M → MatcherFacts E)
     (first_at : M → List ℕ → ℕ → Option (ℕ × ℕ)) (write_step : W → OutputCall → W → Type 0)
     {R : Type 0} (remaining : R → Option (List ℕ)) (read_step : R → ReadResult → R → Type 0)
     (state : SearcherState) (matcher : M) (path : Option (Bor (List ℕ))) where

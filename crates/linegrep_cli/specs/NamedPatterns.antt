@@ -1,5 +1,6 @@
 -- The patterns that a command line names.
-use Rattle.std.specs.Prelude.{◌≡◌, ℕ, Bool, true, false, ◌||◌, List, [], ◌∷◌, ◌++◌, nat_lt, slice_get}
+use Rattle.std.specs.Prelude.{◌≡◌, ℕ, Bool, true, false, ◌||◌, List, [], ◌∷◌, ◌++◌, nat_lt}
+use Rattle.std.specs.Prelude.{slice_get}
 use Rattle.std.specs.Prelude.{Option, None, Some, Result, Ok, Err, Vec}
 use Rattle.std.specs.Borrow.{Bor}
 use Rattle.std.specs.Global.{Global}
@@ -26,8 +27,8 @@ is_no_pattern (Some first) = is_escaped first.now
 
 module _ {R : Type 0} (remaining : R → Option (List ℕ)) (read_step : R → ReadResult → R → Type 0)
     (reads : List ℕ → Result (Vec ℕ Global) Error → Type 0) where
-  -- what a file of patterns has: `-` is standard input, which is read to its end, and any other is as
-  -- the system has it
+  -- what a file of patterns has: `-` is standard input, which is read to its end, and any other is
+  -- as the system has it
   pub data IsFileRead (file : List ℕ) (input : R) : List ℕ → R → Type 0 where
     of_input : {input' : R} (pieces : List (List ℕ)) → is_input file ≡ true
         → Reads remaining read_step true input pieces input'

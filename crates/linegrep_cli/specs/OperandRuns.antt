@@ -1,6 +1,8 @@
 -- What a run over operands visits, in which order, what comes of that, and the status.
-use Rattle.std.specs.Prelude.{◌≡◌, ◌≢◌, ◌⊎◌, ℕ, Bool, true, false, not, ◌&&◌, ◌||◌, ◌==◌, if◌then◌else◌}
-use Rattle.std.specs.Prelude.{◌+◌, codes, length, List, [], ◌∷◌, ◌++◌, Option, None, Some, is_some, is_ok}
+use Rattle.std.specs.Prelude.{◌≡◌, ◌≢◌, ◌⊎◌, ℕ, Bool, true, false, not, ◌&&◌, ◌||◌, ◌==◌}
+use Rattle.std.specs.Prelude.{if◌then◌else◌}
+use Rattle.std.specs.Prelude.{◌+◌, codes, length, List, [], ◌∷◌, ◌++◌, Option, None, Some, is_some}
+use Rattle.std.specs.Prelude.{is_ok}
 use Rattle.std.specs.Prelude.{MatchBool, MatchOption, Result, Ok, Err, String, string_bytes}
 use Rattle.std.specs.List.{list_any}
 use Rattle.std.specs.Borrow.{Bor}

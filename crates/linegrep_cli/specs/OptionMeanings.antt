@@ -11,7 +11,8 @@ use Rattle.linegrep_options.specs.declared.option_id.OptionId.TheVariants.{Befor
 use Rattle.linegrep_options.specs.declared.option_id.OptionId.TheVariants.{Context, Files, Json}
 use Rattle.linegrep_options.specs.declared.option_id.OptionId.TheVariants.{LineNumber}
 use Rattle.linegrep_options.specs.declared.option_id.OptionId.TheVariants.{NoColumn, NoLineNumber}
-use Rattle.linegrep_options.specs.declared.option_id.OptionId.TheVariants.{Passthru, Pretty, Vimgrep}
+use Rattle.linegrep_options.specs.declared.option_id.OptionId.TheVariants.{Passthru, Pretty}
+use Rattle.linegrep_options.specs.declared.option_id.OptionId.TheVariants.{Vimgrep}
 use Rattle.linegrep_cli.specs.declared.options.Options.{Options}
 
 -- the value of an option, if it applies

@@ -8,14 +8,24 @@ use Rattle.std.specs.Str.{bytes_eq}
 use Rattle.linegrep_options.specs.CommandLines.{number_of}
 use Rattle.linegrep_options.specs.OptionUses.{last_place, last_value, places_of, values_of}
 use Rattle.linegrep_options.specs.declared.option_id.OptionId.{OptionId}
-use Rattle.linegrep_options.specs.declared.option_id.OptionId.TheVariants.{AfterContext, BeforeContext, Color, Colors}
-use Rattle.linegrep_options.specs.declared.option_id.OptionId.TheVariants.{Context, ContextSeparator, Encoding}
-use Rattle.linegrep_options.specs.declared.option_id.OptionId.TheVariants.{FieldContextSeparator, FieldMatchSeparator}
-use Rattle.linegrep_options.specs.declared.option_id.OptionId.TheVariants.{File, Files, Glob, Iglob, IgnoreFile}
-use Rattle.linegrep_options.specs.declared.option_id.OptionId.TheVariants.{MaxColumns, MaxCount, MaxDepth}
-use Rattle.linegrep_options.specs.declared.option_id.OptionId.TheVariants.{MaxFilesize, PathSeparator, Regexp}
-use Rattle.linegrep_options.specs.declared.option_id.OptionId.TheVariants.{Replace, Sort, Sortr, «Type»}
-use Rattle.linegrep_options.specs.declared.option_id.OptionId.TheVariants.{TypeAdd, TypeClear, TypeNot}
+use Rattle.linegrep_options.specs.declared.option_id.OptionId.TheVariants.{AfterContext}
+use Rattle.linegrep_options.specs.declared.option_id.OptionId.TheVariants.{BeforeContext, Color}
+use Rattle.linegrep_options.specs.declared.option_id.OptionId.TheVariants.{Colors}
+use Rattle.linegrep_options.specs.declared.option_id.OptionId.TheVariants.{Context}
+use Rattle.linegrep_options.specs.declared.option_id.OptionId.TheVariants.{ContextSeparator}
+use Rattle.linegrep_options.specs.declared.option_id.OptionId.TheVariants.{Encoding}
+use Rattle.linegrep_options.specs.declared.option_id.OptionId.TheVariants.{FieldContextSeparator}
+use Rattle.linegrep_options.specs.declared.option_id.OptionId.TheVariants.{FieldMatchSeparator}
+use Rattle.linegrep_options.specs.declared.option_id.OptionId.TheVariants.{File, Files, Glob, Iglob}
+use Rattle.linegrep_options.specs.declared.option_id.OptionId.TheVariants.{IgnoreFile}
+use Rattle.linegrep_options.specs.declared.option_id.OptionId.TheVariants.{MaxColumns, MaxCount}
+use Rattle.linegrep_options.specs.declared.option_id.OptionId.TheVariants.{MaxDepth}
+use Rattle.linegrep_options.specs.declared.option_id.OptionId.TheVariants.{MaxFilesize}
+use Rattle.linegrep_options.specs.declared.option_id.OptionId.TheVariants.{PathSeparator, Regexp}
+use Rattle.linegrep_options.specs.declared.option_id.OptionId.TheVariants.{Replace, Sort, Sortr}
+use Rattle.linegrep_options.specs.declared.option_id.OptionId.TheVariants.{«Type»}
+use Rattle.linegrep_options.specs.declared.option_id.OptionId.TheVariants.{TypeAdd, TypeClear}
+use Rattle.linegrep_options.specs.declared.option_id.OptionId.TheVariants.{TypeNot}
 use Rattle.linegrep_options.specs.declared.option_id.OptionId.TheVariants.{Unrestricted as AsUnrestricted}
 use Rattle.linegrep_options.specs.declared.uses.Use.{Use}
 use Rattle.linegrep_cli.specs.declared.lists.Listed.{Listed}
@@ -57,7 +67,8 @@ pub record AreValues (uses : List Use) (option : OptionId) (listed : Listed) : T
   pub places : listed.places.items ≡ places_of option 1 uses
 
 -- the values of options that may be given several times, and the operands
-pub record AreLists (uses : List Use) (operands : List (Bor (List ℕ))) (lists : Lists) : Type 0 where
+pub record AreLists (uses : List Use) (operands : List (Bor (List ℕ)))
+    (lists : Lists) : Type 0 where
   pub operands_are : lists.operands.items ≡ operands
   pub pattern_files : lists.pattern_files.items ≡ values_of File uses
   pub colors : lists.colors.items ≡ values_of Colors uses
@@ -83,7 +94,8 @@ pub record AreTypes (lists : Lists) (types : TypeOptions) : Type 0 where
   pub cleared : AreLent lists.types_cleared types.cleared
 
 -- the options of a run, by the uses of options, their values and the operands
-pub record AreOptions (uses : Bor (List Use)) (lists : Lists) (streams : Streams) (options : Options) : Type 0
+pub record AreOptions (uses : Bor (List Use)) (lists : Lists) (streams : Streams)
+    (options : Options) : Type 0
   where
     pub streams_are : options.streams ≡ streams
     pub uses_are : options.uses ≡ uses

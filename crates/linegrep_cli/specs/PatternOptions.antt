@@ -14,8 +14,10 @@ use Rattle.linegrep_cli.specs.SearcherOptions.{terminator_of}
 use Rattle.linegrep_options.specs.declared.option_id.OptionId.TheVariants.{Crlf, Files}
 use Rattle.linegrep_options.specs.declared.option_id.OptionId.TheVariants.{FixedStrings}
 use Rattle.linegrep_options.specs.declared.option_id.OptionId.TheVariants.{IgnoreCase, LineRegexp}
-use Rattle.linegrep_options.specs.declared.option_id.OptionId.TheVariants.{Multiline, MultilineDotall}
-use Rattle.linegrep_options.specs.declared.option_id.OptionId.TheVariants.{NoPcre2Unicode, NoUnicode}
+use Rattle.linegrep_options.specs.declared.option_id.OptionId.TheVariants.{Multiline}
+use Rattle.linegrep_options.specs.declared.option_id.OptionId.TheVariants.{MultilineDotall}
+use Rattle.linegrep_options.specs.declared.option_id.OptionId.TheVariants.{NoPcre2Unicode}
+use Rattle.linegrep_options.specs.declared.option_id.OptionId.TheVariants.{NoUnicode}
 use Rattle.linegrep_options.specs.declared.option_id.OptionId.TheVariants.{NullData}
 use Rattle.linegrep_options.specs.declared.option_id.OptionId.TheVariants.{SmartCase, WordRegexp}
 use Rattle.linegrep_cli.specs.declared.options.Options.{Options}

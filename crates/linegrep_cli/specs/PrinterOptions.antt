@@ -27,21 +27,28 @@ use Rattle.linegrep_cli.specs.OptionMeanings.{after_lines, before_lines, shows_c
 use Rattle.linegrep_cli.specs.OptionUses.{has}
 use Rattle.linegrep_cli.specs.TerminalColors.{colors_for}
 use Rattle.linegrep_cli.specs.declared.counted_run.CountedRun.{CountedRun}
-use Rattle.linegrep_options.specs.declared.option_id.OptionId.TheVariants.{BlockBuffered, ByteOffset}
+use Rattle.linegrep_options.specs.declared.option_id.OptionId.TheVariants.{BlockBuffered}
+use Rattle.linegrep_options.specs.declared.option_id.OptionId.TheVariants.{ByteOffset}
 use Rattle.linegrep_options.specs.declared.option_id.OptionId.TheVariants.{Color, Count}
 use Rattle.linegrep_options.specs.declared.option_id.OptionId.TheVariants.{CountMatches}
 use Rattle.linegrep_options.specs.declared.option_id.OptionId.TheVariants.{Files, FilesWithMatches}
-use Rattle.linegrep_options.specs.declared.option_id.OptionId.TheVariants.{FilesWithoutMatch, Heading}
-use Rattle.linegrep_options.specs.declared.option_id.OptionId.TheVariants.{IncludeZero, InvertMatch, Json}
-use Rattle.linegrep_options.specs.declared.option_id.OptionId.TheVariants.{LineBuffered, MaxColumnsPreview}
+use Rattle.linegrep_options.specs.declared.option_id.OptionId.TheVariants.{FilesWithoutMatch}
+use Rattle.linegrep_options.specs.declared.option_id.OptionId.TheVariants.{Heading}
+use Rattle.linegrep_options.specs.declared.option_id.OptionId.TheVariants.{IncludeZero, InvertMatch}
+use Rattle.linegrep_options.specs.declared.option_id.OptionId.TheVariants.{Json}
+use Rattle.linegrep_options.specs.declared.option_id.OptionId.TheVariants.{LineBuffered}
+use Rattle.linegrep_options.specs.declared.option_id.OptionId.TheVariants.{MaxColumnsPreview}
 use Rattle.linegrep_options.specs.declared.option_id.OptionId.TheVariants.{NoFilename}
 use Rattle.linegrep_options.specs.declared.option_id.OptionId.TheVariants.{NoHeading, Null}
-use Rattle.linegrep_options.specs.declared.option_id.OptionId.TheVariants.{OnlyMatching, Pretty, Quiet}
+use Rattle.linegrep_options.specs.declared.option_id.OptionId.TheVariants.{OnlyMatching, Pretty}
+use Rattle.linegrep_options.specs.declared.option_id.OptionId.TheVariants.{Quiet}
 use Rattle.linegrep_options.specs.declared.option_id.OptionId.TheVariants.{Stats}
-use Rattle.linegrep_options.specs.declared.option_id.OptionId.TheVariants.{Trim, Vimgrep, WithFilename}
+use Rattle.linegrep_options.specs.declared.option_id.OptionId.TheVariants.{Trim, Vimgrep}
+use Rattle.linegrep_options.specs.declared.option_id.OptionId.TheVariants.{WithFilename}
 use Rattle.linegrep_cli.specs.declared.options.Options.{Options}
 use Rattle.linegrep_cli.specs.declared.printers.Printer.{Printer}
-use Rattle.linegrep_cli.specs.declared.printers.Printer.TheVariants.{Lines, Parts, ReplacedLines, ReplacedParts}
+use Rattle.linegrep_cli.specs.declared.printers.Printer.TheVariants.{Lines, Parts, ReplacedLines}
+use Rattle.linegrep_cli.specs.declared.printers.Printer.TheVariants.{ReplacedParts}
 use Rattle.linegrep_cli.specs.declared.printers.Printer.TheVariants.{Summary}
 use Rattle.linegrep_cli.specs.declared.printers.Printer.TheVariants.{Json as Messages}
 
@@ -169,7 +176,8 @@ IsReplacing matcher (Some template) format =
     (format.matcher ≡ matcher) × (format.template.now ≡ template.now)
 
 -- a replacer replaces each match by a template, if there is one
-abbrev pub IsReplacer : {M : Type 0} → M → Option (Bor Template) → Option (TemplateReplacer M) → Type 0
+abbrev pub IsReplacer : {M : Type 0} → M → Option (Bor Template) → Option (TemplateReplacer M)
+    → Type 0
 IsReplacer matcher None None = Unit {0}
 IsReplacer matcher (Some template) (Some replacer) =
     (replacer.matcher ≡ matcher) × (replacer.template.now ≡ template.now)

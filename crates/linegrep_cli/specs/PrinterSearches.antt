@@ -19,12 +19,14 @@ use Rattle.linegrep_cli.specs.CountedRuns.{AreStatsPut, IsCountedSearch, IsRunFl
 use Rattle.linegrep_cli.specs.JsonRuns.{AreTotalsPut, IsJsonWritten}
 use Rattle.linegrep_cli.specs.WriterFlushes.{IsWriterFlushed}
 use Rattle.linegrep_cli.specs.declared.printers.Printer.{Printer}
-use Rattle.linegrep_cli.specs.declared.printers.Printer.TheVariants.{Json, Lines, Parts, ReplacedLines}
+use Rattle.linegrep_cli.specs.declared.printers.Printer.TheVariants.{Json, Lines, Parts}
+use Rattle.linegrep_cli.specs.declared.printers.Printer.TheVariants.{ReplacedLines}
 use Rattle.linegrep_cli.specs.declared.printers.Printer.TheVariants.{ReplacedParts, Summary}
 use Rattle.grep_printer.specs.declared.printed_search.Searched.{Searched}
 
 module _ {M W E : Type 0} (output : E → Option (List ℕ)) (facts : M → MatcherFacts E)
-    (first_at : M → List ℕ → ℕ → Option (ℕ × ℕ)) (groups_at : M → List ℕ → ℕ → List (Option (ℕ × ℕ)))
+    (first_at : M → List ℕ → ℕ → Option (ℕ × ℕ))
+    (groups_at : M → List ℕ → ℕ → List (Option (ℕ × ℕ)))
     (write_step : W → OutputCall → W → Type 0) {R : Type 0} (remaining : R → Option (List ℕ))
     (read_step : R → ReadResult → R → Type 0)
     (state : SearcherState) (matcher : M) (path : Option (Bor (List ℕ))) where
@@ -42,13 +44,16 @@ module _ {M W E : Type 0} (output : E → Option (List ℕ)) (facts : M → Matc
       reader' writer' new
   IsSearchWritten reader writer (ReplacedParts old) searched reader' writer' (ReplacedParts new) =
       IsCountedSearch (replaced_rules vimgrep_rules groups_at (λ m. (facts m).meaning)) output facts
-      first_at write_step remaining read_step state matcher path reader writer old searched reader' writer' new
+      first_at write_step remaining read_step state matcher path reader writer old searched reader'
+      writer' new
   IsSearchWritten reader writer (Summary old) searched reader' writer' (Summary new) =
       IsCountedSearch summary_rules output facts first_at write_step remaining read_step state
       matcher path reader writer old searched reader' writer' new
   IsSearchWritten reader writer (Json old) searched reader' writer' (Json new) =
-      IsJsonWritten (optional_text_at (template_text_at groups_at (λ m. (facts m).meaning))) output facts
-      first_at write_step remaining read_step state matcher path reader writer old searched reader' writer' new
+      IsJsonWritten (optional_text_at (template_text_at groups_at (λ m. (facts m).meaning)))
+      output facts
+      first_at write_step remaining read_step state matcher path reader writer old searched reader'
+      writer' new
   IsSearchWritten reader writer old searched reader' writer' new = ⊥
 
 module _ {M W : Type 0} (write_step : W → OutputCall → W → Type 0) where
@@ -70,12 +75,16 @@ module _ {M W : Type 0} (write_step : W → OutputCall → W → Type 0) where
   IsFlushed writer old result writer' new = ⊥
 
   -- the totals of all searches are written after what these wrote, if options ask for that
-  abbrev pub HasTotals : W → Printer M → Result (Unit {0}) (SearchError Global) → W → Printer M → Type 0
+  abbrev pub HasTotals : W → Printer M → Result (Unit {0}) (SearchError Global) → W → Printer M
+      → Type 0
   HasTotals writer (Json old) result writer' (Json new) =
-      (elapsed : ℕ) × AreTotalsPut write_step writer old.printer old.stats elapsed result writer' new.printer
+      (elapsed : ℕ) × AreTotalsPut write_step writer old.printer old.stats elapsed result writer'
+      new.printer
       × (new ≡ record old { printer = new.printer })
-  HasTotals writer (Lines old) result writer' (Lines new) = AreStatsPut write_step writer old result writer' new
-  HasTotals writer (Parts old) result writer' (Parts new) = AreStatsPut write_step writer old result writer' new
+  HasTotals writer (Lines old) result writer' (Lines new) =
+      AreStatsPut write_step writer old result writer' new
+  HasTotals writer (Parts old) result writer' (Parts new) =
+      AreStatsPut write_step writer old result writer' new
   HasTotals writer (ReplacedLines old) result writer' (ReplacedLines new) =
       AreStatsPut write_step writer old result writer' new
   HasTotals writer (ReplacedParts old) result writer' (ReplacedParts new) =
@@ -92,6 +101,7 @@ module _ {M W : Type 0} (write_step : W → OutputCall → W → Type 0) where
     of_flush : (between : W) (mid : Printer M) {writer' : W} {new : Printer M}
         → HasTotals writer old (Ok tt) between mid → IsFlushed between mid (Ok tt) writer' new
         → IsFinished writer old (Ok tt) writer' new
-    of_failed_flush : {error : Error} (between : W) (mid : Printer M) {writer' : W} {new : Printer M}
+    of_failed_flush : {error : Error} (between : W) (mid : Printer M)
+        {writer' : W} {new : Printer M}
         → HasTotals writer old (Ok tt) between mid → IsFlushed between mid (Err error) writer' new
         → IsFinished writer old (Err (Io error)) writer' new

@@ -46,7 +46,8 @@ IsWrittenResult (Err e) result = (error : Error) × (result ≡ Err error) × Is
 -- something is done with a path as it is written; or there is no memory for that path, and nothing
 -- is done
 abbrev pub IsDoneShown : {F M R W X : Type 0} → (PrintingEngine F M R W X → Option (Bor (List ℕ))
-    → Searched → PrintingEngine F M R W X → Type 0) → Option (Bor (List ℕ)) → PrintingEngine F M R W X
+    → Searched → PrintingEngine F M R W X → Type 0) → Option (Bor (List ℕ))
+    → PrintingEngine F M R W X
     → Searched → PrintingEngine F M R W X → Type 0
 IsDoneShown IsDone path old searched new =
     ((shown : Option (Bor (List ℕ))) × IsShown old.path_separator path shown
@@ -54,7 +55,8 @@ IsDoneShown IsDone path old searched new =
     ⊎ ((is_some old.path_separator ≡ true) × IsUnsearched searched × (new ≡ old))
 
 module _ {F M R W X E : Type 0} (output : E → Option (List ℕ)) (facts : M → MatcherFacts E)
-    (first_at : M → List ℕ → ℕ → Option (ℕ × ℕ)) (groups_at : M → List ℕ → ℕ → List (Option (ℕ × ℕ)))
+    (first_at : M → List ℕ → ℕ → Option (ℕ × ℕ))
+    (groups_at : M → List ℕ → ℕ → List (Option (ℕ × ℕ)))
     (write_step : W → OutputCall → W → Type 0)
     (file_remaining : F → Option (List ℕ)) (remaining : R → Option (List ℕ))
     (read_step : R → ReadResult → R → Type 0) where

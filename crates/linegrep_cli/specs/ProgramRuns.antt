@@ -1,6 +1,8 @@
 -- What the program does, by its arguments.
-use Rattle.std.specs.Prelude.{◌≡◌, ◌≢◌, ◌⊎◌, ℕ, Bool, true, false, not, ◌&&◌, ◌||◌, if◌then◌else◌, List, []}
-use Rattle.std.specs.Prelude.{length, map, nat_lt, MatchBool, Option, None, Some, Result, Ok, Err, String}
+use Rattle.std.specs.Prelude.{◌≡◌, ◌≢◌, ◌⊎◌, ℕ, Bool, true, false, not, ◌&&◌, ◌||◌, if◌then◌else◌}
+use Rattle.std.specs.Prelude.{List, []}
+use Rattle.std.specs.Prelude.{length, map, nat_lt, MatchBool, Option, None, Some, Result, Ok, Err}
+use Rattle.std.specs.Prelude.{String}
 use Rattle.std.specs.Prelude.{string_bytes, Vec}
 use Rattle.std.specs.Borrow.{Bor}
 use Rattle.std.specs.Global.{Global}
@@ -16,8 +18,10 @@ use Rattle.linegrep_options.specs.CommandLines.{Refusal, Refused, reading_of}
 use Rattle.linegrep_options.specs.OptionUses.{places_of, values_of}
 use Rattle.linegrep_options.specs.ParsedWords.{AreRead, texts}
 use Rattle.linegrep_options.specs.declared.command_line.Parsed.{Parsed}
-use Rattle.linegrep_options.specs.declared.option_id.OptionId.TheVariants.{File, Files, Help, ShortHelp}
-use Rattle.linegrep_options.specs.declared.option_id.OptionId.TheVariants.{TypeList, Unrestricted, Version}
+use Rattle.linegrep_options.specs.declared.option_id.OptionId.TheVariants.{File, Files, Help}
+use Rattle.linegrep_options.specs.declared.option_id.OptionId.TheVariants.{ShortHelp}
+use Rattle.linegrep_options.specs.declared.option_id.OptionId.TheVariants.{TypeList, Unrestricted}
+use Rattle.linegrep_options.specs.declared.option_id.OptionId.TheVariants.{Version}
 use Rattle.linegrep_options.specs.declared.uses.Use.{Use}
 use Rattle.linegrep_cli.specs.NamedPatterns.{ArePatterns, LackPatterns}
 use Rattle.linegrep_cli.specs.OperandRuns.{is_input}
@@ -132,7 +136,8 @@ module _ {F R W X : Type 0} (output : AllocError → Option (List ℕ))
         → text_asked options ≡ None → has options TypeList ≡ false
         → exclude_each_other options ≡ false
         → ArePatternsFor remaining read_step folders options input (map string_bytes patterns) mid
-        → IsRefusedFor say_step folders options patterns mid writer errors status input' writer' errors'
+        → IsRefusedFor say_step folders options patterns mid writer errors status input' writer'
+        errors'
         ⊎ IsWholeRun output write_step file_remaining remaining read_step folders finds opens
         identifies options patterns mid writer errors status input' writer'
         → IsOptionsRun options input writer errors status input' writer' errors'

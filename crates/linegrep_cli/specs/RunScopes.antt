@@ -11,7 +11,8 @@ use Rattle.linegrep_cli.specs.SearcherOptions.{is_all_searched}
 use Rattle.linegrep_files.specs.declared.file_id.FileId.{FileId}
 use Rattle.linegrep_cli.specs.declared.scope.Scope.{Scope}
 use Rattle.linegrep_options.specs.declared.option_id.OptionId.TheVariants.{Binary, Files}
-use Rattle.linegrep_options.specs.declared.option_id.OptionId.TheVariants.{FilesWithoutMatch, Follow}
+use Rattle.linegrep_options.specs.declared.option_id.OptionId.TheVariants.{FilesWithoutMatch}
+use Rattle.linegrep_options.specs.declared.option_id.OptionId.TheVariants.{Follow}
 use Rattle.linegrep_options.specs.declared.option_id.OptionId.TheVariants.{NoIgnoreMessages}
 use Rattle.linegrep_options.specs.declared.option_id.OptionId.TheVariants.{NoMessages, Quiet, Sort}
 use Rattle.linegrep_options.specs.declared.option_id.OptionId.TheVariants.{Sortr}

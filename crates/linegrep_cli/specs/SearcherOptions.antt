@@ -19,7 +19,8 @@ use Rattle.linegrep_cli.specs.OptionMeanings.{after_lines, before_lines, shows_n
 use Rattle.linegrep_cli.specs.OptionUses.{has, last_use}
 use Rattle.linegrep_options.specs.declared.option_id.OptionId.TheVariants.{Crlf, Encoding, Files}
 use Rattle.linegrep_options.specs.declared.option_id.OptionId.TheVariants.{InvertMatch, Multiline}
-use Rattle.linegrep_options.specs.declared.option_id.OptionId.TheVariants.{NoBinary, NoText, NullData}
+use Rattle.linegrep_options.specs.declared.option_id.OptionId.TheVariants.{NoBinary, NoText}
+use Rattle.linegrep_options.specs.declared.option_id.OptionId.TheVariants.{NullData}
 use Rattle.linegrep_options.specs.declared.option_id.OptionId.TheVariants.{Passthru}
 use Rattle.linegrep_options.specs.declared.option_id.OptionId.TheVariants.{StopOnNonmatch, Text}
 use Rattle.linegrep_options.specs.declared.option_id.OptionId.{OptionId}

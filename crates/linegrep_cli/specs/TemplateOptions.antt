@@ -14,7 +14,8 @@ abbrev pub IsReadFrom : List (Option (List ℕ)) → Option (Bor (List ℕ)) →
 IsReadFrom names None template = ⊥
 IsReadFrom names (Some text) template = AreReadFrom names text.now template.pieces.items
 
--- the template is what options ask for, if they ask for one, with the groups of a regular expression
+-- the template is what options ask for, if they ask for one, with the groups of a regular
+-- expression
 abbrev pub IsTemplate : Options → Regex → Option Template → Type 0
 IsTemplate options regex None = options.replace ≡ None
 IsTemplate options regex (Some template) =

@@ -10,7 +10,8 @@ use Rattle.grep_printer.specs.declared.colors.ColorTexts.{ColorTexts}
 use Rattle.grep_printer.specs.declared.separators.Separators.{Separators}
 use Rattle.grep_regex.specs.LiteralViews.{literal_regex}
 use Rattle.grep_regex.specs.NamedViews.{named_regex}
-use Rattle.grep_regex.specs.Views.{regex_first_at, regex_groups_at, regex_meaning, regex_options, regex_patterns}
+use Rattle.grep_regex.specs.Views.{regex_first_at, regex_groups_at, regex_meaning, regex_options}
+use Rattle.grep_regex.specs.Views.{regex_patterns}
 use Rattle.grep_regex.specs.declared.literal_matcher.LiteralRegexMatcher.{LiteralRegexMatcher}
 use Rattle.grep_regex.specs.declared.named.NamedMatcher.{NamedMatcher}
 use Rattle.grep_regex.specs.declared.named.Naming.{Ghosts}
@@ -49,7 +50,8 @@ pub record IsMatcherOf {M E : Type 0} (facts : M → MatcherFacts E)
   pub trusted : (terminator : LineTerminator) → (facts matcher).is_lawful terminator
 
 module _ {F M R W X E : Type 0} (output : E → Option (List ℕ)) (facts : M → MatcherFacts E)
-    (first_at : M → List ℕ → ℕ → Option (ℕ × ℕ)) (groups_at : M → List ℕ → ℕ → List (Option (ℕ × ℕ)))
+    (first_at : M → List ℕ → ℕ → Option (ℕ × ℕ))
+    (groups_at : M → List ℕ → ℕ → List (Option (ℕ × ℕ)))
     (write_step : W → OutputCall → W → Type 0) (file_remaining : F → Option (List ℕ))
     (remaining : R → Option (List ℕ)) (read_step : R → ReadResult → R → Type 0)
     (folders : FolderFacts) (finds : List ℕ → Result Bool Error → Type 0)
@@ -128,7 +130,8 @@ named_facts matcher = record {
 abbrev pub named_first_at : {naming : Ghosts Brand} → Named naming → List ℕ → ℕ → Option (ℕ × ℕ)
 named_first_at matcher = regex_first_at (named_regex matcher.now)
 
-abbrev pub named_groups_at : {naming : Ghosts Brand} → Named naming → List ℕ → ℕ → List (Option (ℕ × ℕ))
+abbrev pub named_groups_at : {naming : Ghosts Brand} → Named naming → List ℕ → ℕ
+    → List (Option (ℕ × ℕ))
 named_groups_at matcher = regex_groups_at (named_regex matcher.now)
 
 -- a matcher of a literal
@@ -162,9 +165,11 @@ pub record IsWholeRun {F R W X : Type 0} (output : AllocError → Option (List �
   pub regex : Regex
   pub has_options : regex_options regex ≡ pattern_options options patterns
   pub has_patterns : regex_patterns regex ≡ pattern_texts options patterns
-  pub run : IsRunFor {M = Literal} output literal_facts literal_first_at literal_groups_at write_step
-      file_remaining remaining read_step folders finds opens identifies options regex input writer errors
+  pub run : IsRunFor {M = Literal} output literal_facts literal_first_at literal_groups_at
+      write_step file_remaining remaining read_step folders finds opens identifies options regex
+      input writer errors
       status input' writer'
-      ⊎ IsRunFor {M = Named (naming_of regex)} output named_facts named_first_at named_groups_at write_step
-      file_remaining remaining read_step folders finds opens identifies options regex input writer errors
+      ⊎ IsRunFor {M = Named (naming_of regex)} output named_facts named_first_at named_groups_at
+      write_step file_remaining remaining read_step folders finds opens identifies options regex
+      input writer errors
       status input' writer'

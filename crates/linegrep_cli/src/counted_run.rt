@@ -107,7 +107,8 @@ impl<F: Format> CountedRun<F> {
     ) -> Searched
         ensures settings { searcher.new.settings ≡ searcher.old.settings }
         ensures buffers { searcher.old.has_buffers ≡ true → searcher.new.has_buffers ≡ true }
-        ensures printed { IsCountedSearch F.rules M.Error.output M.facts M.first_at W.step H.remaining H.step
+        ensures printed { IsCountedSearch F.rules M.Error.output M.facts M.first_at W.step
+            H.remaining H.step
             searcher.old matcher path.entry haystack.old writer.old self.old result haystack.new
             writer.new self.new }
     {

@@ -150,11 +150,11 @@ impl<'e, F: Read + Drop, M: CapturesAt + Copy, R: Source, W: Output, E> Printing
     W,
     E,
 > {
-    // Searches a file, or else standard input, and writes what is found in it, with the path as it is
-    // written.
+    // Searches a file, or else standard input, and writes what is found in it, with the path as it
+    // is written.
     fn search(&mut self, file: Option<F>, path: Option<&str>) -> Searched
-        ensures { IsDoneShown (IsSearched M.Error.output M.facts M.first_at M.groups_at W.step F.remaining
-            R.remaining R.step file) path.entry self.old result self.new }
+        ensures { IsDoneShown (IsSearched M.Error.output M.facts M.first_at M.groups_at W.step
+            F.remaining R.remaining R.step file) path.entry self.old result self.new }
     {
         match (self.path_separator, path) {
             (Some(separator), Some(path)) => {
@@ -170,7 +170,8 @@ impl<'e, F: Read + Drop, M: CapturesAt + Copy, R: Source, W: Output, E> Printing
     // Searches a file, or else standard input, and writes what is found in it, with the path as it
     // is given.
     fn search_shown(&mut self, file: Option<F>, path: Option<&str>) -> Searched
-        ensures { IsSearched M.Error.output M.facts M.first_at M.groups_at W.step F.remaining R.remaining R.step
+        ensures { IsSearched M.Error.output M.facts M.first_at M.groups_at W.step F.remaining
+            R.remaining R.step
             file self.old path.entry result self.new }
     {
         self.haystack.file = file;
@@ -188,7 +189,8 @@ impl<'e, F: Read + Drop, M: CapturesAt + Copy, R: Source, W: Output, E> Printing
 
     // Writes a path, as it is given, as the path of a file with a match.
     fn list_shown(&mut self, path: &str) -> Searched
-        ensures { IsPathWritten M.Error.output M.facts M.first_at M.groups_at W.step F.remaining R.remaining
+        ensures { IsPathWritten M.Error.output M.facts M.first_at M.groups_at W.step F.remaining
+            R.remaining
             R.step self.old (Some path.entry) result self.new }
     {
         let mut line: &[u8] = b"x\n";

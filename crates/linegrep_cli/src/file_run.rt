@@ -8,9 +8,11 @@ ghost use Rattle.std.specs.declared.io.Error.{Error};
 ghost use Rattle.linegrep_cli.specs.OperandRuns.{AreAllVisited, AreOperandsSearched, AreSaid};
 ghost use Rattle.linegrep_cli.specs.OperandRuns.{IsEntryVisited, IsFailing, IsFileVisited};
 ghost use Rattle.linegrep_cli.specs.OperandRuns.{IsFolderVisited, IsHereVisited, IsInputVisited};
-ghost use Rattle.linegrep_cli.specs.OperandRuns.{IsKept, IsListed, IsNamedVisited, IsOperandVisited};
+ghost use Rattle.linegrep_cli.specs.OperandRuns.{IsKept, IsListed, IsNamedVisited};
+ghost use Rattle.linegrep_cli.specs.OperandRuns.{IsOperandVisited};
 ghost use Rattle.linegrep_cli.specs.OperandRuns.{IsPathVisited, IsReported, IsRunEnd, IsRunOver};
-ghost use Rattle.linegrep_cli.specs.OperandRuns.{IsLeftOut, IsSaid, IsTreeVisited, error_of, is_over};
+ghost use Rattle.linegrep_cli.specs.OperandRuns.{IsLeftOut, IsSaid, IsTreeVisited, error_of};
+ghost use Rattle.linegrep_cli.specs.OperandRuns.{is_over};
 ghost use Rattle.linegrep_cli.specs.OperandRuns.{no_visit};
 ghost use Rattle.linegrep_files.specs.Choices.{AreAlike, AreTakenUp, SaysTheSame, warnings_of};
 ghost use Rattle.linegrep_files.specs.Folders.{name_of};
@@ -148,7 +150,8 @@ impl<'r, S: System> Run<'r, S> {
         choices: &mut Choices<'r>,
         path: &str,
     ) -> Visit
-        ensures visited { IsOperandVisited (S.facts self.now.system.now) (S.finds self.now.system.now)
+        ensures visited { IsOperandVisited (S.facts self.now.system.now)
+            (S.finds self.now.system.now)
             (S.opens self.now.system.now) (S.identifies self.now.system.now) E.step E.has_failed
             self.now.scope choices.old path.entry engine.old result engine.new }
         ensures choices { is_over self.now.scope result ≡ false
@@ -202,7 +205,8 @@ impl<'r, S: System> Run<'r, S> {
         choices: &mut Choices<'r>,
         folder: &str,
     ) -> Visit
-        ensures visited { IsFolderVisited (S.facts self.now.system.now) (S.opens self.now.system.now)
+        ensures visited { IsFolderVisited (S.facts self.now.system.now)
+            (S.opens self.now.system.now)
             (S.identifies self.now.system.now) E.step E.has_failed self.now.scope choices.old
             folder.now engine.old result engine.new }
         ensures choices { is_over self.now.scope result ≡ false

@@ -94,8 +94,9 @@ impl<R: Replacer> JsonRun<R> {
     ) -> Searched
         ensures settings { searcher.new.settings ≡ searcher.old.settings }
         ensures buffers { searcher.old.has_buffers ≡ true → searcher.new.has_buffers ≡ true }
-        ensures written { IsJsonWritten R.text_at M.Error.output M.facts M.first_at W.step H.remaining
-            H.step searcher.old matcher path.entry haystack.old writer.old self.old result haystack.new
+        ensures written { IsJsonWritten R.text_at M.Error.output M.facts M.first_at W.step
+            H.remaining H.step searcher.old matcher path.entry haystack.old writer.old self.old
+            result haystack.new
             writer.new self.new }
     {
         let start = Instant::now(rt).ok();

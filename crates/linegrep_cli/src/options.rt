@@ -1,9 +1,11 @@
 //! The options of the command line.
 ghost use Rattle.std.specs.Prelude.{◌≡◌, ◌&&◌, None, if◌then◌else◌, option_map};
 ghost use Rattle.std.specs.Prelude.{slice_get, slice_index};
-ghost use Rattle.linegrep_cli.specs.FileChoices.{ignore_files_of, last_of_both, reads, shows_hidden};
+ghost use Rattle.linegrep_cli.specs.FileChoices.{ignore_files_of, last_of_both, reads};
+ghost use Rattle.linegrep_cli.specs.FileChoices.{shows_hidden};
 ghost use Rattle.linegrep_cli.specs.OptionMeanings.{after_lines, before_lines, context_lines};
-ghost use Rattle.linegrep_cli.specs.OptionMeanings.{paths_of, searches_input, shows_columns, shows_numbers};
+ghost use Rattle.linegrep_cli.specs.OptionMeanings.{paths_of, searches_input, shows_columns};
+ghost use Rattle.linegrep_cli.specs.OptionMeanings.{shows_numbers};
 ghost use Rattle.linegrep_cli.specs.OptionMeanings.{operands_of, value_of};
 ghost use Rattle.linegrep_cli.specs.PrinterOptions.{color_choice, counts, counts_matches};
 ghost use Rattle.linegrep_cli.specs.PrinterOptions.{counts_all, is_line_buffered, is_summary};
@@ -200,7 +202,8 @@ impl<'m, 'w> Options<'m, 'w> {
             || last_place(self.uses, OptionId::NoHidden) < self.unrestricted.hidden
     }
 
-    /// Whether the search of a file of a folder goes on after a NUL, though it isn't searched as text.
+    /// Whether the search of a file of a folder goes on after a NUL, though it isn't searched as
+    /// text.
     pub fn searches_binary(&self) -> bool
         ensures { result ≡ searches_binary self.now }
     {

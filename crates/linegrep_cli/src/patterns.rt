@@ -1,10 +1,12 @@
 //! The patterns that are searched for.
-ghost use Rattle.std.specs.Prelude.{◌≡◌, ◌≢◌, ◌⊎◌, ◌∷◌, ◌++◌, [], codes, false, map, string_bytes, true};
+ghost use Rattle.std.specs.Prelude.{◌≡◌, ◌≢◌, ◌⊎◌, ◌∷◌, ◌++◌, [], codes, false, map, string_bytes};
+ghost use Rattle.std.specs.Prelude.{true};
 ghost use Rattle.std.specs.Prelude.{IfErr, IfOk, OnOk};
 ghost use Rattle.std.specs.List.{list_any};
 ghost use Rattle.grep_regex.specs.Views.{regex_options, regex_patterns};
 ghost use Rattle.linegrep_cli.specs.OptionUses.{has};
-ghost use Rattle.linegrep_cli.specs.PatternOptions.{has_capital, ignores_case, is_escape, is_unicode};
+ghost use Rattle.linegrep_cli.specs.PatternOptions.{has_capital, ignores_case, is_escape};
+ghost use Rattle.linegrep_cli.specs.PatternOptions.{is_unicode};
 ghost use Rattle.linegrep_cli.specs.PatternOptions.{joined_text, names_groups};
 ghost use Rattle.linegrep_cli.specs.PatternOptions.{pattern_options, pattern_texts};
 ghost use Rattle.linegrep_cli.specs.PatternOptions.{searched_options, searched_texts};

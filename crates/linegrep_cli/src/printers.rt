@@ -1,7 +1,8 @@
 //! What writes what is found.
 ghost use Rattle.std.specs.Prelude.{◌≡◌, true};
 ghost use Rattle.linegrep_cli.specs.EngineSteps.{has_failed};
-ghost use Rattle.linegrep_cli.specs.PrinterSearches.{HasTotals, IsFinished, IsFlushed, IsSearchWritten};
+ghost use Rattle.linegrep_cli.specs.PrinterSearches.{HasTotals, IsFinished, IsFlushed};
+ghost use Rattle.linegrep_cli.specs.PrinterSearches.{IsSearchWritten};
 
 use crate::counted_run::CountedRun;
 use crate::json_run::JsonRun;
@@ -43,7 +44,8 @@ impl<'c, M: CapturesAt + Copy> Printer<'c, M> {
     ) -> Searched
         ensures settings { searcher.new.settings ≡ searcher.old.settings }
         ensures buffers { searcher.old.has_buffers ≡ true → searcher.new.has_buffers ≡ true }
-        ensures written { IsSearchWritten M.Error.output M.facts M.first_at M.groups_at W.step H.remaining H.step
+        ensures written { IsSearchWritten M.Error.output M.facts M.first_at M.groups_at W.step
+            H.remaining H.step
             searcher.old matcher path.entry haystack.old writer.old self.old result haystack.new
             writer.new self.new }
     {

@@ -67,7 +67,8 @@ pub fn run<S: System, R: Source + Drop, W: Output + Drop, E: Output>(
     output: W,
     errors: &mut E,
 ) -> Ended<R, W>
-    ensures { IsProgramRun ⟦<AllocError as Display>⟧.output W.step E.step S.File.remaining R.remaining
+    ensures { IsProgramRun ⟦<AllocError as Display>⟧.output W.step E.step S.File.remaining
+        R.remaining
         R.step (S.facts system.now) (S.finds system.now) (S.opens system.now)
         (S.identifies system.now) arguments.now streams input output errors.old result.status
         result.input result.output errors.new }
@@ -94,7 +95,8 @@ fn run_parsed<S: System, R: Source + Drop, W: Output + Drop, E: Output>(
     output: W,
     errors: &mut E,
 ) -> Ended<R, W>
-    ensures { IsParsedRun ⟦<AllocError as Display>⟧.output W.step E.step S.File.remaining R.remaining
+    ensures { IsParsedRun ⟦<AllocError as Display>⟧.output W.step E.step S.File.remaining
+        R.remaining
         R.step (S.facts system.now) (S.finds system.now) (S.opens system.now)
         (S.identifies system.now) parsed.now streams input output errors.old result.status
         result.input result.output errors.new }
@@ -154,7 +156,8 @@ fn run_options<S: System, R: Source + Drop, W: Output + Drop, E: Output>(
     requires unrestricted { lists.now.unrestricted.items
         ≡ places_of OptionId.Unrestricted 1 options.now.uses.now }
     requires files { lists.now.pattern_files.items ≡ values_of OptionId.File options.now.uses.now }
-    ensures { IsOptionsRun ⟦<AllocError as Display>⟧.output W.step E.step S.File.remaining R.remaining
+    ensures { IsOptionsRun ⟦<AllocError as Display>⟧.output W.step E.step S.File.remaining
+        R.remaining
         R.step (S.facts system.now) (S.finds system.now) (S.opens system.now)
         (S.identifies system.now) options.now input output errors.old result.status result.input
         result.output errors.new }

@@ -1,7 +1,8 @@
 //! What the options say of a run.
 ghost use Rattle.std.specs.Prelude.{◌≡◌};
 ghost use Rattle.linegrep_cli.specs.OperandRuns.{ends_with_match, has_found, is_over, is_same};
-ghost use Rattle.linegrep_cli.specs.OperandRuns.{path_of, says_errors, says_warnings, seeks_unmatched};
+ghost use Rattle.linegrep_cli.specs.OperandRuns.{path_of, says_errors, says_warnings};
+ghost use Rattle.linegrep_cli.specs.OperandRuns.{seeks_unmatched};
 ghost use Rattle.linegrep_cli.specs.OperandRuns.{status_of};
 ghost use Rattle.linegrep_cli.specs.RunScopes.{IsScopeOf, MaySearch, messages_of, quiet_of};
 

@@ -10,7 +10,8 @@ use grep_regex::Regex;
 use grep_replace::Template;
 use std::alloc::{AllocError, Global};
 
-/// The template that the options ask for, if they ask for one. The only error is being out of memory.
+/// The template that the options ask for, if they ask for one. The only error is being out of
+/// memory.
 pub fn template(
     alloc: Global,
     options: &Options<'_, '_>,

@@ -1,5 +1,6 @@
 -- The texts without braces that the text of a glob stands for.
-use Rattle.std.specs.Prelude.{◌≡◌, ℕ, ◌⊎◌, Bool, true, false, not, ◌&&◌, ◌||◌, ◌==◌, List, [], ◌∷◌, ◌++◌}
+use Rattle.std.specs.Prelude.{◌≡◌, ℕ, ◌⊎◌, Bool, true, false, not, ◌&&◌, ◌||◌, ◌==◌, List, [], ◌∷◌}
+use Rattle.std.specs.Prelude.{◌++◌}
 use Rattle.std.specs.Prelude.{◌<◌, ◌≤◌, length, map, take, MatchBool, Vec}
 use Rattle.std.specs.Global.{Global}
 use Rattle.std.specs.List.{list_any}
@@ -83,7 +84,8 @@ BeginsPart is_choice glob = (begins_with 123 glob ≡ false) × (begins_with 125
 
 -- the first bytes of a glob, as many as are given, are a part without braces
 abbrev pub HasPart : Bool → List ℕ → ℕ → Type 0
-HasPart is_choice glob count = (0 < count) × (count ≤ length glob) × IsPart is_choice (take count glob)
+HasPart is_choice glob count = (0 < count) × (count ≤ length glob)
+    × IsPart is_choice (take count glob)
 
 -- a glob begins with a part without braces, before a rest, and the part is added to each of some
 -- texts

@@ -116,7 +116,8 @@ pub data AreFilesRefused (options : FileOptions) : Type 0 where
 -- choices are what options say, with the ignore files that count everywhere
 pub record AreChoices (folders : FolderFacts) (options : FileOptions) (choices : Choices) : Type 0
   where
-    pub globs : AreGlobs options.globs.now options.iglobs.now options.ignores_glob_case choices.globs
+    pub globs : AreGlobs options.globs.now options.iglobs.now options.ignores_glob_case
+        choices.globs
     pub types : AreTypes options.types choices.types
     pub limits : AreLimits options choices.limits
     pub hidden : choices.shows_hidden ≡ options.shows_hidden

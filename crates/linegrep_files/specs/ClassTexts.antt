@@ -20,7 +20,8 @@ IsClassBefore text rest = (class : List ℕ) × (text ≡ class ++ 93 ∷ rest) 
 
 -- a text has the members of a class, then a closing bracket, and a rest
 abbrev pub AreMembersBefore : List ℕ → List ℕ → Type 0
-AreMembersBefore text rest = (members : List ℕ) × (text ≡ members ++ rest) × (are_members members ≡ true)
+AreMembersBefore text rest = (members : List ℕ) × (text ≡ members ++ rest)
+    × (are_members members ≡ true)
 
 -- a member is a byte, or a range from a byte to the one after a dash. Another dash and byte move
 -- its end
@@ -48,7 +49,8 @@ HasRanges ignores_case set text rest = (ranges : List (ℕ × ℕ)) × (0 < leng
 -- other bytes
 abbrev pub is_of_class : Bool → Bool → List (ℕ × ℕ) → ℕ → Bool
 is_of_class ignores_case negates ranges byte =
-    let is_member = is_either ignores_case (λ b. list_any (λ range. is_in_range range b) ranges) byte in
+    let is_member = is_either ignores_case
+    (λ b. list_any (λ range. is_in_range range b) ranges) byte in
     if negates then nat_lt byte 256 && not is_member else is_member
 
 -- the set of the bytes that a class stands for. The text has the class, without its opening

@@ -1,5 +1,6 @@
 -- What types of files say of a name: the last that has it decides.
-use Rattle.std.specs.Prelude.{◌≡◌, ℕ, ◌+◌, ◌<◌, ◌≤◌, ◌⊎◌, if◌then◌else◌, Bool, ◌&&◌, ◌||◌, ◌==◌, List}
+use Rattle.std.specs.Prelude.{◌≡◌, ℕ, ◌+◌, ◌<◌, ◌≤◌, ◌⊎◌, if◌then◌else◌, Bool, ◌&&◌, ◌||◌, ◌==◌}
+use Rattle.std.specs.Prelude.{List}
 use Rattle.std.specs.Prelude.{[], ◌∷◌, ◌++◌, false, true, not, length, map, nat_eq, IsTrue}
 use Rattle.std.specs.Prelude.{slice_index_or, string_bytes}
 use Rattle.std.specs.Borrow.{Bor}

@@ -21,7 +21,8 @@ use Rattle.linegrep_files.specs.declared.entry.Entry.TheVariants.{File, Folder, 
 use Rattle.linegrep_files.specs.declared.file_id.FileId.{FileId}
 use Rattle.linegrep_files.specs.declared.folders.Found.{Found}
 use Rattle.linegrep_files.specs.declared.folders.Kind.TheVariants.{File as IsFile}
-use Rattle.linegrep_files.specs.declared.folders.Kind.TheVariants.{Folder as IsFolder, Link as IsLink}
+use Rattle.linegrep_files.specs.declared.folders.Kind.TheVariants.{Folder as IsFolder}
+use Rattle.linegrep_files.specs.declared.folders.Kind.TheVariants.{Link as IsLink}
 use Rattle.linegrep_files.specs.declared.limits.Limits.{Limits}
 
 -- a name isn't the one of the folder itself, nor of the folder that it is in
@@ -157,7 +158,8 @@ module _ (looks : Bool → List ℕ → Result Found Error → Type 0) (follows 
         → IsFound choices folder name None
 
   -- what is found for some names, in their order, for each once
-  pub data AreFound (choices : Choices) (folder : List ℕ) : List (List ℕ) → List Entry → Type 0 where
+  pub data AreFound (choices : Choices) (folder : List ℕ) : List (List ℕ) → List Entry
+      → Type 0 where
     no_name : AreFound choices folder [] []
     found_name : (name : List ℕ) (names : List (List ℕ)) (entry : Entry) (entries : List Entry)
         → IsFound choices folder name (Some entry) → AreFound choices folder names entries

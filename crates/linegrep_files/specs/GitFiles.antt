@@ -1,5 +1,6 @@
 -- Where the exclude file of a repository is, by what reading files may return.
-use Rattle.std.specs.Prelude.{◌≢◌, ℕ, List, ◌++◌, None, Option, Some, Result, Ok, Err, String, Vec, codes}
+use Rattle.std.specs.Prelude.{◌≢◌, ℕ, List, ◌++◌, None, Option, Some, Result, Ok, Err, String, Vec}
+use Rattle.std.specs.Prelude.{codes}
 use Rattle.std.specs.Prelude.{if◌then◌else◌, string_bytes}
 use Rattle.std.specs.Global.{Global}
 use Rattle.std.specs.Option.{option_map}

@@ -4,14 +4,16 @@
 -- 9 is a tab, 10 a line feed, 13 a carriage return, 32 a space, 34 a quote, 35 `#`, 59 `;`, 61 `=`,
 -- 91 `[`, 92 a backslash, and 93 `]`.
 use Rattle.std.specs.Prelude.{ℕ, ◌-◌, Bool, true, false, not, ◌&&◌, ◌||◌, ◌==◌, if◌then◌else◌}
-use Rattle.std.specs.Prelude.{List, [], ◌∷◌, ◌++◌, None, Option, Some, codes, drop, length, map, take}
+use Rattle.std.specs.Prelude.{List, [], ◌∷◌, ◌++◌, None, Option, Some, codes, drop, length, map}
+use Rattle.std.specs.Prelude.{take}
 use Rattle.std.specs.Char.{to_ascii_lowercase}
 use Rattle.std.specs.List.{after_first, before_first, position_or_len, slice_split, suffix_len}
 use Rattle.std.specs.Option.{option_map, option_or, option_to_list}
 use Rattle.std.specs.Str.{bytes_eq}
 use Rattle.grep_ignore.specs.Lines.{without_mark}
 use Rattle.linegrep_files.specs.declared.git_settings.Mode.{Mode}
-use Rattle.linegrep_files.specs.declared.git_settings.Mode.TheVariants.{Comment, Escaped, Plain, Quoted}
+use Rattle.linegrep_files.specs.declared.git_settings.Mode.TheVariants.{Comment, Escaped, Plain}
+use Rattle.linegrep_files.specs.declared.git_settings.Mode.TheVariants.{Quoted}
 use Rattle.linegrep_files.specs.declared.git_settings.Piece.{Piece}
 
 -- a byte that may have a meaning, as a bracket has, and one that stands for itself alone

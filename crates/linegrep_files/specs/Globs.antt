@@ -83,7 +83,8 @@ has_stars text = begins_with 42 text && begins_with 42 (drop 1 text) && begins_w
 -- brackets is one byte of a set, and a star before two more stars is any bytes of a name; all else
 -- is as in a line of an ignore file. `begins` says whether a name begins where the text does, and
 -- `next` whether one begins where the rest does.
-pub data IsPieceText (ignores_case begins : Bool) (text : List ℕ) : Piece → Bool → List ℕ → Type 0 where
+pub data IsPieceText (ignores_case begins : Bool) (text : List ℕ) : Piece → Bool → List ℕ
+    → Type 0 where
   of_class : (set : List Bool) (class rest : List ℕ) → text ≡ 91 ∷ (class ++ 93 ∷ rest)
       → is_class class ≡ true → IsClassOf ignores_case set (class ++ 93 ∷ rest) rest
       → IsPieceText ignores_case begins text (One set) false rest
@@ -161,7 +162,8 @@ AreAdded ignores_case texts old new = (rules : List GlobRule) × (new ≡ old ++
     × AreRules ignores_case texts rules
 
 -- the globs of `-g`, and then those of `--iglob`
-pub record AreGlobs (texts iglobs : List (Bor (List ℕ))) (ignores_case : Bool) (globs : Globs) : Type 0
+pub record AreGlobs (texts iglobs : List (Bor (List ℕ))) (ignores_case : Bool)
+    (globs : Globs) : Type 0
   where
     pub first : List GlobRule
     pub later : List GlobRule

@@ -84,7 +84,8 @@ pub record HasPlace (old new : Ignores) : Type 0 where
 
 -- the rules of a file's lines count, if it has any. They belong to a folder, by its depth and by
 -- how many bytes its path has
-pub record AreRulesAdded (ignores_case : Bool) (origin : Origin) (depth start : ℕ) (contents : List ℕ)
+pub record AreRulesAdded (ignores_case : Bool) (origin : Origin) (depth start : ℕ)
+    (contents : List ℕ)
     (old new : List Layer) : Type 0 where
   pub rules : List Rule
   pub faults : List Misread

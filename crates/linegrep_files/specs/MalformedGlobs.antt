@@ -1,5 +1,6 @@
 -- Which texts of globs can't be read.
-use Rattle.std.specs.Prelude.{◌≡◌, ℕ, ◌<◌, ◌⊎◌, Bool, true, false, List, [], ◌∷◌, ◌++◌, length, MatchBool}
+use Rattle.std.specs.Prelude.{◌≡◌, ℕ, ◌<◌, ◌⊎◌, Bool, true, false, List, [], ◌∷◌, ◌++◌, length}
+use Rattle.std.specs.Prelude.{MatchBool}
 use Rattle.std.specs.Borrow.{Bor}
 use Rattle.std.specs.List.{Any}
 use Rattle.linegrep_files.specs.Braces.{AreClosed, StandsFor, has_braces}
@@ -23,7 +24,8 @@ pub data EndsOpen : List ℕ → Type 0 where
   outermost : {text closed : List ℕ} {texts choices : List (List ℕ)} → StandsFor false text texts
       → AreClosed closed choices → EndsOpen (text ++ 123 ∷ closed)
   inner : {outer text closed : List ℕ} {texts choices : List (List ℕ)} → EndsOpen outer
-      → StandsFor true text texts → AreClosed closed choices → EndsOpen (outer ++ (text ++ 123 ∷ closed))
+      → StandsFor true text texts → AreClosed closed choices
+      → EndsOpen (outer ++ (text ++ 123 ∷ closed))
 
 -- a glob is read up to a rest: what is after the innermost open brace, if one is open, stands for
 -- some texts

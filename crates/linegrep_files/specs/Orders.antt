@@ -13,7 +13,8 @@ use Rattle.std.specs.Str.{bytes_eq}
 use Rattle.linegrep_files.specs.declared.order.Dated.{Dated}
 use Rattle.linegrep_files.specs.declared.order.Order.{Order}
 use Rattle.linegrep_files.specs.declared.order.SortKey.{SortKey}
-use Rattle.linegrep_files.specs.declared.order.SortKey.TheVariants.{Accessed, Created, Modified, Path}
+use Rattle.linegrep_files.specs.declared.order.SortKey.TheVariants.{Accessed, Created, Modified}
+use Rattle.linegrep_files.specs.declared.order.SortKey.TheVariants.{Path}
 
 -- files are sorted by a time, and not by their paths
 abbrev pub is_time : SortKey → Bool
@@ -32,9 +33,12 @@ by_path = record { key = Path; is_reversed = false }
 abbrev pub named_order : Option (Bor (List ℕ)) → Bool → Order
 named_order None is_reversed = by_path
 named_order (Some name) is_reversed =
-    if bytes_eq name.now (codes "modified") then record { key = Modified; is_reversed = is_reversed }
-    else if bytes_eq name.now (codes "accessed") then record { key = Accessed; is_reversed = is_reversed }
-    else if bytes_eq name.now (codes "created") then record { key = Created; is_reversed = is_reversed }
+    if bytes_eq name.now (codes "modified")
+    then record { key = Modified; is_reversed = is_reversed }
+    else if bytes_eq name.now (codes "accessed")
+    then record { key = Accessed; is_reversed = is_reversed }
+    else if bytes_eq name.now (codes "created")
+    then record { key = Created; is_reversed = is_reversed }
     else if bytes_eq name.now (codes "path") then record { key = Path; is_reversed = is_reversed }
     else by_path
 
@@ -71,7 +75,8 @@ module _ (times : SortKey → List ℕ → Result (Option ℕ) Error → Type 0)
 
   -- files that wait, after others that do, in the order in which they are found: each has the time
   -- that the system says, and how many files were found before it
-  pub data AreDated (order : Order) (before : List Dated) : List (List ℕ) → List Dated → Type 0 where
+  pub data AreDated (order : Order) (before : List Dated) : List (List ℕ) → List Dated
+      → Type 0 where
     none_dated : AreDated order before [] before
     next_dated : {paths : List (List ℕ)} {dated : List Dated} (file : Dated)
         → AreDated order before paths dated → file.place ≡ length dated

@@ -63,8 +63,8 @@ start_in other folder = if is_within other folder then length other + 1 else 1
 
 -- By what a system may say of folders and files.
 module _ (folders : FolderFacts) where
-  -- the path of a folder from the root of the system on, without slashes at its end, or an empty one
-  -- if the system says none
+  -- the path of a folder from the root of the system on, without slashes at its end, or an empty
+  -- one if the system says none
   pub data IsPlace (folder : List ℕ) : List ℕ → Type 0 where
     of_path : (text : String Global) (root : ℕ) → folders.resolves folder (Ok text)
         → IsRoot (string_bytes text) root → IsPlace folder (take root (string_bytes text))
@@ -79,7 +79,8 @@ module _ (folders : FolderFacts) where
   pub record IsParentRead (sources : Sources) (above : List ℕ) (layers : List Layer)
       (repositories : List ℕ) (layers' : List Layer) (repositories' : List ℕ) : Type 0 where
     pub top : MatchBool (has_git sources)
-        ((is_top : Bool) × IsTopAt folders (rooted above) any_marks is_top × (repositories' ≡ (if is_top
+        ((is_top : Bool) × IsTopAt folders (rooted above) any_marks is_top
+        × (repositories' ≡ (if is_top
         then repositories ++ depth_in (above ++ 47 ∷ []) ∷ [] else repositories)))
         (repositories' ≡ repositories)
     pub files : MatchBool sources.parents (AreFilesRead folders.reads sources any_marks

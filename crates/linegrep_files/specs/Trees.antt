@@ -36,7 +36,8 @@ module _ (folders : FolderFacts) (route : Route) (top : List ℕ) (root : ℕ) w
         → allows_depth choices.limits (depth_of root folder) ≡ true
         → folders.lists (listed_path folder) (Err error) → string_bytes path ≡ name_of folder
         → SaysTheSame choices inside → IsFolderOf choices folder (Unread path error ∷ []) [] inside
-    is_names : {inside : Choices} (names : Vec ℕ Global) (within : Choices) (found next : List Entry)
+    is_names : {inside : Choices} (names : Vec ℕ Global) (within : Choices)
+        (found next : List Entry)
         → allows_depth choices.limits (depth_of root folder) ≡ true
         → folders.lists (listed_path folder) (Ok names)
         → IsWithin folders folder (below_of root folder) names.items choices within
@@ -82,8 +83,8 @@ module _ (folders : FolderFacts) (route : Route) (top : List ℕ) (root : ℕ) w
         → AreVisited inside inner below under mid → AreFirst mid later visited
         → AreFirst choices (Folder path ∷ later) (Folder path ∷ (below ++ visited))
 
--- the files that wait are visited once nothing else is left, each once, in the order of their times,
--- but for some that are left over. The list `sorted` has the first one last
+-- the files that wait are visited once nothing else is left, each once, in the order of their
+-- times, but for some that are left over. The list `sorted` has the first one last
 pub record AreLater (folders : FolderFacts) (order : Order) (waiting : List (List ℕ))
     (late left : List Entry) : Type 0 where
   pub dated : List Dated
@@ -124,7 +125,8 @@ module _ (folders : FolderFacts) (route : Route) (choices : Choices) (folder : L
         (begun : Choices) (path : String Global) (root : ℕ)
         → AreTakenUp folders (name_of folder) choices begun → string_bytes path ≡ folder
         → IsRoot folder root
-        → AreVisited folders route (name_of folder) root begun (Folder path ∷ []) former waiting after
+        → AreVisited folders route (name_of folder) root begun
+        (Folder path ∷ []) former waiting after
         → AreLater folders route.order waiting late left → AreFirstOf (former ++ late)
 
 -- By what a system may say of folders and files.

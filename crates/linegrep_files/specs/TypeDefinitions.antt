@@ -1,11 +1,13 @@
 -- The types of files that are known, and those that are selected, after each of some changes.
-use Rattle.std.specs.Prelude.{◌≡◌, ℕ, Bool, true, false, not, ◌&&◌, ◌||◌, ◌==◌, if◌then◌else◌, List, []}
+use Rattle.std.specs.Prelude.{◌≡◌, ℕ, Bool, true, false, not, ◌&&◌, ◌||◌, ◌==◌, if◌then◌else◌, List}
+use Rattle.std.specs.Prelude.{[]}
 use Rattle.std.specs.Prelude.{◌∷◌, ◌++◌, None, Option, Some, codes, filter, fold, map}
 use Rattle.std.specs.Borrow.{Bor}
 use Rattle.std.specs.Char.Unicode.Alphabetic.{is_alphabetic}
 use Rattle.std.specs.Char.Unicode.Numeric.{is_numeric}
 use Rattle.std.specs.Cmp.Lexicographic.{slice_cmp}
-use Rattle.std.specs.List.{after_first, before_first, flat_map, join_by, list_all, list_any, slice_split}
+use Rattle.std.specs.List.{after_first, before_first, flat_map, join_by, list_all, list_any}
+use Rattle.std.specs.List.{slice_split}
 use Rattle.std.specs.List.{zip}
 use Rattle.std.specs.List.Sorted.{IsPermutation, IsSortedBy, IsSortedByKey}
 use Rattle.std.specs.Option.{option_and_then}
@@ -87,7 +89,8 @@ with_globs_of name definitions other =
 -- definitions, after a type got the globs of several types, if all of these are known
 abbrev pub with_types : List ℕ → Definitions → List (List ℕ) → Option Definitions
 with_types name definitions others =
-    if list_all (is_known definitions) others then Some (fold (with_globs_of name) definitions others)
+    if list_all (is_known definitions) others
+    then Some (fold (with_globs_of name) definitions others)
     else None
 
 -- definitions, by what follows a name and a colon: a glob, or the word that includes other types,
@@ -147,7 +150,8 @@ changed known change = by change.action
 -- what is known, after some changes in order
 abbrev pub all_changed : Known → List Change → Option Known
 all_changed known [] = Some known
-all_changed known (change ∷ later) = option_and_then (λ next. all_changed next later) (changed known change)
+all_changed known (change ∷ later) =
+    option_and_then (λ next. all_changed next later) (changed known change)
 
 -- the known types: in each line of a table the name of one, a colon, and its globs with commas
 abbrev pub line_definitions : List ℕ → Definitions
@@ -168,7 +172,8 @@ abbrev pub changes_of : Action → Values → List Change
 changes_of action values = map (change_of action) (zip values.texts.now values.places.now)
 
 abbrev pub all_changes : TypeOptions → List Change
-all_changes options = changes_of (Select false) options.asked ++ changes_of (Select true) options.left_out
+all_changes options =
+    changes_of (Select false) options.asked ++ changes_of (Select true) options.left_out
     ++ changes_of Add options.added ++ changes_of Clear options.cleared
 
 -- the changes that options ask for, in the order of their words
@@ -212,7 +217,8 @@ type_lines definitions = flat_map (type_line definitions) (names_after [] defini
 
 -- a text lists definitions in order
 abbrev pub IsTypeList : Definitions → List ℕ → Type 0
-IsTypeList definitions text = (sorted : List Definition) × IsPermutation definitions (pairs_of sorted)
+IsTypeList definitions text = (sorted : List Definition)
+    × IsPermutation definitions (pairs_of sorted)
     × IsSortedBy (λ one other. is_lt (definition_order one other)) sorted
     × (text ≡ type_lines (pairs_of sorted))
 

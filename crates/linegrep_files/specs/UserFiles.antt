@@ -1,5 +1,7 @@
--- Where the user's own ignore file for all repositories is, by the environment and by git's settings.
-use Rattle.std.specs.Prelude.{◌≡◌, ◌≢◌, ℕ, true, false, not, ◌&&◌, if◌then◌else◌, List, [], ◌++◌, codes}
+-- Where the user's own ignore file for all repositories is, by the environment and by git's
+-- settings.
+use Rattle.std.specs.Prelude.{◌≡◌, ◌≢◌, ℕ, true, false, not, ◌&&◌, if◌then◌else◌, List, [], ◌++◌}
+use Rattle.std.specs.Prelude.{codes}
 use Rattle.std.specs.Prelude.{None, Option, Some, Result, Ok, Err, String, Vec, string_bytes}
 use Rattle.std.specs.Global.{Global}
 use Rattle.std.specs.Str.{IsUtf8}
@@ -22,7 +24,8 @@ module _ (variables : List ℕ → Result (Option (String Global)) Error → Typ
   -- the user's folder, if there is that
   abbrev pub IsSettingsFolder : List ℕ → List ℕ → Type 0
   IsSettingsFolder home folder = (own : List ℕ) × IsValue (codes "XDG_CONFIG_HOME") own
-      × (folder ≡ (if is_empty own && not (is_empty home) then joined home (codes ".config") else own))
+      × (folder ≡ (if is_empty own && not (is_empty home) then joined home (codes ".config")
+      else own))
 
 -- a path, with the user's folder in place of a tilde before the first slash
 pub data IsExpanded (home : List ℕ) : List ℕ → List ℕ → Type 0 where
@@ -37,8 +40,8 @@ pub data IsInHome (home : List ℕ) : Option (List ℕ) → Option (List ℕ) �
       → IsInHome home (Some path) (Some named)
   of_other_bytes : (bytes : List ℕ) → (IsUtf8 bytes → ⊥) → IsInHome home (Some bytes) None
 
--- the file for all repositories that git's settings name: those of the file with a name in a folder.
--- There are none if the folder isn't known, or the file can't be read
+-- the file for all repositories that git's settings name: those of the file with a name in a
+-- folder. There are none if the folder isn't known, or the file can't be read
 pub data IsNamedBy (reads : List ℕ → Result (Vec ℕ Global) Error → Type 0)
     (home folder name : List ℕ) : Option (List ℕ) → Type 0 where
   of_nowhere : is_empty folder ≡ true → IsNamedBy reads home folder name None

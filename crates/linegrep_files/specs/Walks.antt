@@ -46,7 +46,8 @@ pub record IsWith {S : Type 0} (system : Bor S) (route : Route) (top : String Gl
   pub dated : walk.dated.items ≡ []
 
 -- a walk begins: its folder is to be visited
-pub record IsBegun {S : Type 0} (system : Bor S) (route : Route) (folder : List ℕ) (walk : Walk S) : Type 0
+pub record IsBegun {S : Type 0} (system : Bor S) (route : Route) (folder : List ℕ)
+    (walk : Walk S) : Type 0
   where
     pub path : String Global
     pub is : string_bytes path ≡ folder
@@ -82,7 +83,8 @@ pub record AreNamesAdded {S : Type 0} (facts : S → FolderFacts) (old : Walk S)
   pub are_within : IsWithin (facts old.finder.system.now) folder
       (below_of old.finder.root folder) names choices within
   pub are_found : AreFound (facts old.finder.system.now).looks old.finder.follows_links
-      (string_bytes old.finder.top) old.finder.root within.limits within folder (names_of names) found
+      (string_bytes old.finder.top) old.finder.root within.limits within folder
+      (names_of names) found
   pub are_added : AreAdded (facts old.finder.system.now).times old found new
   pub same : SaysTheSame within inside
 

@@ -181,7 +181,8 @@ impl Texts {
             × (bytes_of self.new.texts.items ≡ each_with (bytes_of brace.before.items)
             (bytes_of brace.choices.items ++ bytes_of self.old.texts.items))) }
         ensures err { IfErr result (λ e. OnMalformed e ((self.old.braces.items ≡ [])
-            ⊎ ((outer : List Brace) × (brace : Brace) × (self.old.braces.items ≡ outer ++ brace ∷ [])
+            ⊎ ((outer : List Brace) × (brace : Brace)
+            × (self.old.braces.items ≡ outer ++ brace ∷ [])
             × (MOST_TEXTS < length (each_with (bytes_of brace.before.items)
             (bytes_of brace.choices.items ++ bytes_of self.old.texts.items)))))) }
     {

@@ -138,7 +138,8 @@ impl<'r, S: Folders> Finder<'r, S> {
         folder: &str,
         name: &[u8],
     ) -> Result<Option<Entry>, AllocError>
-        ensures found { IfOk result (IsFound (S.facts self.now.system.now).looks self.now.follows_links
+        ensures found { IfOk result
+            (IsFound (S.facts self.now.system.now).looks self.now.follows_links
             (string_bytes self.now.top) self.now.root choices.old.limits choices.old folder.now
             name.now) }
         ensures same { SaysTheSame choices.old choices.new }
@@ -157,7 +158,8 @@ impl<'r, S: Folders> Finder<'r, S> {
         name: &str,
     ) -> Result<Option<Entry>, AllocError>
         requires { IsUtf8 name.now }
-        ensures found { IfOk result (IsFound (S.facts self.now.system.now).looks self.now.follows_links
+        ensures found { IfOk result
+            (IsFound (S.facts self.now.system.now).looks self.now.follows_links
             (string_bytes self.now.top) self.now.root choices.old.limits choices.old folder.now
             name.now) }
         ensures same { SaysTheSame choices.old choices.new }
@@ -182,7 +184,8 @@ impl<'r, S: Folders> Finder<'r, S> {
         name: &[u8],
     ) -> Result<Option<Entry>, AllocError>
         requires { IsUtf8 name.now → ⊥ }
-        ensures found { IfOk result (IsFound (S.facts self.now.system.now).looks self.now.follows_links
+        ensures found { IfOk result
+            (IsFound (S.facts self.now.system.now).looks self.now.follows_links
             (string_bytes self.now.top) self.now.root choices.old.limits choices.old folder.now
             name.now) }
         ensures same { SaysTheSame choices.old choices.new }

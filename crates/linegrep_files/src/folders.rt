@@ -57,8 +57,8 @@ pub trait Folders {
     fn read(&self, alloc: Global, path: &str) -> io::Result<Vec<u8>>
         ensures { (facts self.now).reads path.now result };
 
-    /// The path from the root of the system on, without links, of what is at a path. An error is the
-    /// system's own, or one of being out of memory.
+    /// The path from the root of the system on, without links, of what is at a path. An error is
+    /// the system's own, or one of being out of memory.
     fn resolve(&self, alloc: Global, path: &str) -> io::Result<String>
         ensures { (facts self.now).resolves path.now result };
 

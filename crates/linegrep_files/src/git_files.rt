@@ -1,7 +1,9 @@
 //! Where the exclude file of a repository is.
-ghost use Rattle.std.specs.Prelude.{◌≡◌, ◌≢◌, ◌++◌, codes, IfOk, List, MatchOption, Some, string_bytes, ℕ};
+ghost use Rattle.std.specs.Prelude.{◌≡◌, ◌≢◌, ◌++◌, codes, IfOk, List, MatchOption, Some};
+ghost use Rattle.std.specs.Prelude.{string_bytes, ℕ};
 ghost use Rattle.std.specs.Str.{IsTrimAscii};
-ghost use Rattle.linegrep_files.specs.GitFiles.{IsExcludePath, IsRepositoryAt, IsShared, IsTextRead};
+ghost use Rattle.linegrep_files.specs.GitFiles.{IsExcludePath, IsRepositoryAt, IsShared};
+ghost use Rattle.linegrep_files.specs.GitFiles.{IsTextRead};
 ghost use Rattle.linegrep_files.specs.GitFiles.{bytes_in, resolved};
 ghost use Rattle.linegrep_files.specs.Paths.{joined};
 
@@ -11,8 +13,8 @@ use crate::paths::join;
 use std::alloc::{AllocError, Global};
 use std::io;
 
-/// The path of the exclude file of the repository at a folder, as a system has it. The only error is
-/// being out of memory.
+/// The path of the exclude file of the repository at a folder, as a system has it. The only error
+/// is being out of memory.
 pub fn exclude_path<S: Folders>(
     alloc: Global,
     system: &S,

@@ -108,7 +108,8 @@ impl Glob {
 
     /// A text in which each path that matches ends.
     pub fn ending(&self) -> &[u8]
-        ensures { (path : List ℕ) → MatchesOne self.now.choices.items path → EndsIn path result.now }
+        ensures { (path : List ℕ) → MatchesOne self.now.choices.items path
+            → EndsIn path result.now }
     {
         match self.choices.as_slice() {
             [only] => only.ending(),
@@ -118,7 +119,8 @@ impl Glob {
 
     /// A text with which some name begins in each path that matches.
     pub fn start(&self) -> &[u8]
-        ensures { (path : List ℕ) → MatchesOne self.now.choices.items path → HasStart path result.now }
+        ensures { (path : List ℕ) → MatchesOne self.now.choices.items path
+            → HasStart path result.now }
     {
         match self.choices.as_slice() {
             [only] => only.start(),

@@ -457,7 +457,8 @@ impl<'r> Ignores<'r> {
         path: &str,
         is_needed: bool,
     ) -> Result<(), AllocError>
-        ensures file { OnOk result (IsFileRead (S.facts system.now).reads self.old.sources.ignores_case
+        ensures file { OnOk result
+            (IsFileRead (S.facts system.now).reads self.old.sources.ignores_case
             origin depth (length self.old.path.items) path.now self.old.layers self.new.layers) }
         ensures warned { OnOk result ((count : ℕ)
             × AreFaultsOf (S.facts system.now).reads self.old.sources.ignores_case is_needed

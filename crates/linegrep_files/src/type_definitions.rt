@@ -8,10 +8,13 @@ ghost use Rattle.std.specs.Str.{bytes_eq, chars};
 ghost use Rattle.std.specs.Str.Lines.{lines};
 ghost use Rattle.linegrep_files.specs.TypeDefinitions.{AreChanges, HaveMalformed, IsKnownBy};
 ghost use Rattle.linegrep_files.specs.TypeDefinitions.{IsTypeList, OnFault, added, all_changed};
-ghost use Rattle.linegrep_files.specs.TypeDefinitions.{definition_order, globs_of, type_line, type_lines};
+ghost use Rattle.linegrep_files.specs.TypeDefinitions.{definition_order, globs_of, type_line};
+ghost use Rattle.linegrep_files.specs.TypeDefinitions.{type_lines};
 ghost use Rattle.linegrep_files.specs.TypeDefinitions.{changed, changes_of, chosen_of, cleared};
-ghost use Rattle.linegrep_files.specs.TypeDefinitions.{has_colon, is_colon, is_comma, is_known, is_letter};
-ghost use Rattle.linegrep_files.specs.TypeDefinitions.{is_type_name, known_of, known_table, line_definitions};
+ghost use Rattle.linegrep_files.specs.TypeDefinitions.{has_colon, is_colon, is_comma, is_known};
+ghost use Rattle.linegrep_files.specs.TypeDefinitions.{is_letter};
+ghost use Rattle.linegrep_files.specs.TypeDefinitions.{is_type_name, known_of, known_table};
+ghost use Rattle.linegrep_files.specs.TypeDefinitions.{line_definitions};
 ghost use Rattle.linegrep_files.specs.TypeDefinitions.{names_after, pairs_of, selected, with_glob};
 ghost use Rattle.linegrep_files.specs.TypeDefinitions.{with_globs_of, with_meaning};
 
@@ -487,7 +490,8 @@ fn add_changes<'t>(
     values: Values<'_, 't>,
     action: Action,
 ) -> Result<(), AllocError>
-    ensures { OnOk result (changes.new.items ≡ changes.old.items ++ changes_of action values.entry) }
+    ensures { OnOk result
+        (changes.new.items ≡ changes.old.items ++ changes_of action values.entry) }
 {
     for (text, place) in values.texts.iter().zip(values.places) {
         changes.push(Change {

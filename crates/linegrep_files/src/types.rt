@@ -3,7 +3,8 @@ ghost use Rattle.std.specs.Prelude.{◌≡◌, ◌↔◌, ◌++◌, ℕ, Bool, L
 ghost use Rattle.std.specs.Prelude.{IfErr, IfOk, IsTrue, OnOk, not, string_bytes};
 ghost use Rattle.std.specs.List.{Any, list_any};
 ghost use Rattle.grep_ignore.specs.Endings.{EndsIn, HasStart};
-ghost use Rattle.linegrep_files.specs.FileTypes.{AreNames, AreTypesRefused, AreSelected, AreTypeGlobs};
+ghost use Rattle.linegrep_files.specs.FileTypes.{AreNames, AreTypesRefused, AreSelected};
+ghost use Rattle.linegrep_files.specs.FileTypes.{AreTypeGlobs};
 ghost use Rattle.linegrep_files.specs.FileTypes.{AreTypes, Have, HaveUnusable, IsTypeChoice};
 ghost use Rattle.linegrep_files.specs.FileTypes.{has_wildcard, is_wildcard};
 ghost use Rattle.linegrep_files.specs.FileTypes.{type_choice_of, with_choice};

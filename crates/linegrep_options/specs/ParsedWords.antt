@@ -4,10 +4,13 @@ use Rattle.std.specs.Borrow.{Bor}
 use Rattle.std.specs.Global.{Global}
 use Rattle.std.specs.Option.{option_map}
 use Rattle.linegrep_options.specs.CommandLines as line
-use Rattle.linegrep_options.specs.CommandLines.{Given, Later, Read, Reading, Refusal, Refused, reading_of}
+use Rattle.linegrep_options.specs.CommandLines.{Given, Later, Read, Reading, Refusal, Refused}
+use Rattle.linegrep_options.specs.CommandLines.{reading_of}
 use Rattle.linegrep_options.specs.declared.command_line.Fault.{Fault}
-use Rattle.linegrep_options.specs.declared.command_line.Fault.TheVariants.{MissingValue, NotText, UnexpectedValue}
-use Rattle.linegrep_options.specs.declared.command_line.Fault.TheVariants.{UnknownLetter, UnknownName, WrongValue}
+use Rattle.linegrep_options.specs.declared.command_line.Fault.TheVariants.{MissingValue, NotText}
+use Rattle.linegrep_options.specs.declared.command_line.Fault.TheVariants.{UnexpectedValue}
+use Rattle.linegrep_options.specs.declared.command_line.Fault.TheVariants.{UnknownLetter}
+use Rattle.linegrep_options.specs.declared.command_line.Fault.TheVariants.{UnknownName, WrongValue}
 use Rattle.linegrep_options.specs.declared.command_line.ParseError.{ParseError}
 use Rattle.linegrep_options.specs.declared.command_line.ParseError.TheVariants.{Memory, Words}
 use Rattle.linegrep_options.specs.declared.command_line.Parsed.{Parsed}
@@ -53,10 +56,16 @@ after parsed (Refused refusal) = Refused refusal
 
 -- what is after a word
 abbrev pub later_of : List (List ℕ) → Later
-later_of words = record { words = words; reading = reading_of words; past = reading_of (drop 1 words) }
+later_of words = record {
+  words = words;
+  reading = reading_of words;
+  past = reading_of
+      (drop 1 words);
+}
 
 -- a part of the words is parsed: what it and the words after it read is what was added, with what
 -- those read that are left
-abbrev pub IsStep : Parsed → Parsed → Reading → Result (Bor (List (Vec ℕ Global))) ParseError → Type 0
+abbrev pub IsStep : Parsed → Parsed → Reading → Result (Bor (List (Vec ℕ Global))) ParseError
+    → Type 0
 IsStep old new reading result = MatchResult result
     (λ left. after new (reading_of (texts left.now)) ≡ after old reading) (IsErrorOf reading)

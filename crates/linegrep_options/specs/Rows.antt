@@ -7,7 +7,8 @@ use Rattle.linegrep_options.specs.declared.table.Contrary.{Contrary}
 use Rattle.linegrep_options.specs.declared.table.Row.{Row}
 use Rattle.linegrep_options.specs.declared.table.TheConstants.{CONTRARIES, NAMES, ROWS}
 use Rattle.linegrep_options.specs.declared.table.Value.{Value}
-use Rattle.linegrep_options.specs.declared.table.Value.TheVariants.{Engine, Format, Nothing, Order, When}
+use Rattle.linegrep_options.specs.declared.table.Value.TheVariants.{Engine, Format, Nothing, Order}
+use Rattle.linegrep_options.specs.declared.table.Value.TheVariants.{When}
 
 -- the columns of the table
 unfoldable pub all_rows : List Row

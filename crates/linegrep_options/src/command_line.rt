@@ -1,12 +1,16 @@
 //! What the words of a command line say.
-ghost use Rattle.std.specs.Prelude.{◌≡◌, ◌<◌, ◌≤◌, ◌&&◌, ◌==◌, ◌++◌, [], ◌∷◌, None, Some, map, IfErr, IfOk};
-ghost use Rattle.std.specs.Prelude.{IfSome, codes, drop, length, nat_eq, nat_lt, position, slice_index};
+ghost use Rattle.std.specs.Prelude.{◌≡◌, ◌<◌, ◌≤◌, ◌&&◌, ◌==◌, ◌++◌, [], ◌∷◌, None, Some, map};
+ghost use Rattle.std.specs.Prelude.{IfErr, IfOk};
+ghost use Rattle.std.specs.Prelude.{IfSome, codes, drop, length, nat_eq, nat_lt, position};
+ghost use Rattle.std.specs.Prelude.{slice_index};
 ghost use Rattle.std.specs.List.{list_any, starts_with};
 ghost use Rattle.std.specs.Str.{bytes_eq};
-ghost use Rattle.linegrep_options.specs.CommandLines.{attached_reading, begins_with_equals, is_value};
+ghost use Rattle.linegrep_options.specs.CommandLines.{attached_reading, begins_with_equals};
+ghost use Rattle.linegrep_options.specs.CommandLines.{is_value};
 ghost use Rattle.linegrep_options.specs.CommandLines.{letters_reading};
 ghost use Rattle.linegrep_options.specs.CommandLines.{long_reading, next_reading, number_of};
-ghost use Rattle.linegrep_options.specs.CommandLines.{refusal_of, value_reading, word_reading, with_use};
+ghost use Rattle.linegrep_options.specs.CommandLines.{refusal_of, value_reading, word_reading};
+ghost use Rattle.linegrep_options.specs.CommandLines.{with_use};
 ghost use Rattle.linegrep_options.specs.CommandLines.{alone_reading, joined_reading};
 ghost use Rattle.linegrep_options.specs.Rows.{row_named};
 ghost use Rattle.linegrep_options.specs.CommandLines.{Read, is_among, reading_of, with_operand};
@@ -64,9 +68,9 @@ impl<'w> From<AllocError> for ParseError<'w> {
 }
 
 /// Parses words, which are without the program's name. Options and operands may come in any order;
-/// after `--` each word is an operand. A name follows two hyphens, and its value `=` or, in the next
-/// word, nothing. Letters follow one hyphen, several in a row if only the last has a value, which
-/// is the rest of the word, maybe after `=`, or the next word.
+/// after `--` each word is an operand. A name follows two hyphens, and its value `=` or, in the
+/// next word, nothing. Letters follow one hyphen, several in a row if only the last has a value,
+/// which is the rest of the word, maybe after `=`, or the next word.
 ///
 /// An error is the first fault of the words, or that there is no memory.
 pub fn parse<'w>(alloc: Global, words: &'w [Vec<u8>]) -> Result<Parsed<'w>, ParseError<'w>>
@@ -374,7 +378,8 @@ fn has_word(words: &[&str], text: &str) -> bool
     words.iter().any(|word| *word == text)
 }
 
-/// The number that a text writes, if it writes one below 2 ^ 64: decimal digits, maybe after a plus.
+/// The number that a text writes, if it writes one below 2 ^ 64: decimal digits, maybe after a
+/// plus.
 pub fn number(text: &str) -> Option<u64>
     ensures { result ≡ number_of text.now }
 {

@@ -1,7 +1,9 @@
 //! Uses of options, and which of them decide.
 ghost use Rattle.std.specs.Prelude.{◌≡◌, IfOk, find, option_map, position, reverse};
-ghost use Rattle.linegrep_options.specs.OptionUses.{applies, decides, is_same, last_place, last_use};
-ghost use Rattle.linegrep_options.specs.OptionUses.{last_value, places_of, takes_back, value_for, values_of};
+ghost use Rattle.linegrep_options.specs.OptionUses.{applies, decides, is_same, last_place};
+ghost use Rattle.linegrep_options.specs.OptionUses.{last_use};
+ghost use Rattle.linegrep_options.specs.OptionUses.{last_value, places_of, takes_back, value_for};
+ghost use Rattle.linegrep_options.specs.OptionUses.{values_of};
 ghost use Rattle.linegrep_options.specs.OptionUses.{is_contrary};
 ghost use Rattle.linegrep_options.specs.Rows.{all_contraries};
 
@@ -18,7 +20,8 @@ pub struct Use<'w> {
     pub value: Option<&'w str>,
 }
 
-/// Whether an option applies: of its uses and of those of options that take it back the last is its own.
+/// Whether an option applies: of its uses and of those of options that take it back the last is its
+/// own.
 #[tactic(auto, unfolding(crate::specs::OptionUses::applies))]
 pub fn applies(uses: &[Use<'_>], option: OptionId) -> bool
     ensures { result ≡ applies uses.now option }
@@ -127,7 +130,8 @@ fn value_for<'w>(one: &Use<'w>, option: OptionId) -> Option<&'w str>
     }
 }
 
-/// The places of the uses of an option among all uses, from 1. The only error is being out of memory.
+/// The places of the uses of an option among all uses, from 1. The only error is being out of
+/// memory.
 pub fn places_of(
     alloc: Global,
     uses: &[Use<'_>],
