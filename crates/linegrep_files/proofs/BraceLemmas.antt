@@ -1,6 +1,6 @@
 -- What a text with braces stands for, as far as it is read.
 use Rattle.std.proofs.Common.{◌≡◌, ℕ, ◌+◌, Bool, true, false, List, [], ◌∷◌, ◌++◌, ◌∙◌, inl, inr}
-use Rattle.std.proofs.Common.{◌-◌, ◌<◌, ◌≢◌, ap, append-nil, append_assoc, arith, drop, get_or, length, length-append, refl}
+use Rattle.std.proofs.Common.{◌-◌, ◌<◌, ◌≤◌, ◌≢◌, ap, append-nil, append_assoc, arith, drop, get_or, length, length-append, refl}
 use Rattle.std.proofs.Common.{subst, sym, take}
 use Rattle.std.proofs.Math.ListN.{set}
 use Rattle.std.proofs.Math.Seq.{take-append_seam}
@@ -19,6 +19,7 @@ use Rattle.linegrep_files.specs.Braces.{StandsFor, bytes_of, of_byte, of_class, 
 use Rattle.linegrep_files.specs.Braces.{each_with, first_choice, is_inside, next_choice, no_part, none_open, of_braces}
 use Rattle.linegrep_files.specs.Braces.{of_part, one_open}
 use Rattle.linegrep_files.specs.declared.braces.Brace.{Brace}
+use Rattle.linegrep_files.specs.declared.braces.TheConstants.{MOST_TEXTS}
 
 -- two lists that are equal with a last element each
 nothing-last : {A : Type 0} (front : List A) (last : A) → [] ≡ front ++ last ∷ [] → ⊥
@@ -274,3 +275,13 @@ pub closed-texts : (before choices more new closed : List (Vec ℕ Global)) → 
     → bytes_of closed ≡ each_with (bytes_of before) (bytes_of choices ++ bytes_of more)
 closed-texts before choices more new closed is are =
     are ∙ ap (each_with (bytes_of before)) (choices-with new choices more is)
+
+-- one text isn't too many, and neither are as many as before
+pub one-text : (texts : List (List ℕ)) → texts ≡ [] ∷ [] → length texts ≤ MOST_TEXTS
+one-text texts is = subst (λ l. length l ≤ MOST_TEXTS) (sym is) (omega arith)
+
+pub few-still : {A E : Type 0} (result : Result A E) (old new : List (List ℕ))
+    → IfOk result (λ _. length new ≡ length old)
+    → IfOk result (λ _. length old ≤ MOST_TEXTS → length new ≤ MOST_TEXTS)
+few-still (Ok a) old new same = λ within. subst (λ n. n ≤ MOST_TEXTS) (sym same) within
+few-still (Err e) old new same = tt

@@ -7,6 +7,7 @@ use Rattle.std.specs.List.{list_any}
 use Rattle.grep_ignore.specs.Classes.{begins_with}
 use Rattle.linegrep_files.specs.ClassTexts.{is_class}
 use Rattle.linegrep_files.specs.declared.braces.Brace.{Brace}
+use Rattle.linegrep_files.specs.declared.braces.TheConstants.{MOST_TEXTS}
 
 -- a brace, which opens or closes some choices
 abbrev pub is_brace : ℕ → Bool
@@ -51,9 +52,11 @@ mutual
     next_choice : {before text : List ℕ} {choices texts : List (List ℕ)} → AreChoices before choices
         → StandsFor true text texts → AreChoices (before ++ 44 ∷ text) (choices ++ texts)
 
--- the texts that a glob stands for. A glob without braces stands for its own text
+-- the texts that a glob stands for, which aren't too many. A glob without braces stands for its own
+-- text
 abbrev pub AreTextsOf : List ℕ → List (List ℕ) → Type 0
-AreTextsOf glob texts = MatchBool (has_braces glob) (StandsFor false glob texts) (texts ≡ glob ∷ [])
+AreTextsOf glob texts = MatchBool (has_braces glob)
+    (StandsFor false glob texts × (length texts ≤ MOST_TEXTS)) (texts ≡ glob ∷ [])
 
 -- the bytes of some texts
 abbrev pub bytes_of : List (Vec ℕ Global) → List (List ℕ)

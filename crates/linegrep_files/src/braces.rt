@@ -41,6 +41,7 @@ fn is_brace(byte: u8) -> bool
 /// isn't well formed, that there are more than 1000 texts, or that there is no memory.
 pub fn texts_of(alloc: Global, glob: &[u8]) -> Result<Vec<Vec<u8>>, GlobError>
     ensures ok { IfOk result (λ texts. StandsFor false glob.now (bytes_of texts.items)) }
+    ensures few { IfOk result (λ texts. length (bytes_of texts.items) ≤ MOST_TEXTS) }
     ensures err { IfErr result (λ e. OnMalformed e (AreMalformed glob.now)) }
 {
     let mut texts = match Texts::new(alloc) {
@@ -89,6 +90,8 @@ impl Texts {
         ensures read { IfOk result (λ rest. (part : List ℕ) × (glob.now ≡ part ++ rest.now)
             × ((done : List ℕ) → IsRead self.old.braces.items (bytes_of self.old.texts.items) done
             → IsRead self.new.braces.items (bytes_of self.new.texts.items) (done ++ part))) }
+        ensures few { IfOk result (λ rest. length (bytes_of self.old.texts.items) ≤ MOST_TEXTS
+            → length (bytes_of self.new.texts.items) ≤ MOST_TEXTS) }
         ensures err { IfErr result (λ e. OnMalformed e ((done : List ℕ)
             → IsRead self.old.braces.items (bytes_of self.old.texts.items) done
             → AreMalformed (done ++ glob.now))) }
@@ -121,6 +124,8 @@ impl Texts {
         ensures braces { self.new.braces ≡ self.old.braces }
         ensures part { IfOk result (λ rest. IsPartBefore (is_inside self.old.braces.items) glob.now
             (bytes_of self.old.texts.items) rest.now (bytes_of self.new.texts.items)) }
+        ensures few { IfOk result (λ rest. length (bytes_of self.new.texts.items)
+            ≡ length (bytes_of self.old.texts.items)) }
         ensures err { IfErr result (λ e. OnMalformed e (IsFault glob.now)) }
     {
         let count = part_len(glob)?;
@@ -180,6 +185,7 @@ impl Texts {
             × (self.old.braces.items ≡ self.new.braces.items ++ brace ∷ [])
             × (bytes_of self.new.texts.items ≡ each_with (bytes_of brace.before.items)
             (bytes_of brace.choices.items ++ bytes_of self.old.texts.items))) }
+        ensures few { OnOk result (length (bytes_of self.new.texts.items) ≤ MOST_TEXTS) }
         ensures err { IfErr result (λ e. OnMalformed e ((self.old.braces.items ≡ [])
             ⊎ ((outer : List Brace) × (brace : Brace)
             × (self.old.braces.items ≡ outer ++ brace ∷ [])
@@ -280,6 +286,7 @@ fn extend_each(texts: &mut Vec<Vec<u8>>, bytes: &[u8]) -> Result<(), AllocError>
 fn joined(alloc: Global, before: &[Vec<u8>], choices: &[Vec<u8>]) -> Result<Vec<Vec<u8>>, GlobError>
     ensures ok { IfOk result (λ texts. bytes_of texts.items
         ≡ each_with (bytes_of before.now) (bytes_of choices.now)) }
+    ensures few { IfOk result (λ texts. length (bytes_of texts.items) ≤ MOST_TEXTS) }
     ensures err { IfErr result (λ e. OnMalformed e
         (MOST_TEXTS < length (each_with (bytes_of before.now) (bytes_of choices.now)))) }
 {
@@ -299,6 +306,8 @@ fn add_joined(
 ) -> Result<(), GlobError>
     ensures ok { OnOk result (bytes_of texts.new.items ≡ bytes_of texts.old.items
         ++ map (λ choice. text.now ++ choice) (bytes_of choices.now)) }
+    ensures few { OnOk result (length (bytes_of texts.old.items) ≤ MOST_TEXTS
+        → length (bytes_of texts.new.items) ≤ MOST_TEXTS) }
     ensures err { IfErr result (λ e. OnMalformed e
         (MOST_TEXTS < length texts.old.items + length choices.now)) }
 {

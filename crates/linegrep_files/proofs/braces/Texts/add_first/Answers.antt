@@ -1,7 +1,8 @@
 use Rattle.std.proofs.Common.{◌∙◌, ◌∷◌, [], ap, sym}
 use Rattle.grep_ignore.proofs.ClassLemmas.{begins-is}
 use Rattle.linegrep_files.specs.Braces.{bytes_of}
-use Rattle.linegrep_files.proofs.BraceLemmas.{choice-begins, choices-with, part-read, read-choice, read-close, read-open}
+use Rattle.linegrep_files.proofs.BraceLemmas.{choice-begins, choices-with, few-still, one-text, part-read}
+use Rattle.linegrep_files.proofs.BraceLemmas.{read-choice, read-close, read-open}
 use Rattle.linegrep_files.proofs.MalformedLemmas.{close-at, parts-at}
 use Rattle.linegrep_files.proofs.braces.Texts.add_first.Goals as goal
 
@@ -44,3 +45,19 @@ returns-in-Err-close-clause-err c = close-at _ _ _ c.args.glob.now (sym c.begins
 
 pub returns-clause-err : goal.returns-clause-err
 returns-clause-err c = parts-at c.add_part.result _ _ c.args.glob.now c.add_part.ensures.err
+
+pub returns-in-Ok-clause-few : goal.returns-in-Ok-clause-few
+returns-in-Ok-clause-few c =
+    let (brace, is, before, choices, empty) = c.in-Ok.ensures in
+    λ within. one-text _ empty
+
+pub returns-in-Ok-close-clause-few : goal.returns-in-Ok-close-clause-few
+returns-in-Ok-close-clause-few c = λ within. c.in-Ok-close.ensures.few
+
+pub returns-in-Ok-begin_choice-clause-few : goal.returns-in-Ok-begin_choice-clause-few
+returns-in-Ok-begin_choice-clause-few c =
+    let (braces, old, brace, are, is, before, choices, empty) = c.in-Ok-begin_choice.ensures in
+    λ within. one-text _ empty
+
+pub returns-clause-few : goal.returns-clause-few
+returns-clause-few c = few-still c.add_part.result _ _ c.add_part.ensures.few

@@ -15,3 +15,6 @@ pub returns-in_err-self-in-Ok-clause-err : goal.returns-in_err-self-in-Ok-clause
 returns-in_err-self-in-Ok-clause-err c = let error = err_from_is_err_and c.from_residual.result c.from_residual.ensures.1 in
     rw (error.1, error.2) (close-malformed _ _ _ c.in-Some.brace _ _ c.in-Some.ensures.items c.in-Ok.ensures.items
     (rw (c.as_slice.ensures.value, c.as_slice-in-Ok.ensures.value) at c.in_err-self-in-Ok.ensures.err))
+
+pub returns-in-Ok-clause-few : goal.returns-in-Ok-clause-few
+returns-in-Ok-clause-few c = c.in_ok-self-in-Ok.ensures.few
