@@ -54,6 +54,8 @@ impl Row {
             self.said.set_file(rt.alloc(), text)?;
         } else if let Some(text) = word.strip_prefix("<@") {
             self.said.set_time(rt.alloc(), text)?;
+        } else if let Some(text) = word.strip_prefix("<+") {
+            self.said.set_kind(rt.alloc(), text)?;
         } else if let Some(text) = word.strip_prefix('<') {
             self.streams.has_input = true;
             self.input.set(text)?;

@@ -1,10 +1,15 @@
 //! The system of a row: the one that there is, but for the order in which it lists names, its
-//! environment, the times of its files, and files that only the row has.
+//! environment, the times of its files, files that only the row has, and files that are links,
+//! pipes or on another file system for the row alone.
 use grep_searcher::Open;
 use linegrep_cli::{FileId, Folders, Found, SortKey, System};
+use linegrep_files::Kind;
 use percent_encoding::percent_decode_str;
 use std::alloc::{AllocError, Global};
 use std::io;
+
+// A folder on another file system than the rows' files.
+const ELSEWHERE: &str = "/proc";
 
 /// What a row says of the system.
 #[derive(Drop)]
@@ -14,6 +19,11 @@ pub struct Said {
     // What files have, by their paths.
     files: Vec<Pair>,
     times: Vec<Time>,
+    // Where links lead, by their paths.
+    links: Vec<Pair>,
+    // The paths of pipes, and of what is on another file system.
+    pipes: Vec<Vec<u8>>,
+    mounts: Vec<Vec<u8>>,
 }
 
 // A name, and the bytes that it has.
@@ -33,15 +43,63 @@ struct Time {
 }
 
 impl Said {
-    /// An empty environment, no file and no time.
+    /// An empty environment, and nothing said of any file.
     pub fn new(alloc: Global) -> Said {
         Said {
             variables: Vec::new(alloc),
             files: Vec::new(alloc),
             times: Vec::new(alloc),
+            links: Vec::new(alloc),
+            pipes: Vec::new(alloc),
+            mounts: Vec::new(alloc),
         }
     }
 
+    /// Says what is at a path: by `link:`, the path, `=` and where it leads; by `pipe:` and the
+    /// path; or by `mount:` and the path of what is on another file system.
+    pub fn set_kind(&mut self, alloc: Global, text: &str) -> Result<(), AllocError> {
+        let (kind, rest) = text.split_once(':').unwrap_or(("", text));
+        match kind {
+            "link" => self.links.push(read_pair(alloc, rest)?)?,
+            "pipe" => self.pipes.push(decoded(alloc, rest)?)?,
+            _ => self.mounts.push(decoded(alloc, rest)?)?,
+        }
+        Ok(())
+    }
+
+    // The path of the system at which a path of the row is, where links have led.
+    fn real(&self, alloc: Global, path: &str) -> io::Result<String> {
+        for link in &self.links {
+            if let Some(rest) = path.as_bytes().strip_prefix(link.name.as_slice())
+                && (rest.is_empty() || rest.starts_with(b"/"))
+            {
+                let mut real = Vec::from_slice(alloc, link.bytes.as_slice())?;
+                real.extend_from_slice(rest)?;
+                return String::from_utf8(real).map_err(|_| io::Error::from(
+                    io::ErrorKind::InvalidData,
+                ));
+            }
+        }
+        Ok(String::from_str(alloc, path)?)
+    }
+
+    // Whether there is a link at a path.
+    fn is_link(&self, path: &str) -> bool {
+        bytes_of(&self.links, path).is_some()
+    }
+}
+
+// Whether a path is among some.
+fn is_among(paths: &[Vec<u8>], path: &str) -> bool {
+    for one in paths {
+        if one.as_slice() == path.as_bytes() {
+            return true;
+        }
+    }
+    false
+}
+
+impl Said {
     /// Sets a variable, by its name, `=` and its value.
     pub fn set_variable(&mut self, alloc: Global, text: &str) -> Result<(), AllocError> {
         let variable = read_pair(alloc, text)?;
@@ -145,7 +203,8 @@ impl Open for RowSystem<'_, '_> {
     ghost opens = { λ _ _ _. Unit {0} };
 
     fn open(&self, path: &str) -> io::Result<<HostRuntime as Open>::File> {
-        self.rt.open(path)
+        let real = self.said.real(self.rt.alloc(), path)?;
+        self.rt.open(real.as_str())
     }
 }
 
@@ -160,23 +219,47 @@ impl Folders for RowSystem<'_, '_> {
     } };
 
     fn names(&self, alloc: Global, path: &str) -> io::Result<Vec<u8>> {
-        let names = self.rt.names(alloc, path)?;
+        let real = self.said.real(alloc, path)?;
+        let names = self.rt.names(alloc, real.as_str())?;
         Ok(sorted(alloc, names.as_slice())?)
     }
 
     fn look(&self, path: &str, follows_links: bool) -> io::Result<Found> {
-        self.rt.look(path, follows_links)
+        if self.said.is_link(path) && !follows_links {
+            let link = self.rt.look(path, false)?;
+            return Ok(Found {
+                kind: Kind::Link,
+                ..link
+            });
+        }
+        let real = self.said.real(self.rt.alloc(), path)?;
+        let found = self.rt.look(real.as_str(), follows_links)?;
+        let kind = if is_among(&self.said.pipes, path) {
+            Kind::Other
+        } else {
+            found.kind
+        };
+        let id = if is_among(&self.said.mounts, path) {
+            self.rt.look(ELSEWHERE, true)?.id
+        } else {
+            found.id
+        };
+        Ok(Found { kind, id, ..found })
     }
 
     fn read(&self, alloc: Global, path: &str) -> io::Result<Vec<u8>> {
         match bytes_of(&self.said.files, path) {
             Some(bytes) => Ok(Vec::from_slice(alloc, bytes)?),
-            None => self.rt.read(alloc, path),
+            None => {
+                let real = self.said.real(alloc, path)?;
+                self.rt.read(alloc, real.as_str())
+            }
         }
     }
 
     fn resolve(&self, alloc: Global, path: &str) -> io::Result<String> {
-        self.rt.resolve(alloc, path)
+        let real = self.said.real(alloc, path)?;
+        self.rt.resolve(alloc, real.as_str())
     }
 
     fn time(&self, path: &str, key: SortKey) -> io::Result<Option<u128>> {
@@ -208,7 +291,8 @@ impl System for RowSystem<'_, '_> {
     ghost identifies = { λ _ _ _. Unit {0} };
 
     fn is_folder(&self, path: &str) -> io::Result<bool> {
-        self.rt.is_folder(path)
+        let real = self.said.real(self.rt.alloc(), path)?;
+        self.rt.is_folder(real.as_str())
     }
 
     fn id_of(&self, file: &<HostRuntime as Open>::File) -> Option<FileId> {
