@@ -34,6 +34,7 @@ use Rattle.grep_line_buffer.specs.declared.fill_error.FillError.TheVariants.{Rea
 use Rattle.grep_line_buffer.specs.declared.fill_error.FillError.TheVariants.{Offset, Memory}
 use Rattle.grep_core.specs.QuittingSinks.{IsLookedAt, IsMadeAfter, Quits, count_to, end_result}
 use Rattle.grep_core.specs.QuittingSinks.{watch_of, first_quit}
+use Rattle.grep_report.specs.SinkReports.{no_surroundings}
 
 -- a fill finds no byte if none is looked for
 pub clear-filled : (d : BinaryDetection) (old new : BufferState) (given : List ℕ)
@@ -49,7 +50,7 @@ matches-inner : (k : Settings) (number : Option ℕ) (index offset : ℕ) (ls : 
     → AreInner k (calls_of_lines number index offset ls)
 matches-inner k number index offset [] = All-nil (order.IsInner k)
 matches-inner k number index offset (line ∷ later) =
-    All-cons (order.IsInner k) (planned (matches (option_map (λ first. first + index) number) offset line)
+    All-cons (order.IsInner k) (planned (matches (option_map (λ first. first + index) number) offset line no_surroundings)
     (offset + length line)) _ refl
     (matches-inner k number (suc index) (offset + length line) later)
 
@@ -58,7 +59,7 @@ matches-few : (number : Option ℕ) (index offset : ℕ) (ls : List (List ℕ))
 matches-few number index offset [] = refl
 matches-few number index offset (line ∷ later) = omega (
   arith,
-  order.binary-cons (planned (matches (option_map (λ first. first + index) number) offset line)
+  order.binary-cons (planned (matches (option_map (λ first. first + index) number) offset line no_surroundings)
       (offset + length line)) (calls_of_lines number (suc index) (offset + length line) later),
   matches-few number (suc index) (offset + length line) later,
 )
@@ -271,7 +272,7 @@ module _ {S E : Type 0} (step : Steps S E) (k : Settings) where
         → comes_between (is_detecting k.binary_detection) call ≡ true → is_binary_data call ≡ false
         → FoundNone old → Quits step may_call old k call result new → QuitPasses old result end new
     quits-one begins end old result new inner plain none made = cc
-    quits-one (matches number from bytes) end old result new inner plain none (name, byte, made) =
+    quits-one (matches number from bytes around) end old result new inner plain none (name, byte, made) =
         looked-at _ from _ end old _ new refl refl none made
     quits-one (context kind number from bytes) end old result new inner plain none
         (name, byte, made) =

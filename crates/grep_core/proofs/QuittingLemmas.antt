@@ -41,7 +41,7 @@ use Rattle.grep_definitions.proofs.BreakLemmas as pairs
 -- a report is no break
 report-no-break : (call : Call) → is_report call ≡ true → is_break call ≡ false
 report-no-break begins is = refl
-report-no-break (matches number from bytes) is = refl
+report-no-break (matches number from bytes around) is = refl
 report-no-break (context kind number from bytes) is = refl
 report-no-break breaks is = cc
 report-no-break (binary_data offset) is = refl
@@ -244,7 +244,7 @@ module _ {S E : Type 0} (step : Steps S E) (may_call : S → Type 0) (k : Settin
       → IsLookedAt step may_call (position_of b (reported_bytes call)) (reported_from call) old k
       call result mid
   looked begins old result mid is made = cc
-  looked (matches number from bytes) old result mid is made = made
+  looked (matches number from bytes around) old result mid is made = made
   looked (context kind number from bytes) old result mid is made = made
   looked breaks old result mid is made = cc
   looked (binary_data offset) old result mid is made = cc

@@ -23,6 +23,7 @@ use Rattle.grep_walk.specs.declared.look_ahead.Ahead.{Ahead}
 use Rattle.grep_walk.specs.declared.walk.Walk.{Walk}
 use Rattle.grep_walk.proofs.ChosenLineLemmas.{may-ask-after}
 use Rattle.grep_core.specs.ReportedLines.{AreOffered}
+use Rattle.grep_report.specs.SinkReports.{no_surroundings}
 
 -- the error of the lines after those that were offered is that of the lines where a walk is then
 pub failed-after : {F : Type 0} (k : Settings) (facts : MatcherFacts F) (window : List ℕ)
@@ -73,7 +74,7 @@ calls-after : (k : Settings) (i j offset : ℕ) (ls : List (List ℕ))
     ≡ calls_of_lines (number_of k (i + 1)) j offset ls
 calls-after k i j offset [] = refl
 calls-after k i j offset (line ∷ later) = ap₂ (λ number calls.
-    planned (matches number offset line) (offset + length line) ∷ calls) (numbered k i j)
+    planned (matches number offset line no_surroundings) (offset + length line) ∷ calls) (numbered k i j)
     (calls-after k i (suc j) (offset + length line) later)
   where
     numbered : (k : Settings) (i j : ℕ) → option_map (λ first. first + suc j) (number_of k i)
@@ -136,7 +137,7 @@ module _ {S E : Type 0} (step : Steps S E) (k : Settings) (window : List ℕ) (e
         ∙ ap (slice_range window (start + len)) last))
 
     same : calls-from start line offset
-        ≡ planned (matches (number_of k line) offset here) (offset + len)
+        ≡ planned (matches (number_of k line) offset here no_surroundings) (offset + len)
         ∷ calls-from (start + len) (line + 1) (offset + len)
     same =
         let long : offset + length here ≡ offset + len = omega (
@@ -148,10 +149,10 @@ module _ {S E : Type 0} (step : Steps S E) (k : Settings) (window : List ℕ) (e
           within,
         ) in
         ap (calls_of_lines (number_of k line) 0 offset) split
-        ∙ ap₂ (λ number o. planned (matches number offset here) o
+        ∙ ap₂ (λ number o. planned (matches number offset here no_surroundings) o
         ∷ calls_of_lines (number_of k line) 1 o (lines t (slice_range window (start + len) end)))
         (numbered k line) long
-        ∙ ap (λ calls. planned (matches (number_of k line) offset here) (offset + len) ∷ calls)
+        ∙ ap (λ calls. planned (matches (number_of k line) offset here no_surroundings) (offset + len) ∷ calls)
         (calls-after k line 0 (offset + len) (lines t (slice_range window (start + len) end)))
       where
         numbered : (k : Settings) (i : ℕ) → option_map (λ first. first + 0) (number_of k i)
@@ -159,7 +160,7 @@ module _ {S E : Type 0} (step : Steps S E) (k : Settings) (window : List ℕ) (e
         numbered k i = grind arith
 
     made : (outcome : Outcome E) (new : S)
-        → AreMade step k now (planned (matches (number_of k line) offset here) (offset + len)
+        → AreMade step k now (planned (matches (number_of k line) offset here no_surroundings) (offset + len)
         ∷ calls-from (start + len) (line + 1) (offset + len)) outcome new
         → AreMade step k old calls outcome new
     made outcome new later = so_far outcome new
@@ -167,13 +168,13 @@ module _ {S E : Type 0} (step : Steps S E) (k : Settings) (window : List ℕ) (e
 
     -- it returned true: the lines after it are left
     pub completes-next : (mid : S)
-        → step now k (matches (number_of k line) offset here) (Ok true) mid
+        → step now k (matches (number_of k line) offset here no_surroundings) (Ok true) mid
         → Completes old calls mid (start + len) (line + 1) (offset + len)
     completes-next mid goes outcome new later = made outcome new (inl (mid, goes, later))
 
     -- it returned false, or failed
     pub completes-last : (result : Result Bool E) (new : S)
-        → step now k (matches (number_of k line) offset here) result new
+        → step now k (matches (number_of k line) offset here no_surroundings) result new
         → (result ≡ Ok true → ⊥) → AreMade step k old calls (outcome_of (offset + len) result) new
     completes-last (Ok true) new last on = absurd (on refl)
     completes-last (Ok false) new last on = made (outcome_of (offset + len) (Ok false)) new

@@ -64,8 +64,9 @@ module _ {S E : Type 0} (step : Steps S E) (may_call : S → Type 0) where
   -- the steps of that sink, where the byte is b
   abbrev pub IsQuittingStep : ℕ → Steps (Watch S) E
   IsQuittingStep b old settings begins result new = IsPassedOn old settings begins result new
-  IsQuittingStep b old settings (matches number from bytes) result new =
-      IsLookedAt (position_of b bytes) from old settings (matches number from bytes) result new
+  IsQuittingStep b old settings (matches number from bytes around) result new =
+      IsLookedAt (position_of b bytes) from old settings (matches number from bytes around) result
+      new
   IsQuittingStep b old settings (context kind number from bytes) result new =
       IsLookedAt (position_of b bytes) from old settings (context kind number from bytes) result new
   IsQuittingStep b old settings breaks result new =

@@ -1,9 +1,10 @@
--- How lines that are chosen one after another are reported. No contract of grep_searcher cites
--- these definitions.
+-- How lines are reported: what is around a match, and lines that are chosen one after another. No
+-- contract of grep_searcher cites these definitions.
 use Rattle.std.specs.Prelude.{◌≡◌, ℕ, List, IfSome, Option, None, Some, Result, Ok, Err}
 use Rattle.grep_definitions.specs.Plans.{AreMade, Outcome, Settings, Steps, all_true, counted}
 use Rattle.grep_definitions.specs.Plans.{failed, stopped}
 use Rattle.grep_matcher.specs.Meanings.{MatcherFacts}
+use Rattle.grep_report.specs.SinkReports.{Surroundings, no_surroundings, surroundings}
 use Rattle.grep_walk.specs.ChosenLines.{AreChosen, chosen_calls}
 use Rattle.grep_walk.specs.LineRuns.{HasFailed}
 use Rattle.grep_walk.specs.LookAheads.{MayAskOn}
@@ -12,6 +13,14 @@ use Rattle.grep_walk.specs.declared.look_ahead.Ahead.{Ahead}
 use Rattle.grep_walk.specs.declared.walk.Walk.{Walk}
 use Rattle.grep_core.specs.declared.chosen_lines.Offered.{Offered}
 use Rattle.grep_core.specs.declared.chosen_lines.Offered.TheVariants.{Declined, Nothing, Taken}
+use Rattle.grep_core.specs.declared.sink_lines.Reach.{Reach}
+use Rattle.grep_core.specs.declared.sink_lines.Reach.TheVariants.{AcrossLines, ByLine}
+
+-- the bytes around the lines from one position up to another of a window, as their match has them:
+-- by line none count
+abbrev pub around_in : Reach → List ℕ → ℕ → ℕ → Surroundings
+around_in ByLine window start end = no_surroundings
+around_in AcrossLines window start end = surroundings window start end
 
 -- what came of calls, by where one of them ended the search, if one did, or the error
 abbrev pub outcome_at : {E : Type 0} → Result (Option ℕ) E → Outcome E

@@ -19,6 +19,7 @@ ghost use Rattle.grep_report.specs.ErrorMakers.{makers_of};
 use crate::chosen_lines::Offered;
 use crate::search::{Configured, Search};
 use crate::sink_calls::SinkCalls;
+use crate::sink_lines::Reach;
 use grep_matcher::Matcher;
 use grep_report::SinkError;
 use grep_walk::{NOTHING_AHEAD, Questions, WALK_START, Walk};
@@ -207,7 +208,7 @@ impl<'c, A: Allocator + Copy, T: Configured> Search<'c, A, T> {
                 Ok(verdict) => verdict,
                 Err(error) => return Err(C::Error::error_message(self.alloc, error)),
             };
-            if !self.sink_line::<C>(window, start, end, walk, verdict, sink)? {
+            if !self.sink_line::<C>(Reach::ByLine, window, start, end, walk, verdict, sink)? {
                 walk.offset += line.len() as u64;
                 return Ok(false);
             }

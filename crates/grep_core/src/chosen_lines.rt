@@ -11,6 +11,7 @@ ghost use Rattle.grep_walk.specs.declared.line_run.LineRun.{LineRun};
 
 use crate::search::{Configured, Search};
 use crate::sink_calls::SinkCalls;
+use crate::sink_lines::Reach;
 use grep_matcher::Matcher;
 use grep_report::SinkMatch;
 use grep_walk::{Ahead, LineRun, Questions, Reporting, Walk};
@@ -142,9 +143,7 @@ impl<'c, A: Allocator + Copy, T: Configured> Search<'c, A, T> {
         let mut start = start;
         let mut walk = walk;
         'lines: while let Some(len) = self.config.next_line(&window[start..end], 0) {
-            let number = self.config.number(walk.line);
-            let range = start..start + len;
-            let found = SinkMatch::new(self.terminator(), number, walk.offset, window, range);
+            let found = self.found(Reach::ByLine, window, start, start + len, &walk);
             start += len;
             walk.offset += len as u64;
             walk.line += 1;

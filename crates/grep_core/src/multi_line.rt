@@ -10,6 +10,7 @@ ghost use Rattle.grep_report.specs.ErrorMakers.{makers_of};
 
 use crate::search::{Configured, Search};
 use crate::sink_calls::SinkCalls;
+use crate::sink_lines::Reach;
 use grep_matcher::{Match, Matcher};
 use grep_report::SinkError;
 use grep_walk::{Verdict, WALK_START};
@@ -101,7 +102,7 @@ impl<'c, A: Allocator + Copy, T: Configured> Search<'c, A, T> {
             let chosen = start == next;
             let end = self.config.end_across(bytes, start, &unit, chosen);
             let verdict = Verdict::of(chosen);
-            if !self.sink_line::<C>(bytes, start, end, &walk, verdict, sink)? {
+            if !self.sink_line::<C>(Reach::AcrossLines, bytes, start, end, &walk, verdict, sink)? {
                 return Ok(end as u64);
             }
             walk = self.config.after_lines(&walk, &bytes[start..end], chosen);

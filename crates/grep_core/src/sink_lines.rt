@@ -6,6 +6,9 @@ ghost use Rattle.grep_definitions.specs.CallOrder.{HasCalled};
 ghost use Rattle.grep_definitions.specs.Plans.{context, AreMade, NeverFails};
 ghost use Rattle.grep_definitions.specs.LineCalls.{break_calls, after_calls};
 ghost use Rattle.grep_definitions.specs.SearchLaws.{number_of};
+ghost use Rattle.grep_core.specs.ReportedLines.{around_in};
+ghost use Rattle.grep_matcher.specs.Lines.{byte_of};
+ghost use Rattle.grep_report.specs.SinkReports.{match_bytes, match_surroundings};
 ghost use Rattle.grep_definitions.specs.LineCalls.{before_calls, pending_calls, selected_calls};
 ghost use Rattle.grep_definitions.specs.SinkRuns.{outcome_of};
 ghost use Rattle.grep_walk.specs.Walks.{chooses, counts_lines, line_calls, line_end};
@@ -18,6 +21,15 @@ use grep_report::{SinkContext, SinkContextKind, SinkMatch};
 use grep_walk::{Verdict, Walk};
 use std::alloc::Allocator;
 
+// Whether a search is by line or across lines. It says what the buffer of a match is.
+#[derive(Clone, Copy, Debug, Drop)]
+pub(crate) enum Reach {
+    // A window of what is searched.
+    ByLine,
+    // All that is searched.
+    AcrossLines,
+}
+
 // What each line goes through is inlined into the loops: called, it made a search that reports
 // every second line 6 to 9 percent slower. What a call of the sink returns is taken apart at each
 // level, and each case is returned by itself: a result that is returned as it is, or after the cases
@@ -29,6 +41,7 @@ impl<'c, A: Allocator + Copy, T: Configured> Search<'c, A, T> {
     #[inline(always)]
     pub(crate) fn sink_line<C: SinkCalls<T>>(
         &self,
+        reach: Reach,
         window: &[u8],
         start: usize,
         end: usize,
@@ -48,7 +61,7 @@ impl<'c, A: Allocator + Copy, T: Configured> Search<'c, A, T> {
             → IsInWindow self.now.config gone window.now input start walk.now)
             → AreMade C.step self.now.config sink.old
             (line_calls self.now.config input walk.now (slice_range window.now start end)
-            (chooses verdict) (trails verdict))
+            (around_in reach window.now start end) (chooses verdict) (trails verdict))
             (outcome_of (line_end walk.now (slice_range window.now start end)) result) sink.new }
         ensures succeeds { NeverFails C.step C.may_call → IsOk result }
         ensures called { (stop : ℕ) → HasCalled C.step self.now.config 0 sink.old
@@ -59,13 +72,13 @@ impl<'c, A: Allocator + Copy, T: Configured> Search<'c, A, T> {
             if !self.sink_before_context::<C>(window, start, walk, sink)? {
                 return Ok(false);
             }
-            match self.sink_matched::<C>(window, start, end, walk, sink) {
+            match self.sink_matched::<C>(reach, window, start, end, walk, sink) {
                 Ok(goes_on) => return Ok(goes_on),
                 Err(error) => return Err(error),
             }
         }
         if walk.after_context_left > 0 {
-            match self.sink_after_context::<C>(window, start, end, walk, verdict, sink) {
+            match self.sink_after_context::<C>(reach, window, start, end, walk, verdict, sink) {
                 Ok(goes_on) => return Ok(goes_on),
                 Err(error) => return Err(error),
             }
@@ -85,6 +98,7 @@ impl<'c, A: Allocator + Copy, T: Configured> Search<'c, A, T> {
     // context after a match and isn't chosen.
     fn sink_after_context<C: SinkCalls<T>>(
         &self,
+        reach: Reach,
         window: &[u8],
         start: usize,
         end: usize,
@@ -99,7 +113,8 @@ impl<'c, A: Allocator + Copy, T: Configured> Search<'c, A, T> {
         requires may_call { C.may_call sink.old }
         ensures reported { (stop : ℕ) → AreMade C.step self.now.config sink.old
             (after_calls self.now.config (trails verdict) walk.now.next_unreported walk.now.line
-            walk.now.offset stop (slice_range window.now start end))
+            walk.now.offset stop (slice_range window.now start end)
+            (around_in reach window.now start end))
             (outcome_of stop result) sink.new }
         ensures succeeds { NeverFails C.step C.may_call → IsOk result }
         ensures called { (stop : ℕ) → HasCalled C.step self.now.config 0 sink.old
@@ -107,7 +122,7 @@ impl<'c, A: Allocator + Copy, T: Configured> Search<'c, A, T> {
         ensures may_call { C.may_call sink.new }
     {
         if let Verdict::Trailing = verdict {
-            match self.sink_matched::<C>(window, start, end, walk, sink) {
+            match self.sink_matched::<C>(reach, window, start, end, walk, sink) {
                 Ok(goes_on) => return Ok(goes_on),
                 Err(error) => return Err(error),
             }
@@ -243,6 +258,7 @@ impl<'c, A: Allocator + Copy, T: Configured> Search<'c, A, T> {
     #[inline(always)]
     fn sink_matched<C: SinkCalls<T>>(
         &self,
+        reach: Reach,
         window: &[u8],
         start: usize,
         end: usize,
@@ -256,8 +272,7 @@ impl<'c, A: Allocator + Copy, T: Configured> Search<'c, A, T> {
         requires may_call { C.may_call sink.old }
         ensures reported { (stop : ℕ) → AreMade C.step self.now.config sink.old
             (selected_calls self.now.config walk.now.next_unreported walk.now.line walk.now.offset
-            stop
-            (slice_range window.now start end))
+            stop (slice_range window.now start end) (around_in reach window.now start end))
             (outcome_of stop result) sink.new }
         ensures succeeds { NeverFails C.step C.may_call → IsOk result }
         ensures may_call { C.may_call sink.new }
@@ -266,12 +281,38 @@ impl<'c, A: Allocator + Copy, T: Configured> Search<'c, A, T> {
         if !self.sink_break::<C>(has_break, sink)? {
             return Ok(false);
         }
-        let terminator = self.terminator();
-        let number = self.config.number(walk.line);
-        let found = SinkMatch::new(terminator, number, walk.offset, window, start..end);
+        let found = self.found(reach, window, start, end, walk);
         match C::matched(self, sink, &found) {
             Ok(goes_on) => return Ok(goes_on),
             Err(error) => return Err(error),
+        }
+    }
+
+    // The match of the lines from `start` up to `end` of the window, where a walk is.
+    #[inline(always)]
+    pub(crate) fn found<'w>(
+        &self,
+        reach: Reach,
+        window: &'w [u8],
+        start: usize,
+        end: usize,
+        walk: &Walk,
+    ) -> SinkMatch<'w>
+        requires ordered { start ≤ end }
+        requires within { end ≤ length window.now }
+        requires number { walk.now.line + 1 < 2 ^ 64 }
+        ensures split { result.terminator ≡ byte_of self.now.config.line_terminator }
+        ensures number { result.line_number ≡ number_of self.now.config walk.now.line }
+        ensures offset { result.offset ≡ walk.now.offset }
+        ensures bytes { match_bytes result ≡ slice_range window.now start end }
+        ensures around { match_surroundings result ≡ around_in reach window.now start end }
+    {
+        let terminator = self.terminator();
+        let number = self.config.number(walk.line);
+        let range = start..end;
+        match reach {
+            Reach::ByLine => SinkMatch::new(terminator, number, walk.offset, window, range),
+            Reach::AcrossLines => SinkMatch::within(terminator, number, walk.offset, window, range),
         }
     }
 

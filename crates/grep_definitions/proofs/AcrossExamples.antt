@@ -12,8 +12,9 @@ use Rattle.grep_matcher.specs.FindResults.{plain}
 use Rattle.grep_matcher.specs.Meanings.{Meaning}
 use Rattle.grep_report.specs.declared.sink_context.SinkContextKind.TheVariants.{Before, After}
 use Rattle.grep_report.specs.declared.sink_context.SinkContextKind.TheVariants.{Other}
+use Rattle.grep_report.specs.SinkReports.{surroundings}
 use Rattle.grep_definitions.specs.Plans.{is_across, search_plan, IsAskedWith, all_matches}
-use Rattle.grep_definitions.specs.Plans.{is_touched, touches, Settings}
+use Rattle.grep_definitions.specs.Plans.{is_touched, touches, Settings, Planned, matches, planned}
 use Rattle.grep_definitions.specs.BuiltSettings.{default_settings}
 use Rattle.grep_definitions.proofs.WorkedExamples.{has_a, begun, match_call, context_call}
 use Rattle.grep_definitions.proofs.WorkedExamples.{break_call}
@@ -43,32 +44,38 @@ two_lines = literal (codes "abc\ndef")
 abbrev at_end : Meaning
 at_end = plain (λ hay. Some (length hay, length hay))
 
+-- a match as a range of the searched bytes, with its number, its offset, its bytes and the count
+abbrev match_in : List ℕ → ℕ → ℕ → List ℕ → ℕ → Planned
+match_in bytes number offset line count =
+    planned
+    (matches (Some number) offset line (surroundings bytes offset (offset + length line))) count
+
 -- two matches: the second begins in the line in which the first ends
 abbrev input : List ℕ
 input = codes "xxx\nabc\ndefxxxabc\ndefxxx\nxxx"
 
 -- the lines that the two matches touch are one report, and each byte counts
 one_report : search_plan wide two_lines input
-    ≡ plan_of (begun ∷ match_call 2 4 (codes "abc\ndefxxxabc\ndefxxx\n") 25 ∷ []) 28
+    ≡ plan_of (begun ∷ match_in input 2 4 (codes "abc\ndefxxxabc\ndefxxx\n") 25 ∷ []) 28
 one_report = refl
 
 -- under inversion the lines that no match touches are reported, each alone
 inverted_input : search_plan (record wide { invert_match = true }) two_lines input
-    ≡ plan_of (begun ∷ match_call 1 0 (codes "xxx\n") 4 ∷ match_call 5 25 (codes "xxx") 28 ∷ []) 28
+    ≡ plan_of (begun ∷ match_in input 1 0 (codes "xxx\n") 4 ∷ match_in input 5 25 (codes "xxx") 28 ∷ []) 28
 inverted_input = refl
 
 -- there the limit is one of lines, and each byte counts also past it
 inverted_to_limit : search_plan (record wide {
   invert_match = true;
   max_matches = Some 1;
-}) two_lines input ≡ plan_of (begun ∷ match_call 1 0 (codes "xxx\n") 4 ∷ []) 28
+}) two_lines input ≡ plan_of (begun ∷ match_in input 1 0 (codes "xxx\n") 4 ∷ []) 28
 inverted_to_limit = refl
 
 -- a line before a report of many lines has the report's count
 around_report : search_plan (record wide { before_context = 1; after_context = 1 }) two_lines input
     ≡ plan_of
     (begun ∷ context_call Before 1 0 (codes "xxx\n") 25
-    ∷ match_call 2 4 (codes "abc\ndefxxxabc\ndefxxx\n") 25
+    ∷ match_in input 2 4 (codes "abc\ndefxxxabc\ndefxxx\n") 25
     ∷ context_call After 5 25 (codes "xxx") 28 ∷ []) 28
 around_report = refl
 
@@ -79,13 +86,13 @@ limit_of_matches : search_plan (record wide {
   after_context = 1;
   stop_on_nonmatch = true;
 }) two_lines input ≡ plan_of
-    (begun ∷ match_call 2 4 (codes "abc\ndefxxxabc\n") 18
+    (begun ∷ match_in input 2 4 (codes "abc\ndefxxxabc\n") 18
     ∷ context_call After 4 18 (codes "defxxx\n") 25 ∷ []) 28
 limit_of_matches = refl
 
 -- the empty literal matches before each byte, in each line
 empty_literal : search_plan wide (literal []) (codes "a\nb\n")
-    ≡ plan_of (begun ∷ match_call 1 0 (codes "a\nb\n") 4 ∷ []) 4
+    ≡ plan_of (begun ∷ match_in (codes "a\nb\n") 1 0 (codes "a\nb\n") 4 ∷ []) 4
 empty_literal = refl
 
 -- a match before each byte, and none at the end
@@ -102,7 +109,7 @@ empty_literal_inverted = refl
 -- the first two of them are in the first line
 empty_literal_to_limit : search_plan (record wide {
   max_matches = Some 2;
-}) (literal []) (codes "a\nb\n") ≡ plan_of (begun ∷ match_call 1 0 (codes "a\n") 2 ∷ []) 4
+}) (literal []) (codes "a\nb\n") ≡ plan_of (begun ∷ match_in (codes "a\nb\n") 1 0 (codes "a\n") 2 ∷ []) 4
 empty_literal_to_limit = refl
 
 -- an empty match after the last terminator touches no line
@@ -113,19 +120,19 @@ after_last_line = refl
 
 -- one at the end of a line without terminator touches that line
 at_end_of_open_line : search_plan (record wide { before_context = 1 }) at_end (codes "a\nb")
-    ≡ plan_of (begun ∷ context_call Before 1 0 (codes "a\n") 3 ∷ match_call 2 2 (codes "b") 3 ∷ [])
+    ≡ plan_of (begun ∷ context_call Before 1 0 (codes "a\n") 3 ∷ match_in (codes "a\nb") 2 2 (codes "b") 3 ∷ [])
     3
 at_end_of_open_line = refl
 
 -- the second match begins where the first ends, in the same line
 overlapping_lines : search_plan wide two_lines (codes "xxx\nabc\ndefabc\ndefxxx\nxxx")
-    ≡ plan_of (begun ∷ match_call 2 4 (codes "abc\ndefabc\ndefxxx\n") 22 ∷ []) 25
+    ≡ plan_of (begun ∷ match_in (codes "xxx\nabc\ndefabc\ndefxxx\nxxx") 2 4 (codes "abc\ndefabc\ndefxxx\n") 22 ∷ []) 25
 overlapping_lines = refl
 
 -- a match that ends with a terminator doesn't touch the next line, and lines that touch are one
 -- report
 matched_terminators : search_plan wide (literal (codes "a\n")) (codes "a\na\nb\n")
-    ≡ plan_of (begun ∷ match_call 1 0 (codes "a\na\n") 4 ∷ []) 6
+    ≡ plan_of (begun ∷ match_in (codes "a\na\nb\n") 1 0 (codes "a\na\n") 4 ∷ []) 6
 matched_terminators = refl
 
 -- a line between two reports is reported once, as the line after the first, and makes no break
@@ -133,15 +140,15 @@ apart_by_a_line : search_plan (record wide {
   before_context = 1;
   after_context = 1;
 }) (literal (codes "a\na")) (codes "a\na\nx\na\na\n") ≡ plan_of
-    (begun ∷ match_call 1 0 (codes "a\na\n") 4 ∷ context_call After 3 4 (codes "x\n") 6
-    ∷ match_call 4 6 (codes "a\na\n") 10 ∷ []) 10
+    (begun ∷ match_in (codes "a\na\nx\na\na\n") 1 0 (codes "a\na\n") 4 ∷ context_call After 3 4 (codes "x\n") 6
+    ∷ match_in (codes "a\na\nx\na\na\n") 4 6 (codes "a\na\n") 10 ∷ []) 10
 apart_by_a_line = refl
 
 -- lines left out before a line before a report make a break, with the report's count
 break_before_report : search_plan (record wide { before_context = 1 }) (literal (codes "a\na"))
     (codes "a\na\nx\nx\na\na\n") ≡ plan_of
-    (begun ∷ match_call 1 0 (codes "a\na\n") 4 ∷ break_call 12
-    ∷ context_call Before 4 6 (codes "x\n") 12 ∷ match_call 5 8 (codes "a\na\n") 12 ∷ []) 12
+    (begun ∷ match_in (codes "a\na\nx\nx\na\na\n") 1 0 (codes "a\na\n") 4 ∷ break_call 12
+    ∷ context_call Before 4 6 (codes "x\n") 12 ∷ match_in (codes "a\na\nx\nx\na\na\n") 5 8 (codes "a\na\n") 12 ∷ []) 12
 break_before_report = refl
 
 -- under passthru the other lines are reported, and at limit 0 all are such lines
@@ -161,7 +168,7 @@ limit_zero = refl
 
 -- under CRLF a match may end between the carriage return and the line feed, or with both
 crlf_terminator : search_plan (record wide { line_terminator = Crlf }) (literal (codes "a\r\nb\r"))
-    (codes "a\r\nb\r\nc\r\n") ≡ plan_of (begun ∷ match_call 1 0 (codes "a\r\nb\r\n") 6 ∷ []) 9
+    (codes "a\r\nb\r\nc\r\n") ≡ plan_of (begun ∷ match_in (codes "a\r\nb\r\nc\r\n") 1 0 (codes "a\r\nb\r\n") 6 ∷ []) 9
 crlf_terminator = refl
 
 -- a matcher that knows that no match contains the terminator is searched with by line
@@ -183,7 +190,7 @@ stop_by_line : search_plan (record wide { stop_on_nonmatch = true }) (record has
 stop_by_line = refl
 
 stop_across_lines : search_plan (record wide { stop_on_nonmatch = true }) has_a (codes "a\nb\nc\n")
-    ≡ plan_of (begun ∷ match_call 1 0 (codes "a\n") 2 ∷ []) 6
+    ≡ plan_of (begun ∷ match_in (codes "a\nb\nc\n") 1 0 (codes "a\n") 2 ∷ []) 6
 stop_across_lines = refl
 
 -- two matches with a line between them
@@ -209,7 +216,7 @@ touched_later j low = ⊎_elim (λ (inside : j < 3). ⊎_elim
 -- the matcher is asked at the line between for what comes after the second, once the first was
 -- reported
 asked_between : IsAskedWith wide one_letter (codes "a\nx\na\n") (codes "\n")
-    (begun ∷ match_call 1 0 (codes "a\n") 2 ∷ [])
+    (begun ∷ match_in (codes "a\nx\na\n") 1 0 (codes "a\n") 2 ∷ [])
 asked_between = record {
   index = 1;
   question = record {

@@ -30,6 +30,7 @@ use Rattle.grep_definitions.proofs.ReportOrderLemmas.{IsReported, in_order-joine
 use Rattle.grep_definitions.proofs.UnitLemmas.{unit-lines}
 use Rattle.grep_definitions.proofs.SearchLawLemmas.{matches_in, matches-joined, kind-selected}
 use Rattle.grep_definitions.proofs.SearchLawLemmas.{count_below-weaker, count_below-limited}
+use Rattle.grep_definitions.specs.Plans.{report_surroundings}
 
 module _ (k : Settings) (meaning : Meaning) (bytes : List ℕ) where
   abbrev selection : Selection
@@ -169,7 +170,8 @@ module _ (k : Settings) (meaning : Meaning) (bytes : List ℕ) where
           (λ (first : continues k bytes selection i ≡ false).
           let unit = unit-lines k meaning bytes i inside here in
           inr (record {
-            call = matches (number k bytes i) (at i) (report_lines k bytes selection i);
+            call = matches (number k bytes i) (at i) (report_lines k bytes selection i)
+                (report_surroundings k bytes selection i);
             next = report_end k bytes selection i;
             reports = is ∙ (rw first refl);
             later = unit.later;

@@ -24,6 +24,7 @@ use Rattle.grep_definitions.proofs.BelowLemmas.{joined_from-none, headed-through
 use Rattle.grep_definitions.proofs.RunLemmas.{run_end, IsRunEnd-run_end, IsRunEnd-one}
 use Rattle.grep_definitions.proofs.SelectionLemmas
 use Rattle.grep_definitions.proofs.LineSliceLemmas.{number-line, slice-line}
+use Rattle.grep_report.specs.SinkReports.{surroundings}
 
 module _ (k : Settings) (meaning : Meaning) (bytes : List ℕ) where
   abbrev selection : Selection
@@ -175,7 +176,7 @@ module _ (k : Settings) (meaning : Meaning) (bytes : List ℕ) where
 
     -- those of its first line
     hit-is : continues k bytes selection i ≡ false → T i ≡ selected_calls k v i (starts i)
-        (starts e) (span i e)
+        (starts e) (span i e) (surroundings bytes (starts i) (starts e))
     hit-is first =
         let kind : Plans.kind k bytes selection i ≡ Some matched = rw hit refl in
         let gap : (nat_lt 0 (A + B) && true && not (is_reported (i - 1))
@@ -195,7 +196,8 @@ module _ (k : Settings) (meaning : Meaning) (bytes : List ℕ) where
       → (selects_free k ≡ false → e < n → S e ≡ false) → (selects_free k ≡ true → e ≡ i + 1)
       → continues k bytes selection i ≡ false
       → front e ≡ front v ++ (pending_calls k bytes v i (starts e) v (i - v)
-      ++ selected_calls k v i (starts i) (starts e) (span i e))
+      ++ selected_calls k v i (starts i) (starts e) (span i e)
+      (surroundings bytes (starts i) (starts e)))
   front-unit {v} {i} e near some high hits closed alone first =
       let reach = near.low in
       let sum : e - v ≡ (i - v) + suc (e - (i + 1)) = omega arith in
@@ -210,7 +212,8 @@ module _ (k : Settings) (meaning : Meaning) (bytes : List ℕ) where
       ∙ (ap (λ m. joined_from T v (i - v) ++ joined_from T m (suc (e - (i + 1)))) at
       ∙ (ap (λ xs. joined_from T v (i - v) ++ (T i ++ xs)) rest
       ∙ (ap (λ xs. joined_from T v (i - v) ++ xs) (append-nil (T i) ∙ here)
-      ∙ ap (λ xs. xs ++ selected_calls k v i (starts i) (starts e) (span i e)) pending)))))
+      ∙ ap (λ xs. xs ++ selected_calls k v i (starts i) (starts e) (span i e)
+      (surroundings bytes (starts i) (starts e))) pending)))))
 
   -- after the last line
   pub front-done : {v left : ℕ} → Near v n left → (across_plan k meaning bytes).calls ≡ front v

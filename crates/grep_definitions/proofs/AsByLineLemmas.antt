@@ -12,14 +12,17 @@ use Rattle.grep_definitions.specs.Plans.{report_lines, start}
 use Rattle.grep_definitions.specs.Plans
 use Rattle.std.proofs.Common.{◌≡◌, ℕ, ◌+◌, ◌-◌, ◌<◌, Bool, true, false, not, ◌&&◌, List, [], ◌∷◌}
 use Rattle.std.proofs.Common.{refl, sym, ap, ap₂, ◌∙◌, arith, Option, Some, None, if◌then◌else◌}
-use Rattle.std.specs.Prelude.{nat_lt, nat_le, is_some, slice_range}
+use Rattle.std.specs.Prelude.{nat_lt, nat_le, is_some, map, slice_range}
 use Rattle.std.specs.Option.{option_map, unwrap_or}
 use Rattle.grep_matcher.specs.Meanings.{Meaning}
 use Rattle.grep_report.specs.declared.sink_context.SinkContextKind.TheVariants.{Before, After}
 use Rattle.grep_report.specs.declared.sink_context.SinkContextKind.TheVariants.{Other}
-use Rattle.grep_definitions.proofs.BelowLemmas.{joined_from-equal}
+use Rattle.grep_definitions.proofs.BelowLemmas.{joined_from-equal, map-joined}
 use Rattle.grep_definitions.proofs.FirstLineLemmas.{some_below-same, first_below-same}
 use Rattle.grep_definitions.proofs.LineSliceLemmas.{line-report, slice-line}
+use Rattle.grep_report.specs.SinkReports.{no_surroundings}
+use Rattle.grep_definitions.specs.Plans.{Planned, report_surroundings}
+use Rattle.grep_definitions.specs.AcrossLaws.{without_surroundings}
 
 module _ (k : Settings) (meaning other : Meaning) (bytes : List ℕ) (inverted : selects_free k
     ≡ true) (same : (i : ℕ) → is_touched_selected k meaning bytes i ≡ is_selected k other bytes i)
@@ -113,31 +116,47 @@ module _ (k : Settings) (meaning other : Meaning) (bytes : List ℕ) (inverted :
   ends i (Some (in_context After)) = refl
   ends i (Some (in_context Other)) = refl
 
-  reports : (i : ℕ) (x : Option Kind) → i < n → report k bytes selection i x
+  -- a call with nothing around its match
+  abbrev bare : Planned → Planned
+  bare call = record call { call = without_surroundings call.call }
+
+  reports : (i : ℕ) (x : Option Kind) → i < n → map bare (report k bytes selection i x)
       ≡ report k bytes (selected_lines k other bytes) i x
   reports i None inside = refl
   reports i (Some matched) inside =
-      ap (λ b. if b then []
-      else planned (matches (number k bytes i) (at i) (report_lines k bytes selection i))
-      (at (report_end k bytes selection i)) ∷ []) (alone i)
-      ∙ ap₂ (λ line e. (planned (matches (number k bytes i) (at i) line) (at e)) ∷ [])
+      ap (λ b. map bare (if b then []
+      else planned (matches (number k bytes i) (at i) (report_lines k bytes selection i)
+      (report_surroundings k bytes selection i)) (at (report_end k bytes selection i)) ∷ []))
+      (alone i)
+      ∙ ap₂ (λ line e. (planned (matches (number k bytes i) (at i) line no_surroundings) (at e)) ∷ [])
       (unit-line i inside) (unit_end-next i) ∙ sym (line-report k bytes other i)
   reports i (Some (in_context c)) inside =
       ap (λ e. planned (context c (number k bytes i) (at i) (Plans.line k bytes i)) e ∷ [])
       (ends i (Some (in_context c)))
 
-  calls : (i : ℕ) → i < n → calls_at k bytes selection i
+  broken-bare : (b : Bool) (end : ℕ) (rest : List Planned)
+      → map bare (if b then planned breaks end ∷ rest else rest)
+      ≡ (if b then planned breaks end ∷ map bare rest else map bare rest)
+  broken-bare true end rest = refl
+  broken-bare false end rest = refl
+
+  calls : (i : ℕ) → i < n → map bare (calls_at k bytes selection i)
       ≡ calls_at k bytes (selected_lines k other bytes) i
   calls i inside =
-      ap₂ (λ b x. if b then (planned breaks (count_at k bytes selection i x))
-      ∷ report k bytes selection i x else report k bytes selection i x) (broken i) (kind i)
+      broken-bare (breaks_before k bytes selection i)
+      (count_at k bytes selection i (Plans.kind k bytes selection i))
+      (report k bytes selection i (Plans.kind k bytes selection i))
+      ∙ ap₂ (λ b x. if b then (planned breaks (count_at k bytes selection i x))
+      ∷ map bare (report k bytes selection i x) else map bare (report k bytes selection i x))
+      (broken i) (kind i)
       ∙ ap₂ (λ e rest. if breaks_before k bytes (selected_lines k other bytes) i
       then (planned breaks e)
       ∷ rest else rest) (ends i (Plans.kind k bytes (selected_lines k other bytes) i))
       (reports i (Plans.kind k bytes (selected_lines k other bytes) i) inside)
 
-  pub calls-same : (across_plan k meaning bytes).calls ≡ (line_plan k other bytes).calls
+  pub calls-same : map bare (across_plan k meaning bytes).calls ≡ (line_plan k other bytes).calls
   calls-same =
-      ap (λ rest. planned begins 0 ∷ rest) (joined_from-equal (calls_at k bytes selection)
+      ap (λ rest. planned begins 0 ∷ rest) (map-joined bare (calls_at k bytes selection) 0 n
+      ∙ joined_from-equal (λ j. map bare (calls_at k bytes selection j))
       (calls_at k bytes (selected_lines k other bytes)) 0 n (λ j low high. calls j (omega arith))
       ∙ ap (joined_from (calls_at k bytes (selected_lines k other bytes)) 0) (sym whole))

@@ -5,8 +5,8 @@ use Rattle.std.proofs.Common.{Option, Some, None, if◌then◌else◌, refl, sym
 use Rattle.std.proofs.Common.{append_assoc}
 use Rattle.std.proofs.lemmas.Bool.{le-ltb, cases_lt, cases_Bool}
 use Rattle.std.proofs.Math.Bool.{or-false, or-true}
-use Rattle.std.specs.Prelude.{IfSome, List, [], ◌∷◌, ◌++◌}
-use Rattle.std.proofs.lemmas.List.{append-nil}
+use Rattle.std.specs.Prelude.{IfSome, List, [], ◌∷◌, ◌++◌, map}
+use Rattle.std.proofs.lemmas.List.{append-nil, map-append}
 use Rattle.grep_definitions.specs.Plans.{some_below, count_below, first_below, Settings, has_room}
 use Rattle.grep_definitions.specs.Plans.{at_most, joined_from}
 use Rattle.grep_definitions.proofs.BoolLemmas.{clash}
@@ -127,6 +127,14 @@ joined_from-add f i (suc n) m =
     let shift : (i + 1) + n ≡ i + suc n = omega arith in
     rw (sum) (ap (λ rest. f i ++ rest) (joined_from-add f (i + 1) n m)
     ∙ (rw shift (sym (append_assoc (f i) _ _))))
+
+-- what is made of joined lists
+pub map-joined : {X Y : Type 0} (g : X → Y) (f : ℕ → List X) (i n : ℕ)
+    → map g (joined_from f i n) ≡ joined_from (λ j. map g (f j)) i n
+map-joined g f i zero = refl
+map-joined g f i (suc n) =
+    map-append g (f i) (joined_from f (i + 1) n)
+    ∙ ap (λ xs. map g (f i) ++ xs) (map-joined g f (i + 1) n)
 
 -- one more of what is joined
 pub joined_from-more : {X : Type 0} (f : ℕ → List X) (i n : ℕ) → joined_from f i (n + 1)

@@ -24,6 +24,7 @@ use Rattle.grep_definitions.specs.LineCalls.{one_call}
 use Rattle.grep_definitions.specs.SinkRuns.{outcome_of, with_binary}
 use Rattle.grep_definitions.proofs.SinkRunLemmas.{AreMade-append, AreMade-one, made-binary}
 use Rattle.grep_definitions.proofs.SinkRunLemmas.{outcome_with}
+use Rattle.grep_report.specs.SinkReports.{Surroundings}
 
 -- a planned call between `begin` and `finish`
 abbrev pub IsInner : Settings → Planned → Type 0
@@ -109,10 +110,11 @@ module _ {S E : Type 0} (step : Steps S E) (k : Settings) where
   called-before v j i number offset end line old outcome new reported = grind arith
 
   -- and of a match
-  pub called-match : (v i offset end : ℕ) (line : List ℕ) (old : S) (outcome : Outcome E) (new : S)
-      → AreMade step k old (selected_calls k v i offset end line) outcome new
+  pub called-match : (v i offset end : ℕ) (line : List ℕ) (around : Surroundings) (old : S)
+      (outcome : Outcome E) (new : S)
+      → AreMade step k old (selected_calls k v i offset end line around) outcome new
       → HasCalled step k 0 old outcome new
-  called-match v i offset end line old outcome new reported = grind arith
+  called-match v i offset end line around old outcome new reported = grind arith
 
   -- calls after calls that all returned true
   pub called-after : {before after bound : ℕ} → before + after ≤ bound

@@ -18,6 +18,7 @@ use Rattle.grep_definitions.specs.LineCalls.{after_calls, before_calls, selected
 use Rattle.grep_definitions.specs.LineCalls.{context_calls, breaks_near}
 use Rattle.grep_definitions.specs.SearchLaws.{number_of}
 use Rattle.grep_definitions.proofs.SelectionLemmas
+use Rattle.grep_report.specs.SinkReports.{no_surroundings}
 
 module _ (k : Settings) (meaning : Meaning) (bytes : List ℕ) where
   abbrev selection : Selection
@@ -68,7 +69,7 @@ module _ (k : Settings) (meaning : Meaning) (bytes : List ℕ) where
         → number k bytes i
         ≡ number_of k i → Plans.start k bytes i ≡ start → Plans.start k bytes (i + 1) ≡ end
         → Plans.line k bytes i ≡ line → calls_at k bytes selection i
-        ≡ after_calls k (is_trailing i) v i start end line
+        ≡ after_calls k (is_trailing i) v i start end line no_surroundings
     calls_at-after start end line misses some is_number is_start is_end is_line =
         go (is_trailing i) refl
       where
@@ -81,7 +82,7 @@ module _ (k : Settings) (meaning : Meaning) (bytes : List ℕ) where
         gap = SelectionLemmas.gap-after near some
 
         go : (b : Bool) → is_trailing i ≡ b → calls_at k bytes selection i
-            ≡ after_calls k b v i start end line
+            ≡ after_calls k b v i start end line no_surroundings
         go true is =
             let as_match = kind ∙ ap (λ b. Some (if b then matched else in_context After)) is in
             rw (as_match, gap, slice-line k bytes i, is_number, is_end, is_start, is_line) refl
@@ -147,7 +148,7 @@ module _ (k : Settings) (meaning : Meaning) (bytes : List ℕ) where
       pub calls_at-hit : (start end : ℕ) (line : List ℕ) → number k bytes i ≡ number_of k i
           → Plans.start k bytes i ≡ start → Plans.start k bytes (i + 1) ≡ end
           → Plans.line k bytes i ≡ line → calls_at k bytes selection i
-          ≡ selected_calls k v i start end line
+          ≡ selected_calls k v i start end line no_surroundings
       calls_at-hit start end line is_number is_start is_end is_line =
           let kind : Plans.kind k bytes selection i ≡ Some matched = rw hit refl in
           let gap : (nat_lt 0 (A + B) && true && not (is_reported (i - 1))

@@ -26,6 +26,7 @@ use Rattle.grep_matcher.proofs.LineStartLemmas.{line_start-le}
 use Rattle.grep_definitions.specs.LineWalks.{IsNear}
 use Rattle.grep_definitions.proofs.BoolLemmas.{clash}
 use Rattle.grep_definitions.proofs.ListLemmas.{All-joined_from, filter-all, filter-none}
+use Rattle.grep_report.specs.SinkReports.{Surroundings}
 
 -- of calls whose counts are at most an offset, and later ones whose counts are above it, just the
 -- first are kept
@@ -69,9 +70,10 @@ module _ (k : Settings) (bytes : List ℕ) (v i end : ℕ) where
   ends-pending j n = All-joined_from (λ x. x.if_false.count ≡ end) (listed_calls k bytes v i end) j
       n (λ q low high. ends-listed q)
 
-  pub ends-match : (offset : ℕ) (line : List ℕ) → EndThere (selected_calls k v i offset end line)
-  ends-match offset line = ends-broken (nat_lt 0 k.after_context && breaks_near k v i i)
-      (matches (number_of k i) offset line) end
+  pub ends-match : (offset : ℕ) (line : List ℕ) (around : Surroundings)
+      → EndThere (selected_calls k v i offset end line around)
+  ends-match offset line around = ends-broken (nat_lt 0 k.after_context && breaks_near k v i i)
+      (matches (number_of k i) offset line around) end
 
 module _ (k : Settings) (meaning : Meaning) (bytes : List ℕ) where
   abbrev selection : Selection

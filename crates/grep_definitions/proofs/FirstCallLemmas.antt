@@ -33,6 +33,7 @@ use Rattle.grep_matcher.proofs.LineStartLemmas.{line_start-ascends, line_start-l
 use Rattle.grep_definitions.specs.LineWalks.{IsNear}
 use Rattle.std.proofs.lemmas.List.{take_at, drop_at}
 use Rattle.std.proofs.lemmas.List.Elements.{All-drop, All-take}
+use Rattle.grep_report.specs.SinkReports.{no_surroundings}
 
 -- a first number that passes stays the first, however far one looks
 first_below-far : (p : ℕ → Bool) (n m : ℕ) → some_below p n ≡ true → first_below p (n + m)
@@ -295,14 +296,17 @@ module _ (k : Settings) (meaning : Meaning) (front back : List ℕ)
       let line = prefix.line-same k meaning front back closed i below in
       let end = end-same i below (Some matched) is in
       line-report k whole meaning i
-      ∙ ap (λ x. planned (matches x (Plans.start k whole i) (Plans.line k whole i))
+      ∙ ap (λ x. planned (matches x (Plans.start k whole i) (Plans.line k whole i)
+      no_surroundings)
       (count_at k whole (selection whole) i (Some matched)) ∷ []) number
-      ∙ ap (λ x. planned (matches (Plans.number k front i) x (Plans.line k whole i))
+      ∙ ap (λ x. planned (matches (Plans.number k front i) x (Plans.line k whole i)
+      no_surroundings)
       (count_at k whole (selection whole) i (Some matched)) ∷ []) start
-      ∙ ap (λ x. planned (matches (Plans.number k front i) (Plans.start k front i) x)
+      ∙ ap (λ x. planned (matches (Plans.number k front i) (Plans.start k front i) x
+      no_surroundings)
       (count_at k whole (selection whole) i (Some matched)) ∷ []) line
       ∙ ap (λ x. planned (matches (Plans.number k front i) (Plans.start k front i)
-      (Plans.line k front i)) x ∷ []) end ∙ sym (line-report k front meaning i)
+      (Plans.line k front i) no_surroundings) x ∷ []) end ∙ sym (line-report k front meaning i)
   report-same i below (Some (in_context c)) is =
       let number = prefix.number-same k meaning front back closed i (omega arith) in
       let start = prefix.start-same k meaning front back closed i (omega arith) in

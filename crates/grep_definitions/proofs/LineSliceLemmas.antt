@@ -11,6 +11,7 @@ use Rattle.grep_definitions.specs.Plans.{selected_lines, matches, planned, line,
 use Rattle.grep_definitions.specs.Plans.{matched, number, start, Settings, report}
 use Rattle.grep_lines.proofs.LineStepLemmas.{IsStep-line, lines-numbered}
 use Rattle.grep_definitions.specs.SearchLaws.{number_of}
+use Rattle.grep_report.specs.SinkReports.{no_surroundings}
 
 module _ (k : Settings) (bytes : List ℕ) where
   -- the bytes of a line, also past the last one
@@ -34,6 +35,7 @@ module _ (k : Settings) (bytes : List ℕ) where
 
   -- by line a match is reported with its line
   pub line-report : (meaning : Meaning) (i : ℕ) → report k bytes (selected_lines k meaning bytes) i
-      (Some matched) ≡ planned (matches (number k bytes i) (start k bytes i) (line k bytes i))
+      (Some matched)
+      ≡ planned (matches (number k bytes i) (start k bytes i) (line k bytes i) no_surroundings)
       (start k bytes (i + 1)) ∷ []
   line-report meaning i = rw (slice-line i) refl

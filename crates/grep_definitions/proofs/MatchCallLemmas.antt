@@ -37,6 +37,7 @@ use Rattle.grep_definitions.proofs.BelowLemmas.{at_most-above, joined_from-more,
 use Rattle.grep_definitions.proofs.BelowLemmas.{room-le, room-first}
 use Rattle.grep_definitions.proofs.SearchLawLemmas.{reports_end-le}
 use Rattle.grep_definitions.proofs.SearchModeLemmas.{plan-by_line}
+use Rattle.grep_report.specs.SinkReports.{no_surroundings}
 
 -- the numbers below n that pass, each as a list of one
 abbrev pub passing : (ℕ → Bool) → ℕ → List ℕ
@@ -173,7 +174,7 @@ module _ (k : Settings) (meaning : Meaning) (bytes : List ℕ) where
     where
       one : match_calls (Plans.report k bytes selection i (Some matched)) ≡ match_of k bytes i ∷ []
       one = ap match_calls (line-report k bytes meaning i)
-          ∙ ap (λ number. matches number (start k bytes i) (line k bytes i) ∷ [])
+          ∙ ap (λ number. matches number (start k bytes i) (line k bytes i) no_surroundings ∷ [])
           (rw (lines-numbered (byte_of k.line_terminator) bytes i inside) refl)
 
       go : (a b t c d : Bool)

@@ -31,6 +31,7 @@ use Rattle.grep_definitions.proofs.BelowLemmas.{joined_from-more}
 use Rattle.grep_matcher.proofs.LineStartLemmas.{line_start-ascends, line_start-more}
 use Rattle.grep_definitions.proofs.BoolLemmas.{clash}
 use Rattle.grep_definitions.proofs.ReportOrderLemmas.{IsReported, in_order-joined, report_calls-broken}
+use Rattle.grep_report.specs.SinkReports.{no_surroundings}
 
 -- as many numbers pass as pass the weaker test, or fewer
 pub count_below-weaker : (p q : ℕ → Bool) (n : ℕ) → ((j : ℕ) → p j ≡ true → q j ≡ true)
@@ -168,7 +169,7 @@ module _ (k : Settings) (meaning : Meaning) (bytes : List ℕ) where
   pub calls_at-follows : (i j : ℕ) → i < reports_end k meaning bytes → selected i ≡ false
       → selected j ≡ true → j < i → i - j ≤ k.after_context → T i
       ≡ planned (if is_trailing k meaning bytes i then matches (number k bytes i) (start
-      i) (Plans.line k bytes i) else context After (number k bytes i) (start i)
+      i) (Plans.line k bytes i) no_surroundings else context After (number k bytes i) (start i)
       (Plans.line k bytes i)) (start (i + 1)) ∷ []
   calls_at-follows i j has misses hit less close = go (is_trailing k meaning bytes i) refl
     where
@@ -181,7 +182,7 @@ module _ (k : Settings) (meaning : Meaning) (bytes : List ℕ) where
 
       go : (t : Bool) → is_trailing k meaning bytes i ≡ t → T i
           ≡ planned (if t then matches (number k bytes i) (start i) (Plans.line k bytes
-          i) else context After (number k bytes i) (start i) (Plans.line k bytes i))
+          i) no_surroundings else context After (number k bytes i) (start i) (Plans.line k bytes i))
           (start (i + 1)) ∷ []
       go true is =
           let kind = is_kind ∙ ap (λ b. Some (if b then matched else in_context After)) is in

@@ -30,6 +30,7 @@ use Rattle.grep_definitions.proofs.RunLemmas.{edges, edges-rise}
 use Rattle.grep_matcher.proofs.LineStartLemmas.{line_start-ascends, line_start-more}
 use Rattle.grep_matcher.proofs.LineStartLemmas.{line_start-within, line_start-le}
 use Rattle.grep_definitions.proofs.SearchLawLemmas.{kind-selected}
+use Rattle.grep_definitions.specs.Plans.{report_surroundings}
 
 -- a line that isn't reported as a match isn't selected
 kind-other : (a b c d : Bool) (kind : Option Kind) → (if a then Some matched
@@ -102,6 +103,7 @@ module _ (k : Settings) (meaning : Meaning) (bytes : List ℕ) where
   -- the match report of the unit that begins at a line
   abbrev report_at : ℕ → Call
   report_at i = matches (number k bytes i) (at i) (report_lines k bytes selection i)
+      (report_surroundings k bytes selection i)
 
   -- what is gathered of the match reports alone
   module _ (g : Call → List ℕ) (in_context_none : (c : SinkContextKind) (o : Option ℕ) (offset : ℕ)

@@ -15,6 +15,7 @@ use Rattle.grep_definitions.specs.Plans.{search_plan, begins, matches, context, 
 use Rattle.grep_definitions.specs.Plans.{Finish, Planned, Steps, stopped, finish_result, AreMade}
 use Rattle.grep_definitions.specs.Plans.{IsFinished, IsRun, counted, planned, Settings}
 use Rattle.grep_definitions.specs.BuiltSettings.{default_settings}
+use Rattle.grep_report.specs.SinkReports.{no_surroundings}
 
 -- a matcher of one byte
 abbrev pub has : ℕ → Meaning
@@ -34,7 +35,7 @@ begun = planned begins 0
 
 -- a match, with its number, its offset, its bytes and the count
 abbrev pub match_call : ℕ → ℕ → List ℕ → ℕ → Planned
-match_call number offset line count = planned (matches (Some number) offset line) count
+match_call number offset line count = planned (matches (Some number) offset line no_surroundings) count
 
 -- a context line
 abbrev pub context_call : SinkContextKind → ℕ → ℕ → List ℕ → ℕ → Planned
@@ -220,7 +221,7 @@ numbers_off : search_plan (record default_settings {
   line_number = false;
   after_context = 1;
 }) has_a (codes "a\nx\n") ≡ plan_of
-    (begun ∷ planned (matches None 0 (codes "a\n")) 2 ∷ planned (context After None 2 (codes "x\n"))
+    (begun ∷ planned (matches None 0 (codes "a\n") no_surroundings) 2 ∷ planned (context After None 2 (codes "x\n"))
     4 ∷ []) 4
 numbers_off = refl
 

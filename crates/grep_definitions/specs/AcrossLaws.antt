@@ -1,16 +1,17 @@
 -- Laws of the planned calls across lines, and of the mode.
 use Rattle.std.specs.Prelude.{◌≡◌, ℕ, ◌+◌, ◌-◌, ◌<◌, ◌≤◌, Bool, true, false, not, ◌&&◌, ◌⊎◌}
-use Rattle.std.specs.Prelude.{if◌then◌else◌, nat_lt, List, [], ◌∷◌, length, count_by, Some, None}
+use Rattle.std.specs.Prelude.{if◌then◌else◌, nat_lt, List, [], ◌∷◌, length, count_by, map, Some, None}
 use Rattle.std.specs.List.{flat_map}
 use Rattle.std.specs.List.Sorted.{IsStrictlyIncreasing}
 use Rattle.grep_matcher.specs.Lawful.{HoldsPosition}
 use Rattle.grep_matcher.specs.Meanings.{ExcludesTerminator, Meaning}
+use Rattle.grep_report.specs.SinkReports.{no_surroundings}
 use Rattle.grep_report.specs.declared.sink_context.SinkContextKind.TheVariants.{After}
 use Rattle.grep_definitions.specs.Plans.{is_across, search_plan, Call, matches, context, planned}
 use Rattle.grep_definitions.specs.Plans.{joined_from, line_count, line, number, start, calls_at}
 use Rattle.grep_definitions.specs.Plans.{is_selected, is_trailing, reports_end, is_touched_selected}
 use Rattle.grep_definitions.specs.Plans.{touched_lines, touches, matches_from, all_matches}
-use Rattle.grep_definitions.specs.Plans.{Settings, across_plan, line_plan}
+use Rattle.grep_definitions.specs.Plans.{Planned, Settings, across_plan, line_plan}
 use Rattle.grep_definitions.specs.SearchLaws.{AreReportsInOrder, calls_of, is_match, report_calls}
 
 -- without `multi_line`, or with a matcher that excludes the terminator, a search is by line
@@ -92,11 +93,11 @@ AtMostLimit =
 
 -- the bytes of a match report, and where it begins and ends
 abbrev pub report_bytes : Call → List ℕ
-report_bytes (matches number offset bytes) = bytes
+report_bytes (matches number offset bytes around) = bytes
 report_bytes _ = []
 
 abbrev pub report_edges : Call → List ℕ
-report_edges (matches number offset bytes) = offset ∷ (offset + length bytes) ∷ []
+report_edges (matches number offset bytes around) = offset ∷ (offset + length bytes) ∷ []
 report_edges _ = []
 
 -- the match reports, joined, are the selected lines, joined: each selected line is in one report,
@@ -117,9 +118,15 @@ ReportsAreApart =
     → IsStrictlyIncreasing
     (flat_map report_edges (calls_of (across_plan settings meaning bytes).calls))
 
+-- a call with nothing around its match, if it has one
+abbrev pub without_surroundings : Call → Call
+without_surroundings (matches number offset bytes around) =
+    matches number offset bytes no_surroundings
+without_surroundings call = call
+
 -- lines are reported as by line: if a search under inversion, in which a report is one line,
 -- selects the lines that some search by line does, and in that too each line may be reported and
--- none is trailing, then the calls are the same
+-- none is trailing, then the calls are the same, but for what is around a match
 abbrev pub ReportsAreAsByLine : Type 0
 ReportsAreAsByLine =
     (settings : Settings) (meaning other : Meaning) (bytes : List ℕ) → settings.invert_match ≡ true
@@ -127,7 +134,9 @@ ReportsAreAsByLine =
     → is_touched_selected settings meaning bytes i ≡ is_selected settings other bytes i)
     → reports_end settings other bytes ≡ line_count settings bytes
     → ((i : ℕ) → is_trailing settings other bytes i ≡ false)
-    → (across_plan settings meaning bytes).calls ≡ (line_plan settings other bytes).calls
+    → map (λ (planned : Planned). record planned { call = without_surroundings planned.call })
+    (across_plan settings meaning bytes).calls
+    ≡ (line_plan settings other bytes).calls
 
 -- each byte counts
 abbrev pub WholeCount : Type 0

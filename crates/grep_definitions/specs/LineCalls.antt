@@ -7,6 +7,7 @@ use Rattle.std.specs.Prelude.{◌∷◌, Option, is_some}
 use Rattle.grep_matcher.specs.Lines.{strip}
 use Rattle.grep_matcher.specs.Meanings.{Meaning}
 use Rattle.grep_definitions.specs.SearchLaws.{number_of}
+use Rattle.grep_report.specs.SinkReports.{Surroundings}
 use Rattle.grep_report.specs.declared.sink_context.SinkContextKind.{SinkContextKind}
 use Rattle.grep_report.specs.declared.sink_context.SinkContextKind.TheVariants.{Before, After}
 
@@ -49,18 +50,18 @@ listed_calls settings bytes v i end j =
 abbrev pub pending_calls : Settings → List ℕ → ℕ → ℕ → ℕ → ℕ → ℕ → List Planned
 pending_calls settings bytes v i end j n = joined_from (listed_calls settings bytes v i end) j n
 
--- the selected line i
-abbrev pub selected_calls : Settings → ℕ → ℕ → ℕ → ℕ → List ℕ → List Planned
-selected_calls settings v i offset end line =
+-- the selected line i, with what is around it
+abbrev pub selected_calls : Settings → ℕ → ℕ → ℕ → ℕ → List ℕ → Surroundings → List Planned
+selected_calls settings v i offset end line around =
     broken_calls (nat_lt 0 settings.after_context && breaks_near settings v i i)
-    (matches (number_of settings i) offset line) end
+    (matches (number_of settings i) offset line around) end
 
 -- line i as a context line
 abbrev pub context_calls : SinkContextKind → Option ℕ → ℕ → ℕ → List ℕ → List Planned
 context_calls kind number offset end line = one_call (context kind number offset line) end
 
 -- line i after a selected line: a match if it is trailing
-abbrev pub after_calls : Settings → Bool → ℕ → ℕ → ℕ → ℕ → List ℕ → List Planned
-after_calls settings trailing v i offset end line =
-    if trailing then selected_calls settings v i offset end line
+abbrev pub after_calls : Settings → Bool → ℕ → ℕ → ℕ → ℕ → List ℕ → Surroundings → List Planned
+after_calls settings trailing v i offset end line around =
+    if trailing then selected_calls settings v i offset end line around
     else context_calls After (number_of settings i) offset end line

@@ -3,7 +3,7 @@ use Rattle.std.specs.Prelude.{◌≡◌, ℕ, suc, ◌+◌, Bool, true, false, L
 use Rattle.std.specs.Prelude.{Result, Ok, Err}
 use Rattle.std.specs.Option.{option_map}
 use Rattle.grep_matcher.specs.Lines.{lines}
-use Rattle.grep_report.specs.SinkReports.{MatchReport, match_bytes}
+use Rattle.grep_report.specs.SinkReports.{MatchReport, match_bytes, no_surroundings}
 use Rattle.grep_definitions.specs.Plans.{AreMade, Planned, Settings, Steps, all_true, failed}
 use Rattle.grep_definitions.specs.Plans.{matches, planned}
 
@@ -12,7 +12,7 @@ use Rattle.grep_definitions.specs.Plans.{matches, planned}
 abbrev pub calls_of_lines : Option ℕ → ℕ → ℕ → List (List ℕ) → List Planned
 calls_of_lines number index offset [] = []
 calls_of_lines number index offset (line ∷ later) =
-    planned (matches (option_map (λ first. first + index) number) offset line)
+    planned (matches (option_map (λ first. first + index) number) offset line no_surroundings)
     (offset + length line)
     ∷ calls_of_lines number (suc index) (offset + length line) later
 

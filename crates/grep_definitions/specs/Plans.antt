@@ -17,6 +17,7 @@ use Rattle.grep_report.specs.declared.config_error.ConfigError.{ConfigError}
 use Rattle.grep_report.specs.declared.config_error.ConfigError.TheVariants.{SearchUnavailable}
 use Rattle.grep_report.specs.declared.config_error.ConfigError.TheVariants.{MismatchedLineTerminators}
 use Rattle.grep_report.specs.declared.mmap_choice.MmapChoice.{MmapChoice}
+use Rattle.grep_report.specs.SinkReports.{Surroundings, no_surroundings, surroundings}
 use Rattle.grep_report.specs.declared.sink_context.SinkContextKind.{SinkContextKind}
 use Rattle.grep_report.specs.declared.sink_context.SinkContextKind.TheVariants.{Before, After}
 use Rattle.grep_report.specs.declared.sink_context.SinkContextKind.TheVariants.{Other}
@@ -46,11 +47,12 @@ pub record SearcherState : Type 0 where
 
 -- ---- calls of a sink, and a run along a plan
 
--- one call: of lines with number, offset and bytes; with the offset of the first binary byte; of
--- `finish` with the byte count, and that offset if it was reported
+-- one call: of lines with number, offset and bytes, and of a match with the bytes around it, which
+-- by line are none; with the offset of the first binary byte; of `finish` with the byte count, and
+-- that offset if it was reported
 pub data Call : Type 0 where
   begins : Call
-  matches : Option ℕ → ℕ → List ℕ → Call
+  matches : Option ℕ → ℕ → List ℕ → Surroundings → Call
   context : SinkContextKind → Option ℕ → ℕ → List ℕ → Call
   breaks : Call
   binary_data : ℕ → Call
@@ -58,12 +60,12 @@ pub data Call : Type 0 where
 
 -- the bytes of the lines that a call reports, and the offset of the first; other calls have none
 abbrev pub reported_bytes : Call → List ℕ
-reported_bytes (matches number offset bytes) = bytes
+reported_bytes (matches number offset bytes around) = bytes
 reported_bytes (context kind number offset bytes) = bytes
 reported_bytes _ = []
 
 abbrev pub reported_from : Call → ℕ
-reported_from (matches number offset bytes) = offset
+reported_from (matches number offset bytes around) = offset
 reported_from (context kind number offset bytes) = offset
 reported_from _ = 0
 
@@ -187,11 +189,13 @@ joined_from f i zero = []
 joined_from f i (suc n) = f i ++ joined_from f (i + 1) n
 
 -- which lines are selected, and which hit past the limit; whether selected lines in a row are one
--- report; and how many of the first lines may be reported
+-- report; whether a match has the bytes around it, as across lines; and how many of the first lines
+-- may be reported
 pub record Selection : Type 0 where
   pub selected : ℕ → Bool
   pub trailing : ℕ → Bool
   pub joined : Bool
+  pub across : Bool
   pub end : ℕ
 
 -- how a line is reported
@@ -235,6 +239,12 @@ module _ (settings : Settings) (bytes : List ℕ) where
     -- the bytes of that report
     abbrev pub report_lines : ℕ → List ℕ
     report_lines i = slice_range bytes (start i) (start (report_end i))
+
+    -- and the bytes around them
+    abbrev pub report_surroundings : ℕ → Surroundings
+    report_surroundings i =
+        if selection.across then surroundings bytes (start i) (start (report_end i))
+        else no_surroundings
 
     -- whether a selected line is in one report with the line before it
     abbrev pub continues : ℕ → Bool
@@ -284,8 +294,9 @@ module _ (settings : Settings) (bytes : List ℕ) where
     report i None = []
     report i (Some matched) =
         if continues i then []
-        else planned (matches (number i) (start i) (report_lines i)) (count_at i (Some matched))
-        ∷ []
+        else planned
+        (matches (number i) (start i) (report_lines i) (report_surroundings i))
+        (count_at i (Some matched)) ∷ []
     report i (Some (in_context c)) =
         planned (context c (number i) (start i) (line i)) (count_at i (Some (in_context c))) ∷ []
 
@@ -364,6 +375,7 @@ module _ (settings : Settings) (meaning : Meaning) (bytes : List ℕ) where
     selected = is_selected;
     trailing = is_trailing;
     joined = false;
+    across = false;
     end = reports_end;
   }
 
@@ -443,6 +455,7 @@ module _ (settings : Settings) (meaning : Meaning) (bytes : List ℕ) where
     selected = is_touched_selected;
     trailing = λ i. false;
     joined = not (selects_free settings);
+    across = true;
     end = line_count settings bytes;
   }
 

@@ -9,6 +9,7 @@ use Rattle.grep_decode.specs.Decoded.{mark_of, marked}
 use Rattle.grep_matcher.specs.Lines.{byte_of}
 use Rattle.grep_matcher.specs.FindResults.{plain}
 use Rattle.grep_matcher.specs.Meanings.{Meaning}
+use Rattle.grep_report.specs.SinkReports.{no_surroundings}
 use Rattle.grep_report.specs.declared.sink_context.SinkContextKind.TheVariants.{After}
 use Rattle.grep_definitions.specs.Plans.{is_across, search_plan, Call, matches, context, Planned}
 use Rattle.grep_definitions.specs.Plans.{reported_bytes, reported_from, planned, count_below}
@@ -52,12 +53,12 @@ MarkedPasses =
 
 -- whether a call reports lines, and whether it reports a match
 abbrev pub is_report : Call → Bool
-is_report (matches number offset bytes) = true
+is_report (matches number offset bytes around) = true
 is_report (context kind number offset bytes) = true
 is_report _ = false
 
 abbrev pub is_match : Call → Bool
-is_match (matches number offset line) = true
+is_match (matches number offset line around) = true
 is_match _ = false
 
 -- some calls without the counts, and those of them that report lines, or a match, in order
@@ -99,6 +100,7 @@ AfterWins =
     ≡ planned
     (if is_trailing settings meaning bytes i
     then matches (number settings bytes i) (start settings bytes i) (line settings bytes i)
+    no_surroundings
     else context After (number settings bytes i) (start settings bytes i) (line settings bytes i))
     (start settings bytes (i + 1)) ∷ []
 
@@ -158,7 +160,7 @@ LinesAreNumbered =
 -- the call that reports line i as a match: with the number i + 1, if lines are numbered
 abbrev pub match_of : Settings → List ℕ → ℕ → Call
 match_of settings bytes i =
-    matches (number_of settings i) (start settings bytes i) (line settings bytes i)
+    matches (number_of settings i) (start settings bytes i) (line settings bytes i) no_surroundings
 
 -- whether a line is a match: it is selected, or trailing in the context after a selected line
 abbrev pub is_matched : Settings → Meaning → List ℕ → ℕ → Bool

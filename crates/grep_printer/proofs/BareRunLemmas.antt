@@ -11,7 +11,7 @@ use Rattle.grep_searcher.specs.Plans.{matches}
 use Rattle.grep_searcher.specs.SearchLaws.{is_match}
 use Rattle.grep_printer.proofs.BareTextLemmas.{bare-goes-on, bare-text}
 use Rattle.grep_printer.specs.BareTexts.{bare_text, bare_texts, is_bare}
-use Rattle.grep_printer.specs.CallParts.{Anything, has_match, parts_of_call}
+use Rattle.grep_printer.specs.CallParts.{has_match, parts_of_call}
 use Rattle.grep_printer.specs.Formats.{AllGoOn, AreAlong, Printed, PrintedCall, Scene, printed_with}
 use Rattle.grep_printer.specs.PrinterSteps.{HasFound}
 use Rattle.grep_printer.specs.StandardTexts.{asks_for_parts, progress_after, standard_rules}
@@ -30,7 +30,7 @@ match-after : (progress : Progress) (call : Call)
 match-after progress call =
     elim call as (λ c. (progress_after progress c).has_match ≡ (progress.has_match || is_match c)) [
       | begins ↦ sym (or-false progress.has_match)
-      | matches number offset bytes ↦ sym (or-true progress.has_match)
+      | matches number offset bytes around ↦ sym (or-true progress.has_match)
       | context kind number offset line ↦ sym (or-false progress.has_match)
       | breaks ↦ sym (or-false progress.has_match)
       | binary_data offset ↦ sym (or-false progress.has_match)
@@ -137,9 +137,9 @@ settings-stay scene (call ∷ later) made = settings-stay scene later (printed_w
 pub no-parts : {M W E : Type 0} (facts : M → MatcherFacts E) (first_at : M → List ℕ → ℕ → Option (ℕ × ℕ))
     (sink : PrinterSink StandardFormat M W) (settings : Settings) (format : StandardFormat) (printed : PrintedCall)
     → asks_for_parts format.config ≡ false
-    → HasFound standard_rules Anything facts first_at sink settings format printed → printed.parts ≡ []
+    → HasFound standard_rules facts first_at sink settings format printed → printed.parts ≡ []
 no-parts facts first_at sink settings format printed unasked found =
-    found.1 ∙ ap (λ b. if b
-    then parts_of_call settings (facts sink.matcher).meaning printed.around printed.call (first_at sink.matcher)
+    found ∙ ap (λ b. if b
+    then parts_of_call settings (facts sink.matcher).meaning printed.call (first_at sink.matcher)
     else [])
     (ap (λ b. has_match settings printed.call && b) unasked ∙ and-false (has_match settings printed.call))

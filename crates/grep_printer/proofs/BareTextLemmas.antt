@@ -101,8 +101,8 @@ module _ (config : Config) (progress : Progress) (scene : Scene) (are : AreBare 
   bare-is : (call : Call)
       → call_text config progress scene call [] ≡ bare_text (byte_of scene.settings.line_terminator) call
   bare-is begins = refl
-  bare-is (matches number offset bytes) =
-      shown (report_text layout (matches number offset bytes) [])
+  bare-is (matches number offset bytes around) =
+      shown (report_text layout (matches number offset bytes around) [])
       ∙ (ap (instead _ _) no-parts
       ∙ lines-plain layout match_line are.plain
       (record { number = number; column = None; offset = offset; start = 0 }) [] (lines (end_byte layout) bytes) refl)
@@ -124,7 +124,7 @@ pub bare-goes-on : (config : Config) (progress : Progress) (scene : Scene) → i
 bare-goes-on config progress scene bare call =
     elim call as (λ c. goes_on progress scene.settings.binary_detection c ≡ true) [
       | begins ↦ refl
-      | matches number offset bytes ↦ ap not hidden
+      | matches number offset bytes around ↦ ap not hidden
       | context kind number offset line ↦ ap not hidden
       | breaks ↦ refl
       | binary_data offset ↦ refl

@@ -1,7 +1,7 @@
 -- The parts of a call's report, by what is shown of it.
 use Rattle.std.proofs.Common.{◌≡◌, ℕ, ◌+◌, ◌-◌, ◌≤◌, List, [], ◌++◌, length, take, drop, Option, Bool, true, false}
 use Rattle.std.proofs.Common.{arith, ap, sym, ◌∙◌, refl, subst}
-use Rattle.std.proofs.lemmas.List.{length-take-le, take-append-drop}
+use Rattle.std.proofs.lemmas.List.{drop-drop, length-take-le, take-append-drop}
 use Rattle.std.proofs.lemmas.List.Elements.{All-nil, All-weaker}
 use Rattle.std.specs.Prelude.{All, ◌<◌, ◌^◌, if◌then◌else◌, slice_range}
 use Rattle.grep_searcher.specs.Lines.{strip}
@@ -11,11 +11,10 @@ use Rattle.grep_printer.proofs.ReportLemmas.{reported_bytes-report}
 use Rattle.grep_printer.proofs.SuccessiveLemmas.{parts-below}
 use Rattle.grep_printer.specs.CallParts.{HasParts, asked_bytes, asked_start}
 use Rattle.grep_printer.specs.CallParts.{parts_of_call, shown_bytes, shown_start}
-use Rattle.grep_printer.specs.Formats.{Surroundings}
+use Rattle.grep_report.specs.SinkReports.{Surroundings, surroundings}
 use Rattle.grep_printer.specs.JsonLaws.{IsWordRange}
 use Rattle.grep_printer.specs.MatchedParts.{first_from, parts_in}
-use Rattle.grep_printer.specs.Reports.{IsAround, IsShownAs, call_of, event_call, reporting_call}
-use Rattle.grep_printer.specs.Reports.{event_surroundings, surroundings_of}
+use Rattle.grep_printer.specs.Reports.{IsShownAs, call_of, event_call, reporting_call}
 use Rattle.grep_printer.specs.SearchMessages.{PartsHaveWords}
 use Rattle.grep_printer.specs.declared.format.Event.{Event}
 use Rattle.grep_printer.specs.declared.format.Event.TheVariants.{Begin, Break, BinaryData, Finish}
@@ -24,55 +23,44 @@ use Rattle.grep_printer.specs.declared.report.Report.{Report}
 use Rattle.grep_printer.specs.declared.report.ReportKind.{ReportKind}
 use Rattle.grep_printer.specs.declared.report.ReportKind.TheVariants.{Match, Context}
 
--- what is around the report of a call
-some-around : (event : Event) → IsAround event (event_surroundings event)
-some-around (report_event report) = refl
-some-around Begin = tt
-some-around Break = tt
-some-around (BinaryData offset) = tt
-some-around (Finish count binary) = tt
-
 -- no parts, if they aren't asked for
 pub no-parts : (first_at : List ℕ → ℕ → Option (ℕ × ℕ)) (settings : Settings) (meaning : Meaning) (is_asked : Bool)
     (event : Event) (parts : List (ℕ × ℕ)) → is_asked ≡ false → parts ≡ []
-    → HasParts (IsAround event) first_at settings meaning is_asked
-    (record { call = event_call event; around = event_surroundings event; parts = parts })
-no-parts first_at settings meaning is_asked event parts unasked none =
-    (some-around event, rw unasked none)
+    → HasParts first_at settings meaning is_asked (record { call = event_call event; parts = parts })
+no-parts first_at settings meaning is_asked event parts unasked none = rw unasked none
 
 -- those of a report, if they are asked for
 pub found-parts : (first_at : List ℕ → ℕ → Option (ℕ × ℕ)) (settings : Settings) (meaning : Meaning) (is_asked : Bool)
     (event : Event) (report : Report) (parts : List (ℕ × ℕ)) → event ≡ report_event report → is_asked ≡ true
-    → parts ≡ parts_of_call settings meaning (surroundings_of report) (call_of report) first_at
-    → HasParts (IsAround event) first_at settings meaning is_asked
-    (record { call = event_call event; around = event_surroundings event; parts = parts })
+    → parts ≡ parts_of_call settings meaning (call_of report) first_at
+    → HasParts first_at settings meaning is_asked (record { call = event_call event; parts = parts })
 found-parts first_at settings meaning is_asked event report parts is asked found =
-    subst (λ e. HasParts (IsAround e) first_at settings meaning is_asked
-    (record { call = event_call e; around = event_surroundings e; parts = parts }))
-    (sym is) (refl, rw asked found)
+    subst (λ e. HasParts first_at settings meaning is_asked
+    (record { call = event_call e; parts = parts })) (sym is) (rw asked found)
 
 module _ (number : Option ℕ) (offset : ℕ) (bytes shown : List ℕ) (start : ℕ) where
   -- what is shown before a report and after it
   abbrev around : Surroundings
-  around = record { before = take start shown; after = drop (length bytes) (drop start shown) }
+  around = surroundings shown start (start + length bytes)
 
   joined : start + length bytes ≤ length shown → bytes ≡ slice_range shown start (start + length bytes)
-      → take start shown ++ (bytes ++ drop (length bytes) (drop start shown)) ≡ shown
+      → take start shown ++ (bytes ++ drop (start + length bytes) shown) ≡ shown
   joined within is =
       let cut : bytes ≡ take (length bytes) (drop start shown) =
       is ∙ ap (λ n. take n (drop start shown)) (omega arith) in
-      ap (λ (front : List ℕ). take start shown ++ (front ++ drop (length bytes) (drop start shown))) cut
+      ap (λ (rest : List ℕ). take start shown ++ (bytes ++ rest)) (sym (drop-drop (length bytes) start shown))
+      ∙ (ap (λ (front : List ℕ). take start shown ++ (front ++ drop (length bytes) (drop start shown))) cut
       ∙ (ap (λ (rest : List ℕ). take start shown ++ rest) (take-append-drop (length bytes) (drop start shown))
-      ∙ take-append-drop start shown)
+      ∙ take-append-drop start shown))
 
-  -- the bytes around a report, with it are those that are shown
+  -- a report with the bytes around it is what is shown
   shown-bytes : (kind : ReportKind) → IsShownAs kind bytes shown start
-      → shown_bytes around (reporting_call kind number offset bytes) ≡ shown
+      → shown_bytes (reporting_call kind number offset bytes around) ≡ shown
   shown-bytes Match is = joined is.0 is.1
   shown-bytes (Context kind) is = sym is.0
 
   shown-start : (kind : ReportKind) → IsShownAs kind bytes shown start
-      → shown_start around (reporting_call kind number offset bytes) ≡ start
+      → shown_start (reporting_call kind number offset bytes around) ≡ start
   shown-start Match is = length-take-le start shown (omega (arith, is.0))
   shown-start (Context kind) is = sym is.1
 
@@ -80,47 +68,47 @@ module _ (number : Option ℕ) (offset : ℕ) (bytes shown : List ℕ) (start : 
       (kind : ReportKind) (is : IsShownAs kind bytes shown start) where
     -- across lines the matcher is asked about what is shown
     pub across-asked : is_across settings meaning ≡ true
-        → asked_bytes settings meaning around (reporting_call kind number offset bytes) ≡ shown
+        → asked_bytes settings meaning (reporting_call kind number offset bytes around) ≡ shown
     across-asked across = rw across (shown-bytes kind is)
 
     -- and the parts are those that are found in it
     pub across-parts : is_across settings meaning ≡ true
         → parts_in (first_from (first_at shown) start) (length shown - start) (length bytes)
-        ≡ parts_of_call settings meaning around (reporting_call kind number offset bytes) first_at
+        ≡ parts_of_call settings meaning (reporting_call kind number offset bytes around) first_at
     across-parts across =
         ap (λ (line : List ℕ). parts_in (first_from (first_at shown) start) (length shown - start) (length line))
-        (sym (reported_bytes-report kind number offset bytes))
+        (sym (reported_bytes-report kind number offset bytes around))
         ∙ rw (across, shown-bytes kind is, shown-start kind is) refl
 
     -- by line about the line
     pub line-asked : is_across settings meaning ≡ false
-        → asked_bytes settings meaning around (reporting_call kind number offset bytes)
+        → asked_bytes settings meaning (reporting_call kind number offset bytes around)
         ≡ strip settings.line_terminator bytes
     line-asked across =
         rw across (ap (λ (line : List ℕ). strip settings.line_terminator line)
-        (reported_bytes-report kind number offset bytes))
+        (reported_bytes-report kind number offset bytes around))
 
     pub line-parts : is_across settings meaning ≡ false
         → parts_in (first_from (first_at (strip settings.line_terminator bytes)) 0)
         (length (strip settings.line_terminator bytes) - 0) (length bytes)
-        ≡ parts_of_call settings meaning around (reporting_call kind number offset bytes) first_at
+        ≡ parts_of_call settings meaning (reporting_call kind number offset bytes around) first_at
     line-parts across =
         ap (λ (line : List ℕ). parts_in (first_from (first_at (strip settings.line_terminator line)) 0)
         (length (strip settings.line_terminator line) - 0) (length line))
-        (sym (reported_bytes-report kind number offset bytes)) ∙ rw across refl
+        (sym (reported_bytes-report kind number offset bytes around)) ∙ rw across refl
 
 -- the positions of parts are numbers of 64 bits, if the report is so short
 pub parts-have-words : PartsHaveWords
 parts-have-words first_at settings meaning is_asked printed found has = record {
   call = has;
-  ranges = subst (All IsWordRange) (sym found.1) (go is_asked);
+  ranges = subst (All IsWordRange) (sym found) (go is_asked);
 }
   where
     call : Call
     call = printed.call
 
     parts : List (ℕ × ℕ)
-    parts = parts_of_call settings meaning printed.around call first_at
+    parts = parts_of_call settings meaning call first_at
 
     short : length (reported_bytes call) < 2 ^ 64
     short = has.size
@@ -128,8 +116,8 @@ parts-have-words first_at settings meaning is_asked printed found has = record {
     go : (asked : Bool) → All IsWordRange (if asked then parts else [])
     go true = All-weaker (λ range. (range.0 < length (reported_bytes call)) × (range.1 ≤ length (reported_bytes call)))
         IsWordRange (λ range lies. (omega (arith, lies.0, short), omega (arith, lies.1, short))) parts
-        (parts-below (first_from (first_at (asked_bytes settings meaning printed.around call))
-        (asked_start settings meaning printed.around call))
-        (length (asked_bytes settings meaning printed.around call) - asked_start settings meaning printed.around call)
+        (parts-below (first_from (first_at (asked_bytes settings meaning call))
+        (asked_start settings meaning call))
+        (length (asked_bytes settings meaning call) - asked_start settings meaning call)
         (length (reported_bytes call)))
     go false = All-nil IsWordRange

@@ -71,14 +71,14 @@ module _ {F : Type 0} (rules : Rules F) (scene : Scene) where
       go : (call : Call) (ranges : List (ℕ × ℕ)) (next : F) (text : List ℕ)
           → ((lines parts : ℕ) (stats : Stats) (made : List ℕ) → IsCounted lines parts stats made
           → AreCounted later lines parts (made_of later next stats made))
-          → AreCounted (record { call = call; around = printed.around; parts = ranges } ∷ later) lines parts
+          → AreCounted (record { call = call; parts = ranges } ∷ later) lines parts
           (made_of later next (counted_with terminator stats call (length ranges) (length text))
           (made ++ text))
       go begins ranges next text others =
           others lines parts _ _ (counted-written lines parts stats made text is)
-      go (matches number offset bytes) ranges next text others =
+      go (matches number offset bytes around) ranges next text others =
           let one_call : PrintedCall =
-          record { call = matches number offset bytes; around = printed.around; parts = ranges } in
+          record { call = matches number offset bytes around; parts = ranges } in
           let more = line_count_of terminator one_call in
           let count = length ranges in
           let first = sum_by-cons (line_count_of terminator) one_call (matched later) in
@@ -89,7 +89,7 @@ module _ {F : Type 0} (rules : Rules F) (scene : Scene) where
           let two : (parts + count) + sum_by part_count_of (matched later)
           ≡ parts + sum_by part_count_of (one_call ∷ matched later) = omega (arith, second) in
           let end = others (lines + more) (parts + count)
-          (counted_with terminator stats (matches number offset bytes) count (length text))
+          (counted_with terminator stats (matches number offset bytes around) count (length text))
           (made ++ text) (record {
             elapsed = is.elapsed;
             line_sum = ap (λ n. capped (n + more)) is.line_sum ∙ capped-more lines more;

@@ -23,7 +23,6 @@ pub mod ReplacedLemmas
 pub mod ReportLemmas
 pub mod ReportToldLemmas
 pub mod SearchMessageLemmas
-pub mod ShownLemmas
 pub mod SomeTextLemmas
 pub mod SuccessiveLemmas
 pub mod TakenCallLemmas

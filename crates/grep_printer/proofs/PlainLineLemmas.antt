@@ -17,7 +17,7 @@ use Rattle.grep_printer.specs.ColoredTexts.{line_color, matched_color, path_colo
 use Rattle.grep_printer.specs.LineTexts.{end_byte, is_plain, line_text, lines_text, mark_after, mark_byte, missing_end}
 use Rattle.grep_printer.specs.LineTexts.{next_number, number_field, path_field, place_after, plain_line, plain_lines, plain_part}
 use Rattle.grep_printer.specs.LineTexts.{shown_line}
-use Rattle.grep_printer.specs.Reports.{HasPlainParts, call_of, report_place, reporting_call}
+use Rattle.grep_printer.specs.Reports.{HasPlainParts, call_of, report_place, reporting_call, surroundings_of}
 use Rattle.grep_printer.specs.StandardTexts.{report_text}
 use Rattle.grep_printer.specs.PartTexts.{across_text, clipped_text, column_of, is_in_span, line_span, part_place, writes_parts}
 use Rattle.grep_printer.specs.declared.config.Config.{Config}
@@ -214,7 +214,8 @@ module _ (layout : Layout) (report : Report) (parts : List (ℕ × ℕ)) (plain 
 
     -- a match of which no parts are written
     pub match-plain : writes_parts layout parts ≡ false
-        → report_text layout (reporting_call Match report.number report.offset report.bytes.now) parts
+        → report_text layout (reporting_call Match report.number report.offset report.bytes.now
+        (surroundings_of report)) parts
         ≡ plain_lines (end_byte layout) 58 report.number (lines (end_byte layout) report.bytes.now)
     match-plain whole = ap (instead _ _) whole
         ∙ lines-plain layout match_line plain (report_place layout report parts) parts
@@ -222,7 +223,8 @@ module _ (layout : Layout) (report : Report) (parts : List (ℕ × ℕ)) (plain 
 
     -- a line that isn't a match, so too
     pub context-plain : writes_parts layout parts ≡ false → (kind : SinkContextKind)
-        → report_text layout (reporting_call (Context kind) report.number report.offset report.bytes.now) parts
+        → report_text layout (reporting_call (Context kind) report.number report.offset report.bytes.now
+        (surroundings_of report)) parts
         ≡ plain_line (end_byte layout) 45 report.number report.bytes.now
     context-plain whole kind = ap (instead _ _) whole
         ∙ line-plain layout context_line plain (report_place layout report parts) parts report.bytes.now column
@@ -265,7 +267,8 @@ module _ (layout : Layout) (report : Report) (parts : List (ℕ × ℕ)) (plain 
         → report_text layout (call_of report) parts
         ≡ flat_map (plain_part (end_byte layout) 58 report.number report.bytes.now) parts
     match-parts-plain writes has =
-        ap (λ kind. report_text layout (reporting_call kind report.number report.offset report.bytes.now) parts)
+        ap (λ kind. report_text layout (reporting_call kind report.number report.offset report.bytes.now
+        (surroundings_of report)) parts)
         has.is_match
         ∙ (ap (instead _ _) writes
         ∙ (ap (λ ls. across_text layout match_line report.offset report.bytes.now report.number 0 ls parts) has.line

@@ -129,7 +129,7 @@ module _ {R : Type 0} (text_at : R → TextAt) (always : Bool) (replacer : R) (s
       go true = counted-text found lines parts progress made (json_line (begin_json scene.path))
           (text-line (begin_json scene.path)) is
       go false = counted-same found lines parts progress made is
-  counted-other here found lines parts progress made (matches number offset bytes) ranges other is = absurd cc
+  counted-other here found lines parts progress made (matches number offset bytes around) ranges other is = absurd cc
   counted-other here found lines parts progress made (context kind number offset bytes) ranges other is =
       counted-text found lines parts progress made
       (json_text always scene here progress (context kind number offset bytes) ranges) (report-some progress _) is
@@ -170,31 +170,31 @@ module _ {R : Type 0} (text_at : R → TextAt) (always : Bool) (replacer : R) (s
           (record { format = format-with progress; text = made }) later).format.progress
           (fold (printed_with (json_rules text_at) scene)
           (record { format = format-with progress; text = made }) later).text)
-          → AreCounted terminator (record { call = call; around = printed.around; parts = ranges } ∷ later) found lines parts
+          → AreCounted terminator (record { call = call; parts = ranges } ∷ later) found lines parts
           (fold (printed_with (json_rules text_at) scene) (record {
-            format = format-with (json_progress always scene (text_at replacer scene.settings printed.around call)
+            format = format-with (json_progress always scene (text_at replacer scene.settings call)
                 progress call ranges);
-            text = made ++ json_text always scene (text_at replacer scene.settings printed.around call) progress call ranges;
+            text = made ++ json_text always scene (text_at replacer scene.settings call) progress call ranges;
           }) later).format.progress
           (fold (printed_with (json_rules text_at) scene) (record {
-            format = format-with (json_progress always scene (text_at replacer scene.settings printed.around call)
+            format = format-with (json_progress always scene (text_at replacer scene.settings call)
                 progress call ranges);
-            text = made ++ json_text always scene (text_at replacer scene.settings printed.around call) progress call ranges;
+            text = made ++ json_text always scene (text_at replacer scene.settings call) progress call ranges;
           }) later).text
       go begins ranges same others =
           others found lines parts _ _
-          (counted-other (text_at replacer scene.settings printed.around begins)
+          (counted-other (text_at replacer scene.settings begins)
           found lines parts progress made begins ranges refl is)
-      go (matches number offset bytes) ranges same others =
+      go (matches number offset bytes around) ranges same others =
           let one_call : PrintedCall =
-          record { call = matches number offset bytes; around = printed.around; parts = ranges } in
+          record { call = matches number offset bytes around; parts = ranges } in
           let more = line_count_of terminator one_call in
           let count = length ranges in
           let end = others (suc found) (lines + more) (parts + count) _ _
           (counted-match found lines parts more count progress made
           (json_text always scene
-          (text_at replacer scene.settings printed.around (matches number offset bytes)) progress
-          (matches number offset bytes) ranges) (report-some progress _) is) in
+          (text_at replacer scene.settings (matches number offset bytes around)) progress
+          (matches number offset bytes around) ranges) (report-some progress _) is) in
           let first = sum_by-cons (line_count_of terminator) one_call (matched later) in
           let second = sum_by-cons part_count_of one_call (matched later) in
           counted-as (suc found + length (matched later)) (found + length (one_call ∷ matched later))
@@ -204,19 +204,19 @@ module _ {R : Type 0} (text_at : R → TextAt) (always : Bool) (replacer : R) (s
           _ _ (omega arith) (omega (arith, first)) (omega (arith, second)) end
       go (context kind number offset bytes) ranges same others =
           others found lines parts _ _
-          (counted-other (text_at replacer scene.settings printed.around (context kind number offset bytes))
+          (counted-other (text_at replacer scene.settings (context kind number offset bytes))
           found lines parts progress made (context kind number offset bytes) ranges refl is)
       go breaks ranges same others =
           others found lines parts _ _
-          (counted-other (text_at replacer scene.settings printed.around breaks)
+          (counted-other (text_at replacer scene.settings breaks)
           found lines parts progress made breaks ranges refl is)
       go (binary_data offset) ranges same others =
           others found lines parts _ _
-          (counted-other (text_at replacer scene.settings printed.around (binary_data offset))
+          (counted-other (text_at replacer scene.settings (binary_data offset))
           found lines parts progress made (binary_data offset) ranges refl is)
       go (finishes count binary) ranges same others =
           others found lines parts _ _
-          (counted-other (text_at replacer scene.settings printed.around (finishes count binary))
+          (counted-other (text_at replacer scene.settings (finishes count binary))
           found lines parts progress made (finishes count binary) ranges refl is)
 
 -- a search
@@ -225,7 +225,7 @@ json-counts {R} text_at always replacer scene calls last count binary ends =
     let terminator = byte_of scene.settings.line_terminator in
     let start : Printed (JsonFormat R) = record { format = new_json_format always replacer; text = [] } in
     let here : Printed (JsonFormat R) → Call → ℕ → Option (List ℕ) =
-    λ before call. text_at before.format.replacer scene.settings last.around call in
+    λ before call. text_at before.format.replacer scene.settings call in
     let before = fold (printed_with (json_rules text_at) scene) start calls in
     let all : fold (printed_with (json_rules text_at) scene) start (calls ++ last ∷ [])
     ≡ printed_with (json_rules text_at) scene before last = fold-push (printed_with (json_rules text_at) scene) calls last start in
@@ -284,14 +284,14 @@ module _ (config : SummaryConfig) (scene : Scene) where
           → ((found parts : ℕ) → fold (printed_with summary_rules scene) (so_many config found parts []) later
           ≡ so_many config (found + length (matched later)) (parts + sum_by times_counted (matched later)) [])
           → fold (printed_with summary_rules scene) (so_many config found parts [])
-          (record { call = call; around = printed.around; parts = ranges } ∷ later)
-          ≡ so_many config (found + length (matched (record { call = call; around = printed.around; parts = ranges } ∷ later)))
-          (parts + sum_by times_counted (matched (record { call = call; around = printed.around; parts = ranges } ∷ later))) []
+          (record { call = call; parts = ranges } ∷ later)
+          ≡ so_many config (found + length (matched (record { call = call; parts = ranges } ∷ later)))
+          (parts + sum_by times_counted (matched (record { call = call; parts = ranges } ∷ later))) []
       go begins ranges here others = others found parts
-      go (matches number offset bytes) ranges here others =
+      go (matches number offset bytes around) ranges here others =
           let count = max 1 (length ranges) in
           let one_call : PrintedCall =
-          record { call = matches number offset bytes; around = printed.around; parts = ranges } in
+          record { call = matches number offset bytes around; parts = ranges } in
           let first = sum_by-cons times_counted one_call (matched later) in
           let one : found + 1 + length (matched later) ≡ found + length (one_call ∷ matched later) = omega arith in
           let two : parts + count + sum_by times_counted (matched later)

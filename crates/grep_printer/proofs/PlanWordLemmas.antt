@@ -18,6 +18,7 @@ use Rattle.grep_searcher.specs.Plans.{search_plan, selection_in, start}
 use Rattle.grep_searcher.specs.Searches.{BinaryPoint, calls_with, plan_with, planned_binary, quits, with_offset}
 use Rattle.grep_searcher.specs.declared.BinaryDetection.{BinaryDetection}
 use Rattle.grep_printer.specs.SearchMessages.{HasWords, PlansHaveWords}
+use Rattle.grep_searcher.specs.Plans.{report_surroundings}
 
 -- a part of some bytes
 slice-bytes : (bytes : List ℕ) (from to : ℕ) → IsBytes bytes → IsBytes (slice_range bytes from to)
@@ -82,7 +83,8 @@ module _ (settings : Settings) (bytes : List ℕ) (are : IsBytes bytes) (short :
   module _ (selection : Selection) where
     match-words : (i count : ℕ) → Has (planned (matches (number settings bytes i) (start settings bytes i)
         (slice_range bytes (start settings bytes i)
-        (start settings bytes (report_end settings bytes selection i)))) count)
+        (start settings bytes (report_end settings bytes selection i)))
+        (report_surroundings settings bytes selection i)) count)
     match-words i count =
         let from = start settings bytes i in
         let to = start settings bytes (report_end settings bytes selection i) in record {
@@ -98,7 +100,8 @@ module _ (settings : Settings) (bytes : List ℕ) (are : IsBytes bytes) (short :
       where
         go : (later : Bool) → All Has (if later then [] else planned
             (matches (number settings bytes i) (start settings bytes i) (slice_range bytes (start settings bytes i)
-            (start settings bytes (report_end settings bytes selection i))))
+            (start settings bytes (report_end settings bytes selection i)))
+            (report_surroundings settings bytes selection i))
             (count_at settings bytes selection i (Some matched)) ∷ [])
         go true = All-nil Has
         go false = All-cons Has _ [] (match-words i (count_at settings bytes selection i (Some matched))) (All-nil Has)

@@ -12,7 +12,7 @@ use Rattle.grep_matcher.specs.Lines.{lines, onto_first}
 use Rattle.grep_searcher.specs.Plans.{Call, begins, matches, context, breaks, binary_data, finishes}
 use Rattle.grep_printer.proofs.ReadBackLemmas.{messages-read-back}
 use Rattle.grep_printer.proofs.ReportToldLemmas.{begin-other, messages-tell}
-use Rattle.grep_printer.specs.Formats.{PrintedCall, Scene, Surroundings, printed_by, printed_with}
+use Rattle.grep_printer.specs.Formats.{PrintedCall, Scene, printed_by, printed_with}
 use Rattle.grep_printer.specs.JsonLaws.{IsLineOf, IsReport, IsSameReport, IsWordRange, Reported}
 use Rattle.grep_printer.specs.JsonLaws.{message_of_report}
 use Rattle.grep_printer.specs.JsonMessages.{begin_json, json_line}
@@ -87,14 +87,14 @@ module _ {R : Type 0} (text_at : R → TextAt) (always : Bool) (replacer : R) (s
   -- ---- the text of a search
 
   -- one call with its parts, and those after it
-  text-more : (progress : JsonProgress) (call : Call) (around : Surroundings) (parts : List (ℕ × ℕ))
+  text-more : (progress : JsonProgress) (call : Call) (parts : List (ℕ × ℕ))
       (later : List PrintedCall)
       → flat_map json_line (messages_of always scene.path texts progress.is_begun
-      (record { call = call; around = around; parts = parts } ∷ later))
-      ≡ json_text always scene (texts around call) progress call parts
-      ++ flat_map json_line (messages_of always scene.path texts (json_progress always scene (texts around call) progress call parts).is_begun
+      (record { call = call; parts = parts } ∷ later))
+      ≡ json_text always scene (texts call) progress call parts
+      ++ flat_map json_line (messages_of always scene.path texts (json_progress always scene (texts call) progress call parts).is_begun
       later)
-  text-more progress begins around parts later = go always progress.is_begun
+  text-more progress begins parts later = go always progress.is_begun
     where
       go : (due begun : Bool)
           → flat_map json_line ((if not begun && (due || list_any (λ p. opens always p.call) later)
@@ -107,29 +107,29 @@ module _ {R : Type 0} (text_at : R → TextAt) (always : Bool) (replacer : R) (s
       go true true = refl
       go true false = refl
       go false begun = refl
-  text-more progress (matches number offset bytes) around parts later = go progress.is_begun
+  text-more progress (matches number offset bytes around) parts later = go progress.is_begun
     where
       go : (begun : Bool)
           → flat_map json_line (messages_of always scene.path texts begun
-          (record { call = matches number offset bytes; around = around; parts = parts } ∷ later))
-          ≡ json_text always scene (texts around (matches number offset bytes))
-          (record progress { is_begun = begun }) (matches number offset bytes) parts
+          (record { call = matches number offset bytes around; parts = parts } ∷ later))
+          ≡ json_text always scene (texts (matches number offset bytes around))
+          (record progress { is_begun = begun }) (matches number offset bytes around) parts
           ++ flat_map json_line (messages_of always scene.path texts true later)
       go true = refl
       go false = sym (append_assoc (json_line (begin_json scene.path)) _ _)
-  text-more progress (context kind number offset bytes) around parts later = go progress.is_begun
+  text-more progress (context kind number offset bytes) parts later = go progress.is_begun
     where
       go : (begun : Bool)
           → flat_map json_line (messages_of always scene.path texts begun
-          (record { call = context kind number offset bytes; around = around; parts = parts } ∷ later))
-          ≡ json_text always scene (texts around (context kind number offset bytes))
+          (record { call = context kind number offset bytes; parts = parts } ∷ later))
+          ≡ json_text always scene (texts (context kind number offset bytes))
           (record progress { is_begun = begun }) (context kind number offset bytes) parts
           ++ flat_map json_line (messages_of always scene.path texts true later)
       go true = refl
       go false = sym (append_assoc (json_line (begin_json scene.path)) _ _)
-  text-more progress breaks around parts later = refl
-  text-more progress (binary_data offset) around parts later = refl
-  text-more progress (finishes count binary) around parts later = refl
+  text-more progress breaks parts later = refl
+  text-more progress (binary_data offset) parts later = refl
+  text-more progress (finishes count binary) parts later = refl
 
   -- no calls have no message
   messages-none : (begun : Bool) → messages_of always scene.path texts begun [] ≡ []
@@ -148,45 +148,45 @@ module _ {R : Type 0} (text_at : R → TextAt) (always : Bool) (replacer : R) (s
       sym (append-nil text)
       ∙ ap (λ ms. text ++ flat_map json_line ms) (sym (messages-none progress.is_begun))
   text-all (printed ∷ later) progress text =
-      let here = json_text always scene (texts printed.around printed.call) progress printed.call printed.parts in
-      let after = json_progress always scene (texts printed.around printed.call) progress printed.call printed.parts in
+      let here = json_text always scene (texts printed.call) progress printed.call printed.parts in
+      let after = json_progress always scene (texts printed.call) progress printed.call printed.parts in
       let rest = flat_map json_line (messages_of always scene.path texts after.is_begun later) in
       text-all later after (text ++ here)
       ∙ (append_assoc text here rest
-      ∙ ap (λ t. text ++ t) (sym (text-more progress printed.call printed.around printed.parts later)))
+      ∙ ap (λ t. text ++ t) (sym (text-more progress printed.call printed.parts later)))
 
 -- ---- its messages
 
 -- the report of a call
-call-words : (path : Option (Bor (List ℕ))) (text_at : CallTextAt) (around : Surroundings) (call : Call) (parts : List (ℕ × ℕ)) → HasWords call
-    → All IsWordRange parts → All IsReport (report_in path text_at around call parts)
-call-words path text_at around begins parts has ranges = All-nil IsReport
-call-words path text_at around (matches number offset bytes) parts has ranges =
+call-words : (path : Option (Bor (List ℕ))) (text_at : CallTextAt) (call : Call) (parts : List (ℕ × ℕ)) → HasWords call
+    → All IsWordRange parts → All IsReport (report_in path text_at call parts)
+call-words path text_at begins parts has ranges = All-nil IsReport
+call-words path text_at (matches number offset bytes around) parts has ranges =
     All-cons IsReport _ [] (record {
       bytes = has.bytes;
       number = has.number;
       offset = has.offset;
       ranges = ranges;
     }) (All-nil IsReport)
-call-words path text_at around (context kind number offset bytes) parts has ranges =
+call-words path text_at (context kind number offset bytes) parts has ranges =
     All-cons IsReport _ [] (record {
       bytes = has.bytes;
       number = has.number;
       offset = has.offset;
       ranges = ranges;
     }) (All-nil IsReport)
-call-words path text_at around breaks parts has ranges = All-nil IsReport
-call-words path text_at around (binary_data offset) parts has ranges = All-nil IsReport
-call-words path text_at around (finishes count binary) parts has ranges = All-nil IsReport
+call-words path text_at breaks parts has ranges = All-nil IsReport
+call-words path text_at (binary_data offset) parts has ranges = All-nil IsReport
+call-words path text_at (finishes count binary) parts has ranges = All-nil IsReport
 
 calls-words : (path : Option (Bor (List ℕ))) (text_at : CallTextAt) (calls : List PrintedCall) → All HasPrintedWords calls
     → All IsReport (reports_of path text_at calls)
 calls-words path text_at [] has = All-nil IsReport
 calls-words path text_at (printed ∷ later) has =
     let here = All-head HasPrintedWords printed later has in
-    All-append IsReport (report_in path text_at printed.around printed.call printed.parts)
+    All-append IsReport (report_in path text_at printed.call printed.parts)
     (reports_of path text_at later)
-    (call-words path text_at printed.around printed.call printed.parts here.call here.ranges)
+    (call-words path text_at printed.call printed.parts here.call here.ranges)
     (calls-words path text_at later (All-tail HasPrintedWords printed later has))
 
 messages-read : (always : Bool) (path : Option (Bor (List ℕ))) (text_at : CallTextAt) (begun : Bool) (calls : List PrintedCall)

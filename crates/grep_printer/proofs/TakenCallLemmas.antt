@@ -14,10 +14,10 @@ use Rattle.grep_searcher.specs.Plans.{AreMade, Call, Planned, Settings, all_true
 use Rattle.grep_searcher.specs.Plans.{matches, planned}
 use Rattle.grep_report.specs.SinkReports.{MatchReport, match_bytes}
 use Rattle.grep_lines.proofs.LineRangeLemmas.{some-lines}
-use Rattle.grep_printer.specs.CallParts.{Anything}
 use Rattle.grep_printer.specs.Formats.{AreTexts, Rules, is_text, without_parts}
 use Rattle.grep_printer.specs.PrinterSteps.{HasFound, IsSameSink, Prints, PrintsCall, scene_of}
 use Rattle.grep_printer.specs.declared.printer.PrinterSink.{PrinterSink}
+use Rattle.grep_report.specs.SinkReports.{no_surroundings}
 
 -- whether two texts have any
 is_text-both : (a b : List ℕ) → is_text (a ++ b) ≡ (is_text a || is_text b)
@@ -40,7 +40,7 @@ module _ {F M W E : Type 0} (rules : Rules F) (output : E → Option (List ℕ))
   -- a match without parts
   abbrev match_of : Option ℕ → ℕ → ℕ → List ℕ → Planned
   match_of number index offset line =
-      planned (matches (option_map (λ first. first + index) number) offset line)
+      planned (matches (option_map (λ first. first + index) number) offset line no_surroundings)
       (offset + length line)
 
   -- none are asked for, or the search is inverted
@@ -49,12 +49,12 @@ module _ {F M W E : Type 0} (rules : Rules F) (output : E → Option (List ℕ))
 
   found-none : (old : PrinterSink F M W) (number : Option ℕ) (index offset : ℕ) (line : List ℕ)
       → HasNoParts old (match_of number index offset line).call
-      → HasFound rules Anything facts first_at old settings old.format
+      → HasFound rules facts first_at old settings old.format
       (without_parts (match_of number index offset line))
   found-none old number index offset line none =
       let unasked : (not settings.invert_match
       && rules.asks old.format (match_of number index offset line).call) ≡ false = grind arith in
-      (tt, rw unasked refl)
+      rw unasked refl
 
   -- a call of which the text is kept
   one-kept : (old new : PrinterSink F M W) (number : Option ℕ) (index offset : ℕ) (line : List ℕ)
@@ -66,7 +66,7 @@ module _ {F M W E : Type 0} (rules : Rules F) (output : E → Option (List ℕ))
       (rules.next old.format (scene_of old settings)
       (without_parts (match_of number index offset line))) new
       → 0 < old.printer.now.buffer_size
-      → Prints rules output facts first_at write_step Anything old settings
+      → Prints rules output facts first_at write_step old settings
       (match_of number index offset line).call true new
   one-kept old new number index offset line goes none kept buffered = record {
     same = kept.same;

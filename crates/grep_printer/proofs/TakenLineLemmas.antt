@@ -34,6 +34,7 @@ use Rattle.grep_printer.specs.declared.fields.Layout.{Layout}
 use Rattle.grep_printer.specs.declared.fields.LineKind.TheVariants.{Match}
 use Rattle.grep_printer.specs.declared.fields.Place.{Place}
 use Rattle.grep_printer.specs.declared.standard.StandardFormat.{StandardFormat}
+use Rattle.grep_report.specs.SinkReports.{no_surroundings}
 
 -- ---- a line by itself
 
@@ -142,7 +143,7 @@ module _ (config : Config) (scene : Scene) where
 
   -- what was reported after a match
   abbrev opened : Progress → Progress
-  opened progress = progress_after progress (matches None 0 [])
+  opened progress = progress_after progress (matches None 0 [] no_surroundings)
 
   abbrev format_with : Progress → StandardFormat
   format_with progress = record { config = config; progress = progress }
@@ -151,7 +152,7 @@ module _ (config : Config) (scene : Scene) where
   line-text : (progress : Progress)
       → is_hidden progress scene.settings.binary_detection ≡ false
       → (number : Option ℕ) (offset start : ℕ) (line : List ℕ) → lines t line ≡ line ∷ []
-      → call_text config progress scene (matches number offset line) []
+      → call_text config progress scene (matches number offset line no_surroundings) []
       ≡ text_before layout progress
       ++ line_text layout Match (record (place_of layout number offset) { start = start }) [] line
   line-text progress shown number offset start line alone =
@@ -166,7 +167,7 @@ module _ (config : Config) (scene : Scene) where
       → text_before layout progress
       ++ lines_text layout Match (record (place_of layout number offset) { start = start }) []
       (line ∷ later)
-      ≡ call_text config progress scene (matches number offset line) []
+      ≡ call_text config progress scene (matches number offset line no_surroundings) []
       ++ lines_text layout Match (place_after (record (place_of layout number offset) {
         start = start;
       }) line) [] later

@@ -10,9 +10,9 @@ use Rattle.grep_searcher.specs.Plans.{Call, Settings}
 use Rattle.grep_searcher.specs.declared.SearchError.{SearchError}
 use Rattle.grep_printer.proofs.WalkLemmas.{same-more}
 use Rattle.grep_printer.specs.CallParts.{FailsAtParts, HasParts, has_match}
-use Rattle.grep_printer.specs.Formats.{PrintedCall, Rules, Surroundings, is_text}
+use Rattle.grep_printer.specs.Formats.{PrintedCall, Rules, is_text}
 use Rattle.grep_printer.specs.PrinterSteps.{FailsBefore, FailsToWriteCall, HasFound, IsAsBefore, IsPreparing}
-use Rattle.grep_printer.specs.PrinterSteps.{Prints, PrintsShown, PrintsSome, scene_of, text_of}
+use Rattle.grep_printer.specs.PrinterSteps.{Prints, PrintsCall, PrintsSome, scene_of, text_of}
 use Rattle.grep_printer.specs.declared.printer.PrinterSink.{PrinterSink}
 
 -- one such step after another
@@ -40,7 +40,7 @@ before-parts old new prepared = record {
 
 module _ {F M W E : Type 0} (rules : Rules F) (output : E → Option (List ℕ)) (facts : M → MatcherFacts E)
     (first_at : M → List ℕ → ℕ → Option (ℕ × ℕ)) (write_step : W → OutputCall → W → Type 0)
-    (Shown : Surroundings → Type 0) (old mid : PrinterSink F M W) (stays : IsAsBefore old mid) (settings : Settings) where
+    (old mid : PrinterSink F M W) (stays : IsAsBefore old mid) (settings : Settings) where
   same-scene : scene_of mid settings ≡ scene_of old settings
   same-scene = ap (λ path. record { path = path; settings = settings }) stays.same.path
 
@@ -51,12 +51,12 @@ module _ {F M W E : Type 0} (rules : Rules F) (output : E → Option (List ℕ))
       ≡ (has_match settings call && rules.asks old.format call)
   same-asked call = ap (λ format. has_match settings call && rules.asks format call) stays.format
 
-  same-found : (printed : PrintedCall) → HasFound rules Shown facts first_at mid settings mid.format printed
-      → HasFound rules Shown facts first_at old settings old.format printed
+  same-found : (printed : PrintedCall) → HasFound rules facts first_at mid settings mid.format printed
+      → HasFound rules facts first_at old settings old.format printed
   same-found printed found =
-      subst (λ asked. HasParts Shown (first_at old.matcher) settings (facts old.matcher).meaning asked printed)
+      subst (λ asked. HasParts (first_at old.matcher) settings (facts old.matcher).meaning asked printed)
       (same-asked printed.call)
-      (subst (λ m. HasParts Shown (first_at m) settings (facts m).meaning
+      (subst (λ m. HasParts (first_at m) settings (facts m).meaning
       (has_match settings printed.call && rules.asks mid.format printed.call) printed) stays.same.matcher found)
 
   same-put : (text text' later : List ℕ) (new : W) → text ≡ text'
@@ -68,8 +68,8 @@ module _ {F M W E : Type 0} (rules : Rules F) (output : E → Option (List ℕ))
       (subst (λ w. PutsAll write_step w (pending_bytes mid.printer.now.pending) text new later) stays.writer put))
 
   prints-on : (call : Call) (goes : Bool) (new : PrinterSink F M W)
-      → Prints rules output facts first_at write_step Shown mid settings call goes new
-      → Prints rules output facts first_at write_step Shown old settings call goes new
+      → Prints rules output facts first_at write_step mid settings call goes new
+      → Prints rules output facts first_at write_step old settings call goes new
   prints-on call goes new prints =
       let printed = prints.printed in
       let text = same-text printed in record {
@@ -95,8 +95,8 @@ module _ {F M W E : Type 0} (rules : Rules F) (output : E → Option (List ℕ))
       }
 
   writing-on : (call : Call) (e : SearchError Global) (new : PrinterSink F M W)
-      → FailsToWriteCall rules output facts first_at write_step Shown mid settings call e new
-      → FailsToWriteCall rules output facts first_at write_step Shown old settings call e new
+      → FailsToWriteCall rules output facts first_at write_step mid settings call e new
+      → FailsToWriteCall rules output facts first_at write_step old settings call e new
   writing-on call e new fails =
       let printed = fails.printed in record {
         printed = printed;
@@ -115,8 +115,8 @@ module _ {F M W E : Type 0} (rules : Rules F) (output : E → Option (List ℕ))
       }
 
   failing-on : (call : Call) (e : SearchError Global) (new : PrinterSink F M W)
-      → FailsBefore rules output facts first_at write_step Shown mid settings call e new
-      → FailsBefore rules output facts first_at write_step Shown old settings call e new
+      → FailsBefore rules output facts first_at write_step mid settings call e new
+      → FailsBefore rules output facts first_at write_step old settings call e new
   failing-on call e new fails = record {
     unwritten = fails.unwritten ∙ stays.writer;
     pending = fails.pending ∙ stays.pending;
@@ -132,14 +132,14 @@ module _ {F M W E : Type 0} (rules : Rules F) (output : E → Option (List ℕ))
       )
       | inr (asked, at) ↦ inr (
         sym (same-asked call) ∙ asked,
-        subst (λ m. FailsAtParts Shown output (facts m) settings call e) stays.same.matcher at,
+        subst (λ m. FailsAtParts output (facts m) settings call e) stays.same.matcher at,
       )
     ];
   }
 
   some-on : (printed : PrintedCall) (e : SearchError Global) (new : PrinterSink F M W)
-      → PrintsSome rules output facts first_at write_step Shown mid settings printed e new
-      → PrintsSome rules output facts first_at write_step Shown old settings printed e new
+      → PrintsSome rules output facts first_at write_step mid settings printed e new
+      → PrintsSome rules output facts first_at write_step old settings printed e new
   some-on printed e new some = record {
     memory = some.memory;
     asked = sym (same-asked printed.call) ∙ some.asked;
@@ -151,8 +151,8 @@ module _ {F M W E : Type 0} (rules : Rules F) (output : E → Option (List ℕ))
   }
 
   pub printed-from : (call : Call) (result : Result Bool (SearchError Global)) (new : PrinterSink F M W)
-      → PrintsShown rules output facts first_at write_step Shown mid settings call result new
-      → PrintsShown rules output facts first_at write_step Shown old settings call result new
+      → PrintsCall rules output facts first_at write_step mid settings call result new
+      → PrintsCall rules output facts first_at write_step old settings call result new
   printed-from call (Ok goes) new prints = prints-on call goes new prints
   printed-from call (Err e) new fails = record {
     same = same-more old mid new stays.same fails.same;

@@ -11,6 +11,7 @@ use Rattle.grep_printer.proofs.TextWriterLemmas.{HasPut}
 use Rattle.grep_printer.specs.Formats.{Scene}
 use Rattle.grep_printer.specs.LineTexts.{end_byte, number_after}
 use Rattle.grep_printer.specs.MatchedParts.{AreInOrder}
+use Rattle.grep_report.specs.SinkReports.{Surroundings}
 use Rattle.grep_printer.specs.Reports.{line_kind, reporting_call}
 use Rattle.grep_printer.specs.StandardTexts.{is_hidden, layout_of, text_before}
 use Rattle.grep_printer.specs.VimgrepTexts.{part_line, part_lines, vimgrep_text}
@@ -63,16 +64,17 @@ pub record IsPuttingLines {W : Type 0} (step : W → OutputCall → W → Type 0
 
 -- the text of a report with parts, unless it is hidden: what comes before a report, and their lines
 pub shown-text : (config : Config) (progress : Progress) (scene : Scene) (layout : Layout) (number : Option ℕ)
-    (offset : ℕ) (bytes : List ℕ) (kind : ReportKind) (parts : List (ℕ × ℕ)) → layout ≡ layout_of config scene
+    (offset : ℕ) (bytes : List ℕ) (around : Surroundings) (kind : ReportKind) (parts : List (ℕ × ℕ))
+    → layout ≡ layout_of config scene
     → 0 < length parts → is_hidden progress scene.settings.binary_detection ≡ false
-    → vimgrep_text config progress scene (reporting_call kind number offset bytes) parts
+    → vimgrep_text config progress scene (reporting_call kind number offset bytes around) parts
     ≡ text_before layout progress ++ part_lines layout (line_kind kind) offset bytes number parts
-shown-text config progress scene layout number offset bytes kind [] is some shown = absurd (omega (arith, some))
-shown-text config progress scene layout number offset bytes Match (part ∷ rest) is some shown =
+shown-text config progress scene layout number offset bytes around kind [] is some shown = absurd (omega (arith, some))
+shown-text config progress scene layout number offset bytes around Match (part ∷ rest) is some shown =
     ap (λ hidden. if hidden then [] else text_before (layout_of config scene) progress
     ++ part_lines (layout_of config scene) LineKind.Match offset bytes number (part ∷ rest)) shown
     ∙ ap (λ l. text_before l progress ++ part_lines l LineKind.Match offset bytes number (part ∷ rest)) (sym is)
-shown-text config progress scene layout number offset bytes (Context kind) (part ∷ rest) is some shown =
+shown-text config progress scene layout number offset bytes around (Context kind) (part ∷ rest) is some shown =
     ap (λ hidden. if hidden then [] else text_before (layout_of config scene) progress
     ++ part_lines (layout_of config scene) LineKind.Context offset bytes number (part ∷ rest)) shown
     ∙ ap (λ l. text_before l progress ++ part_lines l LineKind.Context offset bytes number (part ∷ rest)) (sym is)

@@ -13,9 +13,9 @@ use Rattle.grep_searcher.specs.Plans.{AreMade, Call, Finish, IsFinished, IsRun, 
 use Rattle.grep_searcher.specs.Plans.{all_true, finishes}
 use Rattle.grep_searcher.specs.SearchLaws.{is_match}
 use Rattle.grep_searcher.specs.declared.SearchError.{SearchError}
-use Rattle.grep_printer.specs.CallParts.{Anything, HasParts, has_match, parts_of_call}
+use Rattle.grep_printer.specs.CallParts.{HasParts, has_match, parts_of_call}
 use Rattle.grep_printer.specs.Formats.{AllGoOn, AreAlong, IsEnd, Printed, PrintedCall, Rules, Scene, printed_by}
-use Rattle.grep_printer.specs.Formats.{goes_on_after_each, is_text, nothing_around, printed_with}
+use Rattle.grep_printer.specs.Formats.{goes_on_after_each, is_text, printed_with}
 use Rattle.grep_printer.proofs.SomeTextLemmas.{text-more, text-none}
 use Rattle.grep_printer.specs.PrinterSteps.{FailsAlongPlan, FailsToPrint, HasFound, IsCutShort, IsSameSink, KeepsNoMore}
 use Rattle.grep_printer.specs.PrinterSteps.{Prints, PrintsAll, PrintsCall, scene_of, text_of}
@@ -60,7 +60,7 @@ module _ {F M W E : Type 0} (rules : Rules F) (output : E → Option (List ℕ))
   scene = scene_of start settings
 
   abbrev Found : F → PrintedCall → Type 0
-  Found = HasFound rules Anything facts first_at start settings
+  Found = HasFound rules facts first_at start settings
 
   abbrev StepOf : PrinterSink F M W → Settings → Call → Result Bool (SearchError Global) → PrinterSink F M W → Type 0
   StepOf = PrintsCall rules output facts first_at write_step
@@ -82,10 +82,10 @@ module _ {F M W E : Type 0} (rules : Rules F) (output : E → Option (List ℕ))
 
   -- what it finds is the same too
   found-same : (made : Printed F) (now : PrinterSink F M W) (printed : PrintedCall) → HasPrinted made now
-      → HasFound rules Anything facts first_at now settings now.format printed → Found made.format printed
+      → HasFound rules facts first_at now settings now.format printed → Found made.format printed
   found-same made now printed has found =
       subst (λ format. Found format printed) has.format
-      (subst (λ m. HasParts Anything (first_at m) settings (facts m).meaning
+      (subst (λ m. HasParts (first_at m) settings (facts m).meaning
       (has_match settings printed.call && rules.asks now.format printed.call) printed) has.same.matcher found)
 
   text-same : (made : Printed F) (now : PrinterSink F M W) (printed : PrintedCall) → HasPrinted made now
@@ -104,7 +104,7 @@ module _ {F M W E : Type 0} (rules : Rules F) (output : E → Option (List ℕ))
     kept : is_match call ≡ false → KeepsNoMore new
 
   printed-more : (made : Printed F) (old : PrinterSink F M W) (call : Call) (goes : Bool) (new : PrinterSink F M W)
-      → HasPrinted made old → Prints rules output facts first_at write_step Anything old settings call goes new
+      → HasPrinted made old → Prints rules output facts first_at write_step old settings call goes new
       → HasPrintedMore made call goes new
   printed-more made old call goes new has step =
       let printed = step.printed in
@@ -221,19 +221,17 @@ module _ {F M W E : Type 0} (rules : Rules F) (output : E → Option (List ℕ))
       let last = subst (λ o. IsFinished StepOf settings o mid finish (Ok tt) new) is finished in
       absurd (let never = last.0 in cc)
 
-  -- calls along a plan, as nothing but their reports is shown
+  -- a call with its parts
   abbrev alone : F → Call → PrintedCall
   alone format call = record {
     call = call;
-    around = nothing_around;
     parts = if has_match settings call && rules.asks format call
-        then parts_of_call settings (facts start.matcher).meaning nothing_around call
-        (first_at start.matcher)
+        then parts_of_call settings (facts start.matcher).meaning call (first_at start.matcher)
         else [];
   }
 
   alone-found : (format : F) (call : Call) → Found format (alone format call)
-  alone-found format call = (tt, refl)
+  alone-found format call = refl
 
   some-end : (finish : Finish) (format : F)
       → IsEnd rules scene Found format finish (alone format (finishes finish.count finish.binary) ∷ [])
@@ -276,7 +274,7 @@ module _ {F M W E : Type 0} (rules : Rules F) (output : E → Option (List ℕ))
     cut : IsCutShort rules output facts first_at write_step mid settings tried e new
 
   tries : (made : Printed F) (mid : PrinterSink F M W) (call : Call) (e : SearchError Global) (new : PrinterSink F M W)
-      → HasPrinted made mid → FailsToPrint rules output facts first_at write_step Anything mid settings call e new
+      → HasPrinted made mid → FailsToPrint rules output facts first_at write_step mid settings call e new
       → Tried made call e mid new
   tries made mid call e new has fails = elim fails.cause [
     | inl writing ↦ record {

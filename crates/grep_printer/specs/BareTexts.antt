@@ -27,7 +27,7 @@ is_bare config scene =
 
 -- the text of a call for which only bare lines are written
 abbrev pub bare_text : ℕ → Call → List ℕ
-bare_text terminator (matches number offset bytes) =
+bare_text terminator (matches number offset bytes around) =
     plain_lines terminator 58 number (lines terminator bytes)
 bare_text terminator (context kind number offset line) = plain_line terminator 45 number line
 bare_text terminator breaks = 45 ∷ 45 ∷ terminator ∷ []

@@ -1,46 +1,45 @@
 -- The parts of a call's report that match, as a printer finds them again.
 use Rattle.std.specs.Prelude.{◌≡◌, ℕ, ◌-◌, Bool, not, false, if◌then◌else◌, List, [], ◌++◌}
 use Rattle.std.specs.Prelude.{length}
-use Rattle.std.specs.Prelude.{Option, drop, take}
+use Rattle.std.specs.Prelude.{Option}
 use Rattle.std.specs.Global.{Global}
 use Rattle.grep_matcher.specs.Meanings.{MatcherFacts}
-use Rattle.grep_report.specs.SinkReports.{MatchReport, match_bytes}
 use Rattle.grep_searcher.specs.Lines.{strip}
 use Rattle.grep_searcher.specs.Meanings.{Meaning}
 use Rattle.grep_searcher.specs.Plans.{is_across, reported_bytes, Call, Settings, matches, context}
 use Rattle.grep_searcher.specs.declared.SearchError.{SearchError}
-use Rattle.grep_printer.specs.Formats.{PrintedCall, Surroundings}
+use Rattle.grep_printer.specs.Formats.{PrintedCall}
 use Rattle.grep_printer.specs.MatchedParts.{IsMatcherError, first_from, parts_in}
 
 -- whether the lines of a call's report match: those of a match do, and in an inverted search those
 -- of any other report
 abbrev pub has_match : Settings → Call → Bool
-has_match settings (matches number offset bytes) = not settings.invert_match
+has_match settings (matches number offset bytes around) = not settings.invert_match
 has_match settings (context kind number offset bytes) = settings.invert_match
 has_match settings call = false
 
--- the bytes of a report with those around it. Only a match is shown with bytes around it
-abbrev pub shown_bytes : Surroundings → Call → List ℕ
-shown_bytes around (matches number offset bytes) = around.before ++ (bytes ++ around.after)
-shown_bytes around call = reported_bytes call
+-- the bytes of a report, with those around a match
+abbrev pub shown_bytes : Call → List ℕ
+shown_bytes (matches number offset bytes around) = around.before ++ (bytes ++ around.after)
+shown_bytes call = reported_bytes call
 
 -- where the bytes of a report start among these
-abbrev pub shown_start : Surroundings → Call → ℕ
-shown_start around (matches number offset bytes) = length around.before
-shown_start around call = 0
+abbrev pub shown_start : Call → ℕ
+shown_start (matches number offset bytes around) = length around.before
+shown_start call = 0
 
-module _ (settings : Settings) (meaning : Meaning) (around : Surroundings) (call : Call) where
+module _ (settings : Settings) (meaning : Meaning) (call : Call) where
   -- the bytes about which the matcher is asked: a line without its terminator, and in a search
-  -- across lines all that is shown
+  -- across lines a report with the bytes around it
   abbrev pub asked_bytes : List ℕ
   asked_bytes =
       if is_across settings meaning
-      then shown_bytes around call
+      then shown_bytes call
       else strip settings.line_terminator (reported_bytes call)
 
   -- where the bytes of the report start among these
   abbrev pub asked_start : ℕ
-  asked_start = if is_across settings meaning then shown_start around call else 0
+  asked_start = if is_across settings meaning then shown_start call else 0
 
   -- the parts of the report, counted from its start: the successive matches from its start on that
   -- lie in it
@@ -49,31 +48,16 @@ module _ (settings : Settings) (meaning : Meaning) (around : Surroundings) (call
       parts_in (first_from (first_at asked_bytes) asked_start) (length asked_bytes - asked_start)
       (length (reported_bytes call))
 
--- the bytes around a match, which is a range of a buffer
-abbrev pub around_match : MatchReport → Surroundings
-around_match m = record {
-  before = take m.start m.buffer;
-  after = drop (length (match_bytes m)) (drop m.start m.buffer);
-}
+-- these are the parts of a call's report
+abbrev pub HasParts : (List ℕ → ℕ → Option (ℕ × ℕ)) → Settings → Meaning → Bool → PrintedCall
+    → Type 0
+HasParts first_at settings meaning is_asked printed =
+    printed.parts
+    ≡ (if is_asked then parts_of_call settings meaning printed.call first_at else [])
 
--- any bytes may have been shown around a report
-abbrev pub Anything : Surroundings → Type 0
-Anything around = Unit {0}
-
--- Which bytes may have been shown around a report.
-module _ (Shown : Surroundings → Type 0) where
-  -- these are the parts of a call's report, for some bytes that may have been shown around it
-  abbrev pub HasParts : (List ℕ → ℕ → Option (ℕ × ℕ)) → Settings → Meaning → Bool → PrintedCall
-      → Type 0
-  HasParts first_at settings meaning is_asked printed =
-      Shown printed.around
-      × (printed.parts ≡ (if is_asked
-      then parts_of_call settings meaning printed.around printed.call first_at else []))
-
-  -- an error is the matcher's, as a message, for the bytes in which it was asked to find the parts
-  -- of a call
-  abbrev pub FailsAtParts : {E : Type 0} → (E → Option (List ℕ)) → MatcherFacts E → Settings → Call
-      → SearchError Global → Type 0
-  FailsAtParts output facts settings call e =
-      (around : Surroundings) × Shown around
-      × IsMatcherError output facts.fails (asked_bytes settings facts.meaning around call) e
+-- an error is the matcher's, as a message, for the bytes in which it was asked to find the parts of
+-- a call
+abbrev pub FailsAtParts : {E : Type 0} → (E → Option (List ℕ)) → MatcherFacts E → Settings → Call
+    → SearchError Global → Type 0
+FailsAtParts output facts settings call e =
+    IsMatcherError output facts.fails (asked_bytes settings facts.meaning call) e

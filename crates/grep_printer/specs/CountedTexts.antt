@@ -35,7 +35,7 @@ with_finish stats count = record stats {
 -- counts, after a call, by the byte at which lines end and by how many parts its report has
 abbrev pub counted_after : ℕ → Stats → Call → ℕ → Stats
 counted_after terminator stats begins parts = stats
-counted_after terminator stats (matches number offset bytes) parts =
+counted_after terminator stats (matches number offset bytes around) parts =
     with_found stats (length (lines terminator bytes)) parts
 counted_after terminator stats (context kind number offset bytes) parts = stats
 counted_after terminator stats breaks parts = stats

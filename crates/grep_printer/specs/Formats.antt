@@ -11,20 +11,9 @@ pub record Scene : Type 0 where
   pub path : Option (Bor (List ℕ))
   pub settings : Settings
 
--- the bytes that a sink was shown around those of a report: before them and after them
-pub record Surroundings : Type 0 where
-  pub before : List ℕ
-  pub after : List ℕ
-
--- no bytes around a report
-abbrev pub nothing_around : Surroundings
-nothing_around = record { before = []; after = [] }
-
--- a call with what was shown around its report, and the parts of the report that match, if they are
--- asked for
+-- a call, and the parts of its report that match, if they are asked for
 pub record PrintedCall : Type 0 where
   pub call : Call
-  pub around : Surroundings
   pub parts : List (ℕ × ℕ)
 
 -- The rules of a format. A value of F has its settings, and what it keeps of the calls so far.
@@ -75,7 +64,7 @@ module _ {F : Type 0} (rules : Rules F) (scene : Scene) where
 
 -- a call without parts
 abbrev pub without_parts : Planned → PrintedCall
-without_parts planned = record { call = planned.call; around = nothing_around; parts = [] }
+without_parts planned = record { call = planned.call; parts = [] }
 
 module _ {F : Type 0} (rules : Rules F) (scene : Scene) where
   -- some matches come to a text, and to a format after them. They have no parts, since none are

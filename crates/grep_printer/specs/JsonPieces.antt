@@ -8,7 +8,7 @@ use Rattle.grep_printer.specs.JsonMessages.{begin_json, bytes_json, end_json, op
 use Rattle.grep_printer.specs.JsonMessages.{path_json, report_json, summary_json}
 use Rattle.grep_printer.specs.JsonTexts.{with_match}
 use Rattle.grep_printer.specs.ReplacerTexts.{TextAt}
-use Rattle.grep_printer.specs.Reports.{call_of, surroundings_of, type_of}
+use Rattle.grep_printer.specs.Reports.{call_of, type_of}
 use Rattle.grep_printer.specs.declared.json_lines.Message.{Message}
 use Rattle.grep_printer.specs.declared.json_lines.Message.TheVariants.{Begin, End, Summary}
 use Rattle.grep_printer.specs.declared.json_printer.JsonProgress.{JsonProgress}
@@ -56,8 +56,7 @@ replacement_tokens (Some text) = Token.key (codes "replacement") ∷ json_tokens
 abbrev pub texts_in : {R A : Type 0} → (R → TextAt) → Replacements R A → Report → ℕ
     → Option (List ℕ)
 texts_in text_at replacements report =
-    text_at replacements.replacer replacements.searcher.now.settings (surroundings_of report)
-    (call_of report)
+    text_at replacements.replacer replacements.searcher.now.settings (call_of report)
 
 -- the message of a report, by the path, the matches in the report, and what would replace the match
 -- at a position

@@ -81,7 +81,7 @@ module _ (always_begin_end : Bool) (scene : Scene) (text_at : ℕ → Option (Li
   abbrev pub json_text : JsonProgress → Call → List (ℕ × ℕ) → List ℕ
   json_text progress begins ranges =
       if is_opened always_begin_end progress then json_line (begin_json scene.path) else []
-  json_text progress (matches number offset bytes) ranges =
+  json_text progress (matches number offset bytes around) ranges =
       report_line scene.path progress (codes "match") bytes number offset text_at
       ranges
   json_text progress (context kind number offset bytes) ranges =
@@ -97,8 +97,9 @@ module _ (always_begin_end : Bool) (scene : Scene) (text_at : ℕ → Option (Li
       if is_opened always_begin_end progress
       then with_text progress (json_text progress begins ranges)
       else progress
-  json_progress progress (matches number offset bytes) ranges =
-      with_match (with_text progress (json_text progress (matches number offset bytes) ranges))
+  json_progress progress (matches number offset bytes around) ranges =
+      with_match
+      (with_text progress (json_text progress (matches number offset bytes around) ranges))
       (length (lines (byte_of scene.settings.line_terminator) bytes)) (length ranges)
   json_progress progress (context kind number offset bytes) ranges =
       with_text progress (json_text progress (context kind number offset bytes) ranges)
@@ -112,11 +113,11 @@ json_rules text_at = record {
   begun = λ format follows. record format { progress = new_json_progress };
   asks = λ format call. true;
   text = λ format scene printed. json_text format.always_begin_end scene
-      (text_at format.replacer scene.settings printed.around printed.call) format.progress
+      (text_at format.replacer scene.settings printed.call) format.progress
       printed.call printed.parts;
   next = λ format scene printed. record format {
     progress = json_progress format.always_begin_end scene
-        (text_at format.replacer scene.settings printed.around printed.call) format.progress
+        (text_at format.replacer scene.settings printed.call) format.progress
         printed.call printed.parts;
   };
   goes_on = λ format scene printed. true;

@@ -18,7 +18,6 @@ use Rattle.grep_searcher.specs.Searches.{plan_with, quits, view_in, viewed_plan}
 use Rattle.grep_searcher.specs.Source.{ReadResult}
 use Rattle.grep_searcher.specs.declared.SearchError.{SearchError}
 use Rattle.grep_searcher.specs.declared.SearchError.TheVariants.{Config, Io}
-use Rattle.grep_printer.specs.CallParts.{Anything}
 use Rattle.grep_printer.specs.Formats.{AllGoOn, AreAlong, PrintedCall, Rules}
 use Rattle.grep_printer.specs.Formats.{goes_on_after_each}
 use Rattle.grep_printer.specs.PrinterSteps.{FailsAlongPlan, HasFound, KeepsNoMore, PrintsAll}
@@ -51,7 +50,7 @@ module _ {F M W E : Type 0} (rules : Rules F) (output : E → Option (List ℕ))
   abbrev pub PrintsCalls : PrinterSink F M W → Settings → List Planned → PrinterSink F M W → Type 0
   PrintsCalls old settings calls new = (printed : List PrintedCall)
       × AllGoOn rules (scene_of old settings)
-      (HasFound rules Anything facts first_at old settings) old.format calls printed
+      (HasFound rules facts first_at old settings) old.format calls printed
       × PrintsAll rules output facts first_at write_step old settings printed new
 
   -- the texts of all calls along a plan come after what is pending, and `Known` holds of these
@@ -60,7 +59,7 @@ module _ {F M W E : Type 0} (rules : Rules F) (output : E → Option (List ℕ))
       → Result (Unit {0}) (SearchError Global) → PrinterSink F M W → Type 0
   PrintsPlan Known old settings plan (Ok u) new = (printed : List PrintedCall)
       × AreAlong rules (scene_of old settings)
-      (HasFound rules Anything facts first_at old settings) old.format plan.calls plan.finish printed
+      (HasFound rules facts first_at old settings) old.format plan.calls plan.finish printed
       × PrintsAll rules output facts first_at write_step old settings printed new
       × KeepsNoMore new × Known plan printed
   PrintsPlan Known old settings plan (Err e) new =

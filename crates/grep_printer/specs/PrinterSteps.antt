@@ -11,9 +11,9 @@ use Rattle.grep_searcher.specs.SearchErrors.{IsOutOfMemory}
 use Rattle.grep_searcher.specs.SearchLaws.{is_match}
 use Rattle.grep_searcher.specs.declared.SearchError.{SearchError}
 use Rattle.grep_searcher.specs.declared.SearchError.TheVariants.{Io}
-use Rattle.grep_printer.specs.CallParts.{Anything, FailsAtParts, HasParts}
+use Rattle.grep_printer.specs.CallParts.{FailsAtParts, HasParts}
 use Rattle.grep_printer.specs.CallParts.{has_match}
-use Rattle.grep_printer.specs.Formats.{AllGoOn, AreAlong, PrintedCall, Rules, Scene, Surroundings, is_text}
+use Rattle.grep_printer.specs.Formats.{AllGoOn, AreAlong, PrintedCall, Rules, Scene, is_text}
 use Rattle.grep_printer.specs.Formats.{goes_on_after_each, printed_by}
 use Rattle.grep_printer.specs.declared.printer.PrinterSink.{PrinterSink}
 
@@ -59,12 +59,11 @@ module _ {F M W : Type 0} (rules : Rules F) where
   abbrev pub text_of : PrinterSink F M W → Settings → PrintedCall → List ℕ
   text_of sink settings printed = rules.text sink.format (scene_of sink settings) printed
 
-  -- these are the parts of a call of a sink, for some bytes that may have been shown around its
-  -- report
-  abbrev pub HasFound : (Surroundings → Type 0) → {E : Type 0} → (M → MatcherFacts E)
+  -- these are the parts of a call of a sink
+  abbrev pub HasFound : {E : Type 0} → (M → MatcherFacts E)
       → (M → List ℕ → ℕ → Option (ℕ × ℕ)) → PrinterSink F M W → Settings → F → PrintedCall → Type 0
-  HasFound Shown facts first_at sink settings format printed =
-      HasParts Shown (first_at sink.matcher) settings (facts sink.matcher).meaning
+  HasFound facts first_at sink settings format printed =
+      HasParts (first_at sink.matcher) settings (facts sink.matcher).meaning
       (has_match settings printed.call && rules.asks format printed.call) printed
 
   -- the text of a call is pushed after what is pending, and nothing else has changed but the format
@@ -81,7 +80,7 @@ module _ {F M W : Type 0} (rules : Rules F) where
 
 module _ {F M W E : Type 0} (rules : Rules F) (output : E → Option (List ℕ))
     (facts : M → MatcherFacts E) (first_at : M → List ℕ → ℕ → Option (ℕ × ℕ))
-    (write_step : W → OutputCall → W → Type 0) (Shown : Surroundings → Type 0) where
+    (write_step : W → OutputCall → W → Type 0) where
   -- a call succeeds: its text comes after what is pending, and nothing else is written. If both fit
   -- in the buffer, nothing is written at all, unless only bare lines are written, for which memory
   -- may be out. If the buffer has no bytes, nothing is pending afterwards, and after any call but a
@@ -91,7 +90,7 @@ module _ {F M W E : Type 0} (rules : Rules F) (output : E → Option (List ℕ))
     pub same : IsSameSink old new
     pub printed : PrintedCall
     pub is_call : printed.call ≡ call
-    pub has_parts : HasFound rules Shown facts first_at old settings old.format printed
+    pub has_parts : HasFound rules facts first_at old settings old.format printed
     pub goes_on : goes ≡ rules.goes_on old.format (scene_of old settings) printed
     pub put : PutsAll write_step old.writer.now (pending_bytes old.printer.now.pending)
         (text_of rules old settings printed) new.writer.now (pending_bytes new.printer.now.pending)
@@ -110,7 +109,7 @@ module _ {F M W E : Type 0} (rules : Rules F) (output : E → Option (List ℕ))
       (e : SearchError Global) (new : PrinterSink F M W) : Type 0 where
     pub printed : PrintedCall
     pub is_call : printed.call ≡ call
-    pub has_parts : HasFound rules Shown facts first_at old settings old.format printed
+    pub has_parts : HasFound rules facts first_at old settings old.format printed
     pub error : Error
     pub is_io : e ≡ Io error
     pub failed : FailsToWrite write_step old.writer.now
@@ -131,7 +130,7 @@ module _ {F M W E : Type 0} (rules : Rules F) (output : E → Option (List ℕ))
         × (((has_match settings call && rules.asks old.format call) ≡ true)
         ⊎ (rules.is_bare old.format (scene_of old settings) ≡ false)))
         ⊎ (((has_match settings call && rules.asks old.format call) ≡ true)
-        × FailsAtParts Shown output (facts old.matcher) settings call e)
+        × FailsAtParts output (facts old.matcher) settings call e)
 
   -- the parts of a call were asked for, and memory was out for the rest of its text: some first
   -- bytes of the text come after what was pending
@@ -146,11 +145,11 @@ module _ {F M W E : Type 0} (rules : Rules F) (output : E → Option (List ℕ))
     pub format : new.format ≡ old.format
     pub has_failed : new.printer.now.has_failed ≡ old.printer.now.has_failed
 
-  -- a call fails amid its text, for some parts that its report may have
+  -- a call fails amid its text
   abbrev pub FailsAmid : PrinterSink F M W → Settings → Call → SearchError Global
       → PrinterSink F M W → Type 0
   FailsAmid old settings call e new = (printed : PrintedCall) × (printed.call ≡ call)
-      × HasFound rules Shown facts first_at old settings old.format printed
+      × HasFound rules facts first_at old settings old.format printed
       × PrintsSome old settings printed e new
 
   -- a call fails
@@ -161,19 +160,11 @@ module _ {F M W E : Type 0} (rules : Rules F) (output : E → Option (List ℕ))
     pub cause : FailsToWriteCall old settings call e new ⊎ FailsBefore old settings call e new
         ⊎ FailsAmid old settings call e new
 
-  -- what a sink does at a call, for some bytes that may have been shown around its report
-  abbrev pub PrintsShown : PrinterSink F M W → Settings → Call → Result Bool (SearchError Global)
-      → PrinterSink F M W → Type 0
-  PrintsShown old settings call (Ok goes) new = Prints old settings call goes new
-  PrintsShown old settings call (Err e) new = FailsToPrint old settings call e new
-
-module _ {F M W E : Type 0} (rules : Rules F) (output : E → Option (List ℕ))
-    (facts : M → MatcherFacts E) (first_at : M → List ℕ → ℕ → Option (ℕ × ℕ))
-    (write_step : W → OutputCall → W → Type 0) where
-  -- what a sink does at a call, whatever bytes were shown around its report
+  -- what a sink does at a call
   abbrev pub PrintsCall : PrinterSink F M W → Settings → Call → Result Bool (SearchError Global)
       → PrinterSink F M W → Type 0
-  PrintsCall = PrintsShown rules output facts first_at write_step Anything
+  PrintsCall old settings call (Ok goes) new = Prints old settings call goes new
+  PrintsCall old settings call (Err e) new = FailsToPrint old settings call e new
 
   -- the texts of some calls come after what is pending. If the buffer has no bytes and nothing was
   -- pending before, nothing is pending after them
@@ -200,7 +191,7 @@ module _ {F M W E : Type 0} (rules : Rules F) (output : E → Option (List ℕ))
       (new : PrinterSink F M W) → AreMade PrintsCall settings old calls all_true new
       → (printed : List PrintedCall)
       × AllGoOn rules (scene_of old settings)
-      (HasFound rules Anything facts first_at old settings) old.format calls printed
+      (HasFound rules facts first_at old settings) old.format calls printed
       × PrintsAll old settings printed new
 
   -- if a run of the sink ended in `Ok`, the texts of calls along its plan come after what was
@@ -212,7 +203,7 @@ module _ {F M W E : Type 0} (rules : Rules F) (output : E → Option (List ℕ))
       (run : IsRun PrintsCall settings old plan (Ok tt) new)
       → (printed : List PrintedCall)
       × AreAlong rules (scene_of old settings)
-      (HasFound rules Anything facts first_at old settings) old.format plan.calls plan.finish
+      (HasFound rules facts first_at old settings) old.format plan.calls plan.finish
       printed
       × PrintsAll old settings printed new
       × (goes_on_after_each rules (scene_of old settings) old.format printed ≡ true
@@ -230,8 +221,8 @@ module _ {F M W E : Type 0} (rules : Rules F) (output : E → Option (List ℕ))
       × (new.printer.now.has_failed ≡ true)
       × FailsToWrite write_step mid.writer.now
       (pending_bytes mid.printer.now.pending ++ text_of rules mid settings tried) error new.writer.now)
-      ⊎ FailsBefore rules output facts first_at write_step Anything mid settings tried.call e new
-      ⊎ PrintsSome rules output facts first_at write_step Anything mid settings tried e new
+      ⊎ FailsBefore mid settings tried.call e new
+      ⊎ PrintsSome mid settings tried e new
 
   -- a run along a plan failed at a call. The texts of the calls before it come after what was
   -- pending, and its own text is cut short. Together they begin the text of calls along the plan
@@ -241,7 +232,7 @@ module _ {F M W E : Type 0} (rules : Rules F) (output : E → Option (List ℕ))
     pub tried : PrintedCall
     pub later : List PrintedCall
     pub along : AreAlong rules (scene_of old settings)
-        (HasFound rules Anything facts first_at old settings) old.format plan.calls plan.finish
+        (HasFound rules facts first_at old settings) old.format plan.calls plan.finish
         (before ++ tried ∷ later)
     pub mid : PrinterSink F M W
     pub printed : PrintsAll old settings before mid

@@ -6,8 +6,9 @@ use Rattle.grep_replace.specs.declared.template.Template.{Template}
 use Rattle.grep_searcher.specs.Lines.{byte_of}
 use Rattle.grep_searcher.specs.Meanings.{Meaning}
 use Rattle.grep_searcher.specs.Plans.{Call, Settings, is_across, matches, context, reported_bytes}
+use Rattle.grep_report.specs.SinkReports.{no_surroundings}
 use Rattle.grep_printer.specs.CallParts.{asked_bytes, asked_start}
-use Rattle.grep_printer.specs.Formats.{PrintedCall, Rules, Surroundings, nothing_around}
+use Rattle.grep_printer.specs.Formats.{PrintedCall, Rules}
 use Rattle.grep_printer.specs.declared.replaced.Replacement.{Replacement}
 use Rattle.grep_printer.specs.declared.replaced_format.ReplacedFormat.{ReplacedFormat}
 
@@ -45,9 +46,10 @@ ended None bytes = bytes
 ended (Some end) [] = end ∷ []
 ended (Some end) (byte ∷ bytes) = byte ∷ bytes
 
--- a call with other bytes in its report
+-- a call with other bytes in its report, and none around them
 abbrev pub with_bytes : Call → List ℕ → Call
-with_bytes (matches number offset old) bytes = matches number offset bytes
+with_bytes (matches number offset old around) bytes =
+    matches number offset bytes no_surroundings
 with_bytes (context kind number offset old) bytes = context kind number offset bytes
 with_bytes call bytes = call
 
@@ -56,27 +58,26 @@ module _ (template : Template) (groups_at : List ℕ → ℕ → List (Option (�
     (meaning : Meaning) where
   -- what is written in place of the part at a position of a report: what the template makes of the
   -- groups of the match there, in the bytes about which the matcher was asked
-  abbrev pub text_in_place : Surroundings → Call → ℕ → List ℕ
-  text_in_place around call position =
-      template_text template (group_text (asked_bytes settings meaning around call)
-      (groups_at (asked_bytes settings meaning around call)
-      (asked_start settings meaning around call + position)))
+  abbrev pub text_in_place : Call → ℕ → List ℕ
+  text_in_place call position =
+      template_text template (group_text (asked_bytes settings meaning call)
+      (groups_at (asked_bytes settings meaning call)
+      (asked_start settings meaning call + position)))
 
   -- a report in which each part is replaced
-  abbrev pub replaced_report : Surroundings → Call → List (ℕ × ℕ) → PrintedCall
-  replaced_report around call parts = record {
+  abbrev pub replaced_report : Call → List (ℕ × ℕ) → PrintedCall
+  replaced_report call parts = record {
     call = with_bytes call (ended (end_of_line settings meaning)
-        (replaced_bytes (text_in_place around call) (reported_bytes call) 0 parts));
-    around = nothing_around;
-    parts = replaced_parts (text_in_place around call) 0 0 parts;
+        (replaced_bytes (text_in_place call) (reported_bytes call) 0 parts));
+    parts = replaced_parts (text_in_place call) 0 0 parts;
   }
 
   -- the call as it is printed: a report with parts as they are replaced, and any other call as it is
   abbrev pub replaced_by : PrintedCall → Call → List (ℕ × ℕ) → PrintedCall
-  replaced_by printed (matches number offset bytes) (part ∷ later) =
-      replaced_report printed.around (matches number offset bytes) (part ∷ later)
+  replaced_by printed (matches number offset bytes around) (part ∷ later) =
+      replaced_report (matches number offset bytes around) (part ∷ later)
   replaced_by printed (context kind number offset bytes) (part ∷ later) =
-      replaced_report printed.around (context kind number offset bytes) (part ∷ later)
+      replaced_report (context kind number offset bytes) (part ∷ later)
   replaced_by printed call parts = printed
 
   abbrev pub replaced_call : PrintedCall → PrintedCall

@@ -1,12 +1,13 @@
 -- A report as a printer has it, and the call that it is.
 use Rattle.std.specs.Prelude.{◌≡◌, ℕ, ◌+◌, ◌<◌, ◌≤◌, ◌^◌, Bool, false, not, List, [], ◌∷◌}
-use Rattle.std.specs.Prelude.{codes, drop, length, Option, slice_range, take}
+use Rattle.std.specs.Prelude.{codes, length, Option, slice_range}
 use Rattle.grep_matcher.specs.Lines.{byte_of}
 use Rattle.grep_matcher.specs.declared.line_terminator.LineTerminator.{LineTerminator}
 use Rattle.grep_searcher.specs.Lines.{lines, strip}
 use Rattle.grep_searcher.specs.Plans.{Call, begins, matches, context, breaks}
 use Rattle.grep_searcher.specs.Plans.{binary_data, finishes}
-use Rattle.grep_printer.specs.Formats.{PrintedCall, Surroundings, nothing_around}
+use Rattle.grep_report.specs.SinkReports.{Surroundings, surroundings}
+use Rattle.grep_printer.specs.Formats.{PrintedCall}
 use Rattle.grep_printer.specs.LineTexts.{end_byte, line_text, lines_text}
 use Rattle.grep_printer.specs.MatchedParts.{AreInOrder}
 use Rattle.grep_printer.specs.PartTexts.{column_of}
@@ -22,14 +23,22 @@ use Rattle.grep_printer.specs.declared.report.Report.{Report}
 use Rattle.grep_printer.specs.declared.report.ReportKind.{ReportKind}
 use Rattle.grep_printer.specs.declared.report.ReportKind.TheVariants.{Match, Context}
 
--- the call that reports bytes with the number of their first line and their offset
-abbrev pub reporting_call : ReportKind → Option ℕ → ℕ → List ℕ → Call
-reporting_call Match number offset bytes = matches number offset bytes
-reporting_call (Context kind) number offset bytes = context kind number offset bytes
+-- the call that reports bytes with the number of their first line and their offset, and a match
+-- with the bytes around it
+abbrev pub reporting_call : ReportKind → Option ℕ → ℕ → List ℕ → Surroundings → Call
+reporting_call Match number offset bytes around = matches number offset bytes around
+reporting_call (Context kind) number offset bytes around = context kind number offset bytes
+
+-- the bytes around those of a report
+abbrev pub surroundings_of : Report → Surroundings
+surroundings_of report =
+    surroundings report.shown.now report.start (report.start + length report.bytes.now)
 
 -- the call of a report
 abbrev pub call_of : Report → Call
-call_of report = reporting_call report.kind report.number report.offset report.bytes.now
+call_of report =
+    reporting_call report.kind report.number report.offset report.bytes.now
+    (surroundings_of report)
 
 -- a call of a search
 abbrev pub event_call : Event → Call
@@ -44,40 +53,24 @@ abbrev pub FitsEvent : Event → Type 0
 FitsEvent (report_event report) = report.offset + length report.bytes.now < 2 ^ 64
 FitsEvent event = Unit {0}
 
--- the bytes before those of a report that are shown with it, and those after them
-abbrev pub surroundings_of : Report → Surroundings
-surroundings_of report = record {
-  before = take report.start report.shown.now;
-  after = drop (length report.bytes.now) (drop report.start report.shown.now);
-}
-
--- the bytes that are shown around a call's report. With any other call nothing is shown
-abbrev pub event_surroundings : Event → Surroundings
-event_surroundings (report_event report) = surroundings_of report
-event_surroundings event = nothing_around
-
 -- a call with these parts of its report
 abbrev pub printed_event : Event → List (ℕ × ℕ) → PrintedCall
 printed_event event parts = record {
   call = event_call event;
-  around = event_surroundings event;
   parts = parts;
 }
 
--- these are the bytes around a call's report
-abbrev pub IsAround : Event → Surroundings → Type 0
-IsAround (report_event report) around = around ≡ surroundings_of report
-IsAround event around = Unit {0}
-
--- the bytes of a match lie among those that are shown with it, and nothing else is shown with any
--- other report
+-- the bytes of a match lie among those at hand from a position on, and at hand of any other report
+-- are its bytes alone
 abbrev pub IsShownAs : ReportKind → List ℕ → List ℕ → ℕ → Type 0
 IsShownAs Match bytes shown start =
     (start + length bytes ≤ length shown) × (bytes ≡ slice_range shown start (start + length bytes))
 IsShownAs (Context kind) bytes shown start = (shown ≡ bytes) × (start ≡ 0)
 
-abbrev pub IsShown : Report → Type 0
-IsShown report = IsShownAs report.kind report.bytes.now report.shown.now report.start
+-- those that are shown, and those of its buffer
+pub record IsShown (report : Report) : Type 0 where
+  pub shown : IsShownAs report.kind report.bytes.now report.shown.now report.start
+  pub buffer : IsShownAs report.kind report.bytes.now report.buffer.now report.buffer_start
 
 abbrev pub IsShownEvent : Event → Type 0
 IsShownEvent (report_event report) = IsShown report

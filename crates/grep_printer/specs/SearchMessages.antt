@@ -14,8 +14,8 @@ use Rattle.grep_searcher.specs.Plans.{reported_bytes, reported_from, search_plan
 use Rattle.grep_searcher.specs.SearchLaws.{calls_of, is_report}
 use Rattle.grep_searcher.specs.Searches.{BinaryPoint, plan_with}
 use Rattle.grep_searcher.specs.declared.BinaryDetection.{BinaryDetection}
-use Rattle.grep_printer.specs.CallParts.{Anything, HasParts}
-use Rattle.grep_printer.specs.Formats.{PrintedCall, Scene, Surroundings, printed_by}
+use Rattle.grep_printer.specs.CallParts.{HasParts}
+use Rattle.grep_printer.specs.Formats.{PrintedCall, Scene, printed_by}
 use Rattle.grep_printer.specs.JsonLaws.{IsLineOf, IsSameReport, IsWordRange, Reported}
 use Rattle.grep_printer.specs.JsonLaws.{message_of_report}
 use Rattle.grep_printer.specs.JsonMessages.{begin_json, json_line}
@@ -23,37 +23,36 @@ use Rattle.grep_printer.specs.JsonTexts.{json_rules}
 use Rattle.grep_printer.specs.ReplacerTexts.{TextAt}
 use Rattle.grep_printer.specs.declared.json_printer.JsonFormat.{JsonFormat}
 
--- what would replace the match at a position of a call's report, if something would, by what was
--- shown around the report
+-- what would replace the match at a position of a call's report, if something would
 abbrev pub CallTextAt : Type 0
-CallTextAt = Surroundings → Call → ℕ → Option (List ℕ)
+CallTextAt = Call → ℕ → Option (List ℕ)
 
 module _ (path : Option (Bor (List ℕ))) (text_at : CallTextAt) where
   -- the report of a call with its matches, if it reports lines
-  abbrev pub report_in : Surroundings → Call → List (ℕ × ℕ) → List Reported
-  report_in around (matches number offset bytes) ranges = record {
+  abbrev pub report_in : Call → List (ℕ × ℕ) → List Reported
+  report_in (matches number offset bytes around) ranges = record {
     type = codes "match";
     path = path;
     bytes = bytes;
     number = number;
     offset = offset;
-    text_at = text_at around (matches number offset bytes);
+    text_at = text_at (matches number offset bytes around);
     ranges = ranges;
   } ∷ []
-  report_in around (context kind number offset bytes) ranges = record {
+  report_in (context kind number offset bytes) ranges = record {
     type = codes "context";
     path = path;
     bytes = bytes;
     number = number;
     offset = offset;
-    text_at = text_at around (context kind number offset bytes);
+    text_at = text_at (context kind number offset bytes);
     ranges = ranges;
   } ∷ []
-  report_in around _ ranges = []
+  report_in _ ranges = []
 
   -- the reports of some calls, in order
   abbrev pub reports_of : List PrintedCall → List Reported
-  reports_of calls = flat_map (λ printed. report_in printed.around printed.call printed.parts) calls
+  reports_of calls = flat_map (λ printed. report_in printed.call printed.parts) calls
 
 -- whether `begin` is due with a call
 abbrev pub opens : Bool → Call → Bool
@@ -103,7 +102,7 @@ abbrev pub PartsHaveWords : Type 0
 PartsHaveWords =
     (first_at : List ℕ → ℕ → Option (ℕ × ℕ)) (settings : Settings) (meaning : Meaning)
     (is_asked : Bool) (printed : PrintedCall)
-    → HasParts Anything first_at settings meaning is_asked printed
+    → HasParts first_at settings meaning is_asked printed
     → HasWords printed.call → HasPrintedWords printed
 
 module _ {R : Type 0} (text_at : R → TextAt) where

@@ -85,7 +85,8 @@ asks_for_parts config =
 -- the text of a report with its parts, or of a break between two groups of lines
 abbrev pub report_text : Layout → Call → List (ℕ × ℕ) → List ℕ
 report_text layout begins parts = []
-report_text layout (matches number offset bytes) parts = match_text layout number offset bytes parts
+report_text layout (matches number offset bytes around) parts =
+    match_text layout number offset bytes parts
 report_text layout (context kind number offset line) parts =
     context_text layout number offset line parts
 report_text layout breaks parts = break_text layout.config.separators (end_byte layout)
@@ -104,10 +105,10 @@ text_before layout progress =
 -- the text of a call with its parts, by what was reported before
 abbrev pub call_text : Config → Progress → Scene → Call → List (ℕ × ℕ) → List ℕ
 call_text config progress scene begins parts = []
-call_text config progress scene (matches number offset bytes) parts =
+call_text config progress scene (matches number offset bytes around) parts =
     if is_hidden progress scene.settings.binary_detection then []
     else text_before (layout_of config scene) progress
-    ++ report_text (layout_of config scene) (matches number offset bytes) parts
+    ++ report_text (layout_of config scene) (matches number offset bytes around) parts
 call_text config progress scene (context kind number offset line) parts =
     if is_hidden progress scene.settings.binary_detection then []
     else text_before (layout_of config scene) progress
@@ -123,7 +124,7 @@ call_text config progress scene (finishes count binary) parts =
 -- whether the search goes on after a call: not after a report that is hidden
 abbrev pub goes_on : Progress → BinaryDetection → Call → Bool
 goes_on progress detection begins = true
-goes_on progress detection (matches number offset bytes) = not (is_hidden progress detection)
+goes_on progress detection (matches number offset bytes around) = not (is_hidden progress detection)
 goes_on progress detection (context kind number offset line) = not (is_hidden progress detection)
 goes_on progress detection breaks = true
 goes_on progress detection (binary_data offset) = true
@@ -132,7 +133,7 @@ goes_on progress detection (finishes count binary) = true
 -- what was reported so far, after a call
 abbrev pub progress_after : Progress → Call → Progress
 progress_after progress begins = progress
-progress_after progress (matches number offset bytes) =
+progress_after progress (matches number offset bytes around) =
     record progress { has_match = true; is_open = true }
 progress_after progress (context kind number offset line) = record progress { is_open = true }
 progress_after progress breaks = progress

@@ -103,7 +103,7 @@ is_left_out detection binary = is_some binary && is_some (quit_byte_of detection
 -- the text of a call, by what was reported: only the end of a search has one
 abbrev pub summary_text : SummaryConfig → Counts → Scene → Call → List ℕ
 summary_text config counts scene begins = []
-summary_text config counts scene (matches number offset bytes) = []
+summary_text config counts scene (matches number offset bytes around) = []
 summary_text config counts scene (context which number offset line) = []
 summary_text config counts scene breaks = []
 summary_text config counts scene (binary_data offset) = []
@@ -123,7 +123,7 @@ counts_parts Quiet = false
 -- whether the search goes on after a call. It may have to go on after each, so that all is counted
 abbrev pub sums_on : Bool → SummaryKind → Call → Bool
 sums_on counts_all kind begins = true
-sums_on counts_all kind (matches number offset bytes) = counts_on kind || counts_all
+sums_on counts_all kind (matches number offset bytes around) = counts_on kind || counts_all
 sums_on counts_all kind (context which number offset line) = true
 sums_on counts_all kind breaks = true
 sums_on counts_all kind (binary_data offset) = true
@@ -137,7 +137,7 @@ asks_to_count kind call = counts_parts kind && is_match call
 -- least. Nothing counts once the search is left out
 abbrev pub counts_after : Counts → BinaryDetection → Call → ℕ → Counts
 counts_after counts detection begins parts = counts
-counts_after counts detection (matches number offset bytes) parts =
+counts_after counts detection (matches number offset bytes around) parts =
     with_matches counts 1 (max 1 parts)
 counts_after counts detection (context which number offset line) parts = counts
 counts_after counts detection breaks parts = counts

@@ -47,7 +47,7 @@ module _ (layout : Layout) (kind : LineKind) (offset : ℕ) (bytes : List ℕ) w
 -- the text of a call, by what was reported before. A report with parts has the line of each part,
 -- and any other call has the text that a printer of lines writes
 abbrev pub vimgrep_text : Config → Progress → Scene → Call → List (ℕ × ℕ) → List ℕ
-vimgrep_text config progress scene (matches number offset bytes) (part ∷ later) =
+vimgrep_text config progress scene (matches number offset bytes around) (part ∷ later) =
     if is_hidden progress scene.settings.binary_detection then []
     else text_before (layout_of config scene) progress
     ++ part_lines (layout_of config scene) Match offset bytes number (part ∷ later)

@@ -10,7 +10,7 @@ ghost use Rattle.grep_printer.specs.JsonTexts.{with_size, with_text};
 ghost use Rattle.grep_printer.specs.MatchedParts.{AreInOrder};
 ghost use Rattle.grep_printer.specs.PrinterSteps.{IsSameSink};
 ghost use Rattle.grep_output.specs.PendingTexts.{Adds, pending_bytes};
-ghost use Rattle.grep_printer.specs.Reports.{IsShown, call_of, surroundings_of, type_of};
+ghost use Rattle.grep_printer.specs.Reports.{IsShown, call_of, type_of};
 ghost use Rattle.grep_printer.specs.StatsSums.{nanos_of};
 
 use crate::format::{Event, Format};
@@ -201,13 +201,12 @@ impl<R: Replacer> JsonFormat<R> {
         ensures replacer { self.new.replacer ≡ self.old.replacer }
         ensures text { Adds text.old text.new (report_line path.entry self.old.progress
             (type_of report.now.kind) report.now.bytes.now report.now.number report.now.offset
-            (R.text_at self.old.replacer searcher.now.settings (surroundings_of report.now)
-            (call_of report.now)) ranges.now) }
+            (R.text_at self.old.replacer searcher.now.settings (call_of report.now)) ranges.now) }
         ensures progress { text.new.has_failed ≡ false → self.new.progress
             ≡ with_matches report.now.kind (with_text self.old.progress (report_line path.entry
             self.old.progress (type_of report.now.kind) report.now.bytes.now report.now.number
             report.now.offset (R.text_at self.old.replacer searcher.now.settings
-            (surroundings_of report.now) (call_of report.now)) ranges.now))
+            (call_of report.now)) ranges.now))
             (length (lines (byte_of searcher.now.settings.line_terminator) report.now.bytes.now))
             (length ranges.now) }
     {

@@ -8,7 +8,7 @@ ghost use Rattle.grep_printer.specs.MatchedParts.{AreInOrder, IsMatcherError, Li
 ghost use Rattle.grep_printer.specs.MatchedParts.{first_from, found_from, is_passed, parts_after};
 ghost use Rattle.grep_printer.specs.MatchedParts.{parts_in, position_after};
 ghost use Rattle.grep_printer.specs.PartErrors.{EachErrorIs, IsErrorOf};
-ghost use Rattle.grep_printer.specs.Reports.{IsShown, call_of, surroundings_of};
+ghost use Rattle.grep_printer.specs.Reports.{IsShown, call_of};
 
 use crate::report::Report;
 use grep_lines::without_terminator;
@@ -46,14 +46,14 @@ pub(crate) fn find_report_parts<M: FindAt, A: Allocator + Copy>(
 ) -> Result<(), PartsError<M::Error>>
     requires { IsShown report.now }
     ensures parts { OnOk result (parts.new.items ≡ parts_of_call searcher.now.settings
-        (M.facts matcher.now).meaning (surroundings_of report.now) (call_of report.now)
+        (M.facts matcher.now).meaning (call_of report.now)
         (M.first_at matcher.now)) }
     ensures ordered { OnOk result
         (AreInOrder 0 (length report.now.bytes.now) parts.new.items) }
     ensures error { IfErr result (EachErrorIs M.Error.output (λ e. IsOutOfMemory e
         ⊎ IsMatcherError M.Error.output (M.facts matcher.now).fails
         (asked_bytes searcher.now.settings (M.facts matcher.now).meaning
-        (surroundings_of report.now) (call_of report.now)) e)) }
+        (call_of report.now)) e)) }
 {
     let limit = report.bytes.len();
     if searcher.multi_line_with_matcher(matcher) {

@@ -47,8 +47,8 @@ impl<'c> Config<'c> {
         let terminator = terminator.as_byte();
         match report.kind {
             ReportKind::Match => {
-                let end = report.start + bytes.len();
-                push_lines(text, number, terminator, report.shown, report.start, end)
+                let (buffer, start) = (report.buffer, report.buffer_start);
+                push_lines(text, number, terminator, buffer, start, start + bytes.len())
             }
             ReportKind::Context(_) => push_line(text, b'-', number, terminator, bytes),
         }
@@ -173,31 +173,31 @@ fn push_lines(
     text: &mut Pending,
     number: Option<u64>,
     terminator: u8,
-    shown: &[u8],
+    buffer: &[u8],
     start: usize,
     end: usize,
 )
     requires some { start < end }
-    requires within { end ≤ length shown.now }
+    requires within { end ≤ length buffer.now }
     ensures { Adds text.old text.new
-        (plain_lines terminator 58 number (lines terminator (slice_range shown.now start end))) }
+        (plain_lines terminator 58 number (lines terminator (slice_range buffer.now start end))) }
 {
     match number {
-        Some(_) => push_each_line(text, b':', number, terminator, &shown[start..end]),
-        None => push_range(text, terminator, shown, start, end),
+        Some(_) => push_each_line(text, b':', number, terminator, &buffer[start..end]),
+        None => push_range(text, terminator, buffer, start, end),
     }
 }
 
 // Pushes the bytes from one position of some bytes up to another, as one line.
 #[inline(always)]
-fn push_range(text: &mut Pending, terminator: u8, shown: &[u8], start: usize, end: usize)
+fn push_range(text: &mut Pending, terminator: u8, buffer: &[u8], start: usize, end: usize)
     requires ordered { start ≤ end }
-    requires within { end ≤ length shown.now }
-    ensures { Adds text.old text.new (slice_range shown.now start end
-        ++ missing_end terminator (slice_range shown.now start end)) }
+    requires within { end ≤ length buffer.now }
+    ensures { Adds text.old text.new (slice_range buffer.now start end
+        ++ missing_end terminator (slice_range buffer.now start end)) }
 {
-    text.push_range(shown, start, end);
-    push_missing_end(text, terminator, &shown[start..end])
+    text.push_range(buffer, start, end);
+    push_missing_end(text, terminator, &buffer[start..end])
 }
 
 // Pushes lines one after another.

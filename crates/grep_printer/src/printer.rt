@@ -11,15 +11,15 @@ ghost use Rattle.grep_searcher.specs.Plans.{reported_bytes};
 ghost use Rattle.grep_searcher.specs.SearchErrors.{IsOutOfMemory};
 ghost use Rattle.grep_searcher.specs.SinkArguments.{context_call, match_call};
 ghost use Rattle.grep_printer.specs.BareTexts.{bare_text};
-ghost use Rattle.grep_printer.specs.CallParts.{FailsAtParts, around_match, has_match};
+ghost use Rattle.grep_printer.specs.CallParts.{FailsAtParts, has_match};
 ghost use Rattle.grep_printer.specs.Formats.{is_text};
 ghost use Rattle.grep_printer.specs.MatchedParts.{AreInOrder};
 ghost use Rattle.grep_printer.specs.PartErrors.{EachErrorIs};
 ghost use Rattle.grep_printer.specs.PrinterSteps.{HasFound, IsAsBefore, IsPreparing, IsPushed};
 ghost use Rattle.grep_printer.specs.PrinterSteps.{IsSameSink};
 ghost use Rattle.std.specs.declared.io.Error.{Error};
-ghost use Rattle.grep_printer.specs.PrinterSteps.{KeepsNoMore, Prints, PrintsCall, PrintsShown};
-ghost use Rattle.grep_printer.specs.Reports.{FitsEvent, IsAround, IsShownEvent, event_call};
+ghost use Rattle.grep_printer.specs.PrinterSteps.{KeepsNoMore, Prints, PrintsCall};
+ghost use Rattle.grep_printer.specs.Reports.{FitsEvent, IsShownEvent, event_call};
 ghost use Rattle.grep_printer.specs.Reports.{printed_event};
 
 use crate::bare::write_call;
@@ -343,13 +343,13 @@ impl<'s, F: Format, M: FindAt, W: Output> PrinterSink<'s, F, M, W> {
         requires asked { (has_match searcher.now.settings (event_call event.now)
             && F.rules.asks self.old.format (event_call event.now)) ≡ true }
         ensures same { IsPreparing self.old self.new }
-        ensures parts { OnOk result (HasFound F.rules (IsAround event.now) M.facts M.first_at
+        ensures parts { OnOk result (HasFound F.rules M.facts M.first_at
             self.old searcher.now.settings self.old.format
             (printed_event event.now self.new.printer.now.parts.items)) }
         ensures ordered { OnOk result (AreInOrder 0 (length (reported_bytes (event_call event.now)))
             self.new.printer.now.parts.items) }
         ensures error { IfErr result (EachErrorIs M.Error.output (λ e. IsOutOfMemory e
-            ⊎ FailsAtParts (IsAround event.now) M.Error.output (M.facts self.old.matcher)
+            ⊎ FailsAtParts M.Error.output (M.facts self.old.matcher)
             searcher.now.settings (event_call event.now) e)) }
     {
         let parts = &mut self.printer.parts;
@@ -368,7 +368,7 @@ impl<'s, F: Format, M: FindAt, W: Output> PrinterSink<'s, F, M, W> {
         requires { (has_match searcher.now.settings (event_call event.now)
             && F.rules.asks self.old.format (event_call event.now)) ≡ false }
         ensures same { IsPreparing self.old self.new }
-        ensures parts { HasFound F.rules (IsAround event.now) M.facts M.first_at
+        ensures parts { HasFound F.rules M.facts M.first_at
             self.old searcher.now.settings self.old.format
             (printed_event event.now self.new.printer.now.parts.items) }
         ensures ordered { AreInOrder 0 (length (reported_bytes (event_call event.now)))
@@ -388,7 +388,7 @@ impl<'s, F: Format, M: FindAt, W: Output> PrinterSink<'s, F, M, W> {
         requires fits { FitsEvent event.now }
         requires shown { IsShownEvent event.now }
         ensures kept { IfSome result (λ goes_on. Prints F.rules M.Error.output M.facts M.first_at
-            W.step (IsAround event.now) self.old searcher.now.settings (event_call event.now)
+            W.step self.old searcher.now.settings (event_call event.now)
             goes_on self.new) }
         ensures unkept { IfNone result (IsAsBefore self.old self.new) }
     {
@@ -423,9 +423,6 @@ impl<'s, F: Format, M: FindAt, W: Output> PrinterSink<'s, F, M, W> {
     ) -> Result<bool, SearchError>
         requires fits { FitsEvent event.now }
         requires shown { IsShownEvent event.now }
-        ensures shown { PrintsShown F.rules M.Error.output M.facts M.first_at W.step
-            (IsAround event.now) self.old searcher.now.settings (event_call event.now) result
-            self.new }
         ensures step { PrintsCall F.rules M.Error.output M.facts M.first_at W.step
             self.old searcher.now.settings (event_call event.now) result self.new }
         ensures kept { OnOk result (KeepsNoMore self.new) }
@@ -451,9 +448,8 @@ impl<'s, F: Format, M: FindAt, W: Output> PrinterSink<'s, F, M, W> {
         requires shown { IsShownEvent event.now }
         requires asked { (has_match searcher.now.settings (event_call event.now)
             && F.rules.asks self.old.format (event_call event.now)) ≡ true }
-        ensures shown { PrintsShown F.rules M.Error.output M.facts M.first_at W.step
-            (IsAround event.now) self.old searcher.now.settings (event_call event.now) result
-            self.new }
+        ensures step { PrintsCall F.rules M.Error.output M.facts M.first_at W.step self.old
+            searcher.now.settings (event_call event.now) result self.new }
         ensures kept { OnOk result (KeepsNoMore self.new) }
     {
         if let Err(error) = self.find_parts(searcher, event) {
@@ -478,13 +474,13 @@ impl<'s, F: Format, M: FindAt, W: Output> PrinterSink<'s, F, M, W> {
     ) -> Option<bool>
         requires fits { FitsEvent event.now }
         requires shown { IsShownEvent event.now }
-        requires found { HasFound F.rules (IsAround event.now) M.facts M.first_at
+        requires found { HasFound F.rules M.facts M.first_at
             self.old searcher.now.settings self.old.format
             (printed_event event.now self.old.printer.now.parts.items) }
         requires ordered { AreInOrder 0 (length (reported_bytes (event_call event.now)))
             self.old.printer.now.parts.items }
         ensures kept { IfSome result (λ goes_on. Prints F.rules M.Error.output M.facts M.first_at
-            W.step (IsAround event.now) self.old searcher.now.settings (event_call event.now)
+            W.step self.old searcher.now.settings (event_call event.now)
             goes_on self.new) }
         ensures waits { IfSome result (λ _. KeepsNoMore self.new) }
         ensures unkept { IfNone result (IsAsBefore self.old self.new) }
@@ -514,14 +510,13 @@ impl<'s, F: Format, M: FindAt, W: Output> PrinterSink<'s, F, M, W> {
     ) -> Result<bool, SearchError>
         requires fits { FitsEvent event.now }
         requires shown { IsShownEvent event.now }
-        requires found { HasFound F.rules (IsAround event.now) M.facts M.first_at
+        requires found { HasFound F.rules M.facts M.first_at
             self.old searcher.now.settings self.old.format
             (printed_event event.now self.old.printer.now.parts.items) }
         requires ordered { AreInOrder 0 (length (reported_bytes (event_call event.now)))
             self.old.printer.now.parts.items }
-        ensures shown { PrintsShown F.rules M.Error.output M.facts M.first_at W.step
-            (IsAround event.now) self.old searcher.now.settings (event_call event.now) result
-            self.new }
+        ensures step { PrintsCall F.rules M.Error.output M.facts M.first_at W.step self.old
+            searcher.now.settings (event_call event.now) result self.new }
         ensures kept { OnOk result (KeepsNoMore self.new) }
     {
         let before = self.format;
@@ -561,7 +556,8 @@ impl<'s, F: Format, M: FindAt, W: Output> Sink for PrinterSink<'s, F, M, W> {
         self.print(searcher, &Event::Begin)
     }
 
-    /// Prints a match. Its parts are looked for in the buffer that it is a range of.
+    /// Prints a match. In a search across lines its parts are looked for in the buffer that it is a
+    /// range of, so that what is around the match counts.
     fn matched<A: Allocator + Copy>(
         &mut self,
         searcher: &Searcher<A>,
@@ -570,9 +566,6 @@ impl<'s, F: Format, M: FindAt, W: Output> Sink for PrinterSink<'s, F, M, W> {
         requires fits { found.now.offset + length (match_bytes found.now) < 2 ^ 64 }
         ensures step { PrintsCall F.rules M.Error.output M.facts M.first_at W.step self.old
             searcher.now.settings (match_call found.now) result self.new }
-        ensures shown { PrintsShown F.rules M.Error.output M.facts M.first_at W.step
-            (λ around. around ≡ around_match found.now) self.old searcher.now.settings
-            (match_call found.now) result self.new }
         ensures kept { OnOk result (KeepsNoMore self.new) }
         ensures may_call { Unit {0} }
     {

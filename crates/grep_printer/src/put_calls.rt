@@ -10,8 +10,8 @@ ghost use Rattle.grep_printer.specs.CallParts.{has_match};
 ghost use Rattle.grep_printer.specs.Formats.{is_text};
 ghost use Rattle.grep_printer.specs.MatchedParts.{AreInOrder};
 ghost use Rattle.grep_printer.specs.PrinterSteps.{HasFound, IsAsBefore, IsPushed, IsSameSink};
-ghost use Rattle.grep_printer.specs.PrinterSteps.{KeepsNoMore, PrintsShown};
-ghost use Rattle.grep_printer.specs.Reports.{FitsEvent, IsAround, IsShownEvent, event_call};
+ghost use Rattle.grep_printer.specs.PrinterSteps.{KeepsNoMore, PrintsCall};
+ghost use Rattle.grep_printer.specs.Reports.{FitsEvent, IsShownEvent, event_call};
 ghost use Rattle.grep_printer.specs.Reports.{printed_event};
 
 use crate::format::{Event, Format};
@@ -32,16 +32,15 @@ impl<'s, F: Format, M: FindAt, W: Output> PrinterSink<'s, F, M, W> {
     ) -> Result<bool, SearchError>
         requires fits { FitsEvent event.now }
         requires shown { IsShownEvent event.now }
-        requires found { HasFound F.rules (IsAround event.now) M.facts M.first_at
+        requires found { HasFound F.rules M.facts M.first_at
             self.old searcher.now.settings self.old.format
             (printed_event event.now self.old.printer.now.parts.items) }
         requires ordered { AreInOrder 0 (length (reported_bytes (event_call event.now)))
             self.old.printer.now.parts.items }
         requires asked { (has_match searcher.now.settings (event_call event.now)
             && F.rules.asks self.old.format (event_call event.now)) ≡ true }
-        ensures shown { PrintsShown F.rules M.Error.output M.facts M.first_at W.step
-            (IsAround event.now) self.old searcher.now.settings (event_call event.now) result
-            self.new }
+        ensures step { PrintsCall F.rules M.Error.output M.facts M.first_at W.step self.old
+            searcher.now.settings (event_call event.now) result self.new }
         ensures kept { OnOk result (KeepsNoMore self.new) }
     {
         if let Some(printed) = self.put_in_pieces(searcher, event) {
@@ -61,14 +60,13 @@ impl<'s, F: Format, M: FindAt, W: Output> PrinterSink<'s, F, M, W> {
     ) -> Result<bool, SearchError>
         requires fits { FitsEvent event.now }
         requires shown { IsShownEvent event.now }
-        requires found { HasFound F.rules (IsAround event.now) M.facts M.first_at
+        requires found { HasFound F.rules M.facts M.first_at
             self.old searcher.now.settings self.old.format
             (printed_event event.now self.old.printer.now.parts.items) }
         requires ordered { AreInOrder 0 (length (reported_bytes (event_call event.now)))
             self.old.printer.now.parts.items }
-        ensures shown { PrintsShown F.rules M.Error.output M.facts M.first_at W.step
-            (IsAround event.now) self.old searcher.now.settings (event_call event.now) result
-            self.new }
+        ensures step { PrintsCall F.rules M.Error.output M.facts M.first_at W.step self.old
+            searcher.now.settings (event_call event.now) result self.new }
         ensures kept { OnOk result (KeepsNoMore self.new) }
     {
         let Some(goes_on) = self.push_call(searcher, event) else {
@@ -93,16 +91,16 @@ impl<'s, F: Format, M: FindAt, W: Output> PrinterSink<'s, F, M, W> {
     ) -> Option<Result<bool, SearchError>>
         requires fits { FitsEvent event.now }
         requires shown { IsShownEvent event.now }
-        requires found { HasFound F.rules (IsAround event.now) M.facts M.first_at
+        requires found { HasFound F.rules M.facts M.first_at
             self.old searcher.now.settings self.old.format
             (printed_event event.now self.old.printer.now.parts.items) }
         requires ordered { AreInOrder 0 (length (reported_bytes (event_call event.now)))
             self.old.printer.now.parts.items }
         requires asked { (has_match searcher.now.settings (event_call event.now)
             && F.rules.asks self.old.format (event_call event.now)) ≡ true }
-        ensures shown { IfSome result (λ printed. PrintsShown F.rules M.Error.output M.facts
-            M.first_at W.step (IsAround event.now) self.old searcher.now.settings
-            (event_call event.now) printed self.new) }
+        ensures step { IfSome result (λ printed. PrintsCall F.rules M.Error.output M.facts
+            M.first_at W.step self.old searcher.now.settings (event_call event.now) printed
+            self.new) }
         ensures kept { IfSome result (λ printed. OnOk printed (KeepsNoMore self.new)) }
         ensures unput { IfNone result (IsAsBefore self.old self.new) }
         ensures parts { IfNone result

@@ -5,7 +5,7 @@ ghost use Rattle.grep_printer.specs.MatchedParts.{AreInOrder};
 ghost use Rattle.grep_printer.specs.CallParts.{asked_bytes, asked_start};
 ghost use Rattle.grep_printer.specs.ReplacedTexts.{end_of_line, ended, replaced_bytes};
 ghost use Rattle.grep_printer.specs.ReplacedTexts.{replaced_parts, replacement_at};
-ghost use Rattle.grep_printer.specs.Reports.{IsShown, call_of, surroundings_of};
+ghost use Rattle.grep_printer.specs.Reports.{IsShown, call_of};
 
 use crate::report::Report;
 use grep_lines::without_terminator;
@@ -45,9 +45,9 @@ impl<'t, 'r, M: CapturesAt + Copy> Replacement<'t, 'r, M> {
         ensures template { result.template.now ≡ template.now }
         ensures matcher { result.matcher ≡ matcher }
         ensures asked { result.asked.now ≡ asked_bytes searcher.now.settings
-            (M.facts matcher).meaning (surroundings_of report.now) (call_of report.now) }
+            (M.facts matcher).meaning (call_of report.now) }
         ensures start { result.start ≡ asked_start searcher.now.settings
-            (M.facts matcher).meaning (surroundings_of report.now) (call_of report.now) }
+            (M.facts matcher).meaning (call_of report.now) }
         ensures end { result.end ≡ end_of_line searcher.now.settings (M.facts matcher).meaning }
     {
         if searcher.multi_line_with_matcher(&matcher) {

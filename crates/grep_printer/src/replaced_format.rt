@@ -4,7 +4,7 @@ ghost use Rattle.grep_output.specs.PendingTexts.{Adds, pending_bytes};
 ghost use Rattle.grep_printer.specs.MatchedParts.{AreInOrder};
 ghost use Rattle.grep_printer.specs.ReplacedTexts.{replaced_report};
 ghost use Rattle.grep_printer.specs.Reports.{FitsEvent, IsShown, IsShownEvent, call_of, event_call};
-ghost use Rattle.grep_printer.specs.Reports.{printed_event, surroundings_of};
+ghost use Rattle.grep_printer.specs.Reports.{printed_event};
 ghost use Rattle.grep_printer.specs.TextWriters.{PutsInPieces, had_memory};
 ghost use Rattle.grep_searcher.specs.Plans.{reported_bytes};
 
@@ -149,19 +149,19 @@ impl<'t, F: Format, M: CapturesAt + Copy> ReplacedFormat<'t, F, M> {
             (record { path = path.entry; settings = searcher.now.settings })
             (replaced_report self.old.template.now (M.groups_at self.old.matcher)
             searcher.now.settings (M.facts self.old.matcher).meaning
-            (surroundings_of report.now) (call_of report.now) parts.now)) }
+            (call_of report.now) parts.now)) }
         ensures next { text.new.has_failed ≡ false → self.new ≡ record self.old {
           format = F.rules.next self.old.format
               (record { path = path.entry; settings = searcher.now.settings })
               (replaced_report self.old.template.now (M.groups_at self.old.matcher)
               searcher.now.settings (M.facts self.old.matcher).meaning
-              (surroundings_of report.now) (call_of report.now) parts.now);
+              (call_of report.now) parts.now);
         } }
         ensures goes_on { text.new.has_failed ≡ false → result ≡ F.rules.goes_on self.old.format
             (record { path = path.entry; settings = searcher.now.settings })
             (replaced_report self.old.template.now (M.groups_at self.old.matcher)
             searcher.now.settings (M.facts self.old.matcher).meaning
-            (surroundings_of report.now) (call_of report.now) parts.now) }
+            (call_of report.now) parts.now) }
     {
         let replacement = Replacement::of_report(self.template, self.matcher, searcher, report);
         let replaced = match replacement.replace(text.allocator(), report.bytes, parts) {
@@ -193,19 +193,19 @@ impl<'t, F: Format, M: CapturesAt + Copy> ReplacedFormat<'t, F, M> {
             (record { path = path.entry; settings = searcher.now.settings })
             (replaced_report self.old.template.now (M.groups_at self.old.matcher)
             searcher.now.settings (M.facts self.old.matcher).meaning
-            (surroundings_of report.now) (call_of report.now) parts.now)) result out.new }
+            (call_of report.now) parts.now)) result out.new }
         ensures next { had_memory result ≡ true → self.new ≡ record self.old {
           format = F.rules.next self.old.format
               (record { path = path.entry; settings = searcher.now.settings })
               (replaced_report self.old.template.now (M.groups_at self.old.matcher)
               searcher.now.settings (M.facts self.old.matcher).meaning
-              (surroundings_of report.now) (call_of report.now) parts.now);
+              (call_of report.now) parts.now);
         } }
         ensures goes_on { IfOk result (λ goes. goes ≡ F.rules.goes_on self.old.format
             (record { path = path.entry; settings = searcher.now.settings })
             (replaced_report self.old.template.now (M.groups_at self.old.matcher)
             searcher.now.settings (M.facts self.old.matcher).meaning
-            (surroundings_of report.now) (call_of report.now) parts.now)) }
+            (call_of report.now) parts.now)) }
     {
         let replacement = Replacement::of_report(self.template, self.matcher, searcher, report);
         let replaced = match replacement.replace(out.pending.allocator(), report.bytes, parts) {

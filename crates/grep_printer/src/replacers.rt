@@ -2,8 +2,7 @@
 ghost use Rattle.std.specs.Prelude.{◌≡◌, ℕ, IfOk, List, Option};
 ghost use Rattle.std.specs.Option.{option_map};
 ghost use Rattle.grep_searcher.specs.Plans.{Call, Settings};
-ghost use Rattle.grep_printer.specs.Formats.{Surroundings};
-ghost use Rattle.grep_printer.specs.Reports.{IsShown, call_of, surroundings_of};
+ghost use Rattle.grep_printer.specs.Reports.{IsShown, call_of};
 
 use crate::replaced::Replacement;
 use crate::report::Report;
@@ -14,7 +13,7 @@ use std::alloc::{AllocError, Allocator, Global};
 /// What would replace the matches of a search, if something would.
 pub trait Replacer: Copy {
     /// What would replace the match at a position of a call's report, if something would.
-    ghost text_at: { Self → Settings → Surroundings → Call → ℕ → Option (List ℕ) };
+    ghost text_at: { Self → Settings → Call → ℕ → Option (List ℕ) };
 
     /// What would replace the match at a position of a report, if something would. An error is one
     /// of being out of memory.
@@ -27,8 +26,7 @@ pub trait Replacer: Copy {
     ) -> Result<Option<Vec<u8>>, AllocError>
         requires { IsShown report.now }
         ensures { IfOk result (λ text. option_map (λ bytes. bytes.items) text
-            ≡ text_at self.now searcher.now.settings (surroundings_of report.now)
-            (call_of report.now) position) };
+            ≡ text_at self.now searcher.now.settings (call_of report.now) position) };
 }
 
 /// No match is replaced.

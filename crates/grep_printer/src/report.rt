@@ -3,10 +3,9 @@ ghost use Rattle.std.specs.Prelude.{◌≡◌, true, IfOk};
 ghost use Rattle.grep_report.specs.SinkReports.{match_bytes};
 ghost use Rattle.grep_searcher.specs.Plans.{finish_result};
 ghost use Rattle.grep_searcher.specs.SinkArguments.{context_call, match_call};
-ghost use Rattle.grep_printer.specs.Formats.{nothing_around};
 ghost use Rattle.grep_printer.specs.ReplacedTexts.{with_bytes};
 ghost use Rattle.grep_printer.specs.Reports.{IsShown, call_of, kind_has_match};
-ghost use Rattle.grep_printer.specs.Reports.{line_kind, surroundings_of, type_of};
+ghost use Rattle.grep_printer.specs.Reports.{line_kind, type_of};
 
 use crate::fields::LineKind;
 use grep_searcher::{SearchError, SinkContext, SinkContextKind, SinkMatch};
@@ -53,7 +52,7 @@ impl ReportKind {
 }
 
 // A report: what it is, the number of its first line, its offset, and its bytes. It also has the
-// bytes that are shown with it, and the position at which its own begin in these.
+// bytes that are shown with it, its buffer, and the positions at which its own begin in these.
 #[derive(Clone, Copy)]
 pub struct Report<'r> {
     pub(crate) kind: ReportKind,
@@ -62,32 +61,40 @@ pub struct Report<'r> {
     pub(crate) bytes: &'r [u8],
     pub(crate) shown: &'r [u8],
     pub(crate) start: usize,
+    pub(crate) buffer: &'r [u8],
+    pub(crate) buffer_start: usize,
 }
 
 impl<'r> Report<'r> {
-    // The report of a match.
+    // The report of a match. In a search across lines all that is searched is shown with it.
     pub(crate) fn of_match(found: &SinkMatch<'r>) -> Report<'r>
         ensures call { call_of result ≡ match_call found.now }
         ensures offset { result.offset ≡ found.now.offset }
         ensures bytes { result.bytes.now ≡ match_bytes found.now }
         ensures shown { IsShown result }
-        ensures buffer { result.shown.now ≡ found.now.buffer }
-        ensures start { result.start ≡ found.now.start }
     {
+        let (bytes, buffer) = (found.bytes(), found.buffer());
+        let buffer_start = found.bytes_range_in_buffer().start;
+        let (shown, start) = if found.is_whole() {
+            (buffer, buffer_start)
+        } else {
+            (bytes, 0)
+        };
         Report {
             kind: ReportKind::Match,
             number: found.line_number(),
             offset: found.absolute_byte_offset(),
-            bytes: found.bytes(),
-            shown: found.buffer(),
-            start: found.bytes_range_in_buffer().start,
+            bytes,
+            shown,
+            start,
+            buffer,
+            buffer_start,
         }
     }
 
     // The report with other bytes. Nothing else is shown with them.
     pub(crate) fn with_bytes<'b>(&self, bytes: &'b [u8]) -> Report<'b>
         ensures call { call_of result ≡ with_bytes (call_of self.now) bytes.now }
-        ensures surroundings { surroundings_of result ≡ nothing_around }
         ensures offset { result.offset ≡ self.now.offset }
         ensures bytes { result.bytes.now ≡ bytes.now }
         ensures shown { IsShown result }
@@ -99,6 +106,8 @@ impl<'r> Report<'r> {
             bytes,
             shown: bytes,
             start: 0,
+            buffer: bytes,
+            buffer_start: 0,
         }
     }
 
@@ -116,6 +125,8 @@ impl<'r> Report<'r> {
             bytes: line.bytes(),
             shown: line.bytes(),
             start: 0,
+            buffer: line.bytes(),
+            buffer_start: 0,
         }
     }
 }

@@ -18,8 +18,8 @@ pub trait SinkError<A: Allocator>: Sized {
     /// text is known; of an `io::Error`; and of a `ConfigError`.
     ghost makers: { ErrorMakers (Option (List ℕ)) Self };
 
-    /// The error of a message, such as a matcher's error. If there is no memory for its text, the
-    /// error is made without it.
+    /// The error of a message, such as a matcher's error. If there is no memory for its text, it is
+    /// one of being out of memory.
     fn error_message<T: Display + Drop>(alloc: A, message: T) -> Self
         ensures { makers.is_message (T.output message) result };
 
@@ -37,7 +37,7 @@ pub trait SinkError<A: Allocator>: Sized {
 /// functions.
 #[derive(Debug, Drop, ThisError)]
 pub enum SearchError<A: Allocator = Global> {
-    /// The text of a message, such as a matcher's error; empty if there was no memory for it.
+    /// The text of a message, such as a matcher's error.
     #[error("{0}")]
     Message(String<A>),
     /// A reader's or a writer's error, or one for a heap limit that was reached, or one for being
@@ -78,7 +78,7 @@ impl<A: Allocator + Copy> SinkError<A> for SearchError<A> {
     fn error_message<T: Display + Drop>(alloc: A, message: T) -> SearchError<A> {
         match message.to_string(alloc) {
             Ok(text) => SearchError::Message(text),
-            Err(_) => SearchError::Message(String::new(alloc)),
+            Err(error) => SearchError::from(error),
         }
     }
 
@@ -93,21 +93,21 @@ impl<A: Allocator + Copy> SinkError<A> for SearchError<A> {
 
 /// An `io::Error` is kept as it is. Of a message, and of a configuration that no search can run
 /// with, the error is of the kind `Other` and has the text; std shortens one of over 80 bytes, and
-/// ends it in three dots.
+/// ends it in three dots. It is of the kind `OutOfMemory` if there is no memory for the text, and of
+/// `ConfigError::Memory`.
 impl<A: Allocator + Copy> SinkError<A> for io::Error {
-    ghost use Rattle.std.specs.IoError.{error_kind};
-    ghost use Rattle.std.specs.declared.io.ErrorKind.TheVariants.{Other};
+    ghost use Rattle.grep_report.specs.SearchErrors.{HasText, IsConfigError};
 
     ghost makers = { record {
-      is_message = λ _ e. error_kind e ≡ Other;
+      is_message = λ _ e. HasText e;
       is_io = λ error e. e ≡ error;
-      is_config = λ _ e. error_kind e ≡ Other;
+      is_config = IsConfigError;
     } };
 
     fn error_message<T: Display + Drop>(alloc: A, message: T) -> io::Error {
         match message.to_string(alloc) {
             Ok(text) => io::Error::other(text.as_str()),
-            Err(_) => io::Error::from(io::ErrorKind::Other),
+            Err(error) => io::Error::from(error),
         }
     }
 
@@ -116,7 +116,10 @@ impl<A: Allocator + Copy> SinkError<A> for io::Error {
     }
 
     fn error_config(alloc: A, error: ConfigError) -> io::Error {
-        <io::Error as SinkError<A>>::error_message(alloc, error)
+        match error {
+            ConfigError::Memory => io::Error::from(io::ErrorKind::OutOfMemory),
+            fault => <io::Error as SinkError<A>>::error_message(alloc, fault),
+        }
     }
 }
 

@@ -1,5 +1,5 @@
 //! A reported match.
-ghost use Rattle.std.specs.Prelude.{◌≡◌, ◌≤◌, length};
+ghost use Rattle.std.specs.Prelude.{◌≡◌, ◌≤◌, false, length, true};
 ghost use Rattle.grep_matcher.specs.Lines.{lines};
 ghost use Rattle.grep_report.specs.SinkReports.{match_bytes};
 
@@ -17,6 +17,7 @@ pub struct SinkMatch<'b> {
     buffer: &'b [u8],
     start: usize,
     end: usize,
+    is_whole: bool,
 }
 
 impl<'b> Model for SinkMatch<'b> {
@@ -32,6 +33,7 @@ impl<'b> Model for SinkMatch<'b> {
       buffer = m.buffer.now;
       start = m.start;
       end = m.end;
+      whole = m.is_whole;
     } };
 
     ghost invariant = { λ m. (m.start ≤ m.end) × (m.end ≤ length m.buffer.now) };
@@ -51,6 +53,7 @@ impl<'b> Clone for SinkMatch<'b> {
             buffer: self.buffer,
             start: self.start,
             end: self.end,
+            is_whole: self.is_whole,
         })
     }
 }
@@ -79,6 +82,7 @@ impl<'b> SinkMatch<'b> {
           buffer = buffer.now;
           start = range.start;
           end = range.end;
+          whole = false;
         } }
     {
         SinkMatch {
@@ -88,6 +92,40 @@ impl<'b> SinkMatch<'b> {
             buffer,
             start: range.start,
             end: range.end,
+            is_whole: false,
+        }
+    }
+
+    /// The report of a match in a search across lines, whose bytes are at `range` in `bytes`, which
+    /// are all that is searched. Otherwise it is as `new` makes it.
+    #[inline]
+    pub fn within(
+        terminator: u8,
+        line_number: Option<u64>,
+        absolute_byte_offset: u64,
+        bytes: &'b [u8],
+        range: Range<usize>,
+    ) -> SinkMatch<'b>
+        requires ordered { range.start ≤ range.end }
+        requires within { range.end ≤ length bytes.now }
+        ensures { result ≡ record {
+          terminator = terminator;
+          line_number = line_number;
+          offset = absolute_byte_offset;
+          buffer = bytes.now;
+          start = range.start;
+          end = range.end;
+          whole = true;
+        } }
+    {
+        SinkMatch {
+            terminator,
+            line_number,
+            absolute_byte_offset,
+            buffer: bytes,
+            start: range.start,
+            end: range.end,
+            is_whole: true,
         }
     }
 
@@ -125,9 +163,10 @@ impl<'b> SinkMatch<'b> {
         self.line_number
     }
 
-    /// The buffer that the match is a range of. In a search's report this is all the bytes that the
-    /// searcher has at hand: in a search of a slice, the whole slice. A caller can rely only on
-    /// `bytes_range_in_buffer`, where the match is.
+    /// The buffer that the match is a range of. In a search across lines it is all that is searched:
+    /// the decoded input, up to a binary byte that ends the search. In a search by line it is what
+    /// the searcher has at hand, which depends on how the input came; `is_whole` is false then, and
+    /// a caller can rely only on `bytes_range_in_buffer`, where the match is.
     #[inline]
     pub fn buffer(&self) -> &'b [u8]
         ensures { result.now ≡ self.now.buffer }
@@ -144,5 +183,13 @@ impl<'b> SinkMatch<'b> {
         ensures within { result.end ≤ length self.now.buffer }
     {
         self.start..self.end
+    }
+
+    /// Whether the buffer is all that is searched, as it is in a search across lines.
+    #[inline]
+    pub fn is_whole(&self) -> bool
+        ensures { result ≡ self.now.whole }
+    {
+        self.is_whole
     }
 }

@@ -121,7 +121,7 @@ module _ {H : Type 0} (goes : H → Call → Bool) (next : H → Call → H) whe
           → ending_call goes next old (if is_match call then call ∷ match_calls later
           else match_calls later) ≡ ending_call goes next between (match_calls later)
       go begins h = ap (λ s. ending_call goes next s (match_calls later)) (sym h.1)
-      go (matches number offset bytes) h =
+      go (matches number offset bytes around) h =
           rw (sym h.0) (ap (λ s. ending_call goes next s (match_calls later)) (sym h.1))
       go (context kind number offset bytes) h =
           ap (λ s. ending_call goes next s (match_calls later)) (sym h.1)
@@ -141,7 +141,7 @@ module _ {H : Type 0} (goes : H → Call → Bool) (next : H → Call → H) whe
           × (ending_call goes next old (if is_match call then call ∷ match_calls later
           else match_calls later) ≡ Some call)
       go begins h = absurd (false≢true h.0)
-      go (matches number offset bytes) h = (refl, rw (sym h.0) refl)
+      go (matches number offset bytes around) h = (refl, rw (sym h.0) refl)
       go (context kind number offset bytes) h = absurd (false≢true h.0)
       go breaks h = absurd (false≢true h.0)
       go (binary_data offset) h = absurd (false≢true h.0)

@@ -14,6 +14,7 @@ use Rattle.grep_searcher.proofs.SinkFoldLemmas.{runs-take_matches}
 use Rattle.grep_matcher.specs.Meanings.{Meaning}
 use Rattle.grep_searcher.specs.ClosureSinks.{IsClosureStep, IsCalledAt, ClosureSteps}
 use Rattle.grep_searcher.specs.ClosureSinks.{ClosuresAreCalled, KeepsCalls, ClosuresKeep}
+use Rattle.grep_report.specs.SinkReports.{no_surroundings}
 
 module _ {F : Type 0} (call : F → ℕ → Bor (List ℕ) → Result Bool Error → F → Type 0)
     (is_text : List ℕ → Result (List ℕ) Error → Type 0) where
@@ -21,10 +22,10 @@ module _ {F : Type 0} (call : F → ℕ → Bor (List ℕ) → Result Bool Error
   closure-takes : (old : F) (made : Call) (b : Bool) (new : F) → IsClosureStep call is_text old made
       (Ok b) new → IsTakenOk (IsCalledAt call is_text) old made b new
   closure-takes old begins b new (is, same) = (cc, same)
-  closure-takes old (matches number offset bytes) b new (inl (e, refused, is, same)) = absurd (cc)
-  closure-takes old (matches None offset bytes) b new (inr (text, texts, (e, other, is, same))) =
+  closure-takes old (matches number offset bytes around) b new (inl (e, refused, is, same)) = absurd (cc)
+  closure-takes old (matches None offset bytes around) b new (inr (text, texts, (e, other, is, same))) =
       absurd (cc)
-  closure-takes old (matches (Some number) offset bytes) b new (inr called) = called
+  closure-takes old (matches (Some number) offset bytes around) b new (inr called) = called
   closure-takes old (context kind number offset bytes) b new (is, same) = (cc, same)
   closure-takes old breaks b new (is, same) = (cc, same)
   closure-takes old (binary_data offset) b new (is, same) = (cc, same)
@@ -53,7 +54,7 @@ module _ {F : Type 0} (call : F → ℕ → Bor (List ℕ) → Result Bool Error
       where
         go : (has_numbers : Bool) → IsCalledAt call is_text old
             (matches (if has_numbers then Some (i + 1) else None) (start settings bytes i)
-            (line settings bytes i)) b new
+            (line settings bytes i) no_surroundings) b new
             → (b ≡ true) × (name new ≡ name old) × (kept new ≡ kept old
             ++ (i + 1, text_of (line settings bytes i)) ∷ [])
         go true (text, is, (passed, same, called)) =

@@ -24,7 +24,7 @@ module _ {F : Type 0} (call : F → Bor MatchReport → Result Bool Error → F 
   lent-takes : (old : F) (made : Call) (b : Bool) (new : F) → IsLentStep call old made (Ok b) new
       → IsTakenOk (IsLentAt call) old made b new
   lent-takes old begins b new (is, same) = (cc, same)
-  lent-takes old (matches number offset bytes) b new lent = lent
+  lent-takes old (matches number offset bytes around) b new lent = lent
   lent-takes old (context kind number offset bytes) b new (is, same) = (cc, same)
   lent-takes old breaks b new (is, same) = (cc, same)
   lent-takes old (binary_data offset) b new (is, same) = (cc, same)
@@ -38,7 +38,7 @@ module _ {F : Type 0} (call : F → Bor MatchReport → Result Bool Error → F 
   lent-failed : (old : F) (made : Call) (e : Error) (new : F) → IsLentStep call old made (Err e) new
       → IsLent call old made (Err e) new
   lent-failed old begins e new (is, same) = absurd (cc)
-  lent-failed old (matches number offset bytes) e new lent = lent
+  lent-failed old (matches number offset bytes around) e new lent = lent
   lent-failed old (context kind number offset bytes) e new (is, same) = absurd (cc)
   lent-failed old breaks e new (is, same) = absurd (cc)
   lent-failed old (binary_data offset) e new (is, same) = absurd (cc)

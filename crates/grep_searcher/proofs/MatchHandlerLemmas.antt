@@ -38,8 +38,8 @@ module _ {H E : Type 0} (goes : H → Call → Bool) (next : H → Call → H) (
   goes-on : ((old : H) (call : Call) → goes old call ≡ true) → (old : H) (call : Call) (b : Bool)
       (new : H) → IsMatchOk goes next old call b new → b ≡ true
   goes-on always old begins b new h = h.0
-  goes-on always old (matches number offset bytes) b new h = h.0
-      ∙ always old (matches number offset bytes)
+  goes-on always old (matches number offset bytes around) b new h = h.0
+      ∙ always old (matches number offset bytes around)
   goes-on always old (context kind number offset bytes) b new h = h.0
   goes-on always old breaks b new h = h.0
   goes-on always old (binary_data offset) b new h = h.0
@@ -84,11 +84,11 @@ module _ {H E : Type 0} (goes : H → Call → Bool) (next : H → Call → H) (
           → FailedAt old (if is_match call then call ∷ match_calls later else match_calls later) e
           new
       go begins h at = subst (λ s. FailedAt s (match_calls later) e new) h.1 at
-      go (matches number offset bytes) h at = record {
-        before = matches number offset bytes ∷ at.before;
+      go (matches number offset bytes around) h at = record {
+        before = matches number offset bytes around ∷ at.before;
         call = at.call;
         later = at.later;
-        all = ap (λ calls. matches number offset bytes ∷ calls) at.all;
+        all = ap (λ calls. matches number offset bytes around ∷ calls) at.all;
         failed = subst (λ s. fails (fold next s at.before) at.call e new) h.1 at.failed;
       }
       go (context kind number offset bytes) h at = subst (λ s. FailedAt s (match_calls later) e new)

@@ -46,7 +46,7 @@ module _ {F : Type 0} (call : F → SinkCall → Result Bool Error → F → Typ
   passed-failed : (old : F) (made : Call) (e : Error) (new : F)
       → IsPassedStep call old made (Err e) new → IsPassed call old made (Err e) new
   passed-failed old begins e new h = h
-  passed-failed old (matches number offset bytes) e new h = h
+  passed-failed old (matches number offset bytes around) e new h = h
   passed-failed old (context kind number offset bytes) e new h = h
   passed-failed old breaks e new h = h
   passed-failed old (binary_data offset) e new h = h
@@ -74,8 +74,8 @@ module _ {F : Type 0} (call : F → SinkCall → Result Bool Error → F → Typ
   passed-step : (old : F) (made : Call) (b : Bool) (new : F) → IsPassedStep call old made (Ok b) new
       → (b ≡ true) × Appended old made new
   passed-step old begins b new h = let one = passed-one old begins b new h in (one.0 refl, one.1)
-  passed-step old (matches number offset bytes) b new h =
-      let one = passed-one old (matches number offset bytes) b new h in (one.0 refl, one.1)
+  passed-step old (matches number offset bytes around) b new h =
+      let one = passed-one old (matches number offset bytes around) b new h in (one.0 refl, one.1)
   passed-step old (context kind number offset bytes) b new h =
       let one = passed-one old (context kind number offset bytes) b new h in (one.0 refl, one.1)
   passed-step old breaks b new h = let one = passed-one old breaks b new h in (one.0 refl, one.1)

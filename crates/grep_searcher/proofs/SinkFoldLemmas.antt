@@ -34,7 +34,7 @@ module _ {V : Type 0} (taken : V → Call → Bool → V → Type 0) where
   matched-step : (old : V) (call : Call) (b : Bool) (new : V) → is_match call ≡ true
       → IsTakenOk taken old call b new → taken old call b new
   matched-step old begins b new is h = cc
-  matched-step old (matches number offset line) b new is h = h
+  matched-step old (matches number offset line around) b new is h = h
   matched-step old (context kind number offset line) b new is h = cc
   matched-step old breaks b new is h = cc
   matched-step old (binary_data offset) b new is h = cc
@@ -43,7 +43,7 @@ module _ {V : Type 0} (taken : V → Call → Bool → V → Type 0) where
   other-step : (old : V) (call : Call) (b : Bool) (new : V) → is_match call ≡ false
       → IsTakenOk taken old call b new → (b ≡ true) × (new ≡ old)
   other-step old begins b new is h = h
-  other-step old (matches number offset line) b new is h = cc
+  other-step old (matches number offset line around) b new is h = cc
   other-step old (context kind number offset line) b new is h = h
   other-step old breaks b new is h = h
   other-step old (binary_data offset) b new is h = h

@@ -22,7 +22,7 @@ use Rattle.grep_definitions.specs.Plans.{continues}
 use Rattle.grep_definitions.specs.SearchLaws.{is_match, is_matched, match_calls}
 use Rattle.grep_definitions.proofs.BelowLemmas.{first_below-before, first_below-here}
 use Rattle.grep_definitions.proofs.BelowLemmas.{first_below-none, first_below-nowhere}
-use Rattle.grep_definitions.proofs.BelowLemmas.{first_below-of, joined_from-equal, some_below-false}
+use Rattle.grep_definitions.proofs.BelowLemmas.{first_below-of, joined_from-equal, map-joined, some_below-false}
 use Rattle.grep_definitions.proofs.BelowLemmas.{some_below-none}
 use Rattle.grep_matcher.proofs.LineStartLemmas.{line_start-ascends, line_start-within}
 use Rattle.grep_definitions.proofs.MatchCallLemmas.{count_below-few, first-passing, length-passing}
@@ -32,21 +32,15 @@ use Rattle.grep_definitions.proofs.SearchLawLemmas.{reports_end-le}
 use Rattle.grep_searcher.specs.Units.{begins_unit, unit_bytes, unit_lines, unit_of}
 use Rattle.grep_searcher.specs.Units.{FirstMatchIsFirstUnit, MatchesAreUnits, MatchesAreWithinCount}
 use Rattle.grep_searcher.specs.Units.{UnitsAreCounted}
+use Rattle.grep_definitions.specs.Plans.{report_surroundings}
 
--- what is kept of joined lists, and what is made of them
+-- what is kept of joined lists
 filter-joined : {X : Type 0} (p : X → Bool) (f : ℕ → List X) (i n : ℕ)
     → filter p (joined_from f i n) ≡ joined_from (λ j. filter p (f j)) i n
 filter-joined p f i zero = refl
 filter-joined p f i (suc n) =
     filter-append p (f i) (joined_from f (i + 1) n) ∙ ap (λ xs. filter p (f i) ++ xs)
     (filter-joined p f (i + 1) n)
-
-map-joined : {X Y : Type 0} (g : X → Y) (f : ℕ → List X) (i n : ℕ)
-    → map g (joined_from f i n) ≡ joined_from (λ j. map g (f j)) i n
-map-joined g f i zero = refl
-map-joined g f i (suc n) =
-    map-append g (f i) (joined_from f (i + 1) n)
-    ∙ ap (λ xs. map g (f i) ++ xs) (map-joined g f (i + 1) n)
 
 -- the matches of joined calls
 matches-joined : (f : ℕ → List Planned) (i n : ℕ) → match_calls (joined_from f i n)
@@ -76,11 +70,11 @@ module _ (k : Settings) (meaning : Meaning) (bytes : List ℕ) where
       k.passthru
     where
       one : (later : Bool) (end : ℕ) → match_calls (if later then []
-          else planned (matches (number k bytes i) (start k bytes i) (unit_bytes k meaning bytes i))
-          end ∷ []) ≡ (if not later then unit_of k meaning bytes i ∷ [] else [])
+          else planned (matches (number k bytes i) (start k bytes i) (unit_bytes k meaning bytes i)
+          (report_surroundings k bytes touched i)) end ∷ []) ≡ (if not later then unit_of k meaning bytes i ∷ [] else [])
       one true end = refl
       one false end = ap (λ number. matches number (start k bytes i) (unit_bytes k meaning bytes i)
-          ∷ []) (number-line k bytes i inside)
+          (report_surroundings k bytes touched i) ∷ []) (number-line k bytes i inside)
 
       go : (a b c d : Bool) → match_calls (report k bytes touched i (if a then Some matched
           else (if b then Some (in_context After)

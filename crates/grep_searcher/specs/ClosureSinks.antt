@@ -7,6 +7,7 @@ use Rattle.std.specs.Str.{IsUtf8}
 use Rattle.std.specs.Str.Lossy.{utf8_lossy}
 use Rattle.std.specs.declared.io.Error.{Error}
 use Rattle.std.specs.declared.io.ErrorKind.TheVariants.{Other, OutOfMemory}
+use Rattle.grep_report.specs.SearchErrors.{HasText}
 use Rattle.grep_definitions.specs.Plans.{is_across, search_plan, Call, matches, Plan, Steps, IsRun}
 use Rattle.grep_definitions.specs.Plans.{line, Settings}
 use Rattle.grep_definitions.specs.SearchLaws.{match_calls, matched_lines}
@@ -23,7 +24,7 @@ IsWholeText bytes (Err e) = ⊥
 -- the bytes as they are, if they are UTF-8
 abbrev pub IsUtf8Text : List ℕ → Result (List ℕ) Error → Type 0
 IsUtf8Text bytes (Ok text) = (text ≡ bytes) × IsUtf8 bytes
-IsUtf8Text bytes (Err e) = (IsUtf8 bytes → ⊥) × (error_kind e ≡ Other)
+IsUtf8Text bytes (Err e) = (IsUtf8 bytes → ⊥) × HasText e
 
 -- the bytes with each part that isn't UTF-8 replaced, for which there may be no memory if there is
 -- one
@@ -51,7 +52,7 @@ module _ {F : Type 0} (call : F → ℕ → Bor (List ℕ) → Result Bool Error
   -- a match: there is no text for the closure, or it is called with the text; any other call passes
   -- it over
   abbrev pub IsClosureStep : F → Call → Result Bool Error → F → Type 0
-  IsClosureStep old (matches number offset bytes) result new =
+  IsClosureStep old (matches number offset bytes around) result new =
       IsRefusedBy (λ e. is_text bytes (Err e)) old result new
       ⊎ ((text : List ℕ) × is_text bytes (Ok text) × IsCalled number text old result new)
   IsClosureStep old _ result new = IsPassedOver old result new
@@ -59,7 +60,7 @@ module _ {F : Type 0} (call : F → ℕ → Bor (List ℕ) → Result Bool Error
   -- the closure is called at a match, with its number and its text, and returns whether the search
   -- goes on
   abbrev pub IsCalledAt : F → Call → Bool → F → Type 0
-  IsCalledAt old (matches (Some number) offset bytes) b new =
+  IsCalledAt old (matches (Some number) offset bytes around) b new =
       (text : List ℕ) × is_text bytes (Ok text) × IsCalled (Some number) text old (Ok b) new
   IsCalledAt old _ b new = ⊥
 

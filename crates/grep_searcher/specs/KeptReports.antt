@@ -11,7 +11,8 @@ use Rattle.grep_searcher.specs.declared.sinks.kept_lines.ReportKind.TheVariants.
 
 -- what is kept of a report, after its kind; nothing is kept of any other call
 abbrev pub kept_lines : Call → List (ReportKind × KeptReport)
-kept_lines (matches number offset bytes) = (Match, kept_of (matches number offset bytes)) ∷ []
+kept_lines (matches number offset bytes around) =
+    (Match, kept_of (matches number offset bytes around)) ∷ []
 kept_lines (context kind number offset bytes) =
     (Context kind, kept_of (context kind number offset bytes)) ∷ []
 kept_lines _ = []

@@ -18,8 +18,8 @@ module _ {F : Type 0} (call : F → Bor MatchReport → Result Bool Error → F 
 
   -- it is lent a match; any other call goes on and leaves it alone
   abbrev pub IsLentStep : F → Call → Result Bool Error → F → Type 0
-  IsLentStep old (matches number offset bytes) result new =
-      IsLent old (matches number offset bytes) result new
+  IsLentStep old (matches number offset bytes around) result new =
+      IsLent old (matches number offset bytes around) result new
   IsLentStep old _ result new = (result ≡ Ok true) × (new ≡ old)
 
   -- it is lent a match, and returns whether the search goes on

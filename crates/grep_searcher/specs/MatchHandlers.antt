@@ -64,7 +64,7 @@ pub record KeptReport : Type 0 where
 
 -- the number of the first line that a call reports
 abbrev pub reported_number : Call → Option ℕ
-reported_number (matches number offset bytes) = number
+reported_number (matches number offset bytes around) = number
 reported_number (context kind number offset bytes) = number
 reported_number _ = None
 

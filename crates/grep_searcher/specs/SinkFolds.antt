@@ -21,7 +21,8 @@ module _ {V : Type 0} (taken : V → Call → Bool → V → Type 0) where
   -- a call that succeeds, of a sink that takes matches alone: any other call goes on and leaves the
   -- state
   abbrev pub IsTakenOk : V → Call → Bool → V → Type 0
-  IsTakenOk old (matches number offset line) b new = taken old (matches number offset line) b new
+  IsTakenOk old (matches number offset line around) b new =
+      taken old (matches number offset line around) b new
   IsTakenOk old _ b new = (b ≡ true) × (new ≡ old)
 
   -- some matches are taken in order, up to the first after which the sink doesn't go on

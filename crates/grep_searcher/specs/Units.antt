@@ -6,6 +6,7 @@ use Rattle.grep_matcher.specs.Meanings.{Meaning}
 use Rattle.grep_definitions.specs.Plans.{is_across, search_plan, Call, matches, count_below}
 use Rattle.grep_definitions.specs.Plans.{first_below, joined_from, line_count, report_end, start}
 use Rattle.grep_definitions.specs.Plans.{is_touched_selected, touched_lines, Settings, continues}
+use Rattle.grep_report.specs.SinkReports.{surroundings}
 use Rattle.grep_definitions.specs.SearchLaws.{match_calls, number_of}
 
 module _ (settings : Settings) (meaning : Meaning) (bytes : List ℕ) where
@@ -19,15 +20,18 @@ module _ (settings : Settings) (meaning : Meaning) (bytes : List ℕ) where
   unit_lines =
       joined_from (λ i. if begins_unit i then i ∷ [] else []) 0 (line_count settings bytes)
 
-  -- the bytes of the unit that begins at line i
-  abbrev pub unit_bytes : ℕ → List ℕ
-  unit_bytes i =
-      slice_range bytes (start settings bytes i)
-      (start settings bytes (report_end settings bytes (touched_lines settings meaning bytes) i))
+  -- where the unit that begins at line i ends, and its bytes
+  abbrev pub unit_end : ℕ → ℕ
+  unit_end i =
+      start settings bytes (report_end settings bytes (touched_lines settings meaning bytes) i)
 
-  -- the call that reports it
+  abbrev pub unit_bytes : ℕ → List ℕ
+  unit_bytes i = slice_range bytes (start settings bytes i) (unit_end i)
+
+  -- the call that reports it, as a range of all bytes
   abbrev pub unit_of : ℕ → Call
   unit_of i = matches (number_of settings i) (start settings bytes i) (unit_bytes i)
+      (surroundings bytes (start settings bytes i) (unit_end i))
 
 -- across lines the matches that are reported are the units, in order
 abbrev pub MatchesAreUnits : Type 0

@@ -40,8 +40,9 @@ use std::{io, str};
 /// Calls a closure at each match, with its line number, counted from 1, and its lines as text.
 ///
 /// A match that isn't UTF-8 ends the search in an error of the kind `Other`, and so does one
-/// without a line number, if the searcher doesn't number lines; the closure isn't called then. The
-/// caller of the search ensures that the closure may always be called.
+/// without a line number, if the searcher doesn't number lines; the closure isn't called then. If
+/// there is no memory for the text of the first error, its kind is `OutOfMemory`. The caller of the
+/// search ensures that the closure may always be called.
 #[derive(Drop)]
 pub struct UTF8<F>(pub F);
 

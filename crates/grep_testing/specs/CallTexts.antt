@@ -38,7 +38,7 @@ kind_text Other = codes "other"
 -- a call
 abbrev pub call_text : Call → List ℕ
 call_text begins = codes "begin;"
-call_text (matches number offset bytes) = line_text (codes "match") number offset bytes
+call_text (matches number offset bytes around) = line_text (codes "match") number offset bytes
 call_text (context kind number offset bytes) = line_text (kind_text kind) number offset bytes
 call_text breaks = codes "break;"
 call_text (binary_data offset) = binary_text offset

@@ -22,6 +22,7 @@ use Rattle.grep_walk.proofs.AcrossUnitLemmas.{IsChosen}
 use Rattle.grep_lines.proofs.LineRangeLemmas.{comes-before}
 use Rattle.grep_walk.proofs.WalkLemmas.{Bare}
 use Rattle.grep_walk.proofs.WindowLemmas.{own-window}
+use Rattle.grep_report.specs.SinkReports.{surroundings}
 
 module _ (k : Settings) (meaning : Meaning) (bytes : List ℕ) where
   abbrev t : ℕ
@@ -46,7 +47,7 @@ module _ (k : Settings) (meaning : Meaning) (bytes : List ℕ) where
     pub front : calls_before k bytes (touched_lines k meaning bytes)
         (after_lines k w (slice_range bytes start end) chosen).next_unreported
         ≡ calls_before k bytes (touched_lines k meaning bytes) w.next_unreported
-        ++ line_calls k bytes w (slice_range bytes start end) chosen false
+        ++ line_calls k bytes w (slice_range bytes start end) (surroundings bytes start end) chosen false
     pub ready : IsAtUnit k meaning bytes end (after_lines k w (slice_range bytes start end) chosen)
         unit blocks
     pub offset : (after_lines k w (slice_range bytes start end) chosen).offset ≡ end

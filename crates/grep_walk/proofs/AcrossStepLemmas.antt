@@ -23,6 +23,7 @@ use Rattle.grep_walk.proofs.AcrossUnitLemmas.{IsChosen, IsNext, selected-inverte
 use Rattle.grep_lines.proofs.LineRangeLemmas.{lines-between}
 use Rattle.grep_walk.proofs.WalkLemmas.{Bare, ended-next, ended-start, placed-next, placed-start}
 use Rattle.grep_walk.proofs.WalkLemmas.{start-after, start_walk}
+use Rattle.grep_report.specs.SinkReports.{Surroundings, surroundings}
 
 -- one more number
 count-next : (p : ℕ → Bool) (i : ℕ) → count_below p (i + 1)
@@ -112,10 +113,10 @@ module _ {k : Settings} {meaning : Meaning} {bytes : List ℕ} {w : Walk} {p : �
       if nat_lt 0 w.after_context_left then context_calls After (number_of k w.line) offset end line
       else (if k.passthru then context_calls Other (number_of k w.line) offset end line else [])
 
-  abbrev unit-calls : ℕ → ℕ → List ℕ → List Planned
-  unit-calls offset end unit =
+  abbrev unit-calls : ℕ → ℕ → List ℕ → Surroundings → List Planned
+  unit-calls offset end unit around =
       pending_calls k bytes w.next_unreported w.line end w.next_unreported
-      (w.line - w.next_unreported) ++ selected_calls k w.next_unreported w.line offset end unit
+      (w.line - w.next_unreported) ++ selected_calls k w.next_unreported w.line offset end unit around
 
   at-start : IsLineStart (byte_of k.line_terminator) bytes p w.line
   at-start = subst (λ o. IsLineStart (byte_of k.line_terminator) bytes o w.line) same
@@ -162,7 +163,7 @@ module _ {k : Settings} {meaning : Meaning} {bytes : List ℕ} {w : Walk} {p : �
       w.line p q)
       (missed : is_touched_selected k meaning bytes w.line ≡ false) where
     pub front-missed : front (after_line k w (here q) false).next_unreported
-        ≡ front w.next_unreported ++ line_calls k bytes w (here q) false false
+        ≡ front w.next_unreported ++ line_calls k bytes w (here q) (surroundings bytes p q) false false
     front-missed =
         let own = slice_range bytes (starts w.line) (starts (w.line + 1)) in
         calls.front-missed k meaning bytes bare across.near line.listed missed
@@ -179,7 +180,7 @@ module _ {k : Settings} {meaning : Meaning} {bytes : List ℕ} {w : Walk} {p : �
       limited = λ inverted. limited-missed k meaning bytes inverted w.line w.match_count
           (across.limited inverted) missed;
       ended = subst (All (λ call. call.if_false.count ≤ line_end w (here q))) (sym front-missed)
-          (ended-next k bytes w (here q) false false (front w.next_unreported) across.ended);
+          (ended-next k bytes w (here q) (surroundings bytes p q) false false (front w.next_unreported) across.ended);
     }
 
   -- a chosen line, or a unit of them
@@ -215,16 +216,18 @@ module _ {k : Settings} {meaning : Meaning} {bytes : List ℕ} {w : Walk} {p : �
         go false is = ap walk-to count-chosen
 
     pub front-chosen : front (after_lines k w (here q) true).next_unreported
-        ≡ front w.next_unreported ++ line_calls k bytes w (here q) true false
+        ≡ front w.next_unreported ++ line_calls k bytes w (here q) (surroundings bytes p q) true false
     front-chosen =
         let own = slice_range bytes (starts w.line) (starts chosen.last) in
+        let around = surroundings bytes (starts w.line) (starts chosen.last) in
         ap (λ (next : Walk). front next.next_unreported) walk-is
         ∙ (calls.front-unit k meaning bytes chosen.last across.near
         chosen.some chosen.at.listed chosen.hits chosen.closed chosen.single chosen.first
         ∙ ap (λ calls. front w.next_unreported ++ calls)
-        (ap (λ e. unit-calls (starts w.line) e own) (chosen.at.begins ∙ sym unit-end)
-        ∙ (ap (λ o. unit-calls o (line_end w (here q)) own) across.placed.at.begins
-        ∙ ap₂ (λ a b. unit-calls w.offset (line_end w (here q)) (slice_range bytes a b))
+        (ap (λ e. unit-calls (starts w.line) e own around) (chosen.at.begins ∙ sym unit-end)
+        ∙ (ap (λ o. unit-calls o (line_end w (here q)) own around) across.placed.at.begins
+        ∙ ap₂ (λ a b. unit-calls w.offset (line_end w (here q)) (slice_range bytes a b)
+        (surroundings bytes a b))
         (across.placed.at.begins ∙ same) chosen.at.begins)))
 
     across-to : IsAcross k meaning bytes (walk-to chosen.last)
@@ -243,7 +246,7 @@ module _ {k : Settings} {meaning : Meaning} {bytes : List ℕ} {w : Walk} {p : �
           (chosen.room inverted) (chosen.hits w.line (omega arith) chosen.some));
       ended = subst (All (λ call. call.if_false.count ≤ line_end w (here q)))
           (sym (sym (ap (λ (next : Walk). front next.next_unreported) walk-is) ∙ front-chosen))
-          (ended-next k bytes w (here q) true false (front w.next_unreported) across.ended);
+          (ended-next k bytes w (here q) (surroundings bytes p q) true false (front w.next_unreported) across.ended);
     }
 
     pub across-chosen : IsAcross k meaning bytes (after_lines k w (here q) true)

@@ -31,6 +31,7 @@ use Rattle.grep_walk.specs.Windows.{HasSearched}
 use Rattle.grep_walk.proofs.BeforeContextLemmas.{pending-none}
 use Rattle.grep_walk.proofs.UncountedLemmas as uncounted
 use Rattle.grep_walk.proofs.WalkLemmas.{Bare, Comes}
+use Rattle.grep_report.specs.SinkReports.{no_surroundings}
 
 -- what a walk has of which each chosen line makes one call
 record IsAlone (k : Settings) (w : Walk) : Type 0 where
@@ -95,7 +96,7 @@ module _ {S E : Type 0} (step : Steps S E) (k : Settings) (meaning : Meaning)
 
   -- the call of a chosen line
   abbrev match_of_line : Walk → List ℕ → Planned
-  match_of_line w here = planned (matches (number_of k w.line) w.offset here) (line_end w here)
+  match_of_line w here = planned (matches (number_of k w.line) w.offset here no_surroundings) (line_end w here)
 
   -- that line is chosen
   module _ (w : Walk) (p q i : ℕ) (now : S) (so_far : Searched p w now) (alone : IsAlone k w)
@@ -117,13 +118,13 @@ module _ {S E : Type 0} (step : Steps S E) (k : Settings) (meaning : Meaning)
     goes_on : is_over k (after_line k w here true) true ≡ false
     goes_on = grind (arith, nat_tests, alone.unlimited)
 
-    one-call : line_calls k input w here true false ≡ match_of_line w here ∷ []
+    one-call : line_calls k input w here no_surroundings true false ≡ match_of_line w here ∷ []
     one-call =
         let unbroken : (nat_lt 0 k.after_context && breaks_near k w.next_unreported w.line w.line)
         ≡ false = ⊎_elim (λ same. grind (arith, nat_tests)) (λ bare. grind (arith, nat_tests, bare.1))
         alone.close in
         ap₂ (λ xs ys. xs ++ ys) (pending-silent k w alone input (line_end w here))
-        (ap (λ due. broken_calls due (matches (number_of k w.line) w.offset here) (line_end w here))
+        (ap (λ due. broken_calls due (matches (number_of k w.line) w.offset here no_surroundings) (line_end w here))
         unbroken)
 
     one-comes : (outcome : Outcome E) (new : S)
@@ -226,7 +227,7 @@ module _ {S E : Type 0} (step : Steps S E) (k : Settings) (meaning : Meaning)
           (later mid ((comes all_true mid (inl (
             mid,
             subst (λ number. step now k
-                (matches number w.offset here) (Ok true) mid) named goes,
+                (matches number w.offset here no_surroundings) (Ok true) mid) named goes,
             (refl, refl),
           ))).1 refl)
           outcome new made)
@@ -235,7 +236,7 @@ module _ {S E : Type 0} (step : Steps S E) (k : Settings) (meaning : Meaning)
           (sym is) (comes (stopped (counted (line_end w here))) new (inr (inl (
             refl,
             subst (λ number.
-                step now k (matches number w.offset here) (Ok false) new) named stops,
+                step now k (matches number w.offset here no_surroundings) (Ok false) new) named stops,
           ))) refl)
       go later outcome (inr (inr (e, is, fails))) =
           subst (λ o. LinesCome (Searched q (after_chosen k w (q - p) (suc n))) o new)
@@ -243,7 +244,7 @@ module _ {S E : Type 0} (step : Steps S E) (k : Settings) (meaning : Meaning)
             e,
             refl,
             subst (λ number.
-                step now k (matches number w.offset here) (Err e) new) named fails,
+                step now k (matches number w.offset here no_surroundings) (Err e) new) named fails,
           ))))
 
   -- the lines that are chosen at once

@@ -25,6 +25,7 @@ use Rattle.grep_lines.proofs.LineRangeLemmas.{line-from, start-same, starts-unti
 use Rattle.grep_walk.proofs.WalkLemmas.{Bare}
 use Rattle.grep_walk.proofs.WindowSearchLemmas.{asked-ahead, failed-matcher, line-comes}
 use Rattle.grep_walk.specs.Origins.{Origin}
+use Rattle.grep_report.specs.SinkReports.{no_surroundings}
 
 -- what a walk that passes lines which aren't chosen has
 pub record IsPassing (k : Settings) (w : Walk) : Type 0 where
@@ -102,7 +103,7 @@ module _ {S E : Type 0} (step : Steps S E) (k : Settings) (meaning : Meaning)
       none_left : nat_lt 0 w.after_context_left ≡ false
       none_left = grind (arith, nat_tests, passing.none_left)
 
-      silent : AreMade step k now (line_calls k input w here false false) all_true now
+      silent : AreMade step k now (line_calls k input w here no_surroundings false false) all_true now
       silent = rw (none_left, passing.selects) (refl, refl)
 
       room : has_room k w.match_count ≡ true

@@ -30,6 +30,7 @@ use Rattle.grep_walk.proofs.SkipLemmas.{known-later, known-line}
 use Rattle.grep_walk.proofs.WalkLemmas.{Bare, Comes, comes-on}
 use Rattle.grep_walk.specs.Origins.{Origin}
 use Rattle.grep_walk.proofs.WindowSearchLemmas as search
+use Rattle.grep_report.specs.SinkReports.{no_surroundings}
 
 -- what no search has that doesn't count lines
 record IsUncounted (k : Settings) : Type 0 where
@@ -69,32 +70,32 @@ module _ (k : Settings) (w : Walk) (line next_unreported : ℕ)
       (λ low. pending-none k input v i end low (omega arith)) (cases_lt i v)
 
   match-same : IsUncounted k → (end : ℕ) (here : List ℕ)
-      → selected_calls k next_unreported line w.offset end here
-      ≡ selected_calls k w.next_unreported w.line w.offset end here
+      → selected_calls k next_unreported line w.offset end here no_surroundings
+      ≡ selected_calls k w.next_unreported w.line w.offset end here no_surroundings
   match-same un end here = rw (un.none_after, un.unnumbered) refl
 
   -- the calls of a line are the ones of the recounted walk
   pub calls-same : (input here : List ℕ) (chosen trailing : Bool)
-      → line_calls k input w here chosen trailing
-      ≡ line_calls k input (with_counts w line next_unreported) here chosen trailing
+      → line_calls k input w here no_surroundings chosen trailing
+      ≡ line_calls k input (with_counts w line next_unreported) here no_surroundings chosen trailing
   calls-same input here chosen trailing = go (counts_lines k) refl
     where
       uncounted : IsUncounted k → (c t : Bool) (left : ℕ)
-          → line_calls k input (record w { after_context_left = left }) here c t
+          → line_calls k input (record w { after_context_left = left }) here no_surroundings c t
           ≡ line_calls k input (record w {
             line = line;
             next_unreported = next_unreported;
             after_context_left = left;
-          }) here c t
+          }) here no_surroundings c t
       uncounted un true t left = ap₂ (λ xs ys. xs ++ ys)
           (pending-silent un input w.next_unreported w.line (line_end w here)
           ∙ sym (pending-silent un input next_unreported line (line_end w here)))
           (sym (match-same un (line_end w here) here))
       uncounted un false t left = rw (un.none_after, un.unnumbered) refl
 
-      go : (b : Bool) → counts_lines k ≡ b → line_calls k input w here chosen trailing
-          ≡ line_calls k input (with_counts w line next_unreported) here chosen trailing
-      go true is = ap₂ (λ l v. line_calls k input (with_counts w l v) here chosen trailing)
+      go : (b : Bool) → counts_lines k ≡ b → line_calls k input w here no_surroundings chosen trailing
+          ≡ line_calls k input (with_counts w line next_unreported) here no_surroundings chosen trailing
+      go true is = ap₂ (λ l v. line_calls k input (with_counts w l v) here no_surroundings chosen trailing)
           (sym (counts is).0) (sym (counts is).1)
       go false is = uncounted (is_uncounted k is) chosen trailing w.after_context_left
 
@@ -157,7 +158,7 @@ pub line-comes : {S E : Type 0} {step : Steps S E} {k : Settings} {meaning : Mea
     → HasLine step k meaning gone window input first p q w now known → q ≤ length window
     → {chosen trailing : Bool} → IsDecided k meaning w (slice_range window p q) chosen trailing
     → (outcome : Outcome E) (new : S)
-    → AreMade step k now (line_calls k input w (slice_range window p q) chosen trailing) outcome new
+    → AreMade step k now (line_calls k input w (slice_range window p q) no_surroundings chosen trailing) outcome new
     → Comes k meaning input step first (line_end w (slice_range window p q))
     (is_over k (after_line k w (slice_range window p q) chosen) chosen)
     (HasSearched step k meaning gone window input first q

@@ -45,21 +45,22 @@ use Rattle.grep_walk.specs.Origins.{IsMadeToFrom, AreMadeFrom, Origin, fresh}
 use Rattle.grep_walk.specs.Walks.{IsDecided, IsPlaced, IsWalk, HasReported, can_hit, line_end}
 use Rattle.grep_walk.specs.Walks.{line_calls, after_line, is_over}
 use Rattle.grep_walk.proofs.OriginLemmas.{from-append, from-ended, from-fresh, fresh-made}
+use Rattle.grep_report.specs.SinkReports.{Surroundings, no_surroundings}
 
 -- if the counts of the calls so far are at most a walk's offset, those with the calls of its line
 -- are at most the line's end
 pub ended-next : (k : Settings) (window : List ℕ) (w : Walk) (line : List ℕ)
-    (chosen trailing : Bool) (made : List Planned)
+    (around : Surroundings) (chosen trailing : Bool) (made : List Planned)
     → All (λ call. call.if_false.count ≤ w.offset) made
     → All (λ call. call.if_false.count ≤ line_end w line)
-    (made ++ line_calls k window w line chosen trailing)
-ended-next k window w line chosen trailing made ended =
+    (made ++ line_calls k window w line around chosen trailing)
+ended-next k window w line around chosen trailing made ended =
     All-append (λ call. call.if_false.count ≤ line_end w line) made
-    (line_calls k window w line chosen trailing)
+    (line_calls k window w line around chosen trailing)
     (All-weaker (λ call. call.if_false.count ≤ w.offset) (λ call. call.if_false.count
     ≤ line_end w line) (λ call low. omega (arith, low)) made ended)
     (All-weaker E (λ call. call.if_false.count ≤ line_end w line) (λ call is. omega (arith, is))
-    (line_calls k window w line chosen trailing)
+    (line_calls k window w line around chosen trailing)
     (go chosen trailing (nat_lt 0 w.after_context_left) k.passthru))
   where
     E : Planned → Type 0
@@ -68,16 +69,16 @@ ended-next k window w line chosen trailing made ended =
     go : (b r a p : Bool) → All E (if b
         then pending_calls k window w.next_unreported w.line (line_end w line) w.next_unreported
         (w.line - w.next_unreported)
-        ++ selected_calls k w.next_unreported w.line w.offset (line_end w line) line
-        else (if a then after_calls k r w.next_unreported w.line w.offset (line_end w line) line
+        ++ selected_calls k w.next_unreported w.line w.offset (line_end w line) line around
+        else (if a then after_calls k r w.next_unreported w.line w.offset (line_end w line) line around
         else (if p then context_calls Other (number_of k w.line) w.offset (line_end w line) line
         else [])))
     go true r a p = All-append E _ _
         (ends-pending k window w.next_unreported w.line (line_end w line) w.next_unreported
         (w.line - w.next_unreported))
-        (ends-match k window w.next_unreported w.line (line_end w line) w.offset line)
+        (ends-match k window w.next_unreported w.line (line_end w line) w.offset line around)
     go false true true p = ends-match k window w.next_unreported w.line (line_end w line) w.offset
-        line
+        line around
     go false false true p = ends-one (context After (number_of k w.line) w.offset line)
         (line_end w line)
     go false r false true = ends-one (context Other (number_of k w.line) w.offset line)
@@ -201,7 +202,7 @@ module _ (k : Settings) (meaning : Meaning) (bytes : List ℕ) where
           j _ (line_end w here) _ low (omega arith) refl start-after refl)
 
       hit-is : is_selected k meaning bytes w.line ≡ true → T w.line
-          ≡ selected_calls k w.next_unreported w.line w.offset (line_end w here) here
+          ≡ selected_calls k w.next_unreported w.line w.offset (line_end w here) here no_surroundings
       hit-is hit = calls_at-hit k meaning bytes walk.near line.listed has hit
           w.offset (line_end w here) _ number-is start-is start-after line.line
 
@@ -209,7 +210,7 @@ module _ (k : Settings) (meaning : Meaning) (bytes : List ℕ) where
       pub front-step : (chosen trailing : Bool) → is_chosen k meaning bytes w.line ≡ chosen
           → (0 < w.after_context_left → is_trailing k meaning bytes w.line ≡ trailing)
           → front (after_line k w here chosen).next_unreported
-          ≡ front w.next_unreported ++ line_calls k bytes w here chosen trailing
+          ≡ front w.next_unreported ++ line_calls k bytes w here no_surroundings chosen trailing
       front-step true trailing is late =
           let hit = selected true is in
           let pending = pending_calls k bytes w.next_unreported w.line (line_end w here)
@@ -225,12 +226,12 @@ module _ (k : Settings) (meaning : Meaning) (bytes : List ℕ) where
 
           after_is : 0 < w.after_context_left
               → T w.line ≡ after_calls k trailing w.next_unreported w.line w.offset
-              (line_end w here) here
+              (line_end w here) here no_surroundings
           after_is some =
               calls_at-after k meaning bytes walk.near line.listed has
               w.offset (line_end w here) _ miss some number-is start-is start-after line.line
-              ∙ ap (λ r. after_calls k r w.next_unreported w.line w.offset (line_end w here) here)
-              (late some)
+              ∙ ap (λ r. after_calls k r w.next_unreported w.line w.offset (line_end w here) here
+              no_surroundings) (late some)
 
           other_is : w.after_context_left ≡ 0 → k.passthru ≡ true
               → T w.line ≡ context_calls Other (number_of k w.line) w.offset (line_end w here) here
@@ -267,7 +268,7 @@ module _ (k : Settings) (meaning : Meaning) (bytes : List ℕ) where
         opened = open-next chosen is goes;
         ended = subst (All (λ call. call.if_false.count ≤ line_end w here))
             (sym (front-step chosen trailing is late))
-            (ended-next k bytes w here chosen trailing (front w.next_unreported) walk.ended);
+            (ended-next k bytes w here no_surroundings chosen trailing (front w.next_unreported) walk.ended);
       }
 
       pub done-next : (chosen : Bool) → is_chosen k meaning bytes w.line ≡ chosen
@@ -388,13 +389,13 @@ module _ (k : Settings) (meaning : Meaning) (bytes : List ℕ) where
       few = grind (arith, has w same line bare so_far.walk, so_far.walk.near.low)
 
       pub line-comes : (outcome : Outcome E) (new : S)
-          → AreMade step k mid (line_calls k bytes w text chosen trailing) outcome new
+          → AreMade step k mid (line_calls k bytes w text no_surroundings chosen trailing) outcome new
           → Comes (line_end w text) (is_over k next chosen)
           (HasReported k meaning bytes step old next) outcome new
       line-comes outcome new made = go outcome (subst (λ ts. AreMadeFrom step k old ts outcome new)
           (sym (front-step w same line bare so_far.walk chosen trailing is late))
           (from-append step k old (front w.next_unreported)
-          (line_calls k bytes w text chosen trailing) mid outcome new so_far.reported made))
+          (line_calls k bytes w text no_surroundings chosen trailing) mid outcome new so_far.reported made))
         where
           go : (outcome : Outcome E) → AreMadeFrom step k old (front next.next_unreported) outcome
               new → Comes (line_end w text) (is_over k next chosen)

@@ -29,6 +29,7 @@ use Rattle.grep_lines.proofs.LineRangeLemmas.{line-at, end-start, start-same}
 use Rattle.grep_walk.proofs.WalkLemmas as walks
 use Rattle.grep_walk.proofs.WalkLemmas.{Bare, Comes, start_walk}
 use Rattle.grep_walk.proofs.WindowLemmas as windows
+use Rattle.grep_report.specs.SinkReports.{no_surroundings}
 
 -- a line leaves the counts of a walk in order
 pub ordered-next : (k : Settings) (w : Walk) (p q : ℕ) (window : List ℕ) (chosen : Bool) → p < q → q
@@ -189,7 +190,7 @@ module _ {S E : Type 0} {step : Steps S E} {k : Settings} {meaning : Meaning}
   -- what comes of its calls
   pub line-comes : Bare k meaning input → {chosen trailing : Bool}
       → IsDecided k meaning w here chosen trailing → (outcome : Outcome E) (new : S)
-      → AreMade step k now (line_calls k input w here chosen trailing) outcome new
+      → AreMade step k now (line_calls k input w here no_surroundings chosen trailing) outcome new
       → Comes k meaning input step first (line_end w here)
       (is_over k (after_line k w here chosen) chosen)
       (HasWalked step k meaning gone window input first q (after_line k w here chosen)) outcome new
@@ -197,7 +198,7 @@ module _ {S E : Type 0} {step : Steps S E} {k : Settings} {meaning : Meaning}
       walks.comes-on k meaning input step first (line_end w here)
       (is_over k (after_line k w here chosen) chosen) _ _ on
       outcome new (subst (λ xs. IsDecided k meaning w xs chosen trailing
-      → AreMade step k now (line_calls k input w xs chosen trailing) outcome new
+      → AreMade step k now (line_calls k input w xs no_surroundings chosen trailing) outcome new
       → Comes k meaning input step first (line_end w xs)
       (is_over k (after_line k w xs chosen) chosen)
       (HasReported k meaning input step first (after_line k w xs chosen)) outcome new)

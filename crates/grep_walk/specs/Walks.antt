@@ -5,6 +5,7 @@ use Rattle.std.specs.Prelude.{if◌then◌else◌, nat_lt, List, [], ◌++◌, l
 use Rattle.grep_matcher.specs.Lines.{byte_of, lines}
 use Rattle.grep_matcher.specs.Meanings.{Meaning}
 use Rattle.grep_lines.specs.Positions.{IsLineStart}
+use Rattle.grep_report.specs.SinkReports.{Surroundings}
 use Rattle.grep_report.specs.declared.sink_context.SinkContextKind.TheVariants.{Other}
 use Rattle.grep_definitions.specs.Plans.{calls_before, selected_lines, Settings, Planned, all_true}
 use Rattle.grep_definitions.specs.Plans.{Steps, has_room, hits_if, stops_next}
@@ -47,15 +48,17 @@ pub record IsDecided (settings : Settings) (meaning : Meaning) (w : Walk) (line 
 abbrev pub line_end : Walk → List ℕ → ℕ
 line_end w line = w.offset + length line
 
--- the calls of the line that a walk is at
-abbrev pub line_calls : Settings → List ℕ → Walk → List ℕ → Bool → Bool → List Planned
-line_calls settings window w line chosen trailing =
+-- the calls of the line that a walk is at, with what is around it if it is a match
+abbrev pub line_calls : Settings → List ℕ → Walk → List ℕ → Surroundings → Bool → Bool
+    → List Planned
+line_calls settings window w line around chosen trailing =
     if chosen
     then pending_calls settings window w.next_unreported w.line (line_end w line)
     w.next_unreported (w.line - w.next_unreported)
-    ++ selected_calls settings w.next_unreported w.line w.offset (line_end w line) line
+    ++ selected_calls settings w.next_unreported w.line w.offset (line_end w line) line around
     else (if nat_lt 0 w.after_context_left
     then after_calls settings trailing w.next_unreported w.line w.offset (line_end w line) line
+    around
     else (if settings.passthru
     then context_calls Other (number_of settings w.line) w.offset (line_end w line) line
     else []))

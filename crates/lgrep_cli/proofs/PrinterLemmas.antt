@@ -11,7 +11,7 @@ use Rattle.grep_output.specs.Outputs.{OutputCall, Writes}
 use Rattle.grep_output.specs.PendingTexts.{PutsAll, pending_bytes}
 use Rattle.grep_printer.proofs.BareRunLemmas.{AreBare, along, any-match, go-on, no-parts, settings-stay}
 use Rattle.grep_printer.specs.BareTexts.{is_bare}
-use Rattle.grep_printer.specs.CallParts.{Anything, has_match as matched}
+use Rattle.grep_printer.specs.CallParts.{has_match as matched}
 use Rattle.grep_printer.specs.Formats.{Printed, PrintedCall, Scene, printed_by}
 use Rattle.grep_printer.specs.PrintedSearches.{IsInputPrinted, PrintsCalls, PrintsPlan, of_matcher, of_plan}
 use Rattle.grep_printer.specs.PrinterSteps.{FailsAlongPlan, FailsBefore, HasFound, IsCutShort, PrintsAll, scene_of, text_of}
@@ -46,7 +46,7 @@ module _ {M W E : Type 0} (output : E → Option (List ℕ)) (facts : M → Matc
   scene = scene_of begun settings
 
   abbrev Found : StandardFormat → PrintedCall → Type 0
-  Found = HasFound standard_rules Anything facts first_at begun settings
+  Found = HasFound standard_rules facts first_at begun settings
 
   -- lines alone are written
   bare : is_bare begun.format.config scene ≡ true
@@ -125,7 +125,7 @@ module _ {M W E : Type 0} (output : E → Option (List ℕ)) (facts : M → Matc
         let never : true ≡ false = sym shown ∙ unbare in
         absurd cc
 
-    not-before : FailsBefore standard_rules output facts first_at write_step Anything mid settings fails.tried.call e
+    not-before : FailsBefore standard_rules output facts first_at write_step mid settings fails.tried.call e
         ended → ⊥
     not-before before = elim before.cause [
       | inl memory ↦ elim memory.1 [

@@ -19,5 +19,5 @@ json_text n offset line = compact_text (json_data n offset (utf8_lossy line))
 -- the line of a match: the number of its first line, or 0 if lines aren't numbered, its offset, and
 -- its text
 abbrev pub json_of : Call → List ℕ
-json_of (matches n offset line) = json_text (unwrap_or n 0) offset line ++ 10 ∷ []
+json_of (matches n offset line around) = json_text (unwrap_or n 0) offset line ++ 10 ∷ []
 json_of _ = []

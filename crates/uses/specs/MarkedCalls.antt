@@ -11,7 +11,7 @@ one_before = record default_settings { before_context = 1 }
 
 -- a match after `>`, a line near it after a space, a break as two dashes
 abbrev pub marked_text : Call → List ℕ
-marked_text (matches number offset line) = 62 ∷ line
+marked_text (matches number offset line around) = 62 ∷ line
 marked_text (context kind number offset line) = 32 ∷ line
 marked_text breaks = codes "--\n"
 marked_text _ = []

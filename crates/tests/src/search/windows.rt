@@ -1,7 +1,10 @@
 //! The window around a match.
-use crate::search::searches::{search_reader_for_a, search_slice_for_a};
-use grep_searcher::SinkMatch;
+use crate::search::searches::{
+    search_reader, search_reader_for_a, search_slice, search_slice_for_a,
+};
+use grep_matcher::LiteralMatcher;
 use grep_searcher::sinks::Matches;
+use grep_searcher::{SearcherBuilder, SinkError, SinkMatch};
 use grep_testing::Pieces;
 use std::alloc::Global;
 use std::io;
@@ -18,6 +21,37 @@ fn of_a_slice(alloc: Global) -> io::Result<u64> {
         Ok(true)
     });
     search_slice_for_a(alloc, INPUT, &mut sink)?;
+    Ok(whole)
+}
+
+// How many matches there are across lines whose window is the whole input, of a slice and of a
+// reader in threes.
+fn across_lines(alloc: Global) -> io::Result<u64> {
+    let mut searcher = match SearcherBuilder::new().multi_line(true).build(alloc) {
+        Ok(searcher) => searcher,
+        Err(error) => return Err(io::Error::error_config(alloc, error)),
+    };
+    let mut whole = 0u64;
+    let mut sink = Matches(|found: &SinkMatch<'_>| {
+        if found.is_whole() && found.buffer() == INPUT {
+            whole = whole.saturating_add(1);
+        }
+        Ok(true)
+    });
+    let literal = b"a\nx";
+    search_slice(
+        &mut searcher,
+        LiteralMatcher::borrowed(literal),
+        INPUT,
+        &mut sink,
+    )?;
+    let mut reader = Pieces::new(INPUT, 3, None);
+    search_reader(
+        &mut searcher,
+        LiteralMatcher::borrowed(literal),
+        &mut reader,
+        &mut sink,
+    )?;
     Ok(whole)
 }
 
@@ -47,4 +81,9 @@ fn is_sound(found: &SinkMatch<'_>) -> bool {
 fn windows(rt: HostRuntime) {
     let is_whole = matches!(of_a_slice(rt.alloc()), Ok(2));
     assert!(rt; is_whole && matches!(of_a_reader(rt.alloc()), Ok(2)));
+}
+
+#[test]
+fn whole_windows(rt: HostRuntime) {
+    assert!(rt; matches!(across_lines(rt.alloc()), Ok(2)));
 }

@@ -30,7 +30,9 @@ fn has_lines(found: &SinkMatch<'_>) -> bool {
 #[test]
 fn matches(rt: HostRuntime) {
     let found = SinkMatch::new(b'\n', Some(4), 70, BUFFER, 3..8);
+    let whole = SinkMatch::within(b'\n', Some(4), 70, BUFFER, 3..8);
     assert!(rt; has_lines(&found) && matches!(found.clone(), Ok(copy) if has_match(&copy)));
+    assert!(rt; !found.is_whole() && whole.is_whole() && has_match(&whole));
 }
 
 // Whether a report of a line has these parts.
@@ -200,4 +202,6 @@ fn io_errors(rt: HostRuntime) {
                 UNAVAILABLE_TEXT
             )
     );
+    let memory = io::Error::error_config(alloc, ConfigError::Memory);
+    assert!(rt; memory.kind() == io::ErrorKind::OutOfMemory);
 }

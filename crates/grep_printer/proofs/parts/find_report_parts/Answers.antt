@@ -15,7 +15,7 @@ returns-then-multi_line_with_matcher-clause-parts g c =
     let across = sym c.multi_line_with_matcher.ensures ∙ c.if-multi_line_with_matcher.true in
     on_ok_weaker c.find_parts.result (λ found. found ∙ across-parts report.number report.offset report.bytes.now
     report.shown.now report.start c.args.searcher.now.settings (g.M.Matcher.facts c.args.matcher.now).meaning
-    (g.M.FindAt.first_at c.args.matcher.now) report.kind c.requires across)
+    (g.M.FindAt.first_at c.args.matcher.now) report.kind c.requires.shown across)
     c.find_parts.ensures.parts
 
 pub returns-then-multi_line_with_matcher-clause-error :
@@ -28,7 +28,7 @@ returns-then-multi_line_with_matcher-clause-error g c =
     (EachErrorIs g.M.Error.Display.output
     (λ e. IsOutOfMemory e ⊎ IsMatcherError g.M.Error.Display.output facts.fails bytes e)))
     (sym (across-asked report.number report.offset report.bytes.now report.shown.now report.start
-    c.args.searcher.now.settings facts.meaning (g.M.FindAt.first_at c.args.matcher.now) report.kind c.requires across))
+    c.args.searcher.now.settings facts.meaning (g.M.FindAt.first_at c.args.matcher.now) report.kind c.requires.shown across))
     c.find_parts.ensures.error
 
 pub returns-clause-parts : goal.returns-clause-parts
@@ -43,7 +43,7 @@ returns-clause-parts g c =
     subst (λ (line : List ℕ). c.find_parts-2.new.parts.items ≡ parts_in (first_from (first_at line) 0) (length line - 0)
     (length report.bytes.now)) line_is found
     ∙ line-parts report.number report.offset report.bytes.now report.shown.now report.start settings
-    (g.M.Matcher.facts c.args.matcher.now).meaning first_at report.kind c.requires by_line) c.find_parts-2.ensures.parts
+    (g.M.Matcher.facts c.args.matcher.now).meaning first_at report.kind c.requires.shown by_line) c.find_parts-2.ensures.parts
 
 pub returns-clause-error : goal.returns-clause-error
 returns-clause-error g c =
@@ -57,5 +57,5 @@ returns-clause-error g c =
     (EachErrorIs g.M.Error.Display.output
     (λ e. IsOutOfMemory e ⊎ IsMatcherError g.M.Error.Display.output facts.fails bytes e)))
     (line_is ∙ sym (line-asked report.number report.offset report.bytes.now report.shown.now report.start settings
-    facts.meaning (g.M.FindAt.first_at c.args.matcher.now) report.kind c.requires by_line))
+    facts.meaning (g.M.FindAt.first_at c.args.matcher.now) report.kind c.requires.shown by_line))
     c.find_parts-2.ensures.error

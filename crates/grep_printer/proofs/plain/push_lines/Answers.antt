@@ -7,12 +7,12 @@ use Rattle.grep_printer.proofs.plain.push_lines.Goals as goal
 pub returns-in-None : goal.returns-in-None
 returns-in-None c =
     let start = c.args.start in
-    let shown = c.args.shown.now in
-    let bytes = slice_range shown start c.args.end in
+    let buffer = c.args.buffer.now in
+    let bytes = slice_range buffer start c.args.end in
     let some : 0 < length bytes = omega (
       arith,
-      length-take (c.args.end - start) (drop start shown),
-      length-drop start shown,
+      length-take (c.args.end - start) (drop start buffer),
+      length-drop start buffer,
       c.requires.some,
       c.requires.within,
     ) in

@@ -7,13 +7,13 @@ pub returns-in-Ok-clause-called : goal.returns-in-Ok-clause-called
 returns-in-Ok-clause-called g c = λ stop.
     let w = c.args.walk.now in
     called-match _ _ w.next_unreported w.line w.offset stop
-    (slice_range c.args.window.now c.args.start c.args.end) _ _ _ (c.in-Ok.ensures.reported stop)
+    (slice_range c.args.window.now c.args.start c.args.end) _ _ _ _ (c.in-Ok.ensures.reported stop)
 
 pub returns-in-Err-clause-called : goal.returns-in-Err-clause-called
 returns-in-Err-clause-called g c = λ stop.
     let w = c.args.walk.now in
     called-match _ _ w.next_unreported w.line w.offset stop
-    (slice_range c.args.window.now c.args.start c.args.end) _ _ _ (c.in-Err.ensures.reported stop)
+    (slice_range c.args.window.now c.args.start c.args.end) _ _ _ _ (c.in-Err.ensures.reported stop)
 
 pub returns-in-Ok-sink_context-clause-called : goal.returns-in-Ok-sink_context-clause-called
 returns-in-Ok-sink_context-clause-called g c = λ stop. called-one _ _ _ stop _ _ _

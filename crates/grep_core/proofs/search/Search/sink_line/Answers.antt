@@ -7,6 +7,7 @@ use Rattle.grep_definitions.specs.SinkRuns.{outcome_of}
 use Rattle.grep_definitions.proofs.SinkRunLemmas.{AreMade-append, AreMade-ended}
 use Rattle.grep_walk.specs.Walks.{chooses, line_end}
 use Rattle.grep_definitions.proofs.CallOrderLemmas.{called-match, called-one, called-then}
+use Rattle.grep_core.specs.ReportedLines.{around_in}
 use Rattle.grep_core.proofs.search.Search.sink_line.Goals as goal
 
 pub returns-in_err-sink_before_context-clause-reported :
@@ -20,7 +21,8 @@ returns-in_err-sink_before_context-clause-reported g c =
     rw (p.1, p.2, chosen) (λ gone input inside. AreMade-ended g.C.SinkCalls.step c.args.self.now.config
     (pending_calls c.args.self.now.config input w.next_unreported w.line stop w.next_unreported
     (w.line - w.next_unreported))
-    (selected_calls c.args.self.now.config w.next_unreported w.line w.offset stop here)
+    (selected_calls c.args.self.now.config w.next_unreported w.line w.offset stop here
+    (around_in c.args.reach c.args.window.now c.args.start c.args.end))
     c.args.sink.now (failed c.in_err-sink_before_context.field-0.0)
     c.sink_before_context.new.sink (λ e. cc) (c.in_err-sink_before_context.ensures.reported gone
     input inside stop))
@@ -36,7 +38,8 @@ returns-then-not-branch-clause-reported g c =
     rw chosen (λ gone input inside. AreMade-ended g.C.SinkCalls.step c.args.self.now.config
     (pending_calls c.args.self.now.config input w.next_unreported w.line stop w.next_unreported
     (w.line - w.next_unreported))
-    (selected_calls c.args.self.now.config w.next_unreported w.line w.offset stop here)
+    (selected_calls c.args.self.now.config w.next_unreported w.line w.offset stop here
+    (around_in c.args.reach c.args.window.now c.args.start c.args.end))
     c.args.sink.now (stopped (counted stop))
     c.sink_before_context.new.sink (λ e. cc) (reported gone input inside stop))
 
@@ -77,7 +80,7 @@ returns-in-Ok-clause-called g c = λ stop.
     let goes : c.in_ok-sink_before_context.field-0 ≡ true = search rules in
     let first = rw goes at c.in_ok-sink_before_context.ensures.called in
     called-then _ _ _ _ _ _ (first stop) (called-match _ _ w.next_unreported w.line
-    w.offset stop (slice_range c.args.window.now c.args.start c.args.end) _ _
+    w.offset stop (slice_range c.args.window.now c.args.start c.args.end) _ _ _
     _ (c.in-Ok.ensures.reported stop))
 
 pub returns-in-Err-clause-called : goal.returns-in-Err-clause-called
@@ -86,7 +89,7 @@ returns-in-Err-clause-called g c = λ stop.
     let goes : c.in_ok-sink_before_context.field-0 ≡ true = search rules in
     let first = rw goes at c.in_ok-sink_before_context.ensures.called in
     called-then _ _ _ _ _ _ (first stop) (called-match _ _ w.next_unreported w.line
-    w.offset stop (slice_range c.args.window.now c.args.start c.args.end) _ _
+    w.offset stop (slice_range c.args.window.now c.args.start c.args.end) _ _ _
     _ (c.in-Err.ensures.reported stop))
 
 pub returns-in-Ok-sink_context-clause-called : goal.returns-in-Ok-sink_context-clause-called

@@ -20,8 +20,8 @@ returns-in-Ok-clause-reported g c =
     let gap = c.breaks_before_match-has_break.ensures in
     let goes : c.in_ok-sink_break.field-0 ≡ true = search rules in
     let reported = rw (goes, gap) at c.in_ok-sink_break.ensures.reported in
-    let number = c.number-number.ensures in
-    let step = rw (c.new-found.ensures, number) at c.in-Ok.ensures.step in
+    let found = c.found-found.ensures in
+    let step = rw (found.number, found.offset, found.bytes, found.around) at c.in-Ok.ensures.step in
     λ stop. AreMade-broken g.C.SinkCalls.step _ (nat_lt 0 c.args.self.now.config.after_context
     && breaks_near c.args.self.now.config w.next_unreported w.line w.line) _ stop
     c.args.sink.now _ _ _ (reported stop) step
@@ -32,8 +32,8 @@ returns-in-Err-clause-reported g c =
     let gap = c.breaks_before_match-has_break.ensures in
     let goes : c.in_ok-sink_break.field-0 ≡ true = search rules in
     let reported = rw (goes, gap) at c.in_ok-sink_break.ensures.reported in
-    let number = c.number-number.ensures in
-    let step = rw (c.new-found.ensures, number) at c.in-Err.ensures.step in
+    let found = c.found-found.ensures in
+    let step = rw (found.number, found.offset, found.bytes, found.around) at c.in-Err.ensures.step in
     λ stop. AreMade-broken g.C.SinkCalls.step _ (nat_lt 0 c.args.self.now.config.after_context
     && breaks_near c.args.self.now.config w.next_unreported w.line w.line) _ stop
     c.args.sink.now _ _ _ (reported stop) step

@@ -3,9 +3,9 @@ use Rattle.std.proofs.Common.{length-take, refl, rules, subst, ◌∙◌}
 use Rattle.std.specs.Prelude.{slice_range}
 use Rattle.grep_definitions.specs.Plans.{all_true, failed, matches}
 use Rattle.grep_definitions.specs.SearchLaws.{number_of}
-use Rattle.grep_definitions.specs.SinkArguments.{match_call}
 use Rattle.grep_lines.specs.Positions.{IsLine}
 use Rattle.grep_matcher.specs.Lines.{byte_of}
+use Rattle.grep_report.specs.SinkReports.{no_surroundings}
 use Rattle.grep_walk.specs.ChosenLines.{chosen_calls}
 use Rattle.grep_core.proofs.ReportedLineLemmas.{Completes, completes-end, completes-last, completes-next}
 use Rattle.grep_core.proofs.search.Search.sink_one_by_one.Given.{Over}
@@ -15,14 +15,11 @@ use Rattle.grep_core.proofs.search.Search.sink_one_by_one.Goals.{After-matched}
 -- the call of the line that the loop is at
 called : (g : Over) (c : After-matched g) → g.C.SinkCalls.step c.lines.sink c.args.self.now.config
     (matches (number_of c.args.self.now.config c.lines.walk.line) c.lines.walk.offset
-    (slice_range c.args.window.now c.lines.start (c.lines.start + c.in-Some.len)))
+    (slice_range c.args.window.now c.lines.start (c.lines.start + c.in-Some.len)) no_surroundings)
     c.matched.result c.matched.new.sink
-called g c = subst (λ call. g.C.SinkCalls.step c.lines.sink c.args.self.now.config call
-    c.matched.result c.matched.new.sink)
-    (ap match_call c.new-found.ensures
-    ∙ ap (λ number. matches number c.lines.walk.offset
-    (slice_range c.args.window.now c.lines.start (c.lines.start + c.in-Some.len)))
-    c.number-number.ensures) c.matched.ensures.step
+called g c =
+    let found = c.found-found.ensures in
+    rw (found.number, found.offset, found.bytes, found.around) at c.matched.ensures.step
 
 own : (g : Over) (c : After-matched g) → IsLine (byte_of c.args.self.now.config.line_terminator)
     (slice_range c.args.window.now c.lines.start c.args.end) 0 0 c.in-Some.len

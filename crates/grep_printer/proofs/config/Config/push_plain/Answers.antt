@@ -21,8 +21,8 @@ returns-in-Match c =
     let whole : writes_parts layout c.args.parts.now ≡ false = search rules in
     let report = c.args.report.now in
     let end_byte = byte_of c.args.terminator in
-    let lies = subst (λ kind. IsShownAs kind report.bytes.now report.shown.now report.start) c.in-Match.is
-    c.requires.shown in
+    let lies = subst (λ kind. IsShownAs kind report.bytes.now report.buffer.now report.buffer_start) c.in-Match.is
+    c.requires.shown.buffer in
     rw c.in-Match.is (subst (Adds c.args.text.now c.push_lines.new.text)
     (sym (match-plain layout report c.args.parts.now plain whole))
     (subst (λ (bytes : List ℕ). Adds c.args.text.now c.push_lines.new.text (plain_lines end_byte 58 report.number

@@ -1,7 +1,7 @@
 use Rattle.std.proofs.Common.{[], refl, rules}
 use Rattle.grep_output.proofs.OutputLemmas.{Writes-none}
 use Rattle.grep_printer.specs.Formats.{PrintedCall}
-use Rattle.grep_printer.specs.Reports.{event_call, event_surroundings}
+use Rattle.grep_printer.specs.Reports.{event_call}
 use Rattle.grep_printer.proofs.printer.PrinterSink.keep_call.Goals as goal
 
 pub returns-then-keeps_text-clause-kept : goal.returns-then-keeps_text-clause-kept
@@ -9,7 +9,6 @@ returns-then-keeps_text-clause-kept g c =
     let old = c.args.self.now in
     let printed : PrintedCall = record {
       call = event_call c.args.event.now;
-      around = event_surroundings c.args.event.now;
       parts = c.args.self.now.printer.now.parts.items;
     } in
     record {

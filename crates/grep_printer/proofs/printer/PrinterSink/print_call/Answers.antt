@@ -6,17 +6,16 @@ use Rattle.grep_printer.proofs.UnkeptLemmas.{none-if-empty}
 use Rattle.grep_printer.specs.BareTexts.{bare_text}
 use Rattle.grep_printer.specs.Formats.{PrintedCall}
 use Rattle.grep_printer.specs.PrinterSteps.{scene_of}
-use Rattle.grep_printer.specs.Reports.{event_call, event_surroundings}
+use Rattle.grep_printer.specs.Reports.{event_call}
 use Rattle.grep_printer.proofs.printer.PrinterSink.print_call.Goals as goal
 
-pub returns-in-Err-clause-shown : goal.returns-in-Err-clause-shown
-returns-in-Err-clause-shown g c =
+pub returns-in-Err-clause-step : goal.returns-in-Err-clause-step
+returns-in-Err-clause-step g c =
     let settings = c.args.searcher.now.settings in
     let old = c.args.self.now in
     let call = event_call c.args.event.now in
     let printed : PrintedCall = record {
       call = call;
-      around = event_surroundings c.args.event.now;
       parts = c.args.self.now.printer.now.parts.items;
     } in
     let bare : c.is_bare.result ≡ true = search rules in

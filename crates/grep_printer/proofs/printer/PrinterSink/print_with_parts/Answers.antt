@@ -1,22 +1,22 @@
 use Rattle.grep_printer.proofs.UnprintedLemmas.{before-more, before-parts, printed-from}
-use Rattle.grep_printer.specs.Reports.{IsAround, event_call}
+use Rattle.grep_printer.specs.Reports.{event_call}
 use Rattle.grep_printer.proofs.printer.PrinterSink.print_with_parts.Goals as goal
 
-pub returns-then-len-gt-MANY_PARTS-clause-shown : goal.returns-then-len-gt-MANY_PARTS-clause-shown
-returns-then-len-gt-MANY_PARTS-clause-shown g c =
+pub returns-then-len-gt-MANY_PARTS-clause-step : goal.returns-then-len-gt-MANY_PARTS-clause-step
+returns-then-len-gt-MANY_PARTS-clause-step g c =
     let old = c.args.self.now in
     let mid = c.find_parts.new.self in
     printed-from g.F.Format.rules g.M.Error.Display.output g.M.Matcher.facts g.M.FindAt.first_at g.W.Output.step
-    (IsAround c.args.event.now) old mid (before-parts old mid c.find_parts.ensures.same) c.args.searcher.now.settings
-    (event_call c.args.event.now) c.put_call.result c.put_call.new.self c.put_call.ensures.shown
+    old mid (before-parts old mid c.find_parts.ensures.same) c.args.searcher.now.settings
+    (event_call c.args.event.now) c.put_call.result c.put_call.new.self c.put_call.ensures.step
 
-pub returns-clause-shown : goal.returns-clause-shown
-returns-clause-shown g c =
+pub returns-clause-step : goal.returns-clause-step
+returns-clause-step g c =
     let old = c.args.self.now in
     let mid = c.find_parts.new.self in
     let now = c.keep_call.new.self in
     printed-from g.F.Format.rules g.M.Error.Display.output g.M.Matcher.facts g.M.FindAt.first_at g.W.Output.step
-    (IsAround c.args.event.now) old now
+    old now
     (before-more old mid now (before-parts old mid c.find_parts.ensures.same) c.in_default-keep_call.ensures.unkept)
     c.args.searcher.now.settings (event_call c.args.event.now) c.print_call.result c.print_call.new.self
-    c.print_call.ensures.shown
+    c.print_call.ensures.step

@@ -13,7 +13,7 @@ returns-clause-text g c =
     c.of_report-replacement.ensures.template c.of_report-replacement.ensures.matcher
     c.of_report-replacement.ensures.asked c.of_report-replacement.ensures.start
     c.of_report-replacement.ensures.end c.with_bytes.ensures.call
-    c.with_bytes.ensures.surroundings (c.deref-2.ensures.value ∙ c.in-Ok.ensures.bytes)
+    (c.deref-2.ensures.value ∙ c.in-Ok.ensures.bytes)
     (c.deref-3.ensures.value ∙ c.in-Ok.ensures.parts) in
     subst (λ printed. Adds c.args.text.now c.push.new.text
     (g.F.Format.rules.text c.args.self.now.format scene printed)) made c.push.ensures.text
@@ -27,7 +27,7 @@ returns-clause-next g c ok =
     c.of_report-replacement.ensures.template c.of_report-replacement.ensures.matcher
     c.of_report-replacement.ensures.asked c.of_report-replacement.ensures.start
     c.of_report-replacement.ensures.end c.with_bytes.ensures.call
-    c.with_bytes.ensures.surroundings (c.deref-2.ensures.value ∙ c.in-Ok.ensures.bytes)
+    (c.deref-2.ensures.value ∙ c.in-Ok.ensures.bytes)
     (c.deref-3.ensures.value ∙ c.in-Ok.ensures.parts) in
     ap (λ f. record { format = f; matcher = c.args.self.now.matcher; template = c.args.self.now.template })
     (subst (λ printed. c.push.new.self ≡ g.F.Format.rules.next c.args.self.now.format scene printed) made
@@ -42,7 +42,7 @@ returns-clause-goes_on g c ok =
     c.of_report-replacement.ensures.template c.of_report-replacement.ensures.matcher
     c.of_report-replacement.ensures.asked c.of_report-replacement.ensures.start
     c.of_report-replacement.ensures.end c.with_bytes.ensures.call
-    c.with_bytes.ensures.surroundings (c.deref-2.ensures.value ∙ c.in-Ok.ensures.bytes)
+    (c.deref-2.ensures.value ∙ c.in-Ok.ensures.bytes)
     (c.deref-3.ensures.value ∙ c.in-Ok.ensures.parts) in
     subst (λ printed. c.push.result ≡ g.F.Format.rules.goes_on c.args.self.now.format scene printed) made
     (c.push.ensures.goes_on (ap (λ b. not b || g.F.Format.rules.is_bare c.args.self.now.format scene) ok))

@@ -24,7 +24,7 @@ returns-clause-put g c =
     c.of_report-replacement.ensures.template c.of_report-replacement.ensures.matcher
     c.of_report-replacement.ensures.asked c.of_report-replacement.ensures.start
     c.of_report-replacement.ensures.end c.with_bytes.ensures.call
-    c.with_bytes.ensures.surroundings (c.deref-2.ensures.value ∙ c.in-Ok.ensures.bytes)
+    (c.deref-2.ensures.value ∙ c.in-Ok.ensures.bytes)
     (c.deref-3.ensures.value ∙ c.in-Ok.ensures.parts) in
     subst (λ printed. PutsInPieces g.W.Output.step c.args.out.now
     (g.F.Format.rules.text c.args.self.now.format scene printed) c.put_report.result c.put_report.new.out) made
@@ -39,7 +39,7 @@ returns-clause-next g c had =
     c.of_report-replacement.ensures.template c.of_report-replacement.ensures.matcher
     c.of_report-replacement.ensures.asked c.of_report-replacement.ensures.start
     c.of_report-replacement.ensures.end c.with_bytes.ensures.call
-    c.with_bytes.ensures.surroundings (c.deref-2.ensures.value ∙ c.in-Ok.ensures.bytes)
+    (c.deref-2.ensures.value ∙ c.in-Ok.ensures.bytes)
     (c.deref-3.ensures.value ∙ c.in-Ok.ensures.parts) in
     ap (λ f. record { format = f; matcher = c.args.self.now.matcher; template = c.args.self.now.template })
     (subst (λ printed. c.put_report.new.format ≡ g.F.Format.rules.next c.args.self.now.format scene printed) made
@@ -54,7 +54,7 @@ returns-clause-goes_on g c =
     c.of_report-replacement.ensures.template c.of_report-replacement.ensures.matcher
     c.of_report-replacement.ensures.asked c.of_report-replacement.ensures.start
     c.of_report-replacement.ensures.end c.with_bytes.ensures.call
-    c.with_bytes.ensures.surroundings (c.deref-2.ensures.value ∙ c.in-Ok.ensures.bytes)
+    (c.deref-2.ensures.value ∙ c.in-Ok.ensures.bytes)
     (c.deref-3.ensures.value ∙ c.in-Ok.ensures.parts) in
     subst (λ printed. IfOk c.put_report.result
     (λ goes. goes ≡ g.F.Format.rules.goes_on c.args.self.now.format scene printed)) made c.put_report.ensures.goes_on

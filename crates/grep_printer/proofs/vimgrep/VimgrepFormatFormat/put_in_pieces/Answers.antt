@@ -3,7 +3,7 @@ use Rattle.std.specs.Prelude.{Bool, Err, false}
 use Rattle.grep_printer.proofs.TextWriterLemmas.{fails-alike}
 use Rattle.grep_printer.proofs.VimgrepLemmas.{shown-text}
 use Rattle.grep_printer.specs.Formats.{Scene}
-use Rattle.grep_printer.specs.Reports.{event_call}
+use Rattle.grep_printer.specs.Reports.{event_call, surroundings_of}
 use Rattle.grep_printer.specs.StandardTexts.{is_hidden}
 use Rattle.grep_printer.specs.TextWriters.{PutsInPieces, PutsText}
 use Rattle.grep_printer.specs.VimgrepTexts.{vimgrep_text}
@@ -19,7 +19,7 @@ returns-in-Ok-clause-put g c =
     ap (is_hidden lines.progress) (sym c.binary_detection.ensures) ∙ (sym c.is_hidden.ensures ∙ c.if-is_hidden.false) in
     rw c.in-Report.is (subst (λ text. PutsText g.W.Output.step c.args.out.now text c.put_part_lines.new.out)
     (sym (shown-text lines.config lines.progress scene c.layout-layout.result report.number report.offset
-    report.bytes.now report.kind c.args.parts.now c.layout-layout.ensures some shown)) c.in-Ok.ensures)
+    report.bytes.now (surroundings_of report) report.kind c.args.parts.now c.layout-layout.ensures some shown)) c.in-Ok.ensures)
 
 pub returns-in-Err-clause-put : goal.returns-in-Err-clause-put
 returns-in-Err-clause-put g c =
@@ -37,4 +37,4 @@ returns-in-Err-clause-put g c =
     (subst (λ text. PutsInPieces g.W.Output.step {T = Unit {0}} c.args.out.now text (Err c.in-Err.error)
     c.put_part_lines.new.out)
     (sym (shown-text lines.config lines.progress scene c.layout-layout.result report.number report.offset
-    report.bytes.now report.kind c.args.parts.now c.layout-layout.ensures some shown)) c.in-Err.ensures))
+    report.bytes.now (surroundings_of report) report.kind c.args.parts.now c.layout-layout.ensures some shown)) c.in-Err.ensures))
