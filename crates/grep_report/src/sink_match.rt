@@ -163,10 +163,10 @@ impl<'b> SinkMatch<'b> {
         self.line_number
     }
 
-    /// The buffer that the match is a range of. In a search across lines it is all that is searched:
-    /// the decoded input, up to a binary byte that ends the search. In a search by line it is what
-    /// the searcher has at hand, which depends on how the input came; `is_whole` is false then, and
-    /// a caller can rely only on `bytes_range_in_buffer`, where the match is.
+    /// The buffer that the match is a range of. In a search across lines it is all that is
+    /// searched: the whole decoded input. In a search by line it is what the searcher has at hand,
+    /// which depends on how the input came; `is_whole` is false then, and a caller can rely only on
+    /// `bytes_range_in_buffer`, where the match is.
     #[inline]
     pub fn buffer(&self) -> &'b [u8]
         ensures { result.now ≡ self.now.buffer }
