@@ -1,4 +1,5 @@
 pub mod CapitalLemmas
+pub mod ConfigLemmas
 pub mod DigitLemmas
 pub mod FolderLemmas
 pub mod OperandLemmas

@@ -1,6 +1,8 @@
 pub mod AcceptedOptions
 pub mod ColorLooks
 pub mod ColorOptions
+pub mod ConfigFiles
+pub mod ConfigWords
 pub mod CountedRuns
 pub mod EngineCalls
 pub mod EngineSteps

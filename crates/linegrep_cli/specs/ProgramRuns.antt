@@ -23,6 +23,7 @@ use Rattle.linegrep_options.specs.declared.option_id.OptionId.TheVariants.{Short
 use Rattle.linegrep_options.specs.declared.option_id.OptionId.TheVariants.{TypeList, Unrestricted}
 use Rattle.linegrep_options.specs.declared.option_id.OptionId.TheVariants.{Version}
 use Rattle.linegrep_options.specs.declared.uses.Use.{Use}
+use Rattle.linegrep_cli.specs.ConfigFiles.{AreWords}
 use Rattle.linegrep_cli.specs.NamedPatterns.{ArePatterns, LackPatterns}
 use Rattle.linegrep_cli.specs.OperandRuns.{is_input}
 use Rattle.linegrep_cli.specs.OperandTexts.{operand_texts}
@@ -157,19 +158,23 @@ module _ {F R W X : Type 0} (output : AllocError → Option (List ℕ))
         → IsOptionsRun options input writer errors status input' writer' errors'
         → IsParsedRun parsed streams input writer errors status input' writer' errors'
 
-  -- what the program does. If its arguments aren't a command line, it says so; otherwise it does
-  -- what they say, unless memory is out
-  pub data IsProgramRun (words : List (Vec ℕ Global)) (streams : Streams) (input : R) (writer : W)
-      (errors : X) : ℕ → R → W → X → Type 0 where
-    of_fault : {status : ℕ} {input' : R} {writer' : W} {errors' : X} (refusal : Refusal)
-        (failure : Failure) → reading_of (texts words) ≡ Refused refusal
-        → IsRefusal say_step input writer errors failure status input' writer' errors'
-        → IsProgramRun words streams input writer errors status input' writer' errors'
+  -- what the program does. Its words are those of the file of options and of the command line. If
+  -- they aren't a command line, it says so; otherwise it does what they say, unless memory is out.
+  -- `said` is standard error once it is known which words these are
+  pub data IsProgramRun (arguments : List (Vec ℕ Global)) (streams : Streams) (input : R)
+      (writer : W) (errors : X) : ℕ → R → W → X → Type 0 where
+    of_fault : {status : ℕ} {input' : R} {writer' : W} {errors' : X} (words : List (Vec ℕ Global))
+        (said : X) (refusal : Refusal) (failure : Failure)
+        → AreWords say_step folders arguments errors words said
+        → reading_of (texts words) ≡ Refused refusal
+        → IsRefusal say_step input writer said failure status input' writer' errors'
+        → IsProgramRun arguments streams input writer errors status input' writer' errors'
     no_memory : {status : ℕ} {input' : R} {writer' : W} {errors' : X} (failure : Failure)
         → has_cause failure ≡ false
         → IsRefusal say_step input writer errors failure status input' writer' errors'
-        → IsProgramRun words streams input writer errors status input' writer' errors'
-    of_parsed : {status : ℕ} {input' : R} {writer' : W} {errors' : X} (parsed : Parsed)
+        → IsProgramRun arguments streams input writer errors status input' writer' errors'
+    of_parsed : {status : ℕ} {input' : R} {writer' : W} {errors' : X} (words : List (Vec ℕ Global))
+        (said : X) (parsed : Parsed) → AreWords say_step folders arguments errors words said
         → AreRead words parsed
-        → IsParsedRun parsed streams input writer errors status input' writer' errors'
-        → IsProgramRun words streams input writer errors status input' writer' errors'
+        → IsParsedRun parsed streams input writer said status input' writer' errors'
+        → IsProgramRun arguments streams input writer errors status input' writer' errors'

@@ -152,8 +152,12 @@ In place of lines:
   -V, --version              Write the version
 
 Of options that exclude each other the last decides, and many are taken back by
---no- before their name. As with ripgrep, -j NUM, --mmap, --no-mmap and --no-config
-may be given: files are read one after another.
+--no- before their name. As with ripgrep, -j NUM, --mmap and --no-mmap may be
+given: files are read one after another.
+
+If the variable RIPGREP_CONFIG_PATH names a file, each of its lines is an argument
+before those of the command line, but for blank lines and those that begin with #.
+With --no-config that file isn't read.
 
 Globs have * (any characters of a name), ? (one), ** as a whole name (any
 folders), [a-z] and [!a-z] (one of some, or of all others) and {a,b} (either).

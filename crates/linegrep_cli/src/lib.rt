@@ -8,6 +8,8 @@
 mod clock;
 mod color_options;
 mod colors;
+mod config;
+mod config_words;
 mod counted_run;
 mod engine;
 mod failures;

@@ -4,6 +4,7 @@ ghost use Rattle.std.specs.Prelude.{string_bytes, true};
 ghost use Rattle.std.specs.List.{count_by};
 ghost use Rattle.linegrep_cli.specs.OperandRuns.{is_input};
 ghost use Rattle.grep_output.specs.PendingTexts.{Flushes};
+ghost use Rattle.linegrep_cli.specs.ConfigFiles.{IsConfig, SeeksConfig};
 ghost use Rattle.linegrep_cli.specs.NamedPatterns.{LackPatterns};
 ghost use Rattle.linegrep_cli.specs.ProgramRuns.{IsAnswered, IsOptionsRun, IsParsedRun};
 ghost use Rattle.linegrep_cli.specs.ProgramRuns.{IsProgramRun};
@@ -12,8 +13,11 @@ ghost use Rattle.linegrep_cli.specs.ProgramRuns.{searches_named_input, text_aske
 ghost use Rattle.linegrep_files.specs.Failures.{has_cause};
 ghost use Rattle.linegrep_cli.specs.OptionUses.{has};
 ghost use Rattle.linegrep_options.specs.OptionUses.{places_of, values_of};
+ghost use Rattle.linegrep_options.specs.ParsedWords.{AreRead};
 ghost use Rattle.std.specs.Option.{option_map};
 
+use crate::config::{Config, ConfigFile, read_config, skips_config, warn};
+use crate::config_words::all_words;
 use crate::failures::{Failure, output_failure};
 use crate::help::{long_text, short_text, version_text};
 use crate::lists::Lists;
@@ -50,7 +54,9 @@ pub struct Streams {
 
 /// Does what the arguments ask for. They are without the program's name, and need not be UTF-8.
 ///
-/// It searches the files at their paths and in their folders. If there are no paths, it searches
+/// If the environment of `system` names a file of options by `RIPGREP_CONFIG_PATH`, its arguments
+/// come before these, unless these have `--no-config` or ask for help or the version. It searches
+/// the files at the paths of the arguments and in their folders. If there are no paths, it searches
 /// what `input` gives, or the files of the current folder. It writes to `output` what is found, and
 /// says on `errors` what goes wrong. `system` is asked about the paths.
 ///
@@ -74,10 +80,84 @@ pub fn run<S: System, R: Source + Drop, W: Output + Drop, E: Output>(
         result.input result.output errors.new }
 {
     match parse(rt.alloc(), arguments) {
-        Ok(parsed) => run_parsed(rt, system, streams, &parsed, input, output, errors),
+        Ok(parsed) => run_command(
+            rt, system, streams, arguments, &parsed, input, output, errors,
+        ),
         Err(ParseError::Words(fault)) => {
             let failure = fault_failure(rt.alloc(), arguments, &fault);
             Ended::refused(errors, &failure, input, output)
+        }
+        Err(ParseError::Memory) => {
+            Ended::refused(errors, &Failure::out_of_memory(), input, output)
+        }
+    }
+}
+
+// Does what a command line asks for, with the file of options before it, if there is one.
+fn run_command<S: System, R: Source + Drop, W: Output + Drop, E: Output>(
+    rt: &HostRuntime,
+    system: &S,
+    streams: Streams,
+    arguments: &[Vec<u8>],
+    parsed: &Parsed<'_>,
+    input: R,
+    output: W,
+    errors: &mut E,
+) -> Ended<R, W>
+    requires { AreRead arguments.now parsed.now }
+    ensures { IsProgramRun ⟦<AllocError as Display>⟧.output W.step E.step S.File.remaining
+        R.remaining
+        R.step (S.facts system.now) (S.finds system.now) (S.opens system.now)
+        (S.identifies system.now) arguments.now streams input output errors.old result.status
+        result.input result.output errors.new }
+{
+    if skips_config(&parsed.uses) {
+        return run_parsed(rt, system, streams, parsed, input, output, errors);
+    }
+    match read_config(rt.alloc(), system) {
+        Ok(Config::Absent) => run_parsed(rt, system, streams, parsed, input, output, errors),
+        Ok(Config::Unreadable(text)) => {
+            warn(&parsed.uses, text.as_str(), errors);
+            run_parsed(rt, system, streams, parsed, input, output, errors)
+        }
+        Ok(Config::Present(file)) => {
+            run_with_file(rt, system, streams, &file, arguments, input, output, errors)
+        }
+        Err(_) => Ended::refused(errors, &Failure::out_of_memory(), input, output),
+    }
+}
+
+// Does what the arguments of a file of options ask for, and after them those of a command line.
+fn run_with_file<S: System, R: Source + Drop, W: Output + Drop, E: Output>(
+    rt: &HostRuntime,
+    system: &S,
+    streams: Streams,
+    file: &ConfigFile,
+    arguments: &[Vec<u8>],
+    input: R,
+    output: W,
+    errors: &mut E,
+) -> Ended<R, W>
+    requires command { SeeksConfig arguments.now }
+    requires file { IsConfig (S.facts system.now) (Config.Present file.now) }
+    ensures { IsProgramRun ⟦<AllocError as Display>⟧.output W.step E.step S.File.remaining
+        R.remaining
+        R.step (S.facts system.now) (S.finds system.now) (S.opens system.now)
+        (S.identifies system.now) arguments.now streams input output errors.old result.status
+        result.input result.output errors.new }
+{
+    let Ok(words) = all_words(rt.alloc(), &file.contents, arguments) else {
+        return Ended::refused(errors, &Failure::out_of_memory(), input, output);
+    };
+    match parse(rt.alloc(), &words) {
+        Ok(parsed) => run_parsed(rt, system, streams, &parsed, input, output, errors),
+        Err(ParseError::Words(fault)) => {
+            Ended::refused(
+                errors,
+                &file.failure(rt.alloc(), &words, &fault),
+                input,
+                output,
+            )
         }
         Err(ParseError::Memory) => {
             Ended::refused(errors, &Failure::out_of_memory(), input, output)

@@ -11,30 +11,61 @@ const USAGE: &str = "\nUsage: linegrep [OPTIONS] PATTERN [PATH ...]";
 
 const PATTERN_TIP: &str = "\nA pattern that begins with a hyphen goes after -e.";
 
+const VALUE_TIP: &str = "\nA value comes after =, or is the next argument.";
+
 // How alike a name has to be to one that is suggested, from 0 to 1.
 const ALIKE: f64 = 0.8;
 
 /// The failure that the arguments can't be used, and why, and how to get help.
 pub fn arguments_failure(alloc: Global, text: &str) -> Failure {
-    Failure::of_text(arguments_text(alloc, text, ""))
+    failure(alloc, arguments_text(alloc, text, ""))
 }
 
 /// The failure that the arguments have no pattern, and what they have to be.
 pub fn no_pattern_failure(alloc: Global) -> Failure {
-    Failure::of_text(arguments_text(alloc, "there is no pattern", USAGE))
+    failure(alloc, arguments_text(alloc, "there is no pattern", USAGE))
 }
 
 /// The failure that something is wrong with some words: which option it is about, and what may
 /// help.
 pub fn fault_failure(alloc: Global, words: &[Vec<u8>], fault: &Fault<'_>) -> Failure {
-    Failure::of_text(match fault {
+    failure(alloc, fault_text(alloc, words, fault))
+}
+
+/// The failure that something is wrong with a line of a file of options, by the path and the number
+/// of the line.
+pub fn line_failure(alloc: Global, path: &str, line: usize, fault: &Fault<'_>) -> Failure {
+    failure(alloc, line_text(alloc, path, line, fault))
+}
+
+// A failure that a text says.
+fn failure(alloc: Global, text: Result<String, AllocError>) -> Failure {
+    match text {
+        Ok(text) => Failure::new(alloc, &text),
+        Err(_) => Failure::out_of_memory(),
+    }
+}
+
+fn line_text(
+    alloc: Global,
+    path: &str,
+    line: usize,
+    fault: &Fault<'_>,
+) -> Result<String, AllocError> {
+    let path = shown(alloc, path)?;
+    let text = fault_text(alloc, &[], fault)?;
+    format!(in alloc; "{path}: line {line}: {text}")
+}
+
+fn fault_text(alloc: Global, words: &[Vec<u8>], fault: &Fault<'_>) -> Result<String, AllocError> {
+    match fault {
         Fault::UnknownName(name) => unknown_name_text(alloc, words, name),
         Fault::UnknownLetter(rest) => unknown_letter_text(alloc, words, rest),
         Fault::UnexpectedValue(row, value) => unexpected_text(alloc, row, value),
         Fault::MissingValue(row) => missing_text(alloc, row),
         Fault::NotText(row, value) => not_text(alloc, row, value),
         Fault::WrongValue(row, value) => wrong_text(alloc, row, value),
-    })
+    }
 }
 
 // That no option has a name.
@@ -42,8 +73,24 @@ fn unknown_name_text(alloc: Global, words: &[Vec<u8>], name: &[u8]) -> Result<St
     let may_be_pattern = may_be_pattern(words, b"--", name);
     let name = word(alloc, name)?;
     let option = format!(in alloc; "--{name}")?;
-    let similar = similar_name(alloc, name.as_str())?;
-    unknown_text(alloc, option.as_str(), similar, may_be_pattern)
+    let tip = name_tip(alloc, name.as_str(), may_be_pattern)?;
+    unknown_text(alloc, option.as_str(), tip.as_str())
+}
+
+// What may help if no option has a name: an option with a similar name, that a pattern was meant,
+// or that a value isn't part of a name.
+fn name_tip(alloc: Global, name: &str, may_be_pattern: bool) -> Result<String, AllocError> {
+    if name.contains(' ') && !may_be_pattern {
+        return String::from_str(alloc, VALUE_TIP);
+    }
+    match similar_name(alloc, name)? {
+        Some(similar) => format!(in alloc; "\nA similar option is --{similar}."),
+        None => String::from_str(alloc, pattern_tip(may_be_pattern)),
+    }
+}
+
+fn pattern_tip(may_be_pattern: bool) -> &'static str {
+    if may_be_pattern { PATTERN_TIP } else { "" }
 }
 
 // That no option has the letter that the rest of a word begins with.
@@ -52,32 +99,22 @@ fn unknown_letter_text(
     words: &[Vec<u8>],
     rest: &[u8],
 ) -> Result<String, AllocError> {
-    let may_be_pattern = may_be_pattern(words, b"-", rest);
+    let tip = pattern_tip(may_be_pattern(words, b"-", rest));
     let rest = word(alloc, rest)?;
     let letter = rest.as_str().chars().next().unwrap_or('-');
     let option = format!(in alloc; "-{letter}")?;
-    unknown_text(alloc, option.as_str(), None, may_be_pattern)
+    unknown_text(alloc, option.as_str(), tip)
 }
 
 // Why an option can't be used: it is one of ripgrep's that isn't here, or there is no such option.
-// Then what may help is an option with a similar name, or that a pattern was meant.
-fn unknown_text(
-    alloc: Global,
-    option: &str,
-    similar: Option<&str>,
-    may_be_pattern: bool,
-) -> Result<String, AllocError> {
-    if let Some(reason) = reason(option) {
-        return format!(in alloc; "linegrep: {option}: {reason}\n");
-    }
-    let cause = format!(in alloc; "unexpected argument '{option}' found")?;
-    match similar {
-        Some(similar) => {
-            let tip = format!(in alloc; "\nA similar option is --{similar}.")?;
-            arguments_text(alloc, cause.as_str(), tip.as_str())
+// Then a tip may help.
+fn unknown_text(alloc: Global, option: &str, tip: &str) -> Result<String, AllocError> {
+    match reason(option) {
+        Some(reason) => format!(in alloc; "{option}: {reason}"),
+        None => {
+            let cause = format!(in alloc; "unexpected argument '{option}' found")?;
+            arguments_text(alloc, cause.as_str(), tip)
         }
-        None if may_be_pattern => arguments_text(alloc, cause.as_str(), PATTERN_TIP),
-        None => arguments_text(alloc, cause.as_str(), ""),
     }
 }
 
@@ -140,7 +177,7 @@ fn not_text(alloc: Global, row: &Row, value: &[u8]) -> Result<String, AllocError
 fn wrong_text(alloc: Global, row: &Row, value: &[u8]) -> Result<String, AllocError> {
     if let Some(reason) = refused_value(row.id) {
         let name = name_of(row.id);
-        return format!(in alloc; "linegrep: --{name}: {reason}\n");
+        return format!(in alloc; "--{name}: {reason}");
     }
     let option = option_text(alloc, row)?;
     let value = word(alloc, value)?;
@@ -235,5 +272,5 @@ fn value_name(value: Value) -> &'static str {
 
 fn arguments_text(alloc: Global, cause: &str, tip: &str) -> Result<String, AllocError> {
     let cause = shown(alloc, cause)?;
-    format!(in alloc; "linegrep: {cause}{tip}\n\nFor more information, try 'linegrep --help'.\n")
+    format!(in alloc; "{cause}{tip}\n\nFor more information, try 'linegrep --help'.")
 }

@@ -131,5 +131,6 @@ pub enum OptionId {
     Help,
     ShortHelp,
     Version,
+    NoConfig,
     Ineffective,
 }

@@ -205,10 +205,11 @@ macro_rules! options {
         Help, "help", None, Value::Nothing, [ShortHelp, Version];
         ShortHelp, "", Some(b'h'), Value::Nothing, [Help, Version];
         Version, "version", Some(b'V'), Value::Nothing, [Help, ShortHelp];
+        // Where arguments aren't read from.
+        NoConfig, "no-config", None, Value::Nothing, [];
         // What makes no difference here.
         Ineffective, "mmap", None, Value::Nothing, [];
         Ineffective, "no-mmap", None, Value::Nothing, [];
-        Ineffective, "no-config", None, Value::Nothing, [];
         Ineffective, "no-search-zip", None, Value::Nothing, [];
         Ineffective, "no-pre", None, Value::Nothing, [];
         Ineffective, "no-pcre2", None, Value::Nothing, [];

@@ -1,13 +1,13 @@
 use Rattle.linegrep_options.specs.ParsedWords.{refusal}
-use Rattle.linegrep_cli.specs.ProgramRuns.{no_memory, of_fault, of_parsed}
+use Rattle.linegrep_cli.specs.ConfigFiles.{of_refused_words}
+use Rattle.linegrep_cli.specs.ProgramRuns.{no_memory, of_fault}
 use Rattle.linegrep_cli.proofs.program.run.Goals as goal
 
-pub returns-in-Ok : goal.returns-in-Ok
-returns-in-Ok g c = of_parsed c.in-Ok.parsed c.in-Ok.ensures.parsed c.run_parsed.ensures
-
 pub returns-in-Err-Words : goal.returns-in-Err-Words
-returns-in-Err-Words g c = of_fault (refusal c.in-Err-Words.fault) c.fault_failure-failure.result
-    (rw c.in-Err-Words.field-0-is at c.in-Err-Words.ensures.refused)
+returns-in-Err-Words g c =
+    let refused = rw c.in-Err-Words.field-0-is at c.in-Err-Words.ensures.refused in
+    of_fault c.args.arguments.now c.args.errors.now (refusal c.in-Err-Words.fault) c.fault_failure-failure.result
+    (of_refused_words (refusal c.in-Err-Words.fault) refused) refused
     (record {
       refused = record {
         status_is = c.refused.ensures.status;

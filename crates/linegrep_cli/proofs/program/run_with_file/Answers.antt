@@ -1,0 +1,51 @@
+use Rattle.std.proofs.Common.{◌∙◌, ◌++◌, ap}
+use Rattle.linegrep_options.specs.ParsedWords.{refusal, texts}
+use Rattle.linegrep_cli.specs.ConfigFiles.{of_file}
+use Rattle.linegrep_cli.specs.ConfigWords.{config_words}
+use Rattle.linegrep_cli.specs.ProgramRuns.{no_memory, of_fault, of_parsed}
+use Rattle.linegrep_cli.proofs.program.run_with_file.Goals as goal
+
+pub returns-in_default : goal.returns-in_default
+returns-in_default g c = no_memory c.out_of_memory.result c.out_of_memory.ensures
+    (record {
+      refused = record {
+        status_is = c.refused.ensures.status;
+        unread = c.refused.ensures.input;
+        unwritten = c.refused.ensures.output;
+      };
+      said = c.refused.ensures.said;
+    })
+
+pub returns-in-Ok-parse : goal.returns-in-Ok-parse
+returns-in-Ok-parse g c = of_parsed c.deref-2.result.now c.args.errors.now c.in-Ok-parse.parsed
+    (of_file c.args.file.now c.requires.command c.requires.file
+    (ap texts c.deref-2.ensures.value ∙ c.in-Ok.ensures
+    ∙ ap (λ contents. config_words contents ++ texts c.args.arguments.now) c.deref.ensures.value))
+    c.in-Ok-parse.ensures.parsed c.run_parsed.ensures
+
+pub returns-in-Err-Words : goal.returns-in-Err-Words
+returns-in-Err-Words g c =
+    of_fault c.deref-2.result.now c.args.errors.now (refusal c.in-Err-Words.fault) c.failure.result
+    (of_file c.args.file.now c.requires.command c.requires.file
+    (ap texts c.deref-2.ensures.value ∙ c.in-Ok.ensures
+    ∙ ap (λ contents. config_words contents ++ texts c.args.arguments.now) c.deref.ensures.value))
+    (rw c.in-Err-Words.field-0-is at c.in-Err-Words.ensures.refused)
+    (record {
+      refused = record {
+        status_is = c.refused-in-Err-Words.ensures.status;
+        unread = c.refused-in-Err-Words.ensures.input;
+        unwritten = c.refused-in-Err-Words.ensures.output;
+      };
+      said = c.refused-in-Err-Words.ensures.said;
+    })
+
+pub returns : goal.returns
+returns g c = no_memory c.out_of_memory-in-Err-Memory.result c.out_of_memory-in-Err-Memory.ensures
+    (record {
+      refused = record {
+        status_is = c.refused-in-Err-Memory.ensures.status;
+        unread = c.refused-in-Err-Memory.ensures.input;
+        unwritten = c.refused-in-Err-Memory.ensures.output;
+      };
+      said = c.refused-in-Err-Memory.ensures.said;
+    })
