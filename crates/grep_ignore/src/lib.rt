@@ -10,8 +10,6 @@ mod numbers;
 mod path_tests;
 mod rows;
 mod rules;
-#[cfg(test)]
-mod tests;
 mod wildcards;
 
 pub use class::add_range;

@@ -1,5 +1,5 @@
 //! What the lines of ignore files leave out.
-use crate::Rules;
+use grep_ignore::Rules;
 use std::alloc::{AllocError, Global};
 
 // The lines of a file, a path, which is that of a folder if a slash is at its end, and whether it is
