@@ -1,7 +1,15 @@
 pub mod CapitalLemmas
 pub mod ConfigLemmas
 pub mod DigitLemmas
+pub mod EngineTextLemmas
 pub mod FolderLemmas
 pub mod OperandLemmas
+pub mod OutputTextLemmas
 pub mod PatternLemmas
+pub mod PrinterKindLemmas
+pub mod PrinterTextLemmas
+pub mod RunTextLemmas
+pub mod SearchTextLemmas
+pub mod VisitSoundLemmas
+pub mod VisitTextLemmas
 pub mod WordLemmas

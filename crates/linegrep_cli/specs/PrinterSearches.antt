@@ -17,6 +17,8 @@ use Rattle.grep_printer.specs.SummaryTexts.{summary_rules}
 use Rattle.grep_printer.specs.VimgrepTexts.{vimgrep_rules}
 use Rattle.linegrep_cli.specs.CountedRuns.{AreStatsPut, IsCountedSearch, IsRunFlushed}
 use Rattle.linegrep_cli.specs.JsonRuns.{AreTotalsPut, IsJsonWritten}
+use Rattle.linegrep_cli.specs.PrinterKinds.{IsJson, IsLines, IsParts, IsReplacedLines}
+use Rattle.linegrep_cli.specs.PrinterKinds.{IsReplacedParts, IsSummary}
 use Rattle.linegrep_cli.specs.WriterFlushes.{IsWriterFlushed}
 use Rattle.linegrep_cli.specs.declared.printers.Printer.{Printer}
 use Rattle.linegrep_cli.specs.declared.printers.Printer.TheVariants.{Json, Lines, Parts}
@@ -32,66 +34,62 @@ module _ {M W E : Type 0} (output : E → Option (List ℕ)) (facts : M → Matc
     (state : SearcherState) (matcher : M) (path : Option (Bor (List ℕ))) where
   -- what a search of a source writes, by what is written of searches
   abbrev pub IsSearchWritten : R → W → Printer M → Searched → R → W → Printer M → Type 0
-  IsSearchWritten reader writer (Lines old) searched reader' writer' (Lines new) =
-      IsCountedSearch standard_rules output facts first_at write_step remaining read_step state
-      matcher path reader writer old searched reader' writer' new
-  IsSearchWritten reader writer (Parts old) searched reader' writer' (Parts new) =
-      IsCountedSearch vimgrep_rules output facts first_at write_step remaining read_step state
-      matcher path reader writer old searched reader' writer' new
-  IsSearchWritten reader writer (ReplacedLines old) searched reader' writer' (ReplacedLines new) =
-      IsCountedSearch (replaced_rules standard_rules groups_at (λ m. (facts m).meaning)) output
-      facts first_at write_step remaining read_step state matcher path reader writer old searched
-      reader' writer' new
-  IsSearchWritten reader writer (ReplacedParts old) searched reader' writer' (ReplacedParts new) =
-      IsCountedSearch (replaced_rules vimgrep_rules groups_at (λ m. (facts m).meaning)) output facts
+  IsSearchWritten reader writer (Lines old) searched reader' writer' =
+      IsLines (IsCountedSearch standard_rules output facts first_at write_step remaining read_step
+      state matcher path reader writer old searched reader' writer')
+  IsSearchWritten reader writer (Parts old) searched reader' writer' =
+      IsParts (IsCountedSearch vimgrep_rules output facts first_at write_step remaining read_step
+      state matcher path reader writer old searched reader' writer')
+  IsSearchWritten reader writer (ReplacedLines old) searched reader' writer' =
+      IsReplacedLines (IsCountedSearch
+      (replaced_rules standard_rules groups_at (λ m. (facts m).meaning)) output facts first_at
+      write_step remaining read_step state matcher path reader writer old searched reader' writer')
+  IsSearchWritten reader writer (ReplacedParts old) searched reader' writer' =
+      IsReplacedParts (IsCountedSearch
+      (replaced_rules vimgrep_rules groups_at (λ m. (facts m).meaning)) output facts first_at
+      write_step remaining read_step state matcher path reader writer old searched reader' writer')
+  IsSearchWritten reader writer (Summary old) searched reader' writer' =
+      IsSummary (IsCountedSearch summary_rules output facts first_at write_step remaining read_step
+      state matcher path reader writer old searched reader' writer')
+  IsSearchWritten reader writer (Json old) searched reader' writer' =
+      IsJson (IsJsonWritten
+      (optional_text_at (template_text_at groups_at (λ m. (facts m).meaning))) output facts
       first_at write_step remaining read_step state matcher path reader writer old searched reader'
-      writer' new
-  IsSearchWritten reader writer (Summary old) searched reader' writer' (Summary new) =
-      IsCountedSearch summary_rules output facts first_at write_step remaining read_step state
-      matcher path reader writer old searched reader' writer' new
-  IsSearchWritten reader writer (Json old) searched reader' writer' (Json new) =
-      IsJsonWritten (optional_text_at (template_text_at groups_at (λ m. (facts m).meaning)))
-      output facts
-      first_at write_step remaining read_step state matcher path reader writer old searched reader'
-      writer' new
-  IsSearchWritten reader writer old searched reader' writer' new = ⊥
+      writer')
 
 module _ {M W : Type 0} (write_step : W → OutputCall → W → Type 0) where
   -- the printer of a run writes what is pending, and flushes its writer
   abbrev pub IsFlushed : W → Printer M → Result (Unit {0}) Error → W → Printer M → Type 0
-  IsFlushed writer (Lines old) result writer' (Lines new) =
-      IsRunFlushed write_step writer old result writer' new
-  IsFlushed writer (Parts old) result writer' (Parts new) =
-      IsRunFlushed write_step writer old result writer' new
-  IsFlushed writer (ReplacedLines old) result writer' (ReplacedLines new) =
-      IsRunFlushed write_step writer old result writer' new
-  IsFlushed writer (ReplacedParts old) result writer' (ReplacedParts new) =
-      IsRunFlushed write_step writer old result writer' new
-  IsFlushed writer (Summary old) result writer' (Summary new) =
-      IsRunFlushed write_step writer old result writer' new
-  IsFlushed writer (Json old) result writer' (Json new) =
+  IsFlushed writer (Lines old) result writer' =
+      IsLines (IsRunFlushed write_step writer old result writer')
+  IsFlushed writer (Parts old) result writer' =
+      IsParts (IsRunFlushed write_step writer old result writer')
+  IsFlushed writer (ReplacedLines old) result writer' =
+      IsReplacedLines (IsRunFlushed write_step writer old result writer')
+  IsFlushed writer (ReplacedParts old) result writer' =
+      IsReplacedParts (IsRunFlushed write_step writer old result writer')
+  IsFlushed writer (Summary old) result writer' =
+      IsSummary (IsRunFlushed write_step writer old result writer')
+  IsFlushed writer (Json old) result writer' = IsJson (λ new.
       IsWriterFlushed write_step writer old.printer result writer' new.printer
-      × (new ≡ record old { printer = new.printer })
-  IsFlushed writer old result writer' new = ⊥
+      × (new ≡ record old { printer = new.printer }))
 
   -- the totals of all searches are written after what these wrote, if options ask for that
   abbrev pub HasTotals : W → Printer M → Result (Unit {0}) (SearchError Global) → W → Printer M
       → Type 0
-  HasTotals writer (Json old) result writer' (Json new) =
-      (elapsed : ℕ) × AreTotalsPut write_step writer old.printer old.stats elapsed result writer'
-      new.printer
-      × (new ≡ record old { printer = new.printer })
-  HasTotals writer (Lines old) result writer' (Lines new) =
-      AreStatsPut write_step writer old result writer' new
-  HasTotals writer (Parts old) result writer' (Parts new) =
-      AreStatsPut write_step writer old result writer' new
-  HasTotals writer (ReplacedLines old) result writer' (ReplacedLines new) =
-      AreStatsPut write_step writer old result writer' new
-  HasTotals writer (ReplacedParts old) result writer' (ReplacedParts new) =
-      AreStatsPut write_step writer old result writer' new
-  HasTotals writer (Summary old) result writer' (Summary new) =
-      AreStatsPut write_step writer old result writer' new
-  HasTotals writer old result writer' new = ⊥
+  HasTotals writer (Json old) result writer' = IsJson (λ new. (elapsed : ℕ)
+      × AreTotalsPut write_step writer old.printer old.stats elapsed result writer' new.printer
+      × (new ≡ record old { printer = new.printer }))
+  HasTotals writer (Lines old) result writer' =
+      IsLines (AreStatsPut write_step writer old result writer')
+  HasTotals writer (Parts old) result writer' =
+      IsParts (AreStatsPut write_step writer old result writer')
+  HasTotals writer (ReplacedLines old) result writer' =
+      IsReplacedLines (AreStatsPut write_step writer old result writer')
+  HasTotals writer (ReplacedParts old) result writer' =
+      IsReplacedParts (AreStatsPut write_step writer old result writer')
+  HasTotals writer (Summary old) result writer' =
+      IsSummary (AreStatsPut write_step writer old result writer')
 
   -- the totals of all searches are written, and everything is written and flushed
   pub data IsFinished (writer : W) (old : Printer M) : Result (Unit {0}) (SearchError Global) → W

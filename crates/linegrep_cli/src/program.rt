@@ -10,6 +10,7 @@ ghost use Rattle.linegrep_cli.specs.ProgramRuns.{IsAnswered, IsOptionsRun, IsPar
 ghost use Rattle.linegrep_cli.specs.ProgramRuns.{IsProgramRun};
 ghost use Rattle.linegrep_cli.specs.ProgramRuns.{ArePatternsFor, exclude_each_other};
 ghost use Rattle.linegrep_cli.specs.ProgramRuns.{searches_named_input, text_asked};
+ghost use Rattle.linegrep_cli.specs.WrittenRuns.{DoesAsAsked};
 ghost use Rattle.linegrep_files.specs.Failures.{has_cause};
 ghost use Rattle.linegrep_cli.specs.OptionUses.{has};
 ghost use Rattle.linegrep_options.specs.OptionUses.{places_of, values_of};
@@ -64,7 +65,36 @@ pub struct Streams {
 /// version is written; 1 if no line matches; and 2 if something can't be read or written, or the
 /// arguments are wrong. With `-q` it is 0 once a line matches, and it is 0 if nobody reads the
 /// output any more. The result has the streams too.
+///
+/// If no write to `output` fails, and the status isn't 2, `output` has taken exactly what the
+/// arguments ask for: help, the version or the list of types; or else the texts of the searches,
+/// one after the other, and then the totals of `--stats` or `--json`. The status is then 0 if one
+/// of the searches found something, and otherwise 1. Of runs with `--files` or `-q` less is
+/// promised.
 pub fn run<S: System, R: Source + Drop, W: Output + Drop, E: Output>(
+    rt: &HostRuntime,
+    system: &S,
+    streams: Streams,
+    arguments: &[Vec<u8>],
+    input: R,
+    output: W,
+    errors: &mut E,
+) -> Ended<R, W>
+    ensures run { IsProgramRun ⟦<AllocError as Display>⟧.output W.step E.step S.File.remaining
+        R.remaining
+        R.step (S.facts system.now) (S.finds system.now) (S.opens system.now)
+        (S.identifies system.now) arguments.now streams input output errors.old result.status
+        result.input result.output errors.new }
+    ensures written { DoesAsAsked W.contents S.File.remaining R.remaining R.step
+        (S.facts system.now) (S.finds system.now) (S.opens system.now) (S.identifies system.now)
+        W.step E.step arguments.now streams input output errors.old result.status result.input
+        result.output }
+{
+    run_arguments(rt, system, streams, arguments, input, output, errors)
+}
+
+// Does what the arguments ask for.
+fn run_arguments<S: System, R: Source + Drop, W: Output + Drop, E: Output>(
     rt: &HostRuntime,
     system: &S,
     streams: Streams,

@@ -1,29 +1,5 @@
-use Rattle.linegrep_options.specs.ParsedWords.{refusal}
-use Rattle.linegrep_cli.specs.ConfigFiles.{of_refused_words}
-use Rattle.linegrep_cli.specs.ProgramRuns.{no_memory, of_fault}
+use Rattle.linegrep_cli.proofs.RunTextLemmas.{as-asked}
 use Rattle.linegrep_cli.proofs.program.run.Goals as goal
 
-pub returns-in-Err-Words : goal.returns-in-Err-Words
-returns-in-Err-Words g c =
-    let refused = rw c.in-Err-Words.field-0-is at c.in-Err-Words.ensures.refused in
-    of_fault c.args.arguments.now c.args.errors.now (refusal c.in-Err-Words.fault) c.fault_failure-failure.result
-    (of_refused_words (refusal c.in-Err-Words.fault) refused) refused
-    (record {
-      refused = record {
-        status_is = c.refused.ensures.status;
-        unread = c.refused.ensures.input;
-        unwritten = c.refused.ensures.output;
-      };
-      said = c.refused.ensures.said;
-    })
-
-pub returns-in-Err-Memory : goal.returns-in-Err-Memory
-returns-in-Err-Memory g c = no_memory c.out_of_memory.result c.out_of_memory.ensures
-    (record {
-      refused = record {
-        status_is = c.refused-in-Err-Memory.ensures.status;
-        unread = c.refused-in-Err-Memory.ensures.input;
-        unwritten = c.refused-in-Err-Memory.ensures.output;
-      };
-      said = c.refused-in-Err-Memory.ensures.said;
-    })
+pub returns-clause-written : goal.returns-clause-written
+returns-clause-written g c = as-asked _ _ _ _ _ _ _ _ _ _ _ _ _ _ _ _ _ _ _ _ c.run_arguments.ensures

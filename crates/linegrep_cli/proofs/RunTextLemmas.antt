@@ -1,0 +1,423 @@
+-- What a whole run has written whose status isn't 2, to an output that never fails.
+use Rattle.std.proofs.Common.{◌≡◌, ◌∙◌, ℕ, Bool, true, false, List, [], ◌∷◌, ◌++◌, ap, refl, subst, sym}
+use Rattle.std.proofs.Common.{◌⊎◌, inl, inr, true≢false}
+use Rattle.std.specs.Prelude.{◌≢◌, ◌&&◌, ◌||◌, MatchOption, None, Option, Some, Result, Ok, Err, String, Vec}
+use Rattle.std.specs.Prelude.{if◌then◌else◌, is_some, length, map, not, string_bytes}
+use Rattle.std.specs.Borrow.{Bor}
+use Rattle.std.specs.Global.{Global}
+use Rattle.std.specs.declared.alloc.AllocError.{AllocError}
+use Rattle.std.specs.declared.io.Error.{Error}
+use Rattle.grep_output.specs.Outputs.{OutputCall}
+use Rattle.grep_output.specs.PendingTexts.{Flushes}
+use Rattle.grep_printer.specs.declared.colors.ColorSpecs.{ColorSpecs}
+use Rattle.grep_printer.specs.declared.printer.Printer.{Printer as Writer}
+use Rattle.grep_printer.specs.declared.separators.Separators.{Separators}
+use Rattle.grep_regex.specs.declared.regex.Regex.{Regex}
+use Rattle.grep_replace.specs.declared.template.Template.{Template}
+use Rattle.grep_searcher.specs.Meanings.{MatcherFacts}
+use Rattle.grep_searcher.specs.Plans.{Settings}
+use Rattle.grep_searcher.specs.Source.{ReadResult}
+use Rattle.grep_searcher.specs.declared.BinaryDetection.{BinaryDetection}
+use Rattle.grep_searcher.specs.declared.BinaryDetection.TheVariants.{Convert, Quit, None as no_detection}
+use Rattle.grep_searcher.specs.declared.LineTerminator.{LineTerminator}
+use Rattle.linegrep_cli.proofs.EngineTextLemmas.{IsAt, IsDone, IsSound, file-kept, finishes-kept, finishes-sound}
+use Rattle.linegrep_cli.proofs.EngineTextLemmas.{input-kept}
+use Rattle.linegrep_cli.proofs.EngineTextLemmas.{quits-kept, sound-kept, text-kept}
+use Rattle.linegrep_cli.proofs.OutputTextLemmas.{all-flushed, flushed-well}
+use Rattle.linegrep_cli.proofs.PrinterTextLemmas.{IsPrinterAfter, IsRunAfter, IsWriterAfter, after-unfailed, pending_of}
+use Rattle.linegrep_cli.proofs.SearchTextLemmas.{not-both}
+use Rattle.linegrep_cli.proofs.VisitSoundLemmas.{IsBeforeEnd, all-said, all-sound}
+use Rattle.linegrep_cli.proofs.VisitTextLemmas.{IsGood, StepsKeep, all-visited, said-all}
+use Rattle.linegrep_cli.specs.EngineCalls.{EngineCall, finishes}
+use Rattle.linegrep_cli.specs.EngineSteps.{has_failed}
+use Rattle.linegrep_cli.specs.OperandRuns.{AreOperandsSearched, IsFailing, IsRunEnd, of_closed, of_end, of_failure}
+use Rattle.linegrep_cli.specs.OperandRuns.{of_other}
+use Rattle.linegrep_cli.specs.OperandRuns.{of_unwritten, status_of}
+use Rattle.linegrep_cli.specs.OptionMeanings.{paths_of}
+use Rattle.linegrep_cli.specs.OptionUses.{has}
+use Rattle.linegrep_cli.specs.PathSeparators.{path_separator_of}
+use Rattle.linegrep_cli.specs.PrinterOptions.{IsNew, IsNewRun, IsPrinterFor}
+use Rattle.linegrep_cli.specs.PrintingEngines.{IsEngineStep, detection_with}
+use Rattle.linegrep_cli.specs.ProgramRuns.{HasAnswerStatus, IsAnswered, IsOptionsRun, IsParsedRun, IsProgramRun}
+use Rattle.linegrep_cli.specs.ProgramRuns.{no_memory}
+use Rattle.linegrep_cli.specs.ProgramRuns.{of_fault, of_options, of_parsed, of_refusal, of_search as OfSearch}
+use Rattle.linegrep_cli.specs.ProgramRuns.{of_text, of_types}
+use Rattle.linegrep_cli.specs.ProgramRuns.{out_of_memory}
+use Rattle.linegrep_cli.specs.RunInputs.{AreSearched, IsFileInput, IsReaderInput}
+use Rattle.linegrep_cli.specs.RunScopes.{quiet_of}
+use Rattle.linegrep_cli.specs.SearchTexts.{Input, no_findings, no_input, settings_for}
+use Rattle.linegrep_cli.specs.SearcherOptions.{searcher_settings}
+use Rattle.linegrep_cli.specs.WholeRuns.{IsRunFor, IsRunWith}
+use Rattle.linegrep_cli.specs.WrittenRuns.{AreOptionsFor, DoesAsAsked, HasEnded, HasTaken, HasWritten, NeverFails}
+use Rattle.linegrep_cli.specs.WrittenRuns.{WritesFound, of_answer, of_search}
+use Rattle.linegrep_cli.specs.declared.counted_run.CountedRun.{CountedRun}
+use Rattle.linegrep_cli.specs.declared.engine.PrintingEngine.{PrintingEngine}
+use Rattle.linegrep_cli.specs.declared.options.Options.{Options}
+use Rattle.linegrep_cli.specs.declared.printers.Printer.{Printer}
+use Rattle.linegrep_cli.specs.declared.printers.Printer.TheVariants.{Json, Lines, Parts, ReplacedLines, ReplacedParts}
+use Rattle.linegrep_cli.specs.declared.printers.Printer.TheVariants.{Summary}
+use Rattle.linegrep_cli.specs.declared.program.Streams.{Streams}
+use Rattle.linegrep_cli.specs.declared.scope.Scope.{Scope}
+use Rattle.linegrep_cli.specs.declared.visit.Visit.{Visit}
+use Rattle.linegrep_options.specs.declared.option_id.OptionId.TheVariants.{Quiet}
+use Rattle.linegrep_files.specs.FolderFacts.{FolderFacts}
+use Rattle.linegrep_files.specs.declared.file_id.FileId.{FileId}
+
+-- the printer of a run that begins has found nothing
+begun-writer : {G : Type 0} (options : Options) (printer : Writer G) → IsNew options printer
+    → IsWriterAfter printer.format printer no_findings
+begun-writer options printer is = record { same = refl; has_written = is.has_written; unfailed = is.has_failed }
+
+begun-run : {G : Type 0} (options : Options) (run : CountedRun G) → IsNewRun options run
+    → IsRunAfter run.printer.format run no_findings
+begun-run options run is = record { writer = begun-writer options run.printer is.printer; counts = is.stats }
+
+begun-printer : {M : Type 0} (options : Options) (across : Bool) (separators : Option (Bor Separators)) (matcher : M)
+    (template : Option (Bor Template)) (colors : ColorSpecs) (printer : Printer M)
+    → IsPrinterFor options across separators matcher template colors printer
+    → IsPrinterAfter printer printer no_findings × (pending_of printer ≡ [])
+begun-printer options across separators matcher template colors (Lines run) (kind, json, parts, none, is, new) =
+    (begun-run options run new, new.printer.pending)
+begun-printer options across separators matcher template colors (Parts run) (kind, json, parts, none, is, new) =
+    (begun-run options run new, new.printer.pending)
+begun-printer options across separators matcher template colors (ReplacedLines run)
+    (kind, json, parts, replacing, is, new) = (begun-run options run new, new.printer.pending)
+begun-printer options across separators matcher template colors (ReplacedParts run)
+    (kind, json, parts, replacing, is, new) = (begun-run options run new, new.printer.pending)
+begun-printer options across separators matcher template colors (Summary run) (kind, is_kind, is, new) =
+    (begun-run options run new, new.printer.pending)
+begun-printer options across separators matcher template colors (Json run)
+    (kind, json, begins, replacing, new, counts) =
+    (record { writer = begun-writer options run.printer new; counts = counts }, new.pending)
+
+none-if : {T : Type 0} (is : Bool) (value : T) → is ≡ false → (if is then Some value else None) ≡ None
+none-if true value isnt = absurd (true≢false isnt)
+none-if false value isnt = refl
+
+-- binary files are searched to their end at first
+ends-late : (settings : Settings) → settings ≡ settings_for settings false
+ends-late settings = ap (λ d. record settings { binary_detection = d }) (by settings.binary_detection)
+  where
+    by : (detection : BinaryDetection) → detection ≡ detection_with false detection
+    by no_detection = refl
+    by (Quit byte) = refl
+    by (Convert byte) = refl
+
+-- a status that isn't 2 shows that nothing went wrong
+good-status : (scope : Scope) (total : Visit) → scope.quiet ≡ None → status_of scope total ≢ 2
+    → (total.has_error ≡ false) × (status_of scope total ≡ (if total.has_match then 0 else 1))
+good-status scope total unquiet other =
+    let is = ap (λ quiet. if total.has_error && not (is_some quiet && total.has_match) then 2
+    else if total.has_match then 0 else 1) unquiet in
+    let (none, same) = by total.has_error total.has_match (λ wrong. other (is ∙ wrong)) in
+    (none, is ∙ same)
+  where
+    ending : Bool → Bool → ℕ
+    ending error match = if error && not (false && match) then 2 else if match then 0 else 1
+
+    by : (error match : Bool) → ending error match ≢ 2
+        → (error ≡ false) × (ending error match ≡ (if match then 0 else 1))
+    by true match other = absurd (other refl)
+    by false match other = (refl, refl)
+
+module _ {F R W X : Type 0} (output : AllocError → Option (List ℕ)) (contents : W → Option (List ℕ))
+    (write_step : W → OutputCall → W → Type 0) (say_step : X → OutputCall → X → Type 0)
+    (file_remaining : F → Option (List ℕ)) (remaining : R → Option (List ℕ)) (read_step : R → ReadResult → R → Type 0)
+    (folders : FolderFacts) (finds : List ℕ → Result Bool Error → Type 0) (opens : List ℕ → Result F Error → Type 0)
+    (identifies : F → Option FileId → Type 0) (well : NeverFails contents write_step) (before : List ℕ)
+    (options : Options) where
+  -- an answer
+  answered : (text : List ℕ) (writer : W) (status : ℕ) (writer' : W) → contents writer ≡ Some before → status ≢ 2
+      → IsAnswered write_step text writer status writer'
+      → (status ≡ 0) × HasTaken contents writer text writer'
+  answered text writer status writer' held other (result, flushed, is_status) =
+      let ok = flushed-well contents write_step well writer writer' text result flushed in (
+        subst (λ r. HasAnswerStatus r status) ok is_status,
+        (
+          before,
+          held,
+          all-flushed contents write_step well writer writer' before text held
+              (subst (λ r. Flushes write_step writer text r writer') ok flushed),
+        ),
+      )
+
+  module _ {M : Type 0} (facts : M → MatcherFacts AllocError) (first_at : M → List ℕ → ℕ → Option (ℕ × ℕ))
+      (groups_at : M → List ℕ → ℕ → List (Option (ℕ × ℕ))) (regex : Regex) (input : R) (writer : W) (errors : X)
+      (status : ℕ) (input' : R) (writer' : W) (held : contents writer ≡ Some before) (other : status ≢ 2)
+      (writes : WritesFound options)
+      (run-for : IsRunFor output facts first_at groups_at write_step file_remaining remaining read_step folders finds
+      opens identifies options regex input writer errors status input' writer') where
+    abbrev run : IsRunWith output facts first_at groups_at write_step file_remaining remaining read_step folders
+        finds opens
+        identifies options run-for.matcher run-for.template input writer errors status input' writer'
+    run = run-for.run
+
+    abbrev settings : Settings
+    settings = searcher_settings options
+
+    abbrev Step : PrintingEngine F M R W X → EngineCall F → PrintingEngine F M R W X → Type 0
+    Step = IsEngineStep output facts first_at groups_at write_step file_remaining remaining read_step
+
+    abbrev trusted : (terminator : LineTerminator) → (facts run-for.matcher).is_lawful terminator
+    trusted = run-for.is_matcher.trusted
+
+    abbrev At : Bool → List Input → Bool → R → PrintingEngine F M R W X → Type 0
+    At = IsAt output facts first_at groups_at write_step file_remaining remaining read_step contents well settings
+        (path_separator_of options) run-for.matcher trusted run.first.printer before
+
+    abbrev Sound : PrintingEngine F M R W X → Type 0
+    Sound = IsSound output facts first_at groups_at write_step file_remaining remaining read_step contents well settings
+        (path_separator_of options) run-for.matcher trusted run.first.printer before
+
+    unquiet : run.scope.quiet ≡ None
+    unquiet = ap (λ (s : Scope). s.quiet) run.is_scope.2
+        ∙ none-if (has options Quiet) _ writes.quiet
+
+    searches : run.scope.lists_files ≡ false
+    searches = ap (λ (s : Scope). s.lists_files) run.is_scope.2 ∙ writes.files
+
+    begun : IsPrinterAfter run.first.printer run.first.printer no_findings × (pending_of run.first.printer ≡ [])
+    begun = begun-printer options _ run.begins.separators run-for.matcher run-for.template _ run.first.printer
+        run.begins.printer
+
+    -- the engine as the run begins
+    at-first : At false [] false input run.first
+    at-first = record {
+      findings = no_findings;
+      texts = no_input;
+      found_is = refl;
+      is_settings = run.begins.settings ∙ ends-late settings;
+      asks = run.begins.asks;
+      detects = run.begins.detection;
+      separates = run.begins.path_separator;
+      reads = run.begins.haystack;
+      after = begun.0;
+      held = before;
+      holds = ap contents run.begins.writes_to ∙ held;
+      whole = ap (λ waiting. before ++ waiting) (sym begun.1);
+    }
+
+    sound-first : Sound run.first
+    sound-first = record {
+      asks = run.begins.asks;
+      unfailed = after-unfailed run.first.printer run.first.printer no_findings begun.0;
+    }
+
+    abbrev IsFile : Option (Bor (List ℕ)) → F → Bool → Input → Type 0
+    IsFile = IsFileInput file_remaining (path_separator_of options)
+
+    abbrev IsReader : Option (Bor (List ℕ)) → R → Input → R → Type 0
+    IsReader = IsReaderInput remaining read_step (path_separator_of options)
+
+    kept : StepsKeep folders finds opens identifies Step
+        (λ engine. has_failed engine.printer) run.scope IsFile IsReader At
+    kept = record {
+      file = file-kept output facts first_at groups_at write_step file_remaining remaining read_step contents well
+          settings
+          (path_separator_of options) run-for.matcher trusted run.first.printer before;
+      input = input-kept output facts first_at groups_at write_step file_remaining remaining read_step contents well
+          settings (path_separator_of options) run-for.matcher trusted run.first.printer before;
+      text = text-kept output facts first_at groups_at write_step file_remaining remaining read_step contents well
+          settings
+          (path_separator_of options) run-for.matcher trusted run.first.printer before;
+      quits = quits-kept output facts first_at groups_at write_step file_remaining remaining read_step contents well
+          settings (path_separator_of options) run-for.matcher trusted run.first.printer before;
+    }
+
+    sound-keeps : (old new : PrintingEngine F M R W X) (call : EngineCall F) → IsBeforeEnd call → Step old call new
+        → Sound old → Sound new
+    sound-keeps = sound-kept output facts first_at groups_at write_step file_remaining remaining read_step contents well
+        settings (path_separator_of options) run-for.matcher trusted run.first.printer before
+
+    abbrev Written : Type 0
+    Written = HasWritten contents file_remaining remaining read_step folders finds opens identifies facts first_at
+        groups_at options regex input writer status input' writer'
+
+    -- a run that fails has status 2, since its writer didn't fail
+    not-failed : (error : Error) (mid : PrintingEngine F M R W X) → Sound mid
+        → IsFailing Step (λ engine. has_failed engine.printer) run.scope error mid status run.last → ⊥
+    not-failed error mid sound failing = by status run.last failing other
+      where
+        by : (ended : ℕ) (last : PrintingEngine F M R W X)
+            → IsFailing Step (λ engine. has_failed engine.printer) run.scope error mid ended last → ended ≢ 2 → ⊥
+        by _ _ (of_closed failed closed) other =
+            true≢false (sym failed ∙ sound.unfailed)
+        by _ _ (of_other said moved kind) other = other refl
+
+    -- what is known if operands were searched
+    ran : (start : PrintingEngine F M R W X) → At false [] false input start → Sound start
+        → AreOperandsSearched folders finds opens identifies Step (λ engine. has_failed engine.printer) run.scope
+        run.run.left (paths_of options) start status run.last
+        → Written
+    ran start at sound searched = by status searched.ended refl
+      where
+        sound-mid : Sound searched.mid
+        sound-mid = all-sound folders finds opens identifies Step
+            (λ engine. has_failed engine.printer) run.scope searches
+            Sound sound-keeps run.run.left (paths_of options) start searched.total searched.mid searched.visited sound
+
+        good : searched.total.failure ≡ None → (status_of run.scope searched.total ≢ 2) → IsGood searched.total
+        good none well = record {
+          no_error = (good-status run.scope searched.total unquiet well).0;
+          no_failure = none;
+        }
+
+        ended-well : searched.total.failure ≡ None → status ≡ status_of run.scope searched.total
+            → Step searched.mid (finishes (Ok tt)) run.last → Written
+        ended-well none is finished =
+            let is-well = subst (λ s. s ≢ 2) is other in
+            let (inputs, reader, are, now) = all-visited folders finds opens identifies Step
+            (λ engine. has_failed engine.printer) run.scope IsFile IsReader At kept unquiet searches input run.run.left
+            (paths_of options) start searched.total searched.mid searched.visited (good none is-well) at in
+            let done = finishes-kept output facts first_at groups_at write_step file_remaining remaining read_step
+            contents
+            well settings (path_separator_of options) run-for.matcher trusted run.first.printer before inputs
+            searched.total.has_match reader searched.mid run.last now finished in
+            record {
+              matcher = run-for.matcher;
+              is_matcher = run-for.is_matcher;
+              groups = run-for.groups;
+              template = run-for.template;
+              is_template = run-for.is_template;
+              separators = run.begins.separators;
+              are_separators = run.begins.lent;
+              colors = run.begins.chosen;
+              are_colors = run.begins.colored;
+              printer = run.first.printer;
+              is_printer = run.begins.printer;
+              scope = run.scope;
+              is_scope = run.is_scope;
+              named = run.choices;
+              are_named = run.are_choices;
+              choices = run.run.left;
+              are_choices = run.run.same;
+              inputs = inputs;
+              are_searched = subst
+                  (λ r. AreSearched folders finds opens identifies run.scope IsFile IsReader run.run.left
+                  (paths_of options) input inputs r) (sym (run.input_after ∙ done.reads)) are;
+              findings = done.findings;
+              texts = done.texts;
+              totals = done.totals;
+              are_totals = done.are_totals;
+              taken = (before, held, ap contents run.writer_after ∙ done.holds);
+              status_is = is ∙ ((good-status run.scope searched.total unquiet is-well).1
+                  ∙ ap (λ found. if found then 0 else 1) (sym done.found_is));
+            }
+
+        by : (ended : ℕ)
+            → IsRunEnd Step (λ engine. has_failed engine.printer) run.scope searched.total searched.mid ended run.last
+            → status ≡ ended → Written
+        by _ (of_failure error failed failing) is =
+            absurd (not-failed error searched.mid sound-mid (subst (λ s. IsFailing Step
+            (λ engine. has_failed engine.printer) run.scope error searched.mid s run.last) (sym is) failing))
+        by _ (of_end none finished) is = ended-well none is finished
+        by _ (of_unwritten {mid = mid} error none finishing failing) is =
+            absurd (not-failed error mid
+            (finishes-sound output facts first_at groups_at write_step file_remaining remaining
+            read_step contents well settings
+            (path_separator_of options) run-for.matcher trusted run.first.printer before
+            searched.mid mid (Err error) sound-mid finishing) (subst (λ s. IsFailing Step
+            (λ engine. has_failed engine.printer) run.scope error mid s run.last) (sym is) failing))
+
+    run-written : Written
+    run-written =
+        let (none, at) = said-all folders finds opens identifies Step
+        (λ engine. has_failed engine.printer) run.scope IsFile
+        IsReader At kept unquiet searches false [] false input run.first _ run.run.failure run.run.begun run.run.said
+        at-first in
+        let sound = all-said folders finds opens identifies Step
+        (λ engine. has_failed engine.printer) run.scope searches
+        Sound sound-keeps run.first _ run.run.failure run.run.begun run.run.said sound-first in
+        ran run.run.begun at sound (begins run.run.failure none run.run.run)
+      where
+        begins : (failure : Option Error) → failure ≡ None
+            → MatchOption failure (AreOperandsSearched folders finds opens identifies Step
+            (λ engine. has_failed engine.printer) run.scope run.run.left
+            (paths_of options) run.run.begun status run.last)
+            (λ error. IsFailing Step
+            (λ engine. has_failed engine.printer) run.scope error run.run.begun status run.last)
+            → AreOperandsSearched folders finds opens identifies Step (λ engine. has_failed engine.printer) run.scope
+            run.run.left (paths_of options) run.run.begun status run.last
+        begins None is searched = searched
+        begins (Some error) is failing = absurd (true≢false (ap is_some is))
+
+-- a whole run
+module _ {F R W X : Type 0} (output : AllocError → Option (List ℕ)) (contents : W → Option (List ℕ))
+    (write_step : W → OutputCall → W → Type 0) (say_step : X → OutputCall → X → Type 0)
+    (file_remaining : F → Option (List ℕ)) (remaining : R → Option (List ℕ)) (read_step : R → ReadResult → R → Type 0)
+    (folders : FolderFacts) (finds : List ℕ → Result Bool Error → Type 0) (opens : List ℕ → Result F Error → Type 0)
+    (identifies : F → Option FileId → Type 0) (arguments : List (Vec ℕ Global)) (streams : Streams) (input : R)
+    (writer : W) (errors : X) (status : ℕ) (input' : R) (writer' : W) (errors' : X) where
+  module _ (well : NeverFails contents write_step) (before : List ℕ) (held : contents writer ≡ Some before)
+      (other : status ≢ 2) where
+    by-options : (options : Options) (said : X)
+        → IsOptionsRun output write_step say_step file_remaining remaining read_step folders finds opens identifies
+        options
+        input writer said status input' writer' errors'
+        → HasEnded contents file_remaining remaining read_step folders finds opens identifies options input writer
+        status
+        input' writer'
+    by-options options said (of_text text asked same answer) =
+        let (zero, taken) = answered output contents write_step say_step file_remaining remaining read_step folders
+        finds
+        opens identifies well before options text writer status writer' held other answer in
+        of_answer text (inl asked) zero same taken
+    by-options options said (of_types text none types list same answer) =
+        let (zero, taken) = answered output contents write_step say_step file_remaining remaining read_step folders
+        finds
+        opens identifies well before options text writer status writer' held other answer in
+        of_answer text (inr (none, types, list)) zero same taken
+    by-options options said (of_refusal mid failure none caused refusal) =
+        absurd (other refusal.refused.status_is)
+    by-options options said (OfSearch patterns mid none types together are (inl refused)) =
+        absurd (other refused.refused.status_is)
+    by-options options said (OfSearch patterns mid none types together are (inr whole)) =
+        of_search patterns mid whole.regex are whole.has_options whole.has_patterns (λ writes. elim whole.run [
+          | inl literal ↦ inl (run-written output contents write_step say_step file_remaining remaining read_step
+              folders
+              finds opens identifies well before options _ _ _ whole.regex mid writer said status input' writer'
+              held other
+              writes literal)
+          | inr named ↦ inr (run-written output contents write_step say_step file_remaining remaining read_step folders
+              finds opens identifies well before options _ _ _ whole.regex mid writer said status input' writer'
+              held other
+              writes named)
+        ])
+
+    by-words : IsProgramRun output write_step say_step file_remaining remaining read_step folders finds opens identifies
+        arguments streams input writer errors status input' writer' errors'
+        → (options : Options) × AreOptionsFor say_step folders arguments streams errors options
+        × HasEnded contents file_remaining remaining read_step folders finds opens identifies options input writer
+        status
+        input' writer'
+    by-words (of_fault words said refusal failure are reads refused) = absurd (other refused.refused.status_is)
+    by-words (no_memory failure memory refused) = absurd (other refused.refused.status_is)
+    by-words (of_parsed words said parsed are read (out_of_memory failure memory refused)) =
+        absurd (other refused.refused.status_is)
+    by-words (of_parsed words said parsed are read
+        (of_options options uses operands lists used named listed set run)) = (
+          options,
+          record {
+            words = words;
+            said = said;
+            are_words = are;
+            parsed = parsed;
+            are_read = read;
+            uses = uses;
+            operands = operands;
+            lists = lists;
+            uses_are = used;
+            operands_are = named;
+            are_lists = listed;
+            are_options = set;
+          },
+          by-options options said run,
+        )
+
+  -- it does what its arguments ask for
+  pub as-asked : IsProgramRun output write_step say_step file_remaining remaining read_step folders finds opens
+      identifies
+      arguments streams input writer errors status input' writer' errors'
+      → DoesAsAsked contents file_remaining remaining read_step folders finds opens identifies write_step say_step
+      arguments streams input writer errors status input' writer'
+  as-asked ran well before held other = by-words well before held other ran
