@@ -1,42 +1,43 @@
--- What the calls of an engine come to, whose output never fails.
-use Rattle.std.proofs.Common.{◌≡◌, ◌∙◌, ℕ, ◌<◌, Bool, true, false, List, [], ◌∷◌, ◌++◌, ap, append_assoc, refl, subst}
+-- What the calls of an engine come to, by what its output holds, and how its output fails.
+use Rattle.std.proofs.Common.{◌≡◌, ◌∙◌, ℕ, Bool, true, false, List, [], ◌∷◌, ◌++◌, ap, append_assoc, refl, subst}
 use Rattle.std.proofs.Common.{sym}
-use Rattle.std.proofs.Common.{inl, inr, true≢false}
-use Rattle.std.specs.Prelude.{◌||◌, None, Option, Some, Result, Ok, Err, is_some, length}
+use Rattle.std.proofs.Common.{◌⊎◌, inl, inr, true≢false}
+use Rattle.std.specs.Prelude.{◌||◌, MatchResult, None, Option, Some, Result, Ok, Err, is_some}
 use Rattle.std.specs.Borrow.{Bor}
 use Rattle.std.specs.Global.{Global}
-use Rattle.std.specs.Io.KnownBytes.{Consumes, IsAtEnd}
+use Rattle.std.specs.Io.KnownBytes.{IsAtEnd}
 use Rattle.std.specs.List.{concat}
 use Rattle.std.specs.declared.io.Error.{Error}
 use Rattle.std.proofs.lemmas.List.{append-nil}
-use Rattle.grep_output.specs.Outputs.{OutputCall}
-use Rattle.grep_output.specs.PendingTexts.{Flushes}
+use Rattle.std.specs.Io.KnownBytes.{Appends}
+use Rattle.grep_output.specs.Outputs.{OutputCall, taken_by}
 use Rattle.grep_printer.specs.Formats.{is_text}
 use Rattle.grep_printer.specs.declared.printed_search.Searched.{Searched}
 use Rattle.grep_searcher.specs.Meanings.{MatcherFacts}
 use Rattle.grep_searcher.specs.Plans.{IsLawful, Settings}
-use Rattle.grep_searcher.specs.Searches.{Reads, Taken, searched_bytes}
+use Rattle.grep_searcher.specs.Searches.{Reads, searched_bytes}
 use Rattle.grep_searcher.specs.Source.{Pulls, ReadResult}
 use Rattle.grep_searcher.specs.declared.BinaryDetection.{BinaryDetection}
 use Rattle.grep_searcher.specs.declared.LineTerminator.{LineTerminator}
 use Rattle.grep_searcher.specs.declared.SearchError.{SearchError}
-use Rattle.linegrep_cli.proofs.OutputTextLemmas.{all-flushed}
-use Rattle.linegrep_cli.proofs.PrinterTextLemmas.{IsNextText, IsPrinterAfter, all-finished, finished-unfailed}
-use Rattle.linegrep_cli.proofs.PrinterTextLemmas.{flush-keeps}
-use Rattle.linegrep_cli.proofs.PrinterTextLemmas.{pending_of, printer-flushed, printer-text, printer-unfailed}
-use Rattle.linegrep_cli.proofs.SearchTextLemmas.{not-both}
-use Rattle.linegrep_cli.proofs.VisitSoundLemmas.{IsBeforeEnd}
-use Rattle.linegrep_cli.specs.EngineCalls.{EngineCall, finishes, lists, says, searches_file, searches_input, sets_quits}
+use Rattle.grep_searcher.specs.declared.SearchError.TheVariants.{Io}
+use Rattle.linegrep_cli.proofs.OutputTextLemmas.{all-flushed, flush-failed}
+use Rattle.linegrep_cli.proofs.PrinterTextLemmas.{IsNextText, IsPrinterAfter, flush-keeps, pending_of, printer-after}
+use Rattle.linegrep_cli.proofs.PrinterTextLemmas.{printer-flushed, printer-text}
+use Rattle.linegrep_cli.proofs.PrinterTotalLemmas.{all-finished, finished-after}
+use Rattle.linegrep_cli.proofs.SearchTextLemmas.{IsAfter, not-both, one-error, one-io-error}
+use Rattle.linegrep_cli.proofs.VisitSoundLemmas.{CallsKeep, IsSearchedSoundly}
+use Rattle.linegrep_cli.specs.EngineCalls.{EngineCall, finishes, says, searches_file, searches_input, sets_quits}
 use Rattle.linegrep_cli.specs.Haystacks.{IsPulled, IsPulledIn, remaining_in, remaining_of}
 use Rattle.linegrep_cli.specs.PathSeparators.{IsShown}
-use Rattle.linegrep_cli.specs.PrintingEngines.{IsDoneShown, IsEngineStep, IsSearched, IsUnsearched, IsWrittenResult}
+use Rattle.linegrep_cli.specs.PrintingEngines.{IsEngineStep, IsSearched, IsUnsearched, IsWrittenResult}
 use Rattle.linegrep_cli.specs.PrintingEngines.{detection_with}
 use Rattle.linegrep_cli.specs.RunInputs.{AreReadOf, IsFileInput, IsReaderInput}
-use Rattle.linegrep_cli.specs.EngineSteps.{has_failed}
+use Rattle.linegrep_cli.specs.EngineSteps.{IsWrittenError, has_failed}
 use Rattle.linegrep_cli.specs.PrinterSearches.{IsFinished}
 use Rattle.linegrep_cli.specs.SearchTexts.{AreTextsFor, AreTotals, Findings, Input, IsTextBy, MayHave, findings_then}
 use Rattle.linegrep_cli.specs.SearchTexts.{next_input, settings_for}
-use Rattle.linegrep_cli.specs.WrittenRuns.{NeverFails}
+use Rattle.linegrep_cli.specs.WrittenRuns.{HasFailedWith}
 use Rattle.linegrep_cli.specs.declared.engine.PrintingEngine.{PrintingEngine}
 use Rattle.linegrep_cli.specs.declared.haystacks.Haystack.{Haystack}
 use Rattle.linegrep_cli.specs.declared.printers.Printer.{Printer}
@@ -114,7 +115,9 @@ module _ {F R : Type 0} (file_remaining : F → Option (List ℕ)) (remaining : 
 module _ {F M R W X E : Type 0} (output : E → Option (List ℕ)) (facts : M → MatcherFacts E)
     (first_at : M → List ℕ → ℕ → Option (ℕ × ℕ)) (groups_at : M → List ℕ → ℕ → List (Option (ℕ × ℕ)))
     (write_step : W → OutputCall → W → Type 0) (file_remaining : F → Option (List ℕ)) (remaining : R → Option (List ℕ))
-    (read_step : R → ReadResult → R → Type 0) (contents : W → Option (List ℕ)) (well : NeverFails contents write_step)
+    (read_step : R → ReadResult → R → Type 0) (contents : W
+    → Option (List ℕ)) (grows : (old new : W) (call : OutputCall) → write_step old call new
+    → Appends (contents old) (contents new) (taken_by call))
     (settings : Settings) (separator : Option ℕ) (matcher : M)
     (trusted : (terminator : LineTerminator) → (facts matcher).is_lawful terminator) (first : Printer M)
     (before : List ℕ) where
@@ -170,11 +173,11 @@ module _ {F M R W X E : Type 0} (output : E → Option (List ℕ)) (facts : M �
         shown
         searched new) (ok : searched.result ≡ Ok tt) (quits : Bool) (inputs : List Input) (found : Bool) (reader : R)
         (at : IsAt quits inputs found reader old) where
-      next : IsNextText output facts first_at groups_at write_step contents well
+      next : IsNextText output facts first_at groups_at write_step contents grows
           (remaining_of file_remaining remaining) (IsPulled file_remaining remaining read_step) old.searcher old.matcher
           (lawful at.asks) shown (record { file = file; reader = old.haystack.reader }) old.writer searched search.left
           new.writer first at.findings old.printer new.printer
-      next = printer-text output facts first_at groups_at write_step contents well
+      next = printer-text output facts first_at groups_at write_step contents grows
           (remaining_of file_remaining remaining) (IsPulled file_remaining remaining read_step) old.searcher old.matcher
           (lawful at.asks) shown (record { file = file; reader = old.haystack.reader }) old.writer searched search.left
           new.writer first old.printer new.printer at.findings at.held at.holds ok at.after search.written
@@ -246,7 +249,7 @@ module _ {F M R W X E : Type 0} (output : E → Option (List ℕ)) (facts : M �
         searched-input old new (Some file) shown searched search ok quits inputs found reader at,
         record {
           shown = shown-by old new path shown at.separates shows;
-          place = refl;
+          quits_is = refl;
           read = searched-read old new (Some file) shown searched search ok quits inputs found reader at;
         },
         searched-at old new (Some file) shown searched search ok quits inputs found reader at reader
@@ -272,7 +275,7 @@ module _ {F M R W X E : Type 0} (output : E → Option (List ℕ)) (facts : M �
         search.left.reader,
         record {
           shown = shown-by old new path shown at.separates shows;
-          place = refl;
+          quits_is = refl;
           pieces = is-next.taken.pieces;
           read_is = refl;
           calls = subst (λ r. Reads remaining read_step is-next.taken.ended r is-next.taken.pieces
@@ -289,32 +292,26 @@ module _ {F M R W X E : Type 0} (output : E → Option (List ℕ)) (facts : M �
 
   -- before a text on standard error all is written
   pub text-kept : (quits : Bool) (inputs : List Input) (found : Bool) (reader : R) (old new : PrintingEngine F M R W X)
-      (said : Result (Unit {0}) Error) → IsAt quits inputs found reader old → Step old (says said) new
-      → (said ≡ Ok tt) × IsAt quits inputs found reader new
-  text-kept quits inputs found reader old new said at is =
-      let flush = printer-flushed write_step contents well old.writer said new.writer old.printer new.printer
-      is.flushed in (
-        flush.ok,
-        record {
-          findings = at.findings;
-          texts = at.texts;
-          found_is = at.found_is;
-          is_settings = ap (λ (e : PrintingEngine F M R W X). e.searcher.settings) is.others ∙ at.is_settings;
-          asks = ap (λ (e : PrintingEngine F M R W X). e.matcher) is.others ∙ at.asks;
-          detects = ap (λ (e : PrintingEngine F M R W X). e.detection) is.others ∙ at.detects;
-          separates = ap (λ (e : PrintingEngine F M R W X). e.path_separator) is.others ∙ at.separates;
-          reads = ap (λ (e : PrintingEngine F M R W X). e.haystack) is.others ∙ at.reads;
-          after = flush-keeps write_step contents well old.writer said new.writer first old.printer new.printer
-              at.findings
-              at.after is.flushed;
-          held = at.held ++ pending_of old.printer;
-          holds = all-flushed contents write_step well old.writer new.writer at.held (pending_of old.printer) at.holds
-              (subst (λ result. Flushes write_step old.writer (pending_of old.printer) result new.writer) flush.ok
-              flush.flushed);
-          whole = at.whole ∙ (sym (append-nil (at.held ++ pending_of old.printer))
-              ∙ ap (λ waiting. (at.held ++ pending_of old.printer) ++ waiting) (sym flush.emptied));
-        },
-      )
+      → IsAt quits inputs found reader old → Step old (says (Ok tt)) new → IsAt quits inputs found reader new
+  text-kept quits inputs found reader old new at is =
+      let flush = printer-flushed write_step old.writer (Ok tt) new.writer old.printer new.printer is.flushed in
+      record {
+        findings = at.findings;
+        texts = at.texts;
+        found_is = at.found_is;
+        is_settings = ap (λ (e : PrintingEngine F M R W X). e.searcher.settings) is.others ∙ at.is_settings;
+        asks = ap (λ (e : PrintingEngine F M R W X). e.matcher) is.others ∙ at.asks;
+        detects = ap (λ (e : PrintingEngine F M R W X). e.detection) is.others ∙ at.detects;
+        separates = ap (λ (e : PrintingEngine F M R W X). e.path_separator) is.others ∙ at.separates;
+        reads = ap (λ (e : PrintingEngine F M R W X). e.haystack) is.others ∙ at.reads;
+        after = flush-keeps write_step old.writer new.writer first old.printer new.printer at.findings at.after
+            is.flushed;
+        held = at.held ++ pending_of old.printer;
+        holds = all-flushed contents write_step grows old.writer new.writer at.held (pending_of old.printer) at.holds
+            flush.flushed;
+        whole = at.whole ∙ (sym (append-nil (at.held ++ pending_of old.printer))
+            ∙ ap (λ waiting. (at.held ++ pending_of old.printer) ++ waiting) (sym flush.emptied));
+      }
 
   pub quits-kept : (quits next : Bool) (inputs : List Input) (found : Bool) (reader : R)
       (old new : PrintingEngine F M R W X)
@@ -342,7 +339,7 @@ module _ {F M R W X E : Type 0} (output : E → Option (List ℕ)) (facts : M �
   pub finishes-kept : (inputs : List Input) (found : Bool) (reader : R) (old new : PrintingEngine F M R W X)
       → IsAt false inputs found reader old → Step old (finishes (Ok tt)) new → IsDone inputs found reader new
   finishes-kept inputs found reader old new at is =
-      let (totals, are, holds) = all-finished write_step contents well first old.printer old.writer new.writer
+      let (totals, are, holds) = all-finished write_step contents grows first old.printer old.writer new.writer
       new.printer
       at.findings at.held at.holds at.after (finished-well is.ended is.finished is.is_result) in
       record {
@@ -363,46 +360,99 @@ module _ {F M R W X E : Type 0} (output : E → Option (List ℕ)) (facts : M �
       finished-well (Ok u) finished same = finished
       finished-well (Err e) finished (error, same, written) = absurd (not-both (Ok tt) tt error refl same)
 
-  -- however that ends, it doesn't show that the writer failed
-  pub finishes-sound : (old new : PrintingEngine F M R W X) (result : Result (Unit {0}) Error) → IsSound old
-      → Step old (finishes result) new → IsSound new
-  finishes-sound old new result sound is = record {
-    asks = ap (λ (e : PrintingEngine F M R W X). e.matcher) is.others ∙ sound.asks;
-    unfailed = finished-unfailed write_step contents well old.printer old.writer is.ended new.writer new.printer
-        is.finished ∙ sound.unfailed;
-  }
+  -- a call failed with an error of the writer, which was its last call
+  abbrev pub IsCut : Error → PrintingEngine F M R W X → Type 0
+  IsCut error engine = HasFailedWith write_step error engine.writer
 
   searched-sound : (old new : PrintingEngine F M R W X) (file : Option F) (shown : Option (Bor (List ℕ)))
       (searched : Searched)
       → IsSearched output facts first_at groups_at write_step file_remaining remaining read_step file old shown
-      searched new → IsSound old → IsSound new
+      searched new → IsSound old
+      → IsSearchedSoundly Step (λ engine. has_failed engine.printer) IsSound IsCut searched new
   searched-sound old new file shown searched search sound = record {
-    asks = ap (λ (e : PrintingEngine F M R W X). e.matcher) search.others ∙ sound.asks;
-    unfailed = printer-unfailed output facts first_at groups_at write_step contents well
+    sound = λ unfailed. record {
+      asks = ap (λ (e : PrintingEngine F M R W X). e.matcher) search.others ∙ sound.asks;
+      unfailed = unfailed;
+    };
+    cut = λ failed. elim (printer-after output facts first_at groups_at write_step contents grows
         (remaining_of file_remaining remaining) (IsPulled file_remaining remaining read_step) old.searcher old.matcher
         (lawful old new sound.asks) shown (record { file = file; reader = old.haystack.reader }) old.writer searched
-        search.left new.writer old.printer new.printer search.written ∙ sound.unfailed;
+        search.left new.writer old.printer new.printer search.written sound.unfailed) [
+          | inl unfailed ↦ absurd (true≢false (sym failed ∙ unfailed))
+          | inr cut ↦ cut
+        ];
   }
 
-  -- an engine stays sound through the calls before the end
-  pub sound-kept : (old new : PrintingEngine F M R W X) (call : EngineCall F) → IsBeforeEnd call → Step old call new
-      → IsSound old → IsSound new
-  sound-kept old new (searches_file path file searched) before (inl (shown, shows, search)) sound =
-      searched-sound old new (Some file) shown searched search sound
-  sound-kept old new (searches_file path file searched) before (inr (has, unsearched, same)) sound =
-      subst IsSound (sym same) sound
-  sound-kept old new (searches_input path searched) before (inl (shown, shows, search)) sound =
-      searched-sound old new None shown searched search sound
-  sound-kept old new (searches_input path searched) before (inr (has, unsearched, same)) sound =
-      subst IsSound (sym same) sound
-  sound-kept old new (lists path searched) before step sound = absurd before
-  sound-kept old new (says result) before is sound = record {
+  unsearched-sound : (old new : PrintingEngine F M R W X) (searched : Searched) → new ≡ old → IsSound old
+      → IsSearchedSoundly Step (λ engine. has_failed engine.printer) IsSound IsCut searched new
+  unsearched-sound old new searched same sound = record {
+    sound = λ unfailed. subst IsSound (sym same) sound;
+    cut = λ failed. absurd (true≢false (sym failed
+        ∙ (ap (λ (e : PrintingEngine F M R W X). has_failed e.printer) same ∙ sound.unfailed)));
+  }
+
+  -- what is sound stays so, unless the writer fails
+  pub calls-keep : CallsKeep Step (λ engine. has_failed engine.printer) IsSound IsCut
+  calls-keep = record {
+    file = λ old new path file searched step sound. file-sound old new path file searched step sound;
+    input = λ old new path searched step sound. input-sound old new path searched step sound;
+    text = λ old new said step sound. text-sound old new said step sound;
+    quits = λ old new quits is sound. record {
+      asks = ap (λ (e : PrintingEngine F M R W X). e.matcher) is ∙ sound.asks;
+      unfailed = ap (λ (e : PrintingEngine F M R W X). has_failed e.printer) is ∙ sound.unfailed;
+    };
+    quits-cut = λ old new quits error is cut.
+        subst (HasFailedWith write_step error) (sym (ap (λ (e : PrintingEngine F M R W X). e.writer) is)) cut;
+  }
+    where
+      file-sound : (old new : PrintingEngine F M R W X) (path : Option (Bor (List ℕ))) (file : F) (searched : Searched)
+          → Step old (searches_file path file searched) new → IsSound old
+          → IsSearchedSoundly Step (λ engine. has_failed engine.printer) IsSound IsCut searched new
+      file-sound old new path file searched (inl (shown, shows, search)) sound =
+          searched-sound old new (Some file) shown searched search sound
+      file-sound old new path file searched (inr (has, unsearched, same)) sound =
+          unsearched-sound old new searched same sound
+
+      input-sound : (old new : PrintingEngine F M R W X) (path : Option (Bor (List ℕ))) (searched : Searched)
+          → Step old (searches_input path searched) new → IsSound old
+          → IsSearchedSoundly Step (λ engine. has_failed engine.printer) IsSound IsCut searched new
+      input-sound old new path searched (inl (shown, shows, search)) sound =
+          searched-sound old new None shown searched search sound
+      input-sound old new path searched (inr (has, unsearched, same)) sound =
+          unsearched-sound old new searched same sound
+
+      text-sound : (old new : PrintingEngine F M R W X) (said : Result (Unit {0}) Error) → Step old (says said) new
+          → IsSound old → MatchResult said (λ _. IsSound new) (λ error. IsCut error new)
+      text-sound old new (Ok u) is sound = record {
+        asks = ap (λ (e : PrintingEngine F M R W X). e.matcher) is.others ∙ sound.asks;
+        unfailed = (printer-flushed write_step old.writer (Ok u) new.writer old.printer new.printer is.flushed).failed
+            ∙ sound.unfailed;
+      }
+      text-sound old new (Err error) is sound = flush-failed write_step old.writer new.writer
+          (pending_of old.printer) error
+          (printer-flushed write_step old.writer (Err error) new.writer old.printer new.printer is.flushed).flushed
+
+  -- an engine is sound at the end if its writer hasn't failed
+  pub finishes-sound : (old new : PrintingEngine F M R W X) (result : Result (Unit {0}) Error) → IsSound old
+      → Step old (finishes result) new → has_failed new.printer ≡ false → IsSound new
+  finishes-sound old new result sound is unfailed = record {
     asks = ap (λ (e : PrintingEngine F M R W X). e.matcher) is.others ∙ sound.asks;
-    unfailed = (printer-flushed write_step contents well old.writer result new.writer old.printer new.printer
-        is.flushed).unfailed ∙ sound.unfailed;
+    unfailed = unfailed;
   }
-  sound-kept old new (sets_quits quits) before is sound = record {
-    asks = ap (λ (e : PrintingEngine F M R W X). e.matcher) is ∙ sound.asks;
-    unfailed = ap (λ (e : PrintingEngine F M R W X). has_failed e.printer) is ∙ sound.unfailed;
-  }
-  sound-kept old new (finishes result) before step sound = absurd before
+
+  -- if the end fails, that is with the writer's error, or the writer hasn't failed
+  pub finishes-after : (old new : PrintingEngine F M R W X) (error : Error) → IsSound old
+      → Step old (finishes (Err error)) new → (has_failed new.printer ≡ false) ⊎ IsCut error new
+  finishes-after old new error sound is =
+      by is.ended is.is_result (finished-after write_step old.printer old.writer is.ended new.writer new.printer
+      is.finished sound.unfailed)
+    where
+      by : (ended : Result (Unit {0}) (SearchError Global)) → IsWrittenResult ended (Err error)
+          → IsAfter write_step ended (has_failed new.printer) new.writer
+          → (has_failed new.printer ≡ false) ⊎ IsCut error new
+      by (Ok u) written (inl unfailed) = inl unfailed
+      by (Err e) written (inl unfailed) = inl unfailed
+      by (Ok u) written (inr (cause, is, failed)) = absurd (not-both (Ok u) u (Io cause) refl is)
+      by (Err e) (own, same, written) (inr (cause, is, failed)) =
+          let caused = subst (λ x. IsWrittenError x own) (one-error e (Io cause) is) written in
+          inr (subst (λ x. HasFailedWith write_step x new.writer) (sym (one-io-error error own same ∙ caused)) failed)

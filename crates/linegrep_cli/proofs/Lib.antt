@@ -8,6 +8,7 @@ pub mod OutputTextLemmas
 pub mod PatternLemmas
 pub mod PrinterKindLemmas
 pub mod PrinterTextLemmas
+pub mod PrinterTotalLemmas
 pub mod RunTextLemmas
 pub mod SearchTextLemmas
 pub mod VisitSoundLemmas

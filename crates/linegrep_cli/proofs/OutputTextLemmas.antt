@@ -1,24 +1,33 @@
--- What an output holds, whose calls never fail, after texts are put and flushed.
-use Rattle.std.proofs.Common.{◌≡◌, ◌∙◌, ℕ, ◌<◌, List, [], ◌∷◌, ◌++◌, ap, append_assoc, refl, subst, sym}
-use Rattle.std.proofs.Common.{inl, inr, lt_irrefl, unwrap_or}
-use Rattle.std.specs.Prelude.{None, Option, Some, Result, Ok, Err}
+-- What an output holds after texts are put and flushed, and what its last call was if that fails.
+use Rattle.std.proofs.Common.{◌≡◌, ◌∙◌, ℕ, List, [], ◌∷◌, ◌++◌, ap, append_assoc, refl, subst, sym}
+use Rattle.std.proofs.Common.{inl, inr, unwrap_or}
+use Rattle.std.specs.Prelude.{None, Option, Some, Ok, Err}
 use Rattle.std.specs.Io.KnownBytes.{Appends}
 use Rattle.std.specs.declared.io.Error.{Error}
 use Rattle.std.proofs.lemmas.List.{append-nil, append_cancel_left}
 use Rattle.grep_output.specs.Outputs.{AreCalled, EndsIn, FailsToWrite, OutputCall, WritesAll, flushes}
 use Rattle.grep_output.specs.Outputs.{taken_by, taken_by_all, writes}
 use Rattle.grep_output.specs.PendingTexts.{Flushes, PutsAll}
-use Rattle.linegrep_cli.specs.WrittenRuns.{NeverFails, Succeeds}
+use Rattle.linegrep_cli.specs.WrittenRuns.{FailsWith, HasFailedWith}
 
--- a call that succeeds doesn't end in an error
-unended : (call : OutputCall) (error : Error) → Succeeds call → EndsIn error call → ⊥
-unended (writes bytes (Ok n)) error good (some, none, kind) =
-    lt_irrefl 0 (subst (λ count. 0 < count) none (good some))
-unended (writes bytes (Err e)) error good ends = good
-unended (flushes result) error good ends = ends
+-- if a text or a flush fails, the output's last call has
+pub write-failed : {W : Type 0} (write_step : W → OutputCall → W → Type 0) (old new : W) (text : List ℕ) (error : Error)
+    → FailsToWrite write_step old text error new → HasFailedWith write_step error new
+write-failed write_step old new text error fails = (fails.mid, fails.call, fails.last, by fails.call fails.ends_in)
+  where
+    by : (call : OutputCall) → EndsIn error call → FailsWith error call
+    by (writes bytes result) ends = ends
+    by (flushes (Ok u)) ends = ends
+    by (flushes (Err e)) ends = absurd ends
+
+pub flush-failed : {W : Type 0} (write_step : W → OutputCall → W → Type 0) (old new : W) (pending : List ℕ)
+    (error : Error) → Flushes write_step old pending (Err error) new → HasFailedWith write_step error new
+flush-failed write_step old new pending error (inl fails) = write-failed write_step old new pending error fails
+flush-failed write_step old new pending error (inr flushed) = (flushed.mid, flushes (Err error), flushed.last, refl)
 
 module _ {W : Type 0} (contents : W → Option (List ℕ)) (write_step : W → OutputCall → W → Type 0)
-    (well : NeverFails contents write_step) where
+    (grows : (old new : W) (call : OutputCall) → write_step old call new
+    → Appends (contents old) (contents new) (taken_by call)) where
   -- known bytes grow
   more : (old new : W) (held bytes : List ℕ) → contents old ≡ Some held
       → Appends (contents old) (contents new) bytes → contents new ≡ Some (held ++ bytes)
@@ -36,7 +45,7 @@ module _ {W : Type 0} (contents : W → Option (List ℕ)) (write_step : W → O
       subst (λ w. contents w ≡ Some (held ++ [])) same (is ∙ ap Some (sym (append-nil held)))
   called (call ∷ later) old new held is (mid, step, made) =
       called later mid new (held ++ taken_by call)
-      (more old mid held (taken_by call) is (well.grows old mid call step)) made
+      (more old mid held (taken_by call) is (grows old mid call step)) made
       ∙ ap Some (append_assoc held (taken_by call) (taken_by_all later))
 
   written : (old new : W) (held bytes : List ℕ) → contents old ≡ Some held
@@ -65,24 +74,10 @@ module _ {W : Type 0} (contents : W → Option (List ℕ)) (write_step : W → O
       append_cancel_left pending one other (append_cancel_left held (pending ++ one) (pending ++ other)
       (first.2 ∙ (ap (λ now. now ++ later) same ∙ sym second.2)))
 
-  -- no write fails
-  pub unfailing : (old new : W) (text : List ℕ) (error : Error)
-      → FailsToWrite write_step old text error new → ⊥
-  unfailing old new text error fails =
-      unended fails.call error (well.succeeds fails.mid new fails.call fails.last) fails.ends_in
-
-  -- a flush ends in `Ok`
-  pub flushed-well : (old new : W) (pending : List ℕ) (result : Result (Unit {0}) Error)
-      → Flushes write_step old pending result new → result ≡ Ok tt
-  flushed-well old new pending (Ok u) flushed = refl
-  flushed-well old new pending (Err error) (inl fails) = absurd (unfailing old new pending error fails)
-  flushed-well old new pending (Err error) (inr flushed) =
-      absurd (well.succeeds flushed.mid new (flushes (Err error)) flushed.last)
-
   -- after it nothing is pending
   pub all-flushed : (old new : W) (held pending : List ℕ) → contents old ≡ Some held
       → Flushes write_step old pending (Ok tt) new → contents new ≡ Some (held ++ pending)
   all-flushed old new held pending is flushed =
       more flushed.mid new (held ++ pending) [] (written old flushed.mid held pending is flushed.written)
-      (well.grows flushed.mid new (flushes (Ok tt)) flushed.last)
+      (grows flushed.mid new (flushes (Ok tt)) flushed.last)
       ∙ ap Some (append-nil (held ++ pending))

@@ -1,19 +1,18 @@
--- What a printer of a run writes in a search, in a flush and at the end, to an output that never fails.
+-- What a printer of a run writes in a search, in a flush and at the end, and how its writer fails.
 use Rattle.std.proofs.Common.{◌≡◌, ◌∙◌, ℕ, Bool, true, false, List, [], ◌∷◌, ◌++◌, ap, append_assoc, refl, subst}
 use Rattle.std.proofs.Common.{subst₂, sym}
-use Rattle.std.proofs.Common.{inl, inr, true≢false}
-use Rattle.std.specs.Prelude.{◌||◌, ◌==◌, MatchBool, MatchResult, None, Option, Some, Result, Ok, Err, if◌then◌else◌}
-use Rattle.std.specs.Prelude.{is_ok, length, not}
+use Rattle.std.proofs.Common.{◌⊎◌, inl, inr}
+use Rattle.std.specs.Prelude.{◌||◌, Option, Some, Result, Ok, Err, if◌then◌else◌}
+use Rattle.std.specs.Prelude.{is_ok}
 use Rattle.std.specs.Borrow.{Bor}
 use Rattle.std.specs.Global.{Global}
 use Rattle.std.specs.declared.io.Error.{Error}
-use Rattle.std.proofs.lemmas.List.{append-nil}
-use Rattle.grep_output.specs.Outputs.{OutputCall}
+use Rattle.std.specs.Io.KnownBytes.{Appends}
+use Rattle.grep_output.specs.Outputs.{OutputCall, taken_by}
 use Rattle.grep_output.specs.PendingTexts.{Flushes, pending_bytes}
-use Rattle.grep_printer.specs.CountedTexts.{counted_rules, stats_text}
+use Rattle.grep_printer.specs.CountedTexts.{counted_rules}
 use Rattle.grep_printer.specs.Formats.{Rules, is_text}
 use Rattle.grep_printer.specs.JsonEnds.{FailsToPutText, PutsText}
-use Rattle.grep_printer.specs.JsonMessages.{json_line, summary_json}
 use Rattle.grep_printer.specs.JsonTexts.{end_text, json_rules, stats_of}
 use Rattle.grep_printer.specs.PrintedSearches.{IsSearchPrinted}
 use Rattle.grep_printer.specs.ReplacedTexts.{replaced_rules}
@@ -26,31 +25,29 @@ use Rattle.grep_printer.specs.declared.counted.CountedFormat.{CountedFormat}
 use Rattle.grep_printer.specs.declared.json_printer.JsonFormat.{JsonFormat}
 use Rattle.grep_printer.specs.declared.printed_search.Searched.{Searched}
 use Rattle.grep_printer.specs.declared.printer.Printer.{Printer as Writer}
-use Rattle.grep_printer.specs.declared.printer.PrinterSink.{PrinterSink}
 use Rattle.grep_printer.specs.declared.stats.Stats.{Stats}
 use Rattle.grep_searcher.specs.Meanings.{MatcherFacts}
 use Rattle.grep_searcher.specs.Plans.{IsLawful, SearcherState}
 use Rattle.grep_searcher.specs.Searches.{IsInputOf, Taken}
 use Rattle.grep_searcher.specs.Source.{ReadResult}
 use Rattle.grep_searcher.specs.declared.SearchError.{SearchError}
+use Rattle.grep_searcher.specs.declared.SearchError.TheVariants.{Io}
 use Rattle.grep_printer.proofs.SomeTextLemmas.{text-some}
-use Rattle.linegrep_cli.proofs.OutputTextLemmas.{all-flushed, flushed-well, text-put, unfailing}
+use Rattle.linegrep_cli.proofs.OutputTextLemmas.{text-put, write-failed}
 use Rattle.linegrep_cli.proofs.PrinterKindLemmas.{json-run, lines-run, parts-run, replaced-lines-run}
 use Rattle.linegrep_cli.proofs.PrinterKindLemmas.{replaced-parts-run}
 use Rattle.linegrep_cli.proofs.PrinterKindLemmas.{summary-run}
-use Rattle.linegrep_cli.proofs.SearchTextLemmas.{not-both, sink-unfailed, text-of-sink}
-use Rattle.linegrep_cli.specs.CountedRuns.{AreAdded, AreCountsPut, AreStatsPut, IsCountedSearch, IsRunFlushed}
+use Rattle.linegrep_cli.proofs.SearchTextLemmas.{IsAfter, not-both, sink-after, text-of-sink}
+use Rattle.linegrep_cli.specs.CountedRuns.{AreAdded, IsCountedSearch}
 use Rattle.linegrep_cli.specs.EngineSteps.{has_failed}
-use Rattle.linegrep_cli.specs.JsonRuns.{AreCounted, AreTotalsPut, IsEndPut, IsJsonWritten}
+use Rattle.linegrep_cli.specs.JsonRuns.{AreCounted, IsEndPut, IsJsonWritten}
 use Rattle.linegrep_cli.specs.PrinterKinds.{IsJson, IsLines, IsParts, IsReplacedLines, IsReplacedParts, IsSummary}
-use Rattle.linegrep_cli.specs.PrinterSearches.{HasTotals, IsFinished, IsFlushed, IsSearchWritten, of_failed_flush}
-use Rattle.linegrep_cli.specs.PrinterSearches.{of_flush}
-use Rattle.linegrep_cli.specs.PrinterSearches.{of_totals}
-use Rattle.linegrep_cli.specs.SearchTexts.{AreCounts, AreTotals, Findings, IsCountedText, IsJsonText, IsTextBy}
+use Rattle.linegrep_cli.specs.PrinterSearches.{IsFlushed, IsSearchWritten}
+use Rattle.linegrep_cli.specs.SearchTexts.{Findings, IsCountedText, IsJsonText, IsTextBy}
 use Rattle.linegrep_cli.specs.SearchTexts.{IsTextOf}
 use Rattle.linegrep_cli.specs.SearchTexts.{findings_then}
 use Rattle.linegrep_cli.specs.WriterFlushes.{IsWriterFlushed}
-use Rattle.linegrep_cli.specs.WrittenRuns.{NeverFails}
+use Rattle.linegrep_cli.specs.WrittenRuns.{HasFailedWith}
 use Rattle.linegrep_cli.specs.declared.counted_run.CountedRun.{CountedRun}
 use Rattle.linegrep_cli.specs.declared.json_run.JsonRun.{JsonRun}
 use Rattle.linegrep_cli.specs.declared.printers.Printer.{Printer}
@@ -94,6 +91,11 @@ pending_of (ReplacedParts run) = pending_bytes run.printer.pending
 pending_of (Summary run) = pending_bytes run.printer.pending
 pending_of (Json run) = pending_bytes run.printer.pending
 
+-- a result of counts, without them
+abbrev unit-of : Result Stats (SearchError Global) → Result (Unit {0}) (SearchError Global)
+unit-of (Ok stats) = Ok tt
+unit-of (Err e) = Err e
+
 text-more : (text next : List ℕ) → (is_text text || is_text next) ≡ is_text (text ++ next)
 text-more [] next = refl
 text-more (byte ∷ text) next = ap (λ some. some || is_text next) (text-some byte text)
@@ -120,23 +122,28 @@ both-put contents old mid new first second third text next put puts held is =
           ∙ (append_assoc between second next ∙ whole))),
     )
 
-module _ {W G : Type 0} (write_step : W → OutputCall → W → Type 0) (contents : W → Option (List ℕ))
-    (well : NeverFails contents write_step) (writer : W) (old : Writer G) (text : List ℕ) (writer' : W)
-    (new : Writer G) where
-  -- a text that isn't put doesn't show that the writer failed
-  text-unfailed : (e : SearchError Global) → FailsToPutText write_step writer old text e writer' new
-      → new.has_failed ≡ old.has_failed
-  text-unfailed e fails = elim fails.cause [
-    | inl failed ↦ absurd (unfailing contents write_step well writer writer' _ failed.error failed.failed)
-    | inr memory ↦ memory.has_failed
+module _ {W G : Type 0} (write_step : W → OutputCall → W → Type 0) (writer : W) (old : Writer G) (text : List ℕ)
+    (writer' : W) (new : Writer G) where
+  -- if a text isn't put, that is with the writer's error, or it hasn't failed
+  pub text-after : (e : SearchError Global) → FailsToPutText write_step writer old text e writer' new
+      → old.has_failed ≡ false → (new.has_failed ≡ false)
+      ⊎ ((error : Error) × (e ≡ Io error) × HasFailedWith write_step error writer')
+  text-after e fails unfailed = elim fails.cause [
+    | inl failed ↦ inr (failed.error, failed.is_io, write-failed write_step writer writer' _ failed.error failed.failed)
+    | inr memory ↦ inl (memory.has_failed ∙ unfailed)
   ]
 
 module _ {M W E : Type 0} (output : E → Option (List ℕ)) (facts : M → MatcherFacts E)
     (first_at : M → List ℕ → ℕ → Option (ℕ × ℕ)) (groups_at : M → List ℕ → ℕ → List (Option (ℕ × ℕ)))
-    (write_step : W → OutputCall → W → Type 0) (contents : W → Option (List ℕ)) (well : NeverFails contents write_step)
+    (write_step : W → OutputCall → W → Type 0) (contents : W
+    → Option (List ℕ)) (grows : (old new : W) (call : OutputCall) → write_step old call new
+    → Appends (contents old) (contents new) (taken_by call))
     {R : Type 0} (remaining : R → Option (List ℕ)) (read_step : R → ReadResult → R → Type 0)
     (state : SearcherState) (matcher : M) (lawful : IsLawful (facts matcher) state.settings)
     (path : Option (Bor (List ℕ))) (reader : R) (writer : W) (searched : Searched) (reader' : R) (writer' : W) where
+  abbrev After : Result (Unit {0}) (SearchError Global) → Bool → W → Type 0
+  After = IsAfter write_step
+
   -- what a search adds to the findings before it
   pub record IsNextText (first : Printer M) (before : Findings) (old new : Printer M) : Type 0 where
     pub taken : Taken remaining read_step reader reader'
@@ -165,7 +172,7 @@ module _ {M W E : Type 0} (output : E → Option (List ℕ)) (facts : M → Matc
         → IsRunAfter format old before → IsRunText before
     run-text before held is ok after =
         let printed = counted.printed in
-        let (put, same) = text-of-sink (counted_rules rules) output facts first_at write_step contents well remaining
+        let (put, same) = text-of-sink (counted_rules rules) output facts first_at write_step contents grows remaining
         read_step state matcher path reader writer old.printer reader' printed.begun printed.ended printed.begins
         lawful held is (subst (λ r. IsSearchPrinted (counted_rules rules) output facts first_at write_step remaining
         read_step state reader printed.begun r reader' printed.ended) ok printed.searches) in
@@ -188,7 +195,7 @@ module _ {M W E : Type 0} (output : E → Option (List ℕ)) (facts : M → Matc
           };
           put = λ own known. subst₂ (λ w (p : Writer (CountedFormat G)). (now : List ℕ) × (contents w ≡ Some now)
               × (own ++ (pending_bytes old.printer.pending ++ put.text) ≡ now ++ pending_bytes p.pending))
-              printed.wrote printed.ends (text-put contents write_step well writer printed.ended.writer.now own
+              printed.wrote printed.ends (text-put contents write_step grows writer printed.ended.writer.now own
               (pending_bytes old.printer.pending) put.text
               (pending_bytes printed.ended.printer.now.pending) known put.put);
           after = record {
@@ -206,13 +213,15 @@ module _ {M W E : Type 0} (output : E → Option (List ℕ)) (facts : M → Matc
           };
         }
 
-    -- however it ends, it doesn't show that the writer failed
-    run-unfailed : new.printer.has_failed ≡ old.printer.has_failed
-    run-unfailed = ap (λ p. p.has_failed) (sym counted.printed.ends)
-        ∙ sink-unfailed (counted_rules rules) output facts first_at write_step contents well remaining read_step state
+    -- however it ends, the writer hasn't failed, or its error ended the search
+    run-after : old.printer.has_failed ≡ false → After searched.result new.printer.has_failed writer'
+    run-after unfailed =
+        subst₂ (λ failed w. After searched.result failed w)
+        (ap (λ p. p.has_failed) counted.printed.ends) counted.printed.wrote
+        (sink-after (counted_rules rules) output facts first_at write_step contents grows remaining read_step state
         matcher path reader writer old.printer reader' counted.printed.begun counted.printed.ended
         counted.printed.begins
-        lawful searched.result counted.printed.searches
+        lawful searched.result counted.printed.searches unfailed)
 
   module _ {T : Type 0} (text_at : T → TextAt) (format : JsonFormat T) (old new : JsonRun T)
       (written : IsJsonWritten text_at output facts first_at write_step remaining read_step state matcher path reader
@@ -255,7 +264,7 @@ module _ {M W E : Type 0} (output : E → Option (List ℕ)) (facts : M → Matc
         → IsJsonAfter format old before → IsJsonNext before
     json-text before held is ok after =
         let end = json-end ok in
-        let (put, same) = text-of-sink (json_rules text_at) output facts first_at write_step contents well remaining
+        let (put, same) = text-of-sink (json_rules text_at) output facts first_at write_step contents grows remaining
         read_step state matcher path reader writer old.printer reader' written.begun written.ended written.begins
         lawful held is (subst (λ r. IsSearchPrinted (json_rules text_at) output facts first_at write_step remaining
         read_step state reader written.begun r reader' written.ended) end.searched-well written.searches) in
@@ -280,10 +289,10 @@ module _ {M W E : Type 0} (output : E → Option (List ℕ)) (facts : M → Matc
           };
           put = both-put contents writer written.ended.writer.now writer' (pending_bytes old.printer.pending)
               (pending_bytes written.ended.printer.now.pending) (pending_bytes new.printer.pending) put.text end-of
-              (λ own known. text-put contents write_step well writer written.ended.writer.now own
+              (λ own known. text-put contents write_step grows writer written.ended.writer.now own
               (pending_bytes old.printer.pending) put.text
               (pending_bytes written.ended.printer.now.pending) known put.put)
-              (λ own known. text-put contents write_step well written.ended.writer.now writer' own
+              (λ own known. text-put contents write_step grows written.ended.writer.now writer' own
               (pending_bytes written.ended.printer.now.pending) end-of (pending_bytes new.printer.pending) known
               end.put.put);
           after = record {
@@ -302,20 +311,31 @@ module _ {M W E : Type 0} (output : E → Option (List ℕ)) (facts : M → Matc
           };
         }
 
-    json-unfailed : new.printer.has_failed ≡ old.printer.has_failed
-    json-unfailed = by written.result written.counts written.ends
-        ∙ sink-unfailed (json_rules text_at) output facts first_at write_step contents well remaining read_step state
+    json-after : old.printer.has_failed ≡ false → After searched.result new.printer.has_failed writer'
+    json-after unfailed = by written.result written.counts written.totals written.ends
+        (sink-after (json_rules text_at) output facts first_at write_step contents grows remaining read_step state
         matcher path reader writer old.printer reader' written.begun written.ended written.begins lawful written.result
-        written.searches
+        written.searches unfailed)
       where
         by : (result : Result (Unit {0}) (SearchError Global)) (counts : Result Stats (SearchError Global))
+            → AreCounted old.stats counts searched.result new.stats
             → IsEndPut write_step written.ended result written.elapsed counts writer' new.printer
-            → new.printer.has_failed ≡ written.ended.printer.now.has_failed
-        by (Ok u) (Ok stats) (counted, put) = put.has_failed
-        by (Ok u) (Err e) fails = text-unfailed write_step contents well written.ended.writer.now
-            written.ended.printer.now
-            end-of writer' new.printer e fails
-        by (Err e) counts (is, writes, same) = ap (λ p. p.has_failed) same
+            → After result written.ended.printer.now.has_failed written.ended.writer.now
+            → After searched.result new.printer.has_failed writer'
+        by (Ok u) (Ok stats) counted (sum, put) (inl well) = inl (put.has_failed ∙ well)
+        by (Ok u) (Ok stats) counted (sum, put) (inr (error, is, failed)) =
+            absurd (not-both (Ok u) u (Io error) refl is)
+        by (Ok u) (Err e) (is, same) fails (inl well) = elim (text-after write_step written.ended.writer.now
+            written.ended.printer.now end-of writer' new.printer e fails well) [
+              | inl still ↦ inl still
+              | inr (error, io, failed) ↦ inr (error, is ∙ ap Err io, failed)
+            ]
+        by (Ok u) (Err e) counted fails (inr (error, is, failed)) = absurd (not-both (Ok u) u (Io error) refl is)
+        by (Err e) (Ok stats) counted (is, writes, same) after = absurd (not-both (Ok stats) stats e refl is)
+        by (Err e) (Err other) (result_is, same) (is, writes, still) (inl well) =
+            inl (ap (λ p. p.has_failed) still ∙ well)
+        by (Err e) (Err other) (result_is, same) (is, writes, still) (inr (error, io, failed)) =
+            inr (error, result_is ∙ (ap unit-of is ∙ io), subst (HasFailedWith write_step error) (sym writes) failed)
 
   -- a search by a printer
   abbrev Search : Printer M → Printer M → Type 0
@@ -406,55 +426,53 @@ module _ {M W E : Type 0} (output : E → Option (List ℕ)) (facts : M → Matc
         after = next.after;
       })
 
-  -- however it ends, it doesn't show that the writer failed
-  pub printer-unfailed : (old new : Printer M) → Search old new → has_failed new ≡ has_failed old
-  printer-unfailed (Lines one) new written =
+  -- however it ends, the writer hasn't failed, or its error ended the search
+  pub printer-after : (old new : Printer M) → Search old new → has_failed old ≡ false
+      → After searched.result (has_failed new) writer'
+  printer-after (Lines one) new written unfailed =
       let (other, is, counted) = lines-run new written in
-      ap has_failed is ∙ run-unfailed standard_rules one.printer.format one other counted
-  printer-unfailed (Parts one) new written =
+      subst (λ p. After searched.result (has_failed p) writer') (sym is)
+      (run-after standard_rules one.printer.format one other counted unfailed)
+  printer-after (Parts one) new written unfailed =
       let (other, is, counted) = parts-run new written in
-      ap has_failed is ∙ run-unfailed vimgrep_rules one.printer.format one other counted
-  printer-unfailed (ReplacedLines one) new written =
+      subst (λ p. After searched.result (has_failed p) writer') (sym is)
+      (run-after vimgrep_rules one.printer.format one other counted unfailed)
+  printer-after (ReplacedLines one) new written unfailed =
       let (other, is, counted) = replaced-lines-run new written in
-      ap has_failed is ∙ run-unfailed (replaced_rules standard_rules groups_at (λ m.
-      (facts m).meaning)) one.printer.format one other counted
-  printer-unfailed (ReplacedParts one) new written =
+      subst (λ p. After searched.result (has_failed p) writer') (sym is)
+      (run-after (replaced_rules standard_rules groups_at (λ m.
+      (facts m).meaning)) one.printer.format one other counted unfailed)
+  printer-after (ReplacedParts one) new written unfailed =
       let (other, is, counted) = replaced-parts-run new written in
-      ap has_failed is ∙ run-unfailed (replaced_rules vimgrep_rules groups_at (λ m.
-      (facts m).meaning)) one.printer.format one other counted
-  printer-unfailed (Summary one) new written =
+      subst (λ p. After searched.result (has_failed p) writer') (sym is)
+      (run-after (replaced_rules vimgrep_rules groups_at (λ m.
+      (facts m).meaning)) one.printer.format one other counted unfailed)
+  printer-after (Summary one) new written unfailed =
       let (other, is, counted) = summary-run new written in
-      ap has_failed is ∙ run-unfailed summary_rules one.printer.format one other counted
-  printer-unfailed (Json one) new written =
+      subst (λ p. After searched.result (has_failed p) writer') (sym is)
+      (run-after summary_rules one.printer.format one other counted unfailed)
+  printer-after (Json one) new written unfailed =
       let (other, is, told) = json-run new written in
-      ap has_failed is ∙ json-unfailed (optional_text_at (template_text_at groups_at (λ m. (facts m).meaning)))
-      one.printer.format one other told
+      subst (λ p. After searched.result (has_failed p) writer') (sym is)
+      (json-after (optional_text_at (template_text_at groups_at (λ m. (facts m).meaning))) one.printer.format one other
+      told unfailed)
 
-module _ {W G : Type 0} (write_step : W → OutputCall → W → Type 0) (contents : W → Option (List ℕ))
-    (well : NeverFails contents write_step) (writer : W) (result : Result (Unit {0}) Error) (writer' : W)
-    (old new : Writer G) (flush : IsWriterFlushed write_step writer old result writer' new) where
-  flush-ok : result ≡ Ok tt
-  flush-ok = flushed-well contents write_step well writer writer' (pending_bytes old.pending) result flush.flushed
+flush-after : {W G : Type 0} (write_step : W → OutputCall → W → Type 0) (writer writer' : W) (old new : Writer G)
+    (format : G) (findings : Findings) → IsWriterFlushed write_step writer old (Ok tt) writer' new
+    → IsWriterAfter format old findings → IsWriterAfter format new findings
+flush-after write_step writer writer' old new format findings flush after = record {
+  same = flush.format ∙ after.same;
+  has_written = flush.has_written ∙ after.has_written;
+  unfailed = flush.has_failed ∙ after.unfailed;
+}
 
-  flush-unfailed : new.has_failed ≡ old.has_failed
-  flush-unfailed = flush.has_failed ∙ ap (λ r. if is_ok r then old.has_failed else true) flush-ok
-
-  flush-after : (format : G) (findings : Findings) → IsWriterAfter format old findings
-      → IsWriterAfter format new findings
-  flush-after format findings after = record {
-    same = flush.format ∙ after.same;
-    has_written = flush.has_written ∙ after.has_written;
-    unfailed = flush-unfailed ∙ after.unfailed;
-  }
-
-module _ {M W : Type 0} (write_step : W → OutputCall → W → Type 0) (contents : W → Option (List ℕ))
-    (well : NeverFails contents write_step) (writer : W) (result : Result (Unit {0}) Error) (writer' : W) where
-  -- what is pending is written, and nothing shows that the writer failed
+module _ {M W : Type 0} (write_step : W → OutputCall → W → Type 0) (writer : W) (result : Result (Unit {0}) Error)
+    (writer' : W) where
+  -- what is pending is written and flushed, or the writer fails
   pub record IsFlush (old new : Printer M) : Type 0 where
     pub flushed : Flushes write_step writer (pending_of old) result writer'
-    pub ok : result ≡ Ok tt
     pub emptied : pending_of new ≡ []
-    pub unfailed : has_failed new ≡ has_failed old
+    pub failed : has_failed new ≡ (if is_ok result then has_failed old else true)
 
   -- a flush of a printer
   pub printer-flushed : (old new : Printer M) → IsFlushed write_step writer old result writer' new → IsFlush old new
@@ -462,322 +480,100 @@ module _ {M W : Type 0} (write_step : W → OutputCall → W → Type 0) (conten
       let (other, is, flush) = lines-run new flushed in
       subst (IsFlush (Lines one)) (sym is) (record {
         flushed = flush.0.flushed;
-        ok = flush-ok write_step contents well writer result writer' one.printer other.printer flush.0;
         emptied = flush.0.emptied;
-        unfailed = flush-unfailed write_step contents well writer result writer' one.printer other.printer flush.0;
+        failed = flush.0.has_failed;
       })
   printer-flushed (Parts one) new flushed =
       let (other, is, flush) = parts-run new flushed in
       subst (IsFlush (Parts one)) (sym is) (record {
         flushed = flush.0.flushed;
-        ok = flush-ok write_step contents well writer result writer' one.printer other.printer flush.0;
         emptied = flush.0.emptied;
-        unfailed = flush-unfailed write_step contents well writer result writer' one.printer other.printer flush.0;
+        failed = flush.0.has_failed;
       })
   printer-flushed (ReplacedLines one) new flushed =
       let (other, is, flush) = replaced-lines-run new flushed in
       subst (IsFlush (ReplacedLines one)) (sym is) (record {
         flushed = flush.0.flushed;
-        ok = flush-ok write_step contents well writer result writer' one.printer other.printer flush.0;
         emptied = flush.0.emptied;
-        unfailed = flush-unfailed write_step contents well writer result writer' one.printer other.printer flush.0;
+        failed = flush.0.has_failed;
       })
   printer-flushed (ReplacedParts one) new flushed =
       let (other, is, flush) = replaced-parts-run new flushed in
       subst (IsFlush (ReplacedParts one)) (sym is) (record {
         flushed = flush.0.flushed;
-        ok = flush-ok write_step contents well writer result writer' one.printer other.printer flush.0;
         emptied = flush.0.emptied;
-        unfailed = flush-unfailed write_step contents well writer result writer' one.printer other.printer flush.0;
+        failed = flush.0.has_failed;
       })
   printer-flushed (Summary one) new flushed =
       let (other, is, flush) = summary-run new flushed in
       subst (IsFlush (Summary one)) (sym is) (record {
         flushed = flush.0.flushed;
-        ok = flush-ok write_step contents well writer result writer' one.printer other.printer flush.0;
         emptied = flush.0.emptied;
-        unfailed = flush-unfailed write_step contents well writer result writer' one.printer other.printer flush.0;
+        failed = flush.0.has_failed;
       })
   printer-flushed (Json one) new flushed =
       let (other, is, flush) = json-run new flushed in
       subst (IsFlush (Json one)) (sym is) (record {
         flushed = flush.0.flushed;
-        ok = flush-ok write_step contents well writer result writer' one.printer other.printer flush.0;
         emptied = flush.0.emptied;
-        unfailed = flush-unfailed write_step contents well writer result writer' one.printer other.printer flush.0;
+        failed = flush.0.has_failed;
       })
 
-  -- the printer stays after the same findings
-  pub flush-keeps : (first old new : Printer M) (findings : Findings) → IsPrinterAfter first old findings
-      → IsFlushed write_step writer old result writer' new → IsPrinterAfter first new findings
-  flush-keeps (Lines begun) old new findings after flushed =
-      let (one, is_one, kept) = lines-run old after in
-      let (other, is, flush) = lines-run new
-      (subst (λ p. IsFlushed write_step writer p result writer' new) is_one flushed) in
-      subst (λ p. IsPrinterAfter (Lines begun) p findings) (sym is) (record {
-        writer = flush-after write_step contents well writer result writer' one.printer other.printer flush.0
-            begun.printer.format findings kept.writer;
-        counts = ap (λ r. r.stats) flush.1 ∙ kept.counts;
-      })
-  flush-keeps (Parts begun) old new findings after flushed =
-      let (one, is_one, kept) = parts-run old after in
-      let (other, is, flush) = parts-run new
-      (subst (λ p. IsFlushed write_step writer p result writer' new) is_one flushed) in
-      subst (λ p. IsPrinterAfter (Parts begun) p findings) (sym is) (record {
-        writer = flush-after write_step contents well writer result writer' one.printer other.printer flush.0
-            begun.printer.format findings kept.writer;
-        counts = ap (λ r. r.stats) flush.1 ∙ kept.counts;
-      })
-  flush-keeps (ReplacedLines begun) old new findings after flushed =
-      let (one, is_one, kept) = replaced-lines-run old after in
-      let (other, is, flush) = replaced-lines-run new
-      (subst (λ p. IsFlushed write_step writer p result writer' new) is_one flushed) in
-      subst (λ p. IsPrinterAfter (ReplacedLines begun) p findings) (sym is) (record {
-        writer = flush-after write_step contents well writer result writer' one.printer other.printer flush.0
-            begun.printer.format findings kept.writer;
-        counts = ap (λ r. r.stats) flush.1 ∙ kept.counts;
-      })
-  flush-keeps (ReplacedParts begun) old new findings after flushed =
-      let (one, is_one, kept) = replaced-parts-run old after in
-      let (other, is, flush) = replaced-parts-run new
-      (subst (λ p. IsFlushed write_step writer p result writer' new) is_one flushed) in
-      subst (λ p. IsPrinterAfter (ReplacedParts begun) p findings) (sym is) (record {
-        writer = flush-after write_step contents well writer result writer' one.printer other.printer flush.0
-            begun.printer.format findings kept.writer;
-        counts = ap (λ r. r.stats) flush.1 ∙ kept.counts;
-      })
-  flush-keeps (Summary begun) old new findings after flushed =
-      let (one, is_one, kept) = summary-run old after in
-      let (other, is, flush) = summary-run new
-      (subst (λ p. IsFlushed write_step writer p result writer' new) is_one flushed) in
-      subst (λ p. IsPrinterAfter (Summary begun) p findings) (sym is) (record {
-        writer = flush-after write_step contents well writer result writer' one.printer other.printer flush.0
-            begun.printer.format findings kept.writer;
-        counts = ap (λ r. r.stats) flush.1 ∙ kept.counts;
-      })
-  flush-keeps (Json begun) old new findings after flushed =
-      let (one, is_one, kept) = json-run old after in
-      let (other, is, flush) = json-run new
-      (subst (λ p. IsFlushed write_step writer p result writer' new) is_one flushed) in
-      subst (λ p. IsPrinterAfter (Json begun) p findings) (sym is) (record {
-        writer = flush-after write_step contents well writer result writer' one.printer other.printer flush.0
-            begun.printer.format findings kept.writer;
-        counts = ap (λ r. r.stats) flush.1 ∙ kept.counts;
-      })
-
-abbrev nothing : List ℕ
-nothing = []
-
-abbrev all-well : Result (Unit {0}) (SearchError Global)
-all-well = Ok tt
-
-module _ {W : Type 0} (write_step : W → OutputCall → W → Type 0) (contents : W → Option (List ℕ))
-    (well : NeverFails contents write_step) (writer : W) (writer' : W) where
-  -- a run that counts puts its counts, and another one nothing
-  run-totals : {G : Type 0} (format : CountedFormat G) (old new : CountedRun G) (findings : Findings)
-      → IsRunAfter format old findings → AreStatsPut write_step writer old (Ok tt) writer' new
-      → (totals : List ℕ) × AreCounts format findings.stats totals
-      × IsPut contents writer (pending_bytes old.printer.pending) totals writer' (pending_bytes new.printer.pending)
-  run-totals {G} format old new findings after put = by old.printer.format.is_counting refl put
-    where
-      counting : (is : Bool) → old.printer.format.is_counting ≡ is → format.is_counting ≡ is
-      counting is same = ap (λ (f : CountedFormat G). f.is_counting) (sym after.writer.same) ∙ same
-
-      by : (is : Bool) → old.printer.format.is_counting ≡ is
-          → MatchBool is ((elapsed : ℕ) × AreCountsPut write_step writer old.printer old.stats elapsed (Ok tt) writer'
-          new.printer × (new ≡ record old { printer = new.printer }))
-          ((all-well ≡ all-well) × (writer' ≡ writer) × (new ≡ old))
-          → (totals : List ℕ) × AreCounts format findings.stats totals
-          × IsPut contents writer (pending_bytes old.printer.pending) totals writer' (pending_bytes new.printer.pending)
-      by true is (elapsed, puts, same) = (
-        stats_text old.stats elapsed,
-        subst (λ b. MatchBool b ((time : ℕ) × (stats_text old.stats elapsed ≡ stats_text findings.stats time))
-            (stats_text old.stats elapsed ≡ [])) (sym (counting true is))
-            (elapsed, ap (λ stats. stats_text stats elapsed) after.counts),
-        λ held known. text-put contents write_step well writer writer' held (pending_bytes old.printer.pending)
-            (stats_text old.stats elapsed) (pending_bytes new.printer.pending) known puts.put,
-      )
-      by false is (ok, same, still) = (
-        [],
-        subst (λ b. MatchBool b ((time : ℕ) × (nothing ≡ stats_text findings.stats time)) (nothing ≡ [])) (sym
-            (counting false is)) refl,
-        λ held known. (
-          held,
-          ap contents same ∙ known,
-          ap (λ xs. held ++ xs) (append-nil (pending_bytes old.printer.pending)
-              ∙ ap (λ (r : CountedRun G). pending_bytes r.printer.pending) (sym still)),
-        ),
-      )
-
-module _ {M W : Type 0} (write_step : W → OutputCall → W → Type 0) (contents : W → Option (List ℕ))
-    (well : NeverFails contents write_step) (writer : W) (writer' : W) where
-  pub totals-put : (first old new : Printer M) (findings : Findings) → IsPrinterAfter first old findings
-      → HasTotals write_step writer old (Ok tt) writer' new
-      → (totals : List ℕ) × AreTotals first findings.stats totals
-      × IsPut contents writer (pending_of old) totals writer' (pending_of new)
-  totals-put (Lines begun) old new findings after put =
-      let (one, is_one, kept) = lines-run old after in
-      let (other, is_other, counts) = lines-run new
-      (subst (λ p. HasTotals write_step writer p (Ok tt) writer' new) is_one put) in
-      let (totals, are, puts) = run-totals write_step contents well writer writer' begun.printer.format one other
-      findings kept counts in (
-        totals,
-        are,
-        subst₂ (λ p q. IsPut contents writer (pending_of p) totals writer' (pending_of q)) (sym is_one)
-            (sym is_other) puts,
-      )
-  totals-put (Parts begun) old new findings after put =
-      let (one, is_one, kept) = parts-run old after in
-      let (other, is_other, counts) = parts-run new
-      (subst (λ p. HasTotals write_step writer p (Ok tt) writer' new) is_one put) in
-      let (totals, are, puts) = run-totals write_step contents well writer writer' begun.printer.format one other
-      findings kept counts in (
-        totals,
-        are,
-        subst₂ (λ p q. IsPut contents writer (pending_of p) totals writer' (pending_of q)) (sym is_one)
-            (sym is_other) puts,
-      )
-  totals-put (ReplacedLines begun) old new findings after put =
-      let (one, is_one, kept) = replaced-lines-run old after in
-      let (other, is_other, counts) = replaced-lines-run new
-      (subst (λ p. HasTotals write_step writer p (Ok tt) writer' new) is_one put) in
-      let (totals, are, puts) = run-totals write_step contents well writer writer' begun.printer.format one other
-      findings kept counts in (
-        totals,
-        are,
-        subst₂ (λ p q. IsPut contents writer (pending_of p) totals writer' (pending_of q)) (sym is_one)
-            (sym is_other) puts,
-      )
-  totals-put (ReplacedParts begun) old new findings after put =
-      let (one, is_one, kept) = replaced-parts-run old after in
-      let (other, is_other, counts) = replaced-parts-run new
-      (subst (λ p. HasTotals write_step writer p (Ok tt) writer' new) is_one put) in
-      let (totals, are, puts) = run-totals write_step contents well writer writer' begun.printer.format one other
-      findings kept counts in (
-        totals,
-        are,
-        subst₂ (λ p q. IsPut contents writer (pending_of p) totals writer' (pending_of q)) (sym is_one)
-            (sym is_other) puts,
-      )
-  totals-put (Summary begun) old new findings after put =
-      let (one, is_one, kept) = summary-run old after in
-      let (other, is_other, counts) = summary-run new
-      (subst (λ p. HasTotals write_step writer p (Ok tt) writer' new) is_one put) in
-      let (totals, are, puts) = run-totals write_step contents well writer writer' begun.printer.format one other
-      findings kept counts in (
-        totals,
-        are,
-        subst₂ (λ p q. IsPut contents writer (pending_of p) totals writer' (pending_of q)) (sym is_one)
-            (sym is_other) puts,
-      )
-  totals-put (Json begun) old new findings after put =
-      let (one, is_one, kept) = json-run old after in
-      let (other, is_other, (elapsed, puts, same)) = json-run new
-      (subst (λ p. HasTotals write_step writer p (Ok tt) writer' new) is_one put) in (
-        json_line (summary_json one.stats elapsed),
-        (
-          elapsed,
-          ap (λ stats. json_line (summary_json stats elapsed))
-              kept.counts,
-        ),
-        subst₂ (λ p q. IsPut contents writer (pending_of p) (json_line (summary_json one.stats elapsed)) writer'
-            (pending_of q)) (sym is_one) (sym is_other)
-            (λ held known. text-put contents write_step well writer writer' held (pending_bytes one.printer.pending)
-            (json_line (summary_json one.stats elapsed)) (pending_bytes other.printer.pending) known puts.put),
-      )
-
-module _ {W : Type 0} (write_step : W → OutputCall → W → Type 0) (contents : W → Option (List ℕ))
-    (well : NeverFails contents write_step) (writer : W) (writer' : W) where
-  run-totals-unfailed : {G : Type 0} (old new : CountedRun G) (result : Result (Unit {0}) (SearchError Global))
-      → AreStatsPut write_step writer old result writer' new → new.printer.has_failed ≡ old.printer.has_failed
-  run-totals-unfailed {G} old new result put = by old.printer.format.is_counting put
-    where
-      counts : (elapsed : ℕ) (result : Result (Unit {0}) (SearchError Global))
-          → AreCountsPut write_step writer old.printer old.stats elapsed result writer' new.printer
-          → new.printer.has_failed ≡ old.printer.has_failed
-      counts elapsed (Ok u) puts = puts.has_failed
-      counts elapsed (Err e) fails = text-unfailed write_step contents well writer old.printer
-          (stats_text old.stats elapsed) writer' new.printer e fails
-
-      by : (is : Bool) → MatchBool is
-          ((elapsed : ℕ) × AreCountsPut write_step writer old.printer old.stats elapsed result writer' new.printer
-          × (new ≡ record old { printer = new.printer }))
-          ((result ≡ Ok tt) × (writer' ≡ writer) × (new ≡ old)) → new.printer.has_failed ≡ old.printer.has_failed
-      by true (elapsed, puts, same) = counts elapsed result puts
-      by false (ok, same, still) = ap (λ (r : CountedRun G). r.printer.has_failed) still
-
-module _ {M W : Type 0} (write_step : W → OutputCall → W → Type 0) (contents : W → Option (List ℕ))
-    (well : NeverFails contents write_step) (writer : W) (writer' : W) where
-  totals-unfailed : (old new : Printer M) (result : Result (Unit {0}) (SearchError Global))
-      → HasTotals write_step writer old result writer' new → has_failed new ≡ has_failed old
-  totals-unfailed (Lines one) new result put =
-      let (other, is, counts) = lines-run new put in
-      ap has_failed is ∙ run-totals-unfailed write_step contents well writer writer' one other result counts
-  totals-unfailed (Parts one) new result put =
-      let (other, is, counts) = parts-run new put in
-      ap has_failed is ∙ run-totals-unfailed write_step contents well writer writer' one other result counts
-  totals-unfailed (ReplacedLines one) new result put =
-      let (other, is, counts) = replaced-lines-run new put in
-      ap has_failed is ∙ run-totals-unfailed write_step contents well writer writer' one other result counts
-  totals-unfailed (ReplacedParts one) new result put =
-      let (other, is, counts) = replaced-parts-run new put in
-      ap has_failed is ∙ run-totals-unfailed write_step contents well writer writer' one other result counts
-  totals-unfailed (Summary one) new result put =
-      let (other, is, counts) = summary-run new put in
-      ap has_failed is ∙ run-totals-unfailed write_step contents well writer writer' one other result counts
-  totals-unfailed (Json one) new result put =
-      let (other, is, (elapsed, puts, same)) = json-run new put in ap has_failed is ∙ by other elapsed result puts
-    where
-      by : (other : JsonRun _) (elapsed : ℕ) (result : Result (Unit {0}) (SearchError Global))
-          → AreTotalsPut write_step writer one.printer one.stats elapsed result writer' other.printer
-          → other.printer.has_failed ≡ one.printer.has_failed
-      by other elapsed (Ok u) puts = puts.has_failed
-      by other elapsed (Err e) fails = text-unfailed write_step contents well writer one.printer
-          (json_line (summary_json one.stats elapsed)) writer' other.printer e fails
-
-module _ {M W : Type 0} (write_step : W → OutputCall → W → Type 0) (contents : W → Option (List ℕ))
-    (well : NeverFails contents write_step) where
-  -- at the end the totals are written and all is flushed, and nothing more
-  pub all-finished : (first old : Printer M) (writer writer' : W) (new : Printer M) (findings : Findings)
-      (held : List ℕ)
-      → contents writer ≡ Some held → IsPrinterAfter first old findings
-      → IsFinished write_step writer old (Ok tt) writer' new
-      → (totals : List ℕ) × AreTotals first findings.stats totals
-      × (contents writer' ≡ Some (held ++ (pending_of old ++ totals)))
-  all-finished first old writer writer' new findings held is after (of_flush between mid put flushed) =
-      let (totals, are, puts) = totals-put write_step contents well writer between first old mid findings after put in
-      let (now, known, whole) = puts held is in (
-        totals,
-        are,
-        all-flushed contents write_step well between writer' now (pending_of mid) known
-            (printer-flushed write_step contents well between (Ok tt) writer' mid new flushed).flushed
-            ∙ ap Some (sym whole),
-      )
-
-  -- however that ends, it doesn't show that the writer failed
-  pub finished-unfailed : (old : Printer M) (writer : W) (result : Result (Unit {0}) (SearchError Global)) (writer' : W)
-      (new : Printer M) → IsFinished write_step writer old result writer' new → has_failed new ≡ has_failed old
-  finished-unfailed old writer _ writer' new (of_totals {e = e} put) =
-      totals-unfailed write_step contents well writer writer' old new (Err e) put
-  finished-unfailed old writer _ writer' new (of_flush between mid put flushed) =
-      (printer-flushed write_step contents well between (Ok tt) writer' mid new flushed).unfailed
-      ∙ totals-unfailed write_step contents well writer between old mid (Ok tt) put
-  finished-unfailed old writer _ writer' new (of_failed_flush {error = error} between mid put flushed) =
-      (printer-flushed write_step contents well between (Err error) writer' mid new flushed).unfailed
-      ∙ totals-unfailed write_step contents well writer between old mid (Ok tt) put
-
--- the writer of a printer that goes on hasn't failed
-pub after-unfailed : {M : Type 0} (first now : Printer M) (findings : Findings) → IsPrinterAfter first now findings
-    → has_failed now ≡ false
-after-unfailed (Lines begun) now findings after =
-    let (run, is, kept) = lines-run now after in ap has_failed is ∙ kept.writer.unfailed
-after-unfailed (Parts begun) now findings after =
-    let (run, is, kept) = parts-run now after in ap has_failed is ∙ kept.writer.unfailed
-after-unfailed (ReplacedLines begun) now findings after =
-    let (run, is, kept) = replaced-lines-run now after in ap has_failed is ∙ kept.writer.unfailed
-after-unfailed (ReplacedParts begun) now findings after =
-    let (run, is, kept) = replaced-parts-run now after in ap has_failed is ∙ kept.writer.unfailed
-after-unfailed (Summary begun) now findings after =
-    let (run, is, kept) = summary-run now after in ap has_failed is ∙ kept.writer.unfailed
-after-unfailed (Json begun) now findings after =
-    let (run, is, kept) = json-run now after in ap has_failed is ∙ kept.writer.unfailed
+-- after a flush the printer stays after the same findings
+pub flush-keeps : {M W : Type 0} (write_step : W → OutputCall → W → Type 0) (writer writer' : W)
+    (first old new : Printer M) (findings : Findings) → IsPrinterAfter first old findings
+    → IsFlushed write_step writer old (Ok tt) writer' new → IsPrinterAfter first new findings
+flush-keeps write_step writer writer' (Lines begun) old new findings after flushed =
+    let (one, is_one, kept) = lines-run old after in
+    let (other, is, flush) = lines-run new
+    (subst (λ p. IsFlushed write_step writer p (Ok tt) writer' new) is_one flushed) in
+    subst (λ p. IsPrinterAfter (Lines begun) p findings) (sym is) (record {
+      writer = flush-after write_step writer writer' one.printer other.printer begun.printer.format findings flush.0
+          kept.writer;
+      counts = ap (λ r. r.stats) flush.1 ∙ kept.counts;
+    })
+flush-keeps write_step writer writer' (Parts begun) old new findings after flushed =
+    let (one, is_one, kept) = parts-run old after in
+    let (other, is, flush) = parts-run new
+    (subst (λ p. IsFlushed write_step writer p (Ok tt) writer' new) is_one flushed) in
+    subst (λ p. IsPrinterAfter (Parts begun) p findings) (sym is) (record {
+      writer = flush-after write_step writer writer' one.printer other.printer begun.printer.format findings flush.0
+          kept.writer;
+      counts = ap (λ r. r.stats) flush.1 ∙ kept.counts;
+    })
+flush-keeps write_step writer writer' (ReplacedLines begun) old new findings after flushed =
+    let (one, is_one, kept) = replaced-lines-run old after in
+    let (other, is, flush) = replaced-lines-run new
+    (subst (λ p. IsFlushed write_step writer p (Ok tt) writer' new) is_one flushed) in
+    subst (λ p. IsPrinterAfter (ReplacedLines begun) p findings) (sym is) (record {
+      writer = flush-after write_step writer writer' one.printer other.printer begun.printer.format findings flush.0
+          kept.writer;
+      counts = ap (λ r. r.stats) flush.1 ∙ kept.counts;
+    })
+flush-keeps write_step writer writer' (ReplacedParts begun) old new findings after flushed =
+    let (one, is_one, kept) = replaced-parts-run old after in
+    let (other, is, flush) = replaced-parts-run new
+    (subst (λ p. IsFlushed write_step writer p (Ok tt) writer' new) is_one flushed) in
+    subst (λ p. IsPrinterAfter (ReplacedParts begun) p findings) (sym is) (record {
+      writer = flush-after write_step writer writer' one.printer other.printer begun.printer.format findings flush.0
+          kept.writer;
+      counts = ap (λ r. r.stats) flush.1 ∙ kept.counts;
+    })
+flush-keeps write_step writer writer' (Summary begun) old new findings after flushed =
+    let (one, is_one, kept) = summary-run old after in
+    let (other, is, flush) = summary-run new
+    (subst (λ p. IsFlushed write_step writer p (Ok tt) writer' new) is_one flushed) in
+    subst (λ p. IsPrinterAfter (Summary begun) p findings) (sym is) (record {
+      writer = flush-after write_step writer writer' one.printer other.printer begun.printer.format findings flush.0
+          kept.writer;
+      counts = ap (λ r. r.stats) flush.1 ∙ kept.counts;
+    })
+flush-keeps write_step writer writer' (Json begun) old new findings after flushed =
+    let (one, is_one, kept) = json-run old after in
+    let (other, is, flush) = json-run new
+    (subst (λ p. IsFlushed write_step writer p (Ok tt) writer' new) is_one flushed) in
+    subst (λ p. IsPrinterAfter (Json begun) p findings) (sym is) (record {
+      writer = flush-after write_step writer writer' one.printer other.printer begun.printer.format findings flush.0
+          kept.writer;
+      counts = ap (λ r. r.stats) flush.1 ∙ kept.counts;
+    })

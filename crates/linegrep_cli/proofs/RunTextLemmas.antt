@@ -1,14 +1,16 @@
--- What a whole run has written whose status isn't 2, to an output that never fails.
-use Rattle.std.proofs.Common.{◌≡◌, ◌∙◌, ℕ, Bool, true, false, List, [], ◌∷◌, ◌++◌, ap, refl, subst, sym}
+-- What a whole run has written whose status isn't 2.
+use Rattle.std.proofs.Common.{◌≡◌, ◌∙◌, ℕ, Bool, true, false, List, [], ◌++◌, ap, refl, subst, sym}
 use Rattle.std.proofs.Common.{◌⊎◌, inl, inr, true≢false}
-use Rattle.std.specs.Prelude.{◌≢◌, ◌&&◌, ◌||◌, MatchOption, None, Option, Some, Result, Ok, Err, String, Vec}
-use Rattle.std.specs.Prelude.{if◌then◌else◌, is_some, length, map, not, string_bytes}
+use Rattle.std.specs.Prelude.{◌≢◌, ◌&&◌, MatchOption, None, Option, Some, Result, Ok, Err, Vec}
+use Rattle.std.specs.Prelude.{if◌then◌else◌, is_some, not}
 use Rattle.std.specs.Borrow.{Bor}
 use Rattle.std.specs.Global.{Global}
 use Rattle.std.specs.declared.alloc.AllocError.{AllocError}
 use Rattle.std.specs.declared.io.Error.{Error}
-use Rattle.grep_output.specs.Outputs.{OutputCall}
-use Rattle.grep_output.specs.PendingTexts.{Flushes}
+use Rattle.std.specs.Io.KnownBytes.{Appends}
+use Rattle.std.specs.IoError.{error_kind}
+use Rattle.std.specs.declared.io.ErrorKind.TheVariants.{BrokenPipe}
+use Rattle.grep_output.specs.Outputs.{OutputCall, taken_by}
 use Rattle.grep_printer.specs.declared.colors.ColorSpecs.{ColorSpecs}
 use Rattle.grep_printer.specs.declared.printer.Printer.{Printer as Writer}
 use Rattle.grep_printer.specs.declared.separators.Separators.{Separators}
@@ -20,13 +22,12 @@ use Rattle.grep_searcher.specs.Source.{ReadResult}
 use Rattle.grep_searcher.specs.declared.BinaryDetection.{BinaryDetection}
 use Rattle.grep_searcher.specs.declared.BinaryDetection.TheVariants.{Convert, Quit, None as no_detection}
 use Rattle.grep_searcher.specs.declared.LineTerminator.{LineTerminator}
-use Rattle.linegrep_cli.proofs.EngineTextLemmas.{IsAt, IsDone, IsSound, file-kept, finishes-kept, finishes-sound}
-use Rattle.linegrep_cli.proofs.EngineTextLemmas.{input-kept}
-use Rattle.linegrep_cli.proofs.EngineTextLemmas.{quits-kept, sound-kept, text-kept}
-use Rattle.linegrep_cli.proofs.OutputTextLemmas.{all-flushed, flushed-well}
-use Rattle.linegrep_cli.proofs.PrinterTextLemmas.{IsPrinterAfter, IsRunAfter, IsWriterAfter, after-unfailed, pending_of}
-use Rattle.linegrep_cli.proofs.SearchTextLemmas.{not-both}
-use Rattle.linegrep_cli.proofs.VisitSoundLemmas.{IsBeforeEnd, all-said, all-sound}
+use Rattle.linegrep_cli.proofs.EngineTextLemmas.{IsAt, IsSound, calls-keep, file-kept, finishes-after}
+use Rattle.linegrep_cli.proofs.EngineTextLemmas.{finishes-kept, finishes-sound, input-kept, quits-kept, text-kept}
+use Rattle.linegrep_cli.proofs.OutputTextLemmas.{all-flushed, flush-failed}
+use Rattle.linegrep_cli.proofs.PrinterTextLemmas.{IsPrinterAfter, IsRunAfter, IsWriterAfter, pending_of}
+use Rattle.linegrep_cli.proofs.PrinterTotalLemmas.{after-unfailed}
+use Rattle.linegrep_cli.proofs.VisitSoundLemmas.{CallsKeep, Ends, all-ended, all-said}
 use Rattle.linegrep_cli.proofs.VisitTextLemmas.{IsGood, StepsKeep, all-visited, said-all}
 use Rattle.linegrep_cli.specs.EngineCalls.{EngineCall, finishes}
 use Rattle.linegrep_cli.specs.EngineSteps.{has_failed}
@@ -38,18 +39,18 @@ use Rattle.linegrep_cli.specs.OptionUses.{has}
 use Rattle.linegrep_cli.specs.PathSeparators.{path_separator_of}
 use Rattle.linegrep_cli.specs.PrinterOptions.{IsNew, IsNewRun, IsPrinterFor}
 use Rattle.linegrep_cli.specs.PrintingEngines.{IsEngineStep, detection_with}
-use Rattle.linegrep_cli.specs.ProgramRuns.{HasAnswerStatus, IsAnswered, IsOptionsRun, IsParsedRun, IsProgramRun}
+use Rattle.linegrep_cli.specs.ProgramRuns.{IsAnswered, IsOptionsRun, IsProgramRun}
 use Rattle.linegrep_cli.specs.ProgramRuns.{no_memory}
 use Rattle.linegrep_cli.specs.ProgramRuns.{of_fault, of_options, of_parsed, of_refusal, of_search as OfSearch}
 use Rattle.linegrep_cli.specs.ProgramRuns.{of_text, of_types}
 use Rattle.linegrep_cli.specs.ProgramRuns.{out_of_memory}
 use Rattle.linegrep_cli.specs.RunInputs.{AreSearched, IsFileInput, IsReaderInput}
-use Rattle.linegrep_cli.specs.RunScopes.{quiet_of}
 use Rattle.linegrep_cli.specs.SearchTexts.{Input, no_findings, no_input, settings_for}
 use Rattle.linegrep_cli.specs.SearcherOptions.{searcher_settings}
-use Rattle.linegrep_cli.specs.WholeRuns.{IsRunFor, IsRunWith}
-use Rattle.linegrep_cli.specs.WrittenRuns.{AreOptionsFor, DoesAsAsked, HasEnded, HasTaken, HasWritten, NeverFails}
-use Rattle.linegrep_cli.specs.WrittenRuns.{WritesFound, of_answer, of_search}
+use Rattle.linegrep_cli.specs.WholeRuns.{IsRunFor, IsRunWith, Literal, Named, literal_facts, literal_first_at}
+use Rattle.linegrep_cli.specs.WholeRuns.{literal_groups_at, named_facts, named_first_at, named_groups_at, naming_of}
+use Rattle.linegrep_cli.specs.WrittenRuns.{AreOptionsFor, DoesAsAsked, HasEnded, HasFailedWith, HasWritten, IsAnswer}
+use Rattle.linegrep_cli.specs.WrittenRuns.{IsClosed, WritesFound, of_answer, of_search}
 use Rattle.linegrep_cli.specs.declared.counted_run.CountedRun.{CountedRun}
 use Rattle.linegrep_cli.specs.declared.engine.PrintingEngine.{PrintingEngine}
 use Rattle.linegrep_cli.specs.declared.options.Options.{Options}
@@ -59,7 +60,7 @@ use Rattle.linegrep_cli.specs.declared.printers.Printer.TheVariants.{Summary}
 use Rattle.linegrep_cli.specs.declared.program.Streams.{Streams}
 use Rattle.linegrep_cli.specs.declared.scope.Scope.{Scope}
 use Rattle.linegrep_cli.specs.declared.visit.Visit.{Visit}
-use Rattle.linegrep_options.specs.declared.option_id.OptionId.TheVariants.{Quiet}
+use Rattle.linegrep_options.specs.declared.option_id.OptionId.TheVariants.{Files, Quiet}
 use Rattle.linegrep_files.specs.FolderFacts.{FolderFacts}
 use Rattle.linegrep_files.specs.declared.file_id.FileId.{FileId}
 
@@ -124,22 +125,18 @@ module _ {F R W X : Type 0} (output : AllocError → Option (List ℕ)) (content
     (write_step : W → OutputCall → W → Type 0) (say_step : X → OutputCall → X → Type 0)
     (file_remaining : F → Option (List ℕ)) (remaining : R → Option (List ℕ)) (read_step : R → ReadResult → R → Type 0)
     (folders : FolderFacts) (finds : List ℕ → Result Bool Error → Type 0) (opens : List ℕ → Result F Error → Type 0)
-    (identifies : F → Option FileId → Type 0) (well : NeverFails contents write_step) (before : List ℕ)
+    (identifies : F → Option FileId → Type 0) (grows : (old new : W) (call : OutputCall) → write_step old call new
+    → Appends (contents old) (contents new) (taken_by call)) (before : List ℕ)
     (options : Options) where
-  -- an answer
+  -- an answer, unless nobody reads it
   answered : (text : List ℕ) (writer : W) (status : ℕ) (writer' : W) → contents writer ≡ Some before → status ≢ 2
       → IsAnswered write_step text writer status writer'
-      → (status ≡ 0) × HasTaken contents writer text writer'
-  answered text writer status writer' held other (result, flushed, is_status) =
-      let ok = flushed-well contents write_step well writer writer' text result flushed in (
-        subst (λ r. HasAnswerStatus r status) ok is_status,
-        (
-          before,
-          held,
-          all-flushed contents write_step well writer writer' before text held
-              (subst (λ r. Flushes write_step writer text r writer') ok flushed),
-        ),
-      )
+      → IsClosed write_step writer' ⊎ ((status ≡ 0) × (contents writer' ≡ Some (before ++ text)))
+  answered text writer status writer' held other (Ok u, flushed, is_status) =
+      inr (is_status, all-flushed contents write_step grows writer writer' before text held flushed)
+  answered text writer status writer' held other (Err error, flushed, inl (broken, zero)) =
+      inl (error, broken, flush-failed write_step writer writer' text error flushed)
+  answered text writer status writer' held other (Err error, flushed, inr (whole, two)) = absurd (other two)
 
   module _ {M : Type 0} (facts : M → MatcherFacts AllocError) (first_at : M → List ℕ → ℕ → Option (ℕ × ℕ))
       (groups_at : M → List ℕ → ℕ → List (Option (ℕ × ℕ))) (regex : Regex) (input : R) (writer : W) (errors : X)
@@ -162,11 +159,12 @@ module _ {F R W X : Type 0} (output : AllocError → Option (List ℕ)) (content
     trusted = run-for.is_matcher.trusted
 
     abbrev At : Bool → List Input → Bool → R → PrintingEngine F M R W X → Type 0
-    At = IsAt output facts first_at groups_at write_step file_remaining remaining read_step contents well settings
+    At = IsAt output facts first_at groups_at write_step file_remaining remaining read_step contents grows settings
         (path_separator_of options) run-for.matcher trusted run.first.printer before
 
     abbrev Sound : PrintingEngine F M R W X → Type 0
-    Sound = IsSound output facts first_at groups_at write_step file_remaining remaining read_step contents well settings
+    Sound = IsSound output facts first_at groups_at write_step file_remaining remaining read_step contents grows
+        settings
         (path_separator_of options) run-for.matcher trusted run.first.printer before
 
     unquiet : run.scope.quiet ≡ None
@@ -212,37 +210,54 @@ module _ {F R W X : Type 0} (output : AllocError → Option (List ℕ)) (content
     kept : StepsKeep folders finds opens identifies Step
         (λ engine. has_failed engine.printer) run.scope IsFile IsReader At
     kept = record {
-      file = file-kept output facts first_at groups_at write_step file_remaining remaining read_step contents well
+      file = file-kept output facts first_at groups_at write_step file_remaining remaining read_step contents grows
           settings
           (path_separator_of options) run-for.matcher trusted run.first.printer before;
-      input = input-kept output facts first_at groups_at write_step file_remaining remaining read_step contents well
+      input = input-kept output facts first_at groups_at write_step file_remaining remaining read_step contents grows
           settings (path_separator_of options) run-for.matcher trusted run.first.printer before;
-      text = text-kept output facts first_at groups_at write_step file_remaining remaining read_step contents well
+      text = text-kept output facts first_at groups_at write_step file_remaining remaining read_step contents grows
           settings
           (path_separator_of options) run-for.matcher trusted run.first.printer before;
-      quits = quits-kept output facts first_at groups_at write_step file_remaining remaining read_step contents well
+      quits = quits-kept output facts first_at groups_at write_step file_remaining remaining read_step contents grows
           settings (path_separator_of options) run-for.matcher trusted run.first.printer before;
     }
 
-    sound-keeps : (old new : PrintingEngine F M R W X) (call : EngineCall F) → IsBeforeEnd call → Step old call new
-        → Sound old → Sound new
-    sound-keeps = sound-kept output facts first_at groups_at write_step file_remaining remaining read_step contents well
-        settings (path_separator_of options) run-for.matcher trusted run.first.printer before
+    abbrev Cut : Error → PrintingEngine F M R W X → Type 0
+    Cut error engine = HasFailedWith write_step error engine.writer
+
+    keep : CallsKeep Step (λ engine. has_failed engine.printer) Sound Cut
+    keep = calls-keep output facts first_at groups_at write_step file_remaining remaining read_step contents grows
+        settings
+        (path_separator_of options) run-for.matcher trusted run.first.printer before
 
     abbrev Written : Type 0
-    Written = HasWritten contents file_remaining remaining read_step folders finds opens identifies facts first_at
-        groups_at options regex input writer status input' writer'
+    Written = IsClosed write_step writer' ⊎ HasWritten contents before file_remaining remaining read_step folders finds
+        opens identifies facts first_at groups_at options regex input status input' writer'
 
-    -- a run that fails has status 2, since its writer didn't fail
-    not-failed : (error : Error) (mid : PrintingEngine F M R W X) → Sound mid
-        → IsFailing Step (λ engine. has_failed engine.printer) run.scope error mid status run.last → ⊥
-    not-failed error mid sound failing = by status run.last failing other
+    -- a run that fails has status 2, unless nobody reads its output any more
+    abbrev Failed : Error → PrintingEngine F M R W X → Type 0
+    Failed error mid = Sound mid ⊎ (Cut error mid ⊎ (error_kind error ≢ BrokenPipe))
+
+    closed : (error : Error) (mid : PrintingEngine F M R W X) → Failed error mid
+        → IsFailing Step (λ engine. has_failed engine.printer) run.scope error mid status run.last
+        → IsClosed write_step writer'
+    closed error mid ended failing = by status run.last failing other refl
       where
-        by : (ended : ℕ) (last : PrintingEngine F M R W X)
-            → IsFailing Step (λ engine. has_failed engine.printer) run.scope error mid ended last → ended ≢ 2 → ⊥
-        by _ _ (of_closed failed closed) other =
-            true≢false (sym failed ∙ sound.unfailed)
-        by _ _ (of_other said moved kind) other = other refl
+        by : (status-then : ℕ) (last : PrintingEngine F M R W X)
+            → IsFailing Step (λ engine. has_failed engine.printer) run.scope error mid status-then last
+            → status-then ≢ 2
+            → last ≡ run.last → IsClosed write_step writer'
+        by _ _ (of_closed failed broken) other same = elim ended [
+          | inl sound ↦ absurd (true≢false (sym failed ∙ sound.unfailed))
+          | inr (inl cut) ↦ (
+            error,
+            broken,
+            subst (HasFailedWith write_step error)
+                (ap (λ (e : PrintingEngine F M R W X). e.writer) same ∙ sym run.writer_after) cut,
+          )
+          | inr (inr unbroken) ↦ absurd (unbroken broken)
+        ]
+        by _ _ (of_other said moved kind) other same = absurd (other refl)
 
     -- what is known if operands were searched
     ran : (start : PrintingEngine F M R W X) → At false [] false input start → Sound start
@@ -251,14 +266,14 @@ module _ {F R W X : Type 0} (output : AllocError → Option (List ℕ)) (content
         → Written
     ran start at sound searched = by status searched.ended refl
       where
-        sound-mid : Sound searched.mid
-        sound-mid = all-sound folders finds opens identifies Step
+        mid-ended : Ends Step (λ engine. has_failed engine.printer) Sound Cut searched.total.failure searched.mid
+        mid-ended = all-ended folders finds opens identifies Step
             (λ engine. has_failed engine.printer) run.scope searches
-            Sound sound-keeps run.run.left (paths_of options) start searched.total searched.mid searched.visited sound
+            Sound Cut keep run.run.left (paths_of options) start searched.total searched.mid searched.visited sound
 
         good : searched.total.failure ≡ None → (status_of run.scope searched.total ≢ 2) → IsGood searched.total
-        good none well = record {
-          no_error = (good-status run.scope searched.total unquiet well).0;
+        good none other = record {
+          no_error = (good-status run.scope searched.total unquiet other).0;
           no_failure = none;
         }
 
@@ -267,13 +282,15 @@ module _ {F R W X : Type 0} (output : AllocError → Option (List ℕ)) (content
         ended-well none is finished =
             let is-well = subst (λ s. s ≢ 2) is other in
             let (inputs, reader, are, now) = all-visited folders finds opens identifies Step
-            (λ engine. has_failed engine.printer) run.scope IsFile IsReader At kept unquiet searches input run.run.left
+            (λ engine. has_failed engine.printer) run.scope IsFile IsReader At kept unquiet searches input
+            run.run.left
             (paths_of options) start searched.total searched.mid searched.visited (good none is-well) at in
             let done = finishes-kept output facts first_at groups_at write_step file_remaining remaining read_step
             contents
-            well settings (path_separator_of options) run-for.matcher trusted run.first.printer before inputs
+            grows settings (path_separator_of options) run-for.matcher trusted run.first.printer before inputs
             searched.total.has_match reader searched.mid run.last now finished in
-            record {
+            inr (record {
+              accepted = run.accepted;
               matcher = run-for.matcher;
               is_matcher = run-for.is_matcher;
               groups = run-for.groups;
@@ -299,47 +316,70 @@ module _ {F R W X : Type 0} (output : AllocError → Option (List ℕ)) (content
               texts = done.texts;
               totals = done.totals;
               are_totals = done.are_totals;
-              taken = (before, held, ap contents run.writer_after ∙ done.holds);
+              written = ap contents run.writer_after ∙ done.holds;
               status_is = is ∙ ((good-status run.scope searched.total unquiet is-well).1
                   ∙ ap (λ found. if found then 0 else 1) (sym done.found_is));
-            }
+            })
+
+        failed : (error : Error) → searched.total.failure ≡ Some error → Failed error searched.mid
+        failed error is =
+            subst (λ f. Ends Step (λ engine. has_failed engine.printer) Sound Cut f searched.mid) is mid-ended
+
+        unfailed : searched.total.failure ≡ None → Sound searched.mid
+        unfailed none =
+            subst (λ f. Ends Step (λ engine. has_failed engine.printer) Sound Cut f searched.mid) none mid-ended
 
         by : (ended : ℕ)
             → IsRunEnd Step (λ engine. has_failed engine.printer) run.scope searched.total searched.mid ended run.last
             → status ≡ ended → Written
-        by _ (of_failure error failed failing) is =
-            absurd (not-failed error searched.mid sound-mid (subst (λ s. IsFailing Step
-            (λ engine. has_failed engine.printer) run.scope error searched.mid s run.last) (sym is) failing))
+        by _ (of_failure error is_error failing) is = inl (closed error searched.mid (failed error is_error)
+            (subst (λ s. IsFailing Step (λ engine. has_failed engine.printer) run.scope error searched.mid s run.last)
+            (sym is) failing))
         by _ (of_end none finished) is = ended-well none is finished
-        by _ (of_unwritten {mid = mid} error none finishing failing) is =
-            absurd (not-failed error mid
-            (finishes-sound output facts first_at groups_at write_step file_remaining remaining
-            read_step contents well settings
-            (path_separator_of options) run-for.matcher trusted run.first.printer before
-            searched.mid mid (Err error) sound-mid finishing) (subst (λ s. IsFailing Step
-            (λ engine. has_failed engine.printer) run.scope error mid s run.last) (sym is) failing))
+        by _ (of_unwritten {mid = mid} error none finishing failing) is = inl (closed error mid
+            (after mid error (unfailed none) finishing)
+            (subst (λ s. IsFailing Step (λ engine. has_failed engine.printer) run.scope error mid s run.last) (sym is)
+            failing))
+          where
+            after : (mid : PrintingEngine F M R W X) (error : Error) → Sound searched.mid
+                → Step searched.mid (finishes (Err error)) mid → Failed error mid
+            after mid error sound finishing = elim
+                (finishes-after output facts first_at groups_at write_step file_remaining
+                remaining read_step contents grows settings (path_separator_of options) run-for.matcher trusted
+                run.first.printer before searched.mid mid error sound finishing) [
+                  | inl still ↦ inl (finishes-sound output facts first_at groups_at write_step file_remaining remaining
+                      read_step
+                      contents grows settings
+                      (path_separator_of options) run-for.matcher trusted run.first.printer before
+                      searched.mid mid (Err error) sound finishing still)
+                  | inr cut ↦ inr (inl cut)
+                ]
 
     run-written : Written
-    run-written =
-        let (none, at) = said-all folders finds opens identifies Step
-        (λ engine. has_failed engine.printer) run.scope IsFile
-        IsReader At kept unquiet searches false [] false input run.first _ run.run.failure run.run.begun run.run.said
-        at-first in
-        let sound = all-said folders finds opens identifies Step
-        (λ engine. has_failed engine.printer) run.scope searches
-        Sound sound-keeps run.first _ run.run.failure run.run.begun run.run.said sound-first in
-        ran run.run.begun at sound (begins run.run.failure none run.run.run)
+    run-written = begins run.run.failure refl run.run.run
       where
-        begins : (failure : Option Error) → failure ≡ None
+        begun-ends : Ends Step (λ engine. has_failed engine.printer) Sound Cut run.run.failure run.run.begun
+        begun-ends = all-said folders finds opens identifies Step
+            (λ engine. has_failed engine.printer) run.scope searches
+            Sound Cut keep run.first _ run.run.failure run.run.begun run.run.said sound-first
+
+        begins : (failure : Option Error) → run.run.failure ≡ failure
             → MatchOption failure (AreOperandsSearched folders finds opens identifies Step
             (λ engine. has_failed engine.printer) run.scope run.run.left
             (paths_of options) run.run.begun status run.last)
             (λ error. IsFailing Step
             (λ engine. has_failed engine.printer) run.scope error run.run.begun status run.last)
-            → AreOperandsSearched folders finds opens identifies Step (λ engine. has_failed engine.printer) run.scope
-            run.run.left (paths_of options) run.run.begun status run.last
-        begins None is searched = searched
-        begins (Some error) is failing = absurd (true≢false (ap is_some is))
+            → Written
+        begins None none searched = ran run.run.begun
+            (said-all folders finds opens identifies Step
+            (λ engine. has_failed engine.printer) run.scope IsFile IsReader At
+            kept unquiet searches false [] false input run.first _ run.run.failure run.run.begun run.run.said none
+            at-first)
+            (subst (λ f. Ends Step (λ engine. has_failed engine.printer) Sound Cut f run.run.begun) none begun-ends)
+            searched
+        begins (Some error) is failing = inl (closed error run.run.begun
+            (subst (λ f. Ends Step
+            (λ engine. has_failed engine.printer) Sound Cut f run.run.begun) is begun-ends) failing)
 
 -- a whole run
 module _ {F R W X : Type 0} (output : AllocError → Option (List ℕ)) (contents : W → Option (List ℕ))
@@ -348,76 +388,111 @@ module _ {F R W X : Type 0} (output : AllocError → Option (List ℕ)) (content
     (folders : FolderFacts) (finds : List ℕ → Result Bool Error → Type 0) (opens : List ℕ → Result F Error → Type 0)
     (identifies : F → Option FileId → Type 0) (arguments : List (Vec ℕ Global)) (streams : Streams) (input : R)
     (writer : W) (errors : X) (status : ℕ) (input' : R) (writer' : W) (errors' : X) where
-  module _ (well : NeverFails contents write_step) (before : List ℕ) (held : contents writer ≡ Some before)
+  module _ (grows : (old new : W) (call : OutputCall) → write_step old call new
+      → Appends (contents old) (contents new) (taken_by call)) (before : List ℕ) (held : contents writer ≡ Some before)
       (other : status ≢ 2) where
+    abbrev Ended : Options → Type 0
+    Ended options = IsClosed write_step writer' ⊎ HasEnded contents before file_remaining remaining read_step
+        folders finds
+        opens identifies options input status input' writer'
+
+    by-answer : (options : Options) (text : List ℕ) → IsAnswer options text → input' ≡ input
+        → IsAnswered write_step text writer status writer' → Ended options
+    by-answer options text is same answer = elim (answered output contents write_step say_step file_remaining remaining
+        read_step folders finds opens identifies grows before options text writer status writer' held other answer) [
+          | inl unread ↦ inl unread
+          | inr (zero, taken) ↦ inr (of_answer text is zero same taken)
+        ]
+
     by-options : (options : Options) (said : X)
         → IsOptionsRun output write_step say_step file_remaining remaining read_step folders finds opens identifies
         options
         input writer said status input' writer' errors'
-        → HasEnded contents file_remaining remaining read_step folders finds opens identifies options input writer
-        status
-        input' writer'
-    by-options options said (of_text text asked same answer) =
-        let (zero, taken) = answered output contents write_step say_step file_remaining remaining read_step folders
-        finds
-        opens identifies well before options text writer status writer' held other answer in
-        of_answer text (inl asked) zero same taken
+        → Ended options
+    by-options options said (of_text text asked same answer) = by-answer options text (inl asked) same answer
     by-options options said (of_types text none types list same answer) =
-        let (zero, taken) = answered output contents write_step say_step file_remaining remaining read_step folders
-        finds
-        opens identifies well before options text writer status writer' held other answer in
-        of_answer text (inr (none, types, list)) zero same taken
+        by-answer options text (inr (none, types, list)) same answer
     by-options options said (of_refusal mid failure none caused refusal) =
         absurd (other refusal.refused.status_is)
     by-options options said (OfSearch patterns mid none types together are (inl refused)) =
         absurd (other refused.refused.status_is)
     by-options options said (OfSearch patterns mid none types together are (inr whole)) =
-        of_search patterns mid whole.regex are whole.has_options whole.has_patterns (λ writes. elim whole.run [
-          | inl literal ↦ inl (run-written output contents write_step say_step file_remaining remaining read_step
-              folders
-              finds opens identifies well before options _ _ _ whole.regex mid writer said status input' writer'
-              held other
-              writes literal)
-          | inr named ↦ inr (run-written output contents write_step say_step file_remaining remaining read_step folders
-              finds opens identifies well before options _ _ _ whole.regex mid writer said status input' writer'
-              held other
-              writes named)
-        ])
+        by (has options Quiet) (has options Files) refl refl
+      where
+        Found : Type 0
+        Found = HasEnded contents before file_remaining remaining read_step folders finds opens identifies options input
+            status input' writer'
+
+        searched : (WritesFound options
+            → HasWritten contents before file_remaining remaining read_step folders finds opens identifies {M = Literal}
+            literal_facts literal_first_at literal_groups_at options whole.regex mid status input' writer'
+            ⊎ HasWritten contents before file_remaining remaining read_step folders finds opens identifies
+            {M = Named (naming_of whole.regex)} named_facts named_first_at named_groups_at options whole.regex mid
+            status input' writer')
+            → Ended options
+        searched found = inr (of_search patterns mid whole.regex none types together are whole.has_options
+            whole.has_patterns found)
+
+        by : (quiet files : Bool) → has options Quiet ≡ quiet → has options Files ≡ files → Ended options
+        by true files is are = searched (λ writes. absurd (true≢false (sym is ∙ writes.quiet)))
+        by false true is are = searched (λ writes. absurd (true≢false (sym are ∙ writes.files)))
+        by false false is are = writing (record { quiet = is; files = are })
+          where
+            writing : WritesFound options → Ended options
+            writing writes = elim whole.run [
+              | inl literal ↦ elim (run-written output contents write_step say_step file_remaining remaining read_step
+                  folders finds opens identifies grows before options _ _ _ whole.regex mid writer said status input'
+                  writer' held other writes literal) [
+                    | inl unread ↦ inl unread
+                    | inr found ↦ searched (λ writes. inl found)
+                  ]
+              | inr named ↦ elim (run-written output contents write_step say_step file_remaining remaining read_step
+                  folders finds opens identifies grows before options _ _ _ whole.regex mid writer said status input'
+                  writer' held other writes named) [
+                    | inl unread ↦ inl unread
+                    | inr found ↦ searched (λ writes. inr found)
+                  ]
+            ]
 
     by-words : IsProgramRun output write_step say_step file_remaining remaining read_step folders finds opens identifies
         arguments streams input writer errors status input' writer' errors'
-        → (options : Options) × AreOptionsFor say_step folders arguments streams errors options
-        × HasEnded contents file_remaining remaining read_step folders finds opens identifies options input writer
+        → IsClosed write_step writer'
+        ⊎ ((options : Options) × AreOptionsFor say_step folders arguments streams errors options
+        × HasEnded contents before file_remaining remaining read_step folders finds opens identifies options input
         status
-        input' writer'
+        input' writer')
     by-words (of_fault words said refusal failure are reads refused) = absurd (other refused.refused.status_is)
     by-words (no_memory failure memory refused) = absurd (other refused.refused.status_is)
     by-words (of_parsed words said parsed are read (out_of_memory failure memory refused)) =
         absurd (other refused.refused.status_is)
-    by-words (of_parsed words said parsed are read
-        (of_options options uses operands lists used named listed set run)) = (
-          options,
-          record {
-            words = words;
-            said = said;
-            are_words = are;
-            parsed = parsed;
-            are_read = read;
-            uses = uses;
-            operands = operands;
-            lists = lists;
-            uses_are = used;
-            operands_are = named;
-            are_lists = listed;
-            are_options = set;
-          },
-          by-options options said run,
-        )
+    by-words (of_parsed words said parsed are read (of_options options uses operands lists used named listed set run)) =
+        elim (by-options options said run) [
+          | inl unread ↦ inl unread
+          | inr ended ↦ inr (
+            options,
+            record {
+              words = words;
+              said = said;
+              are_words = are;
+              parsed = parsed;
+              are_read = read;
+              uses = uses;
+              operands = operands;
+              lists = lists;
+              uses_are = used;
+              operands_are = named;
+              are_lists = listed;
+              are_options = set;
+            },
+            ended,
+          )
+        ]
 
   -- it does what its arguments ask for
-  pub as-asked : IsProgramRun output write_step say_step file_remaining remaining read_step folders finds opens
-      identifies
+  pub as-asked : ((old new : W) (call : OutputCall) → write_step old call new
+      → Appends (contents old) (contents new) (taken_by call))
+      → IsProgramRun output write_step say_step file_remaining remaining read_step folders finds opens identifies
       arguments streams input writer errors status input' writer' errors'
       → DoesAsAsked contents file_remaining remaining read_step folders finds opens identifies write_step say_step
       arguments streams input writer errors status input' writer'
-  as-asked ran well before held other = by-words well before held other ran
+  as-asked grows ran before held other = by-words grows before held other ran

@@ -1,39 +1,73 @@
--- What a search writes with a printer of any format, to an output that never fails.
-use Rattle.std.proofs.Common.{◌≡◌, ◌∙◌, ℕ, Bool, true, false, List, [], ◌∷◌, ◌++◌, Option, ap, append_assoc, length}
+-- What a search writes with a printer of any format, and how its writer fails.
+use Rattle.std.proofs.Common.{◌≡◌, ◌∙◌, ℕ, Bool, true, false, List, [], ◌++◌, Option, ap, length}
 use Rattle.std.proofs.Common.{refl, subst, sym}
-use Rattle.std.proofs.Common.{inl, inr, true≢false}
+use Rattle.std.proofs.Common.{◌⊎◌, inl, inr, true≢false}
 use Rattle.std.specs.Prelude.{◌||◌, MatchBool, None, Some, Result, Ok, Err, is_ok}
 use Rattle.std.specs.Borrow.{Bor}
 use Rattle.std.specs.Global.{Global}
 use Rattle.std.specs.List.{concat}
-use Rattle.grep_output.specs.Outputs.{OutputCall}
+use Rattle.std.specs.Io.KnownBytes.{Appends}
+use Rattle.std.specs.declared.io.Error.{Error}
+use Rattle.grep_output.specs.Outputs.{OutputCall, taken_by}
 use Rattle.grep_output.specs.PendingTexts.{PutsAll, pending_bytes}
 use Rattle.grep_printer.specs.Formats.{PrintedCall, Rules, is_text, printed_by}
 use Rattle.grep_printer.specs.PrintedSearches.{IsInputPrinted, IsPlanPrinted, IsSearchPrinted, IsSinkFor}
 use Rattle.grep_printer.specs.PrintedSearches.{PrintsFirst, PrintsPlan, of_input, of_matcher, of_plan, of_reading}
 use Rattle.grep_printer.specs.PrintedSearches.{IsPointOfAll, IsSourcePrinted, search_errors}
-use Rattle.grep_printer.specs.PrinterSteps.{FailsAlongPlan, IsCutShort, scene_of}
+use Rattle.grep_printer.specs.PrinterSteps.{IsCutShort, scene_of}
 use Rattle.grep_printer.specs.declared.printer.Printer.{Printer}
 use Rattle.grep_printer.specs.declared.printer.PrinterSink.{PrinterSink}
 use Rattle.grep_searcher.specs.Meanings.{MatcherFacts}
 use Rattle.grep_searcher.specs.Plans.{IsLawful, Plan, Planned, SearcherState, Settings, refusal_of, search_plan}
-use Rattle.grep_searcher.specs.Searches.{IsInputOf, IsUnlessRefusedBy, Look, Points, Taken, look_of}
+use Rattle.grep_searcher.specs.Searches.{IsInputOf, IsUnlessRefusedBy, Points, Taken, look_of}
 use Rattle.grep_searcher.specs.Searches.{searched_bytes}
 use Rattle.grep_searcher.specs.Source.{ReadResult}
 use Rattle.grep_searcher.specs.declared.ConfigError.{ConfigError}
 use Rattle.grep_searcher.specs.declared.SearchError.{SearchError}
-use Rattle.linegrep_cli.proofs.OutputTextLemmas.{one-text, unfailing}
+use Rattle.grep_searcher.specs.declared.SearchError.TheVariants.{Io}
+use Rattle.linegrep_cli.proofs.OutputTextLemmas.{one-text, write-failed}
 use Rattle.linegrep_cli.specs.SearchTexts.{IsTextOf}
-use Rattle.linegrep_cli.specs.WrittenRuns.{NeverFails}
+use Rattle.linegrep_cli.specs.WrittenRuns.{HasFailedWith}
+
+-- a failed result has one error
+abbrev pub failing : SearchError Global → Result (Unit {0}) (SearchError Global)
+failing e = Err e
+
+pub one-error : (one other : SearchError Global) → failing one ≡ failing other → one ≡ other
+one-error one other is = ap error-of is
+  where
+    error-of : Result (Unit {0}) (SearchError Global) → SearchError Global
+    error-of (Ok u) = one
+    error-of (Err e) = e
+
+abbrev pub io-failing : Error → Result (Unit {0}) Error
+io-failing e = Err e
+
+pub one-io-error : (one other : Error) → io-failing one ≡ io-failing other → one ≡ other
+one-io-error one other is = ap error-of is
+  where
+    error-of : Result (Unit {0}) Error → Error
+    error-of (Ok u) = one
+    error-of (Err e) = e
 
 -- a result isn't both `Ok` and an error
 pub not-both : {T E : Type 0} (result : Result T E) (value : T) (error : E) → result ≡ Ok value
     → result ≡ Err error → ⊥
 not-both result value error ok failed = true≢false (sym (ap is_ok ok) ∙ ap is_ok failed)
 
+module _ {W : Type 0} (write_step : W → OutputCall → W → Type 0) where
+  -- a search that ends with the error of the writer's last call
+  abbrev pub IsCutOff : Result (Unit {0}) (SearchError Global) → W → Type 0
+  IsCutOff result writer = (error : Error) × (result ≡ Err (Io error)) × HasFailedWith write_step error writer
+
+  -- after a search the writer hasn't failed, or its error ended the search
+  abbrev pub IsAfter : Result (Unit {0}) (SearchError Global) → Bool → W → Type 0
+  IsAfter result failed writer = (failed ≡ false) ⊎ IsCutOff result writer
+
 module _ {F M W E : Type 0} (rules : Rules F) (output : E → Option (List ℕ)) (facts : M → MatcherFacts E)
     (first_at : M → List ℕ → ℕ → Option (ℕ × ℕ)) (write_step : W → OutputCall → W → Type 0)
-    (contents : W → Option (List ℕ)) (well : NeverFails contents write_step) where
+    (contents : W → Option (List ℕ)) (grows : (old new : W) (call : OutputCall) → write_step old call new
+    → Appends (contents old) (contents new) (taken_by call)) where
   -- the text of a plan's calls, by a sink
   record IsTextOfSink (settings : Settings) (bytes : List ℕ) (old new : PrinterSink F M W) (text : List ℕ)
       : Type 0 where
@@ -69,48 +103,49 @@ module _ {F M W E : Type 0} (rules : Rules F) (output : E → Option (List ℕ))
     },
   )
 
-  -- a call that fails doesn't show that the writer failed
-  cut-unfailed : (mid : PrinterSink F M W) (settings : Settings) (tried : PrintedCall) (e : SearchError Global)
+  cut-after : (mid : PrinterSink F M W) (settings : Settings) (tried : PrintedCall) (e : SearchError Global)
       (new : PrinterSink F M W) → IsCutShort rules output facts first_at write_step mid settings tried e new
-      → new.printer.now.has_failed ≡ mid.printer.now.has_failed
-  cut-unfailed mid settings tried e new (inl (error, is, pending, format, failed, fails)) =
-      absurd (unfailing contents write_step well mid.writer.now new.writer.now _ error fails)
-  cut-unfailed mid settings tried e new (inr (inl fails)) = fails.has_failed
-  cut-unfailed mid settings tried e new (inr (inr some)) = some.has_failed
+      → mid.printer.now.has_failed ≡ false → IsAfter write_step (Err e) new.printer.now.has_failed new.writer.now
+  cut-after mid settings tried e new (inl (error, is, pending, format, failed, fails)) unfailed =
+      inr (error, ap Err is, write-failed write_step mid.writer.now new.writer.now _ error fails)
+  cut-after mid settings tried e new (inr (inl fails)) unfailed = inl (fails.has_failed ∙ unfailed)
+  cut-after mid settings tried e new (inr (inr some)) unfailed = inl (some.has_failed ∙ unfailed)
 
-  plan-unfailed : (Known : Plan → List PrintedCall → Type 0) (old : PrinterSink F M W) (settings : Settings)
+  plan-after : (Known : Plan → List PrintedCall → Type 0) (old : PrinterSink F M W) (settings : Settings)
       (plan : Plan) (result : Result (Unit {0}) (SearchError Global)) (new : PrinterSink F M W)
       → PrintsPlan rules output facts first_at write_step Known old settings plan result new
-      → new.printer.now.has_failed ≡ old.printer.now.has_failed
-  plan-unfailed Known old settings plan (Ok u) new (printed, along, all, kept, known) = all.has_failed
-  plan-unfailed Known old settings plan (Err e) new fails =
-      cut-unfailed fails.mid settings fails.tried e new fails.cut ∙ fails.printed.has_failed
+      → old.printer.now.has_failed ≡ false → IsAfter write_step result new.printer.now.has_failed new.writer.now
+  plan-after Known old settings plan (Ok u) new (printed, along, all, kept, known) unfailed =
+      inl (all.has_failed ∙ unfailed)
+  plan-after Known old settings plan (Err e) new fails unfailed =
+      cut-after fails.mid settings fails.tried e new fails.cut (fails.printed.has_failed ∙ unfailed)
 
-  first-unfailed : (settings : Settings) (old : PrinterSink F M W) (IsAt : Points) (calls : List Planned)
+  first-after : (settings : Settings) (old : PrinterSink F M W) (IsAt : Points) (calls : List Planned)
       (new : PrinterSink F M W) → PrintsFirst rules output facts first_at write_step old settings IsAt calls new
-      → new.printer.now.has_failed ≡ old.printer.now.has_failed
-  first-unfailed settings old IsAt calls new (point, at, goes, (printed, on, all)) = all.has_failed
+      → old.printer.now.has_failed ≡ false → new.printer.now.has_failed ≡ false
+  first-after settings old IsAt calls new (point, at, goes, (printed, on, all)) unfailed = all.has_failed ∙ unfailed
 
-  along-unfailed : (settings : Settings) (IsAt : Points) (IsAsked : List ℕ → List Planned → Type 0)
+  along-after : (settings : Settings) (IsAt : Points) (IsAsked : List ℕ → List Planned → Type 0)
       (Known : Plan → List PrintedCall → Type 0) (plan : Plan) (old : PrinterSink F M W)
       (result : Result (Unit {0}) (SearchError Global)) (new : PrinterSink F M W)
       → IsPlanPrinted rules output facts first_at write_step settings IsAt IsAsked Known plan old result new
-      → new.printer.now.has_failed ≡ old.printer.now.has_failed
-  along-unfailed settings IsAt IsAsked Known plan old result new (of_plan point at prints) =
-      plan-unfailed Known old settings _ result new prints
-  along-unfailed settings IsAt IsAsked Known plan old result new
-      (of_matcher haystack error calls asked fails message first) =
-      first-unfailed settings old IsAt calls new first
+      → old.printer.now.has_failed ≡ false → IsAfter write_step result new.printer.now.has_failed new.writer.now
+  along-after settings IsAt IsAsked Known plan old result new (of_plan point at prints) unfailed =
+      plan-after Known old settings _ result new prints unfailed
+  along-after settings IsAt IsAsked Known plan old result new
+      (of_matcher haystack error calls asked fails message first) unfailed =
+      inl (first-after settings old IsAt calls new first unfailed)
 
   module _ {R : Type 0} (remaining : R → Option (List ℕ)) (read_step : R → ReadResult → R → Type 0)
       (state : SearcherState) where
-    source-unfailed : (reader : R) (old : PrinterSink F M W) (result : Result (Unit {0}) (SearchError Global))
+    source-after : (reader : R) (old : PrinterSink F M W) (result : Result (Unit {0}) (SearchError Global))
         (reader' : R) (new : PrinterSink F M W)
         → IsSourcePrinted rules output facts first_at write_step remaining read_step state reader old result reader' new
-        → new.printer.now.has_failed ≡ old.printer.now.has_failed
-    source-unfailed reader old result reader' new (of_input search printed each) =
-        along-unfailed state.settings _ _ _ _ old result new printed
-    source-unfailed reader old result reader' new (of_reading taken begun seen error cut printed) = by begun printed
+        → old.printer.now.has_failed ≡ false → IsAfter write_step result new.printer.now.has_failed new.writer.now
+    source-after reader old result reader' new (of_input search printed each) unfailed =
+        along-after state.settings _ _ _ _ old result new printed unfailed
+    source-after reader old result reader' new (of_reading taken begun seen error cut printed) unfailed =
+        inl (by begun printed)
       where
         IsAt : Points
         IsAt = IsPointOfAll rules output facts first_at write_step remaining read_step state taken old (length seen)
@@ -120,9 +155,9 @@ module _ {F M W E : Type 0} (rules : Rules F) (output : E → Option (List ℕ))
 
         by : (begun : Bool) → MatchBool begun
             (PrintsFirst rules output facts first_at write_step old state.settings IsAt
-            calls new) (new ≡ old) → new.printer.now.has_failed ≡ old.printer.now.has_failed
-        by true first = first-unfailed state.settings old IsAt calls new first
-        by false same = ap (λ sink. sink.printer.now.has_failed) same
+            calls new) (new ≡ old) → new.printer.now.has_failed ≡ false
+        by true first = first-after state.settings old IsAt calls new first unfailed
+        by false same = ap (λ sink. sink.printer.now.has_failed) same ∙ unfailed
 
     -- a search isn't refused if it ends in `Ok`
     unrefused : (lawful : MatcherFacts E) (old new : PrinterSink F M W) (Same Searched : Type 0)
@@ -162,7 +197,7 @@ module _ {F M W E : Type 0} (rules : Rules F) (output : E → Option (List ℕ))
           first.0,
           (λ bytes input.
               let other = sink-text state.settings bytes _ old new (each bytes input) in
-              subst (IsTextOfSink state.settings bytes old new) (one-text contents write_step well old.writer.now
+              subst (IsTextOfSink state.settings bytes old new) (one-text contents write_step grows old.writer.now
               new.writer.now held (pending_bytes old.printer.now.pending) other.0 first.0
               (pending_bytes new.printer.now.pending) is other.1.put first.1.put) other.1),
           (read, is-read),
@@ -213,17 +248,21 @@ module _ {F M W E : Type 0} (rules : Rules F) (output : E → Option (List ℕ))
             known.path ∙ begins.names,
           )
 
-      -- whether the writer failed before stays, however a search ends
-      pub sink-unfailed : (result : Result (Unit {0}) (SearchError Global)) → Sought result
-          → ended.printer.now.has_failed ≡ old.has_failed
-      sink-unfailed result searches =
-          by (refusal_of state.settings (facts begun.matcher).meaning) searches ∙ ap (λ p. p.has_failed) begins.is_of
+      -- if the writer hadn't failed before, its error ended the search, or it hasn't failed
+      pub sink-after : (result : Result (Unit {0}) (SearchError Global)) → Sought result → old.has_failed ≡ false
+          → IsAfter write_step result ended.printer.now.has_failed ended.writer.now
+      sink-after result searches unfailed =
+          by (refusal_of state.settings (facts begun.matcher).meaning) searches
         where
+          begun-well : begun.printer.now.has_failed ≡ false
+          begun-well = ap (λ p. p.has_failed) begins.is_of ∙ unfailed
+
           by : (refusal : Option ConfigError)
               → IsUnlessRefusedBy (search_errors output) (facts begun.matcher) state.settings begun result ended
               (reader' ≡ reader) (IsSourcePrinted rules output facts first_at write_step remaining read_step state
               reader
               begun result reader' ended) refusal
-              → ended.printer.now.has_failed ≡ begun.printer.now.has_failed
-          by None source = source-unfailed reader begun result reader' ended (source law)
-          by (Some refusal) (e, is, config, same, unread) = ap (λ sink. sink.printer.now.has_failed) same
+              → IsAfter write_step result ended.printer.now.has_failed ended.writer.now
+          by None source = source-after reader begun result reader' ended (source law) begun-well
+          by (Some refusal) (e, is, config, same, unread) =
+              inl (ap (λ sink. sink.printer.now.has_failed) same ∙ begun-well)

@@ -1,31 +1,30 @@
 -- What a run has searched after what it visited, if nothing failed.
-use Rattle.std.proofs.Common.{◌≡◌, ◌∙◌, ℕ, ◌+◌, Bool, true, false, List, [], ◌∷◌, ◌++◌, ap, append_assoc, refl, subst}
+use Rattle.std.proofs.Common.{◌≡◌, ◌∙◌, ℕ, Bool, true, false, List, [], ◌∷◌, ◌++◌, ap, append_assoc, refl, subst}
 use Rattle.std.proofs.Common.{sym}
 use Rattle.std.proofs.Common.{◌⊎◌, inl, inr, true≢false}
-use Rattle.std.specs.Prelude.{◌||◌, ◌&&◌, MatchBool, None, Option, Some, Result, Ok, Err, codes, if◌then◌else◌, is_ok}
-use Rattle.std.specs.Prelude.{is_some, not}
+use Rattle.std.specs.Prelude.{◌||◌, ◌&&◌, MatchBool, None, Option, Some, Result, Ok, Err, if◌then◌else◌, is_ok}
+use Rattle.std.specs.Prelude.{is_none, is_some, not}
 use Rattle.std.specs.Borrow.{Bor}
 use Rattle.std.specs.Global.{Global}
-use Rattle.std.specs.Option.{option_or}
 use Rattle.std.specs.declared.io.Error.{Error}
 use Rattle.std.proofs.lemmas.List.{append-nil}
 use Rattle.grep_printer.specs.declared.printed_search.Searched.{Searched}
 use Rattle.grep_searcher.specs.declared.SearchError.{SearchError}
 use Rattle.linegrep_cli.specs.EngineCalls.{EngineCall, says, searches_file, searches_input, sets_quits}
-use Rattle.linegrep_cli.specs.OperandRuns.{AreAllVisited, AreEntriesVisited, AreSaid, AreVisited, AreWritten, EndsAs}
+use Rattle.linegrep_cli.specs.OperandRuns.{AreAllVisited, AreEntriesVisited, AreVisited, AreWritten}
 use Rattle.linegrep_cli.specs.OperandRuns.{IsEnded, IsEntryVisited, IsFileVisited, IsFolderVisited, IsHereVisited}
-use Rattle.linegrep_cli.specs.OperandRuns.{IsInputVisited, IsKept, IsListed, IsNamedVisited, IsOperandVisited}
+use Rattle.linegrep_cli.specs.OperandRuns.{IsInputVisited, IsNamedVisited, IsOperandVisited}
 use Rattle.linegrep_cli.specs.OperandRuns.{IsPathVisited}
-use Rattle.linegrep_cli.specs.OperandRuns.{IsReported, IsTreeVisited, IsWalkedTo, ends_with_match, error_of}
-use Rattle.linegrep_cli.specs.OperandRuns.{has_found, is_escaped, is_input, is_over, no_entry, no_text, no_visit}
+use Rattle.linegrep_cli.specs.OperandRuns.{IsReported, IsWalkedTo, ends_with_match}
+use Rattle.linegrep_cli.specs.OperandRuns.{has_found, is_escaped, is_input, is_over, no_entry, no_text}
 use Rattle.linegrep_cli.specs.OperandRuns.{next_entry}
-use Rattle.linegrep_cli.specs.OperandRuns.{next_operand as NextVisited, next_text, no_operand as NoVisited}
+use Rattle.linegrep_cli.specs.OperandRuns.{next_operand as NextVisited, last_text, next_text, no_operand as NoVisited}
 use Rattle.linegrep_cli.specs.OperandRuns.{of_file as OfFile}
 use Rattle.linegrep_cli.specs.OperandRuns.{of_file_at, of_folder as OfFolder, of_listed, of_listing, of_missing}
 use Rattle.linegrep_cli.specs.OperandRuns.{of_output}
 use Rattle.linegrep_cli.specs.OperandRuns.{of_path, of_unfound, of_unopened, of_unread, of_warnings, path_of}
-use Rattle.linegrep_cli.specs.OperandRuns.{says_warnings, seeks_unmatched, visited_then}
-use Rattle.linegrep_cli.specs.RunInputs.{AreFiles, AreOfFolder, AreOfNone, AreOfOperand, AreOfOperands, AreSearched}
+use Rattle.linegrep_cli.specs.OperandRuns.{seeks_unmatched, visited_then}
+use Rattle.linegrep_cli.specs.RunInputs.{AreFiles, AreOfFolder, AreOfOperand, AreOfOperands, AreSearched}
 use Rattle.linegrep_cli.specs.RunInputs.{IsAtPath}
 use Rattle.linegrep_cli.specs.RunInputs.{IsStandardInput, next_file, next_folder, next_operand, no_entry as NoEntry}
 use Rattle.linegrep_cli.specs.RunInputs.{no_operand}
@@ -37,7 +36,6 @@ use Rattle.linegrep_files.specs.FolderFacts.{FolderFacts}
 use Rattle.linegrep_files.specs.Trees.{AreAllOf}
 use Rattle.linegrep_files.specs.declared.choices.Choices.{Choices}
 use Rattle.linegrep_files.specs.declared.entry.Entry.{Entry}
-use Rattle.linegrep_files.specs.declared.entry.Entry.TheVariants.{File, Folder, Unread}
 use Rattle.linegrep_files.specs.declared.file_id.FileId.{FileId}
 
 -- nothing went wrong in what was visited
@@ -117,8 +115,7 @@ module _ {E F R : Type 0} (folders : FolderFacts) (finds : List ℕ → Result B
         → (input : Input) × (reader' : R) × IsReader path reader input reader'
         × At false (inputs ++ input ∷ []) (found || searched.has_match) reader' new
     pub text : (quits : Bool) (inputs : List Input) (found : Bool) (reader : R) (old new : E)
-        (said : Result (Unit {0}) Error) → At quits inputs found reader old → step old (says said) new
-        → (said ≡ Ok tt) × At quits inputs found reader new
+        → At quits inputs found reader old → step old (says (Ok tt)) new → At quits inputs found reader new
     pub quits : (quits next : Bool) (inputs : List Input) (found : Bool) (reader : R) (old new : E)
         → At quits inputs found reader old → step old (sets_quits next) new → At next inputs found reader new
 
@@ -186,7 +183,7 @@ module _ {E F R : Type 0} (folders : FolderFacts) (finds : List ℕ → Result B
         searching ok in (
           input,
           reader',
-          (name, is_name, is),
+          (out, name, is_name, is),
           subst (At false (inputs ++ input ∷ []) (found || visit.has_match) reader') (sym same)
               (subst (λ match. At false (inputs ++ input ∷ []) (found || match) reader' mid)
               (sym (after.matched ∙ found-is searched)) now),
@@ -195,13 +192,14 @@ module _ {E F R : Type 0} (folders : FolderFacts) (finds : List ℕ → Result B
 
     -- texts on standard error
     pub said-all : (quits : Bool) (inputs : List Input) (found : Bool) (reader : R) (old : E) (count : ℕ)
-        (failure : Option Error) (new : E) → AreWritten step old count failure new
-        → At quits inputs found reader old → (failure ≡ None) × At quits inputs found reader new
-    said-all quits inputs found reader old _ _ _ no_text at = (refl, at)
-    said-all quits inputs found reader old _ _ new (next_text count failure {mid} said before moved) at =
-        let (none, before_it) = said-all quits inputs found reader old count failure mid before at in
-        let (ok, now) = kept.text quits inputs found reader mid new said before_it moved in
-        (ap (λ result. option_or (error_of result) failure) ok ∙ none, now)
+        (failure : Option Error) (new : E) → AreWritten step old count failure new → failure ≡ None
+        → At quits inputs found reader old → At quits inputs found reader new
+    said-all quits inputs found reader old _ _ _ no_text none at = at
+    said-all quits inputs found reader old _ _ new (next_text count {mid} before moved) none at =
+        kept.text quits inputs found reader mid new
+        (said-all quits inputs found reader old count None mid before refl at) moved
+    said-all quits inputs found reader old _ _ new (last_text count total error within before moved) none at =
+        absurd (some-none (Some error) error refl none)
 
     abbrev quitting : Bool
     quitting = not scope.searches_binary
@@ -237,7 +235,8 @@ module _ {E F R : Type 0} (folders : FolderFacts) (finds : List ℕ → Result B
         absurd (reported mid new visit is good)
     entry-visited entries inputs found before reader mid _ visit new (of_warnings {text = text} count failure said is)
         good (next, files, at) =
-        let (none, now) = said-all quitting (inputs ++ next) (found || before) reader mid _ failure new said at in (
+        let none = sym (ap (λ (v : Visit). v.failure) is) ∙ good.no_failure in
+        let now = said-all quitting (inputs ++ next) (found || before) reader mid _ failure new said none at in (
           next,
           next_folder text files,
           subst (λ f. At quitting (inputs ++ next) f reader new)
@@ -295,7 +294,7 @@ module _ {E F R : Type 0} (folders : FolderFacts) (finds : List ℕ → Result B
         → (next : List Input) × AreOfFolder folders finds opens identifies scope IsFile IsReader choices [] next
         × At false (inputs ++ next) (found || visit.has_match) reader new
     here-visited inputs found reader choices old visit new is good at =
-        either (not is.folder.has_searched && not scope.lists_files)
+        either (is_none is.folder.failure && not is.folder.has_searched && not scope.lists_files)
         (λ none (failure, said, missed). absurd (true≢false (sym (ap (λ (v : Visit). v.has_error) missed)
         ∙ good.no_error)))
         (λ some (same, moved).

@@ -1,14 +1,13 @@
 -- What a run over operands visits, in which order, what comes of that, and the status.
 use Rattle.std.specs.Prelude.{◌≡◌, ◌≢◌, ◌⊎◌, ℕ, Bool, true, false, not, ◌&&◌, ◌||◌, ◌==◌}
 use Rattle.std.specs.Prelude.{if◌then◌else◌}
-use Rattle.std.specs.Prelude.{◌+◌, codes, length, List, [], ◌∷◌, ◌++◌, Option, None, Some, is_some}
-use Rattle.std.specs.Prelude.{is_ok}
+use Rattle.std.specs.Prelude.{◌+◌, ◌<◌, codes, length, List, [], ◌∷◌, ◌++◌, Option, None, Some, is_some}
+use Rattle.std.specs.Prelude.{is_none, is_ok}
 use Rattle.std.specs.Prelude.{MatchBool, MatchOption, Result, Ok, Err, String, string_bytes}
 use Rattle.std.specs.List.{list_any}
 use Rattle.std.specs.Borrow.{Bor}
 use Rattle.std.specs.Global.{Global}
 use Rattle.std.specs.IoError.{error_kind}
-use Rattle.std.specs.Option.{option_or}
 use Rattle.std.specs.Str.{bytes_eq}
 use Rattle.std.specs.declared.io.Error.{Error}
 use Rattle.std.specs.declared.io.ErrorKind.TheVariants.{BrokenPipe, OutOfMemory}
@@ -125,14 +124,15 @@ EndsAs total visit = (visit ≡ total) ⊎ ((error : Error) × (error_kind error
     × (visit ≡ record total { failure = Some error }))
 
 module _ {E F : Type 0} (step : E → EngineCall F → E → Type 0) where
-  -- some texts are written to standard error, as many as are given. The result is the last error of
-  -- these writes, if there is one
+  -- so many texts are written to standard error, or some of them up to one before which what was
+  -- found can't be written. The result is that error of the writer
   pub data AreWritten (old : E) : ℕ → Option Error → E → Type 0 where
     no_text : AreWritten old 0 None old
-    next_text : (count : ℕ) (failure : Option Error) {mid new : E}
-        (said : Result (Unit {0}) Error) → AreWritten old count failure mid
-        → step mid (says said) new
-        → AreWritten old (count + 1) (option_or (error_of said) failure) new
+    next_text : (count : ℕ) {mid new : E} → AreWritten old count None mid
+        → step mid (says (Ok tt)) new → AreWritten old (count + 1) None new
+    last_text : (count total : ℕ) (error : Error) {mid new : E} → count < total
+        → AreWritten old count None mid → step mid (says (Err error)) new
+        → AreWritten old total (Some error) new
 
 module _ {E F : Type 0} (step : E → EngineCall F → E → Type 0) (scope : Scope) where
   -- a text is written to standard error, unless nothing is to be said. Writing what was found
@@ -148,8 +148,8 @@ module _ {E F : Type 0} (step : E → EngineCall F → E → Type 0) (scope : Sc
   IsReported old visit new = (failure : Option Error) × IsSaid old failure new
       × (visit ≡ record no_visit { has_error = true; failure = failure })
 
-  -- some texts about ignore files are written to standard error, as many as are given, or none if
-  -- they aren't asked for
+  -- so many texts about ignore files are written to standard error, or none if they aren't asked
+  -- for
   abbrev pub AreSaid : E → ℕ → Option Error → E → Type 0
   AreSaid old count failure new =
       AreWritten step old (if says_warnings scope.messages then count else 0) failure new
@@ -265,13 +265,14 @@ module _ {E F : Type 0} (folders : FolderFacts) (opens : List ℕ → Result F E
     pub tree : IsTreeVisited folder first visit last
     pub ends : step last (sets_quits false) new
 
-  -- without an operand the current folder is visited. If no file is searched in it, standard error
-  -- says so
+  -- without an operand the current folder is visited. If no file is searched in it, and nothing
+  -- failed, standard error says so
   pub record IsHereVisited (old : E) (visit : Visit) (new : E) : Type 0 where
     pub mid : E
     pub folder : Visit
     pub visited : IsFolderVisited [] old folder mid
-    pub said : MatchBool (not folder.has_searched && not scope.lists_files)
+    pub said : MatchBool
+        (is_none folder.failure && not folder.has_searched && not scope.lists_files)
         ((failure : Option Error) × IsSaid step scope mid failure new
         × (visit ≡ record folder { has_error = true; failure = failure }))
         ((visit ≡ folder) × (new ≡ mid))

@@ -1,5 +1,5 @@
 -- What a run searches, in which order, if all of it can be read.
-use Rattle.std.specs.Prelude.{◌≡◌, ℕ, Bool, true, false, List, [], ◌∷◌, ◌++◌, Option, None, Some}
+use Rattle.std.specs.Prelude.{◌≡◌, ℕ, Bool, true, false, List, [], ◌∷◌, ◌++◌, Option}
 use Rattle.std.specs.Prelude.{Result, Ok, Err, String, codes, not, string_bytes}
 use Rattle.std.specs.Borrow.{Bor}
 use Rattle.std.specs.Global.{Global}
@@ -29,7 +29,7 @@ AreReadOf remaining read is_all = (after : Option (List ℕ)) × Consumes remain
 pub record IsFileInput {F : Type 0} (file_remaining : F → Option (List ℕ)) (separator : Option ℕ)
     (path : Option (Bor (List ℕ))) (file : F) (quits : Bool) (input : Input) : Type 0 where
   pub shown : IsShown separator path input.path
-  pub place : input.quits ≡ quits
+  pub quits_is : input.quits ≡ quits
   pub read : AreReadOf (file_remaining file) input.read input.is_all
 
 -- standard input, and the path that is written of it
@@ -37,7 +37,7 @@ pub record IsReaderInput {R : Type 0} (remaining : R → Option (List ℕ))
     (read_step : R → ReadResult → R → Type 0) (separator : Option ℕ) (path : Option (Bor (List ℕ)))
     (reader : R) (input : Input) (reader' : R) : Type 0 where
   pub shown : IsShown separator path input.path
-  pub place : input.quits ≡ false
+  pub quits_is : input.quits ≡ false
   pub pieces : List (List ℕ)
   pub read_is : input.read ≡ concat pieces
   pub calls : Reads remaining read_step input.is_all reader pieces reader'
@@ -71,9 +71,10 @@ module _ {F R : Type 0} (folders : FolderFacts) (finds : List ℕ → Result Boo
     pub all : AreAllOf folders scope.route choices folder entries
     pub files : AreFiles entries inputs
 
-  -- standard input, under its name
+  -- standard input, under its name, which isn't left out
   abbrev pub IsStandardInput : R → Input → R → Type 0
-  IsStandardInput reader input reader' = (name : Bor (List ℕ)) × (name.now ≡ codes "<stdin>")
+  IsStandardInput reader input reader' = (scope.leaves_out_input ≡ false)
+      × (name : Bor (List ℕ)) × (name.now ≡ codes "<stdin>")
       × IsReader (path_of scope name) reader input reader'
 
   -- there is no folder at a path: there is something else, or nothing was found

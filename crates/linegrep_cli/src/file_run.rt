@@ -1,7 +1,6 @@
 //! A run over files.
 ghost use Rattle.std.specs.Prelude.{◌≡◌, ◌↔◌, ℕ, [], false, length, IsTrue, Option, Result};
 ghost use Rattle.std.specs.IoError.{error_kind};
-ghost use Rattle.std.specs.Option.{option_or};
 ghost use Rattle.std.specs.declared.io.ErrorKind.TheVariants.{BrokenPipe};
 ghost use Rattle.linegrep_cli.specs.EngineCalls.{says};
 ghost use Rattle.std.specs.declared.io.Error.{Error};
@@ -11,7 +10,7 @@ ghost use Rattle.linegrep_cli.specs.OperandRuns.{IsFolderVisited, IsHereVisited,
 ghost use Rattle.linegrep_cli.specs.OperandRuns.{IsKept, IsListed, IsNamedVisited};
 ghost use Rattle.linegrep_cli.specs.OperandRuns.{IsOperandVisited};
 ghost use Rattle.linegrep_cli.specs.OperandRuns.{IsPathVisited, IsReported, IsRunEnd, IsRunOver};
-ghost use Rattle.linegrep_cli.specs.OperandRuns.{IsLeftOut, IsSaid, IsTreeVisited, error_of};
+ghost use Rattle.linegrep_cli.specs.OperandRuns.{IsLeftOut, IsSaid, IsTreeVisited};
 ghost use Rattle.linegrep_cli.specs.OperandRuns.{is_over};
 ghost use Rattle.linegrep_cli.specs.OperandRuns.{no_visit};
 ghost use Rattle.linegrep_files.specs.Choices.{AreAlike, AreTakenUp, SaysTheSame, warnings_of};
@@ -129,14 +128,14 @@ impl<'r, S: System> Run<'r, S> {
         }
     }
 
-    // Visits the current folder. If no file is chosen, that is said.
+    // Visits the current folder. If no file is chosen, and nothing failed, that is said.
     fn visit_here<E: Engine<S::File>>(&self, engine: &mut E, choices: &mut Choices<'r>) -> Visit
         ensures { IsHereVisited (S.facts self.now.system.now) (S.opens self.now.system.now)
             (S.identifies self.now.system.now) E.step E.has_failed self.now.scope choices.old
             engine.old result engine.new }
     {
         let mut visit = self.visit_folder(engine, choices, "");
-        if !visit.has_searched && !self.scope.lists_files {
+        if visit.failure.is_none() && !visit.has_searched && !self.scope.lists_files {
             visit.has_error = true;
             visit.failure = self.say(engine, &Failure::new(self.rt.alloc(), &NO_FILE));
         }
@@ -368,35 +367,21 @@ impl<'r, S: System> Run<'r, S> {
         Visit::failed(failure)
     }
 
-    // Says what goes wrong, unless nothing is to be said. The result is the writer's error.
+    // Says what goes wrong, unless nothing is to be said. If what was found before can't be
+    // written, nothing more is said, and the result is the writer's error.
     fn say_all<E: Engine<S::File>>(&self, engine: &mut E, warnings: &[Failure]) -> Option<io::Error>
         ensures { AreSaid E.step self.now.scope engine.old (length warnings.now) result
             engine.new }
     {
-        let mut failure = None;
         if !self.scope.messages.says_warnings() {
-            return failure;
+            return None;
         }
         for warning in warnings {
-            failure = self.say_next(engine, warning, failure);
+            if let Err(error) = engine.say(warning.text()) {
+                return Some(error);
+            }
         }
-        failure
-    }
-
-    // Says what goes wrong. The result is the writer's error, or the one before if there is none.
-    fn say_next<E: Engine<S::File>>(
-        &self,
-        engine: &mut E,
-        warning: &Failure,
-        failure: Option<io::Error>,
-    ) -> Option<io::Error>
-        ensures { (said : Result (Unit {0}) Error) × E.step engine.old (says said) engine.new
-            × (result ≡ option_or (error_of said) failure) }
-    {
-        match engine.say(warning.text()) {
-            Ok(()) => failure,
-            Err(error) => Some(error),
-        }
+        None
     }
 
     // Says what can't be read, and why.

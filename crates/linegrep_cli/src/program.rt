@@ -66,11 +66,10 @@ pub struct Streams {
 /// arguments are wrong. With `-q` it is 0 once a line matches, and it is 0 if nobody reads the
 /// output any more. The result has the streams too.
 ///
-/// If no write to `output` fails, and the status isn't 2, `output` has taken exactly what the
-/// arguments ask for: help, the version or the list of types; or else the texts of the searches,
-/// one after the other, and then the totals of `--stats` or `--json`. The status is then 0 if one
-/// of the searches found something, and otherwise 1. Of runs with `--files` or `-q` less is
-/// promised.
+/// If the status isn't 2, `output` has taken exactly what the arguments ask for, unless nobody
+/// reads it any more: help, the version or the list of types; or else the texts of the searches,
+/// one after the other, and then the totals of `--stats` or `--json`. Of runs with `--files` or
+/// `-q` less is promised.
 pub fn run<S: System, R: Source + Drop, W: Output + Drop, E: Output>(
     rt: &HostRuntime,
     system: &S,
