@@ -1,4 +1,5 @@
 -- What a run has searched after what it visited, if nothing failed.
+use Rattle.std.proofs.Common.{◌<◌, length, zero-lt-suc}
 use Rattle.std.proofs.Common.{◌≡◌, ◌∙◌, ℕ, Bool, true, false, List, [], ◌∷◌, ◌++◌, ap, append_assoc, refl, subst}
 use Rattle.std.proofs.Common.{sym}
 use Rattle.std.proofs.Common.{◌⊎◌, inl, inr, true≢false}
@@ -65,6 +66,18 @@ none-of (Some value) is = absurd (true≢false is)
 
 some-none : {T : Type 0} (found : Option T) (value : T) → found ≡ Some value → found ≡ None → ⊥
 some-none found value is none = true≢false (ap is_some (sym is ∙ none))
+
+-- if nothing is said of a folder without a searched file, one was searched
+has-searched : (failure : Option Error) (searched lists : Bool)
+    → (is_none failure && not searched && not lists) ≡ false → failure ≡ None → lists ≡ false → searched ≡ true
+has-searched None true lists unsaid none unlisted = refl
+has-searched None false true unsaid none unlisted = absurd (true≢false unlisted)
+has-searched None false false unsaid none unlisted = absurd (true≢false unsaid)
+has-searched (Some error) searched lists unsaid none unlisted = absurd (some-none (Some error) error refl none)
+
+some-more : (inputs : List Input) (input : Input) → 0 < length (inputs ++ input ∷ [])
+some-more [] input = zero-lt-suc 0
+some-more (first ∷ later) input = zero-lt-suc (length (later ++ input ∷ []))
 
 unless : (is : Bool) (P Q : Type 0) → is ≡ false → MatchBool is P Q → Q
 unless true P Q isnt holds = absurd (true≢false isnt)
@@ -204,9 +217,11 @@ module _ {E F R : Type 0} (folders : FolderFacts) (finds : List ℕ → Result B
     abbrev quitting : Bool
     quitting = not scope.searches_binary
 
-    abbrev WithFiles : List Entry → List Input → Bool → R → E → Type 0
-    WithFiles entries inputs found reader new = (next : List Input)
+    -- the files of entries, of which there is one if something was searched
+    abbrev WithFiles : List Entry → List Input → Bool → Bool → R → E → Type 0
+    WithFiles entries inputs found searched reader new = (next : List Input)
         × AreFiles folders finds opens identifies scope IsFile IsReader entries next
+        × (searched ≡ true → 0 < length next)
         × At quitting (inputs ++ next) found reader new
 
     same-at : (quits : Bool) (inputs other : List Input) (found match : Bool) (reader : R) (new : E)
@@ -214,31 +229,38 @@ module _ {E F R : Type 0} (folders : FolderFacts) (finds : List ℕ → Result B
     same-at quits inputs other found match reader new same is at =
         subst (λ f. At quits other f reader new) is (subst (λ xs. At quits xs found reader new) same at)
 
-    entry-visited : (entries : List Entry) (inputs : List Input) (found before : Bool) (reader : R) (mid : E)
+    entry-visited : (entries : List Entry) (inputs : List Input) (found before searched : Bool) (reader : R) (mid : E)
         (entry : Entry) (visit : Visit) (new : E)
         → IsEntryVisited opens identifies step has_failed scope mid entry visit new → IsGood visit
-        → WithFiles entries inputs (found || before) reader mid
-        → WithFiles (entries ++ entry ∷ []) inputs (found || (before || visit.has_match)) reader new
-    entry-visited entries inputs found before reader mid _ visit new (of_path {text = text} path is searching visited)
-        good (next, files, at) =
+        → WithFiles entries inputs (found || before) searched reader mid
+        → WithFiles (entries ++ entry ∷ []) inputs (found || (before || visit.has_match))
+        (searched || visit.has_searched) reader new
+    entry-visited entries inputs found before searched reader mid _ visit new
+        (of_path {text = text} path is searching visited)
+        good (next, files, some, at) =
         let (input, is_at, now) = path-visited quitting (inputs ++ next) (found || before) reader path mid visit new
         visited good at in (
           next ++ input ∷ [],
           next_file path text input files is is_at,
+          λ has. some-more next input,
           same-at quitting ((inputs ++ next) ++ input ∷ []) (inputs ++ (next ++ input ∷ []))
               ((found || before) || visit.has_match) (found || (before || visit.has_match)) reader new
               (append_assoc inputs next (input ∷ [])) (or-assoc found before visit.has_match) now,
         )
-    entry-visited entries inputs found before reader mid _ visit new (of_listed path is lists visited) good at =
+    entry-visited entries inputs found before searched reader mid _ visit new
+        (of_listed path is lists visited) good at =
         listed lists
-    entry-visited entries inputs found before reader mid _ visit new (of_unread is) good at =
+    entry-visited entries inputs found before searched reader mid _ visit new (of_unread is) good at =
         absurd (reported mid new visit is good)
-    entry-visited entries inputs found before reader mid _ visit new (of_warnings {text = text} count failure said is)
-        good (next, files, at) =
+    entry-visited entries inputs found before searched reader mid _ visit new
+        (of_warnings {text = text} count failure said is)
+        good (next, files, some, at) =
         let none = sym (ap (λ (v : Visit). v.failure) is) ∙ good.no_failure in
         let now = said-all quitting (inputs ++ next) (found || before) reader mid _ failure new said none at in (
           next,
           next_folder text files,
+          λ has. some (sym (or-none searched)
+              ∙ (ap (λ more. searched || more) (sym (ap (λ (v : Visit). v.has_searched) is)) ∙ has)),
           subst (λ f. At quitting (inputs ++ next) f reader new)
               (ap (λ b. found || b) (sym (ap (λ match. before || match) (ap (λ (v : Visit). v.has_match) is)
               ∙ or-none before))) now,
@@ -247,17 +269,20 @@ module _ {E F R : Type 0} (folders : FolderFacts) (finds : List ℕ → Result B
     entries-visited : (inputs : List Input) (found : Bool) (reader : R) (old : E) (entries : List Entry)
         (total : Visit) (new : E)
         → AreEntriesVisited opens identifies step has_failed scope old entries total new → IsGood total
-        → At quitting inputs found reader old → WithFiles entries inputs (found || total.has_match) reader new
+        → At quitting inputs found reader old → WithFiles entries inputs (found || total.has_match)
+        total.has_searched reader new
     entries-visited inputs found reader old _ _ _ no_entry good at = (
       [],
       NoEntry,
+      λ has. absurd (true≢false (sym has)),
       same-at quitting inputs (inputs ++ []) found (found || false) reader old
           (sym (append-nil inputs)) (sym (or-none found)) at,
     )
     entries-visited inputs found reader old _ _ new (next_entry entries total next {mid} entry before on visited) good
         at =
         let (good_before, good_next) = both-good scope total next on good in
-        entry-visited entries inputs found total.has_match reader mid entry next new visited good_next
+        entry-visited entries inputs found total.has_match total.has_searched reader mid entry next new visited
+        good_next
         (entries-visited inputs found reader old entries total mid before good_before at)
 
     -- a folder
@@ -266,15 +291,18 @@ module _ {E F R : Type 0} (folders : FolderFacts) (finds : List ℕ → Result B
         → IsFolderVisited folders opens identifies step has_failed scope choices folder old visit new
         → IsGood visit → At false inputs found reader old
         → (next : List Input) × AreOfFolder folders finds opens identifies scope IsFile IsReader choices folder next
+        × (visit.has_searched ≡ true → 0 < length next)
         × At false (inputs ++ next) (found || visit.has_match) reader new
     folder-visited inputs found reader choices folder old visit new is good at = elim is.tree.visit_is [
       | inl same ↦
           let good_total = subst IsGood same good in
-          let (next, files, now) = entries-visited inputs found reader is.first is.tree.visited is.tree.total is.last
+          let (next, files, some, now) = entries-visited inputs found reader is.first is.tree.visited is.tree.total
+          is.last
           is.tree.entries good_total
           (kept.quits false quitting inputs found reader old is.first at is.begins) in (
             next,
             record { entries = is.tree.visited; all = all is.tree.walked; files = files },
+            λ has. some (sym (ap (λ (v : Visit). v.has_searched) same) ∙ has),
             subst (λ (v : Visit). At false (inputs ++ next) (found || v.has_match) reader new) (sym same)
                 (kept.quits quitting false (inputs ++ next)
                 (found || is.tree.total.has_match) reader is.last new now is.ends),
@@ -292,16 +320,18 @@ module _ {E F R : Type 0} (folders : FolderFacts) (finds : List ℕ → Result B
         (new : E) → IsHereVisited folders opens identifies step has_failed scope choices old visit new → IsGood visit
         → At false inputs found reader old
         → (next : List Input) × AreOfFolder folders finds opens identifies scope IsFile IsReader choices [] next
-        × At false (inputs ++ next) (found || visit.has_match) reader new
+        × (0 < length next) × At false (inputs ++ next) (found || visit.has_match) reader new
     here-visited inputs found reader choices old visit new is good at =
         either (is_none is.folder.failure && not is.folder.has_searched && not scope.lists_files)
         (λ none (failure, said, missed). absurd (true≢false (sym (ap (λ (v : Visit). v.has_error) missed)
         ∙ good.no_error)))
-        (λ some (same, moved).
-        let (next, of, now) = folder-visited inputs found reader choices [] old is.folder is.mid is.visited
+        (λ none (same, moved).
+        let (next, of, some, now) = folder-visited inputs found reader choices [] old is.folder is.mid is.visited
         (subst IsGood same good) at in (
           next,
           of,
+          some (has-searched is.folder.failure is.folder.has_searched scope.lists_files none
+              (sym (ap (λ (v : Visit). v.failure) same) ∙ good.no_failure) searches),
           subst (λ (v : Visit). At false (inputs ++ next) (found || v.has_match) reader new) (sym same)
               (subst (At false (inputs ++ next) (found || is.folder.has_match) reader) (sym moved) now),
         ))
@@ -319,7 +349,7 @@ module _ {E F R : Type 0} (folders : FolderFacts) (finds : List ℕ → Result B
         → IsGood visit → At false inputs found reader old
         → WithOperand choices path inputs (found || visit.has_match) reader new
     named-visited inputs found reader choices path old visit new named text (OfFolder is_folder visited) good at =
-        let (next, of, now) = folder-visited inputs found reader choices path.now old visit new visited good at in
+        let (next, of, some, now) = folder-visited inputs found reader choices path.now old visit new visited good at in
         (next, reader, of_folder named text is_folder of, now)
     named-visited inputs found reader choices path old visit new named text (of_file_at is_file searching visited) good
         at =
@@ -378,8 +408,8 @@ module _ {E F R : Type 0} (folders : FolderFacts) (finds : List ℕ → Result B
         let (input, reader', is, now) = input-visited [] false reader old total new standard good at in
         (input ∷ [], reader', of_standard_input input searched is, now))
         (λ searched here.
-        let (inputs, of, now) = here-visited [] false reader choices old total new here good at in
-        (inputs, reader, of_here searched of, now))
+        let (inputs, of, some, now) = here-visited [] false reader choices old total new here good at in
+        (inputs, reader, of_here searched of some, now))
         visited
     all-visited reader choices (path ∷ later) old total new (done, rest, split, visited, ends) good at =
         let (inputs, reader', of, now) = operands-visited reader choices old done total new visited good at in (

@@ -1,4 +1,5 @@
 -- What a run searches, in which order, if all of it can be read.
+use Rattle.std.specs.Prelude.{◌<◌, length}
 use Rattle.std.specs.Prelude.{◌≡◌, ℕ, Bool, true, false, List, [], ◌∷◌, ◌++◌, Option}
 use Rattle.std.specs.Prelude.{Result, Ok, Err, String, codes, not, string_bytes}
 use Rattle.std.specs.Borrow.{Bor}
@@ -108,11 +109,12 @@ module _ {F R : Type 0} (folders : FolderFacts) (finds : List ℕ → Result Boo
         → AreOfOperands choices reader (paths ++ path ∷ []) (inputs ++ next) reader'
 
   -- what is searched without an operand: standard input, if options say so; or else the current
-  -- folder
+  -- folder, in which there is a file to search
   pub data AreOfNone (choices : Choices) (reader : R) : List Input → R → Type 0 where
     of_standard_input : {reader' : R} (input : Input) → scope.searches_input ≡ true
         → IsStandardInput reader input reader' → AreOfNone choices reader (input ∷ []) reader'
-    of_here : {inputs : List Input} → scope.searches_input ≡ false → AreOfFolder choices [] inputs
+    of_here : {inputs : List Input} → scope.searches_input ≡ false
+        → AreOfFolder choices [] inputs → 0 < length inputs
         → AreOfNone choices reader inputs reader
 
   -- what a run searches, by its operands
