@@ -39,6 +39,7 @@ use Rattle.linegrep_cli.specs.OptionUses.{has}
 use Rattle.linegrep_cli.specs.PathSeparators.{path_separator_of}
 use Rattle.linegrep_cli.specs.PrinterOptions.{IsNew, IsNewRun, IsPrinterFor}
 use Rattle.linegrep_cli.specs.PrintingEngines.{IsEngineStep, detection_with}
+use Rattle.linegrep_cli.specs.ProgramRuns.{without_memory}
 use Rattle.linegrep_cli.specs.ProgramRuns.{IsAnswered, IsOptionsRun, IsProgramRun}
 use Rattle.linegrep_cli.specs.ProgramRuns.{no_memory}
 use Rattle.linegrep_cli.specs.ProgramRuns.{of_fault, of_options, of_parsed, of_refusal, of_search as OfSearch}
@@ -409,6 +410,8 @@ module _ {F R W X : Type 0} (output : AllocError → Option (List ℕ)) (content
         options
         input writer said status input' writer' errors'
         → Ended options
+    by-options options said (without_memory failure memory refused) =
+        absurd (other refused.refused.status_is)
     by-options options said (of_text text asked same answer) = by-answer options text (inl asked) same answer
     by-options options said (of_types text none types list same answer) =
         by-answer options text (inr (none, types, list)) same answer

@@ -15,10 +15,11 @@ use Rattle.grep_output.specs.Outputs.{OutputCall}
 use Rattle.grep_output.specs.PendingTexts.{Flushes}
 use Rattle.grep_searcher.specs.Source.{ReadResult}
 use Rattle.linegrep_options.specs.CommandLines.{Refusal, Refused, reading_of}
-use Rattle.linegrep_options.specs.OptionUses.{places_of, values_of}
+use Rattle.linegrep_options.specs.OptionUses.{last_value, places_of, values_of}
 use Rattle.linegrep_options.specs.ParsedWords.{AreRead, texts}
 use Rattle.linegrep_options.specs.declared.command_line.Parsed.{Parsed}
-use Rattle.linegrep_options.specs.declared.option_id.OptionId.TheVariants.{File, Files, Help}
+use Rattle.linegrep_options.specs.declared.option_id.OptionId.TheVariants.{File, Files}
+use Rattle.linegrep_options.specs.declared.option_id.OptionId.TheVariants.{Generate, Help}
 use Rattle.linegrep_options.specs.declared.option_id.OptionId.TheVariants.{ShortHelp}
 use Rattle.linegrep_options.specs.declared.option_id.OptionId.TheVariants.{TypeList, Unrestricted}
 use Rattle.linegrep_options.specs.declared.option_id.OptionId.TheVariants.{Version}
@@ -32,7 +33,6 @@ use Rattle.linegrep_cli.specs.OptionUses.{has}
 use Rattle.linegrep_cli.specs.OptionValues.{AreLists, AreOptions, names_input}
 use Rattle.linegrep_cli.specs.Refusals.{IsRefusedFor, IsSaid}
 use Rattle.linegrep_cli.specs.WholeRuns.{IsRefused, IsWholeRun}
-use Rattle.linegrep_cli.specs.declared.help.TheConstants.{HELP, SHORT_HELP, VERSION}
 use Rattle.linegrep_cli.specs.declared.lists.Lists.{Lists}
 use Rattle.linegrep_cli.specs.declared.options.Options.{Options}
 use Rattle.linegrep_cli.specs.declared.program.Streams.{Streams}
@@ -41,6 +41,8 @@ use Rattle.linegrep_files.specs.FolderFacts.{FolderFacts}
 use Rattle.linegrep_files.specs.TypeDefinitions.{HaveMalformed, IsTypeListOf}
 use Rattle.linegrep_files.specs.declared.failures.Failure.{Failure}
 use Rattle.linegrep_files.specs.declared.file_id.FileId.{FileId}
+use Rattle.linegrep_help.specs.GeneratedTexts.{generated}
+use Rattle.linegrep_help.specs.HelpTexts.{help, short_help, version}
 
 -- the status after a text is written. It is also 0 if nobody reads the text
 abbrev pub HasAnswerStatus : Result (Unit {0}) Error → ℕ → Type 0
@@ -53,21 +55,20 @@ abbrev pub IsAnswered : {W : Type 0} → (W → OutputCall → W → Type 0) →
 IsAnswered write_step text writer status writer' = (written : Result (Unit {0}) Error)
     × Flushes write_step writer text written writer' × HasAnswerStatus written status
 
--- the texts of help
-unfoldable pub help : List ℕ
-help = HELP.now
-
-unfoldable pub short_help : List ℕ
-short_help = SHORT_HELP.now
-
-unfoldable pub version : List ℕ
-version = VERSION.now
+-- the kind of the text that is to be generated, if one is
+abbrev pub kind_asked : List Use → List ℕ
+kind_asked uses = of_value (last_value uses Generate)
+  where
+    of_value : Option (Bor (List ℕ)) → List ℕ
+    of_value None = []
+    of_value (Some kind) = kind.now
 
 -- the text that options ask for in place of a search, if they ask for one
 abbrev pub text_asked : Options → Option (List ℕ)
 text_asked options = if has options Help then Some help
     else if has options ShortHelp then Some short_help
-    else if has options Version then Some version else None
+    else if has options Version then Some version
+    else if has options Generate then Some (generated (kind_asked options.uses.now)) else None
 
 -- how many of the files of patterns are standard input
 abbrev pub inputs_named : List Use → ℕ
@@ -116,9 +117,14 @@ module _ {F R W X : Type 0} (output : AllocError → Option (List ℕ))
     (finds : List ℕ → Result Bool Error → Type 0) (opens : List ℕ → Result F Error → Type 0)
     (identifies : F → Option FileId → Type 0) where
   -- what the program does by its options. A text that is asked for is written; otherwise the list
-  -- of types, if that is asked for; otherwise the patterns are searched for, or the run is refused
+  -- of types, if that is asked for; otherwise the patterns are searched for, or the run is refused.
+  -- If memory is out, nothing is written
   pub data IsOptionsRun (options : Options) (input : R) (writer : W) (errors : X)
       : ℕ → R → W → X → Type 0 where
+    without_memory : {status : ℕ} {input' : R} {writer' : W} {errors' : X} (failure : Failure)
+        → has_cause failure ≡ false
+        → IsRefusal say_step input writer errors failure status input' writer' errors'
+        → IsOptionsRun options input writer errors status input' writer' errors'
     of_text : {status : ℕ} {input' : R} {writer' : W} {errors' : X} (text : List ℕ)
         → text_asked options ≡ Some text → input' ≡ input
         → IsAnswered write_step text writer status writer'

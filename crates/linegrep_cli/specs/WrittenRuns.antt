@@ -92,7 +92,8 @@ pub record AreOptionsFor {X : Type 0} (say_step : X → OutputCall → X → Typ
   pub are_lists : AreLists uses.now operands lists
   pub are_options : AreOptions uses lists streams options
 
--- a text answers options in place of a search: help, the version, or the list of types
+-- a text answers options in place of a search: help, the version, a generated text, or the list of
+-- types
 abbrev pub IsAnswer : Options → List ℕ → Type 0
 IsAnswer options text = (text_asked options ≡ Some text)
     ⊎ ((text_asked options ≡ None) × (has options TypeList ≡ true)

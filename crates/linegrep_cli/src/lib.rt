@@ -16,7 +16,6 @@ mod failures;
 mod file_options;
 mod file_run;
 mod haystacks;
-mod help;
 mod json_run;
 mod lists;
 mod looks;

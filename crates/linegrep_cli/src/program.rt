@@ -1,5 +1,5 @@
 //! The program, by its arguments.
-ghost use Rattle.std.specs.Prelude.{◌≡◌, ◌&&◌, IfErr, IfOk, false, is_some, map, nat_lt};
+ghost use Rattle.std.specs.Prelude.{◌≡◌, ◌&&◌, IfErr, IfOk, None, false, is_some, map, nat_lt};
 ghost use Rattle.std.specs.Prelude.{string_bytes, true};
 ghost use Rattle.std.specs.List.{count_by};
 ghost use Rattle.linegrep_cli.specs.OperandRuns.{is_input};
@@ -9,7 +9,7 @@ ghost use Rattle.linegrep_cli.specs.NamedPatterns.{LackPatterns};
 ghost use Rattle.linegrep_cli.specs.ProgramRuns.{IsAnswered, IsOptionsRun, IsParsedRun};
 ghost use Rattle.linegrep_cli.specs.ProgramRuns.{IsProgramRun};
 ghost use Rattle.linegrep_cli.specs.ProgramRuns.{ArePatternsFor, exclude_each_other};
-ghost use Rattle.linegrep_cli.specs.ProgramRuns.{searches_named_input, text_asked};
+ghost use Rattle.linegrep_cli.specs.ProgramRuns.{kind_asked, searches_named_input, text_asked};
 ghost use Rattle.linegrep_cli.specs.WrittenRuns.{DoesAsAsked};
 ghost use Rattle.linegrep_files.specs.Failures.{has_cause};
 ghost use Rattle.linegrep_cli.specs.OptionUses.{has};
@@ -20,7 +20,6 @@ ghost use Rattle.std.specs.Option.{option_map};
 use crate::config::{Config, ConfigFile, read_config, skips_config, warn};
 use crate::config_words::all_words;
 use crate::failures::{Failure, output_failure};
-use crate::help::{long_text, short_text, version_text};
 use crate::lists::Lists;
 use crate::named_patterns::read_patterns;
 use crate::options::Options;
@@ -32,7 +31,8 @@ use crate::words::{is_input, names_input, texts};
 use grep_output::{Output, write_all};
 use grep_searcher::Source;
 use linegrep_files::{FileId, type_list};
-use linegrep_options::{OptionId, ParseError, Parsed, parse};
+use linegrep_help::{generated_text, help_text, short_text, version_text};
+use linegrep_options::{OptionId, ParseError, Parsed, Use, last_value, parse};
 use std::alloc::{AllocError, Global};
 use std::fmt::Display;
 use std::io;
@@ -67,9 +67,9 @@ pub struct Streams {
 /// output any more. The result has the streams too.
 ///
 /// If the status isn't 2, `output` has taken exactly what the arguments ask for, unless nobody
-/// reads it any more: help, the version or the list of types; or else the texts of the searches,
-/// one after the other, and then the totals of `--stats` or `--json`. Of runs with `--files` or
-/// `-q` less is promised.
+/// reads it any more: help, the version, a generated text or the list of types; or else the texts
+/// of the searches, one after the other, and then the totals of `--stats` or `--json`. Of runs with
+/// `--files` or `-q` less is promised.
 pub fn run<S: System, R: Source + Drop, W: Output + Drop, E: Output>(
     rt: &HostRuntime,
     system: &S,
@@ -258,7 +258,7 @@ fn run_options<S: System, R: Source + Drop, W: Output + Drop, E: Output>(
     system: &S,
     lists: &Lists<'_>,
     options: &Options<'_, '_>,
-    mut input: R,
+    input: R,
     output: W,
     errors: &mut E,
 ) -> Ended<R, W>
@@ -271,9 +271,35 @@ fn run_options<S: System, R: Source + Drop, W: Output + Drop, E: Output>(
         (S.identifies system.now) options.now input output errors.old result.status result.input
         result.output errors.new }
 {
-    if let Some(text) = text_asked(options) {
-        return write_answer(rt.alloc(), text, input, output, errors);
+    let Ok(asked) = text_asked(rt.alloc(), options) else {
+        return Ended::refused(errors, &Failure::out_of_memory(), input, output);
+    };
+    match &asked {
+        Some(text) => write_answer(rt.alloc(), text.as_str(), input, output, errors),
+        None => run_unanswered(rt, system, lists, options, input, output, errors),
     }
+}
+
+// Does what the options ask for, if that is none of the texts.
+fn run_unanswered<S: System, R: Source + Drop, W: Output + Drop, E: Output>(
+    rt: &HostRuntime,
+    system: &S,
+    lists: &Lists<'_>,
+    options: &Options<'_, '_>,
+    mut input: R,
+    output: W,
+    errors: &mut E,
+) -> Ended<R, W>
+    requires unanswered { text_asked options.now ≡ None }
+    requires unrestricted { lists.now.unrestricted.items
+        ≡ places_of OptionId.Unrestricted 1 options.now.uses.now }
+    requires files { lists.now.pattern_files.items ≡ values_of OptionId.File options.now.uses.now }
+    ensures { IsOptionsRun ⟦<AllocError as Display>⟧.output W.step E.step S.File.remaining
+        R.remaining
+        R.step (S.facts system.now) (S.finds system.now) (S.opens system.now)
+        (S.identifies system.now) options.now input output errors.old result.status result.input
+        result.output errors.new }
+{
     if options.has(OptionId::TypeList) {
         return match type_list(rt.alloc(), &options.types) {
             Ok(list) => write_answer(rt.alloc(), list.as_str(), input, output, errors),
@@ -289,18 +315,31 @@ fn run_options<S: System, R: Source + Drop, W: Output + Drop, E: Output>(
     }
 }
 
-// The text that is asked for in place of a search, if one is.
-fn text_asked(options: &Options<'_, '_>) -> Option<&'static str>
-    ensures { option_map (λ text. text.now) result ≡ text_asked options.now }
+// The text that is asked for in place of a search, if one is. The only error is being out of
+// memory.
+fn text_asked(alloc: Global, options: &Options<'_, '_>) -> Result<Option<String>, AllocError>
+    ensures { IfOk result (λ text. option_map string_bytes text ≡ text_asked options.now) }
 {
     if options.has(OptionId::Help) {
-        Some(long_text())
+        Ok(Some(help_text(alloc)?))
     } else if options.has(OptionId::ShortHelp) {
-        Some(short_text())
+        Ok(Some(String::from_str(alloc, short_text())?))
     } else if options.has(OptionId::Version) {
-        Some(version_text())
+        Ok(Some(String::from_str(alloc, version_text())?))
+    } else if options.has(OptionId::Generate) {
+        Ok(Some(generated_text(alloc, kind_asked(options.uses))?))
     } else {
-        None
+        Ok(None)
+    }
+}
+
+// The kind of the text that is to be generated, if one is.
+fn kind_asked<'w>(uses: &[Use<'w>]) -> &'w str
+    ensures { result.now ≡ kind_asked uses.now }
+{
+    match last_value(uses, OptionId::Generate) {
+        Some(kind) => kind,
+        None => "",
     }
 }
 

@@ -227,7 +227,7 @@ fn option_text(alloc: Global, row: &Row) -> Result<String, AllocError> {
         })?;
         text.push_str(name)?;
     }
-    let value = value_name(row.value);
+    let value = row.value.name();
     if !value.is_empty() {
         text.push_str(" <")?;
         text.push_str(value)?;
@@ -246,27 +246,6 @@ fn name_of(option: OptionId) -> &'static str {
     match rows().iter().position(|row| is_same(row.id, option)) {
         Some(at) => names().get(at).copied().unwrap_or(""),
         None => "",
-    }
-}
-
-// What help calls a value.
-fn value_name(value: Value) -> &'static str {
-    match value {
-        Value::Nothing => "",
-        Value::Number | Value::Size => "NUM",
-        Value::When => "WHEN",
-        Value::Order => "ORDER",
-        Value::Engine => "ENGINE",
-        Value::Format => "FORMAT",
-        Value::Pattern => "PATTERN",
-        Value::File => "FILE",
-        Value::Glob => "GLOB",
-        Value::Type => "TYPE",
-        Value::Definition => "DEFINITION",
-        Value::Separator => "SEPARATOR",
-        Value::Template => "TEMPLATE",
-        Value::Change => "CHANGE",
-        Value::Label => "LABEL",
     }
 }
 

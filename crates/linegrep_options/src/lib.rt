@@ -10,5 +10,8 @@ mod uses;
 
 pub use command_line::{Fault, ParseError, Parsed, number, parse};
 pub use option_id::OptionId;
-pub use table::{Contrary, Row, Value, contraries, names, row_lettered, row_named, rows};
+pub use table::{
+    Contrary, Row, Value, contraries, headings, letters, names, row_lettered, row_named, rows,
+    summaries,
+};
 pub use uses::{Use, applies, is_same, last_place, last_value, places_of, values_of};

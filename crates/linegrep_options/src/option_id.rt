@@ -128,6 +128,7 @@ pub enum OptionId {
     NoStats,
     Files,
     Quiet,
+    Generate,
     Help,
     ShortHelp,
     Version,

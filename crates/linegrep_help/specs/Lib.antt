@@ -1,0 +1,9 @@
+pub mod BashTexts
+pub mod Entries
+pub mod FishTexts
+pub mod GeneratedTexts
+pub mod HelpTexts
+pub mod ManualTexts
+pub mod Parts
+pub mod PowerShellTexts
+pub mod ZshTexts
