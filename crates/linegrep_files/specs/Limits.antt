@@ -31,6 +31,10 @@ times factor number = if nat_lt (number * factor) (2 ^ 64) then Some (number * f
 abbrev pub size_of : List ℕ → Option ℕ
 size_of text = option_and_then (times (factor_of text)) (number_of (digits_of text))
 
+-- the size that an option sets, if it is used and its text is one
+abbrev pub size_asked : Option (Bor (List ℕ)) → Option ℕ
+size_asked text = option_and_then (λ text. size_of text.now) text
+
 -- a size is given that isn't well formed
 abbrev pub has_no_size : Option (Bor (List ℕ)) → Bool
 has_no_size None = false
@@ -39,7 +43,7 @@ has_no_size (Some text) = is_none (size_of text.now)
 -- limits are what options say
 pub record AreLimits (options : FileOptions) (limits : Limits) : Type 0 where
   pub depth : limits.max_depth ≡ options.max_depth
-  pub size : limits.max_size ≡ option_and_then (λ text. size_of text.now) options.max_filesize
+  pub size : limits.max_size ≡ size_asked options.max_filesize
   pub has_size : has_no_size options.max_filesize ≡ false
   pub system : limits.is_one_system ≡ options.is_one_system
 

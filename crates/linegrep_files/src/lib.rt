@@ -36,6 +36,7 @@ pub use file_id::FileId;
 pub use file_options::{FileOptions, TypeOptions, Values};
 pub use folders::{Folders, Found, Kind};
 pub use ignores::Sources;
+pub use limits::{read_size, size_of};
 pub use order::{Order, SortKey};
 pub use types::type_list;
 pub use walk::{Route, Walk};

@@ -1,7 +1,8 @@
 //! Which folders are too deep or elsewhere, and which files are too large.
-ghost use Rattle.std.specs.Prelude.{◌≡◌, true, IfOk, OnErr};
+ghost use Rattle.std.specs.Prelude.{◌≡◌, false, true, IfOk, OnErr, OnOk};
 ghost use Rattle.linegrep_files.specs.Limits.{AreLimits, allows_depth, allows_size, digits_of};
-ghost use Rattle.linegrep_files.specs.Limits.{factor_of, has_no_size, number_of, size_of};
+ghost use Rattle.linegrep_files.specs.Limits.{factor_of, has_no_size, number_of, size_asked};
+ghost use Rattle.linegrep_files.specs.Limits.{size_of};
 
 use crate::class::ends_with;
 use crate::failures::Failure;
@@ -25,13 +26,7 @@ impl Limits {
         ensures ok { IfOk result (AreLimits options.now) }
         ensures err { OnErr result (has_no_size options.now.max_filesize ≡ true) }
     {
-        let max_size = match options.max_filesize {
-            None => None,
-            Some(text) => match size_of(text) {
-                Some(size) => Some(size),
-                None => return Err(Failure::of_cause(alloc, text, &NO_SIZE)),
-            },
-        };
+        let max_size = read_size(alloc, options.max_filesize)?;
         Ok(Limits {
             max_depth: options.max_depth,
             max_size,
@@ -68,8 +63,23 @@ impl Limits {
     }
 }
 
-// The number of bytes that a text says: digits, and then maybe a K, an M or a G.
-fn size_of(text: &str) -> Option<u64>
+/// The size that an option sets, if it is used. The only error is that its text isn't a size.
+pub fn read_size(alloc: Global, text: Option<&str>) -> Result<Option<u64>, Failure>
+    ensures size { IfOk result (λ size. size ≡ size_asked text.entry) }
+    ensures known { OnOk result (has_no_size text.entry ≡ false) }
+    ensures err { OnErr result (has_no_size text.entry ≡ true) }
+{
+    match text {
+        None => Ok(None),
+        Some(text) => match size_of(text) {
+            Some(size) => Ok(Some(size)),
+            None => Err(Failure::of_cause(alloc, text, &NO_SIZE)),
+        },
+    }
+}
+
+/// The number of bytes that a text says: digits, and then maybe a K, an M or a G.
+pub fn size_of(text: &str) -> Option<u64>
     ensures { result ≡ size_of text.now }
 {
     let factor = factor_of(text.as_bytes());
