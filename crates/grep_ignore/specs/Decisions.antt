@@ -1,6 +1,7 @@
 -- What the rules of an ignore file say of a path: the last rule that is about it decides.
-use Rattle.std.specs.Prelude.{◌≡◌, ℕ, ◌+◌, ◌<◌, ◌≤◌, ◌⊎◌, Bool, true, false, if◌then◌else◌, List, length}
-use Rattle.std.specs.Prelude.{slice_index_or, ◌∷◌, ◌++◌}
+use Rattle.std.specs.Prelude.{◌≡◌, ℕ, ◌+◌, ◌<◌, ◌≤◌, ◌⊎◌, Bool, true, if◌then◌else◌, List, length}
+use Rattle.std.specs.Prelude.{slice_index_or, ◌∷◌, ◌++◌, Option}
+use Rattle.grep_ignore.specs.Endings.{IsLastAbout}
 use Rattle.grep_ignore.specs.Matches.{Matches}
 use Rattle.grep_ignore.specs.declared.rules.Decision.{Decision}
 use Rattle.grep_ignore.specs.declared.rules.Decision.TheVariants.{Ignored, Kept, Unmatched}
@@ -15,11 +16,9 @@ IsAbout path is_folder rule =
 abbrev pub decision_of : Rule → Decision
 decision_of rule = if rule.keeps then Kept else Ignored
 
--- whether what rules decide about is kept, if what they say nothing about is kept or isn't
-abbrev pub is_kept : Decision → Bool → Bool
-is_kept Ignored unmatched = false
-is_kept Kept unmatched = true
-is_kept Unmatched unmatched = unmatched
+-- the rule that decides of what is at a path: the last that is about it, if there is one
+abbrev pub IsLastRule : List Rule → List ℕ → Bool → Option Rule → Type 0
+IsLastRule rules = IsLastAbout (λ rule path is_folder. IsAbout path is_folder rule) rules
 
 -- no rule from a position on is about what is at a path
 abbrev pub NoneFrom : ℕ → List Rule → List ℕ → Bool → Type 0

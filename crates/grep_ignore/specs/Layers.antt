@@ -1,13 +1,15 @@
 -- What the rules of several ignore files say of a path: the first that says something decides.
-use Rattle.std.specs.Prelude.{◌≡◌, ◌≢◌, ℕ, ◌<◌, ◌≤◌, ◌⊎◌, Bool, true, false, if◌then◌else◌, List, length}
+use Rattle.std.specs.Prelude.{◌≡◌, ℕ, ◌<◌, ◌≤◌, ◌⊎◌, Bool, true, false, if◌then◌else◌, List, length}
 use Rattle.std.specs.Prelude.{Option, Some, None, nat_le, drop, insert, slice_index_or}
-use Rattle.grep_ignore.specs.Decisions.{IsDecided}
+use Rattle.grep_ignore.specs.Decisions.{IsDecided, IsLastRule}
+use Rattle.grep_ignore.specs.declared.layers.Decider.{Decider}
 use Rattle.grep_ignore.specs.declared.layers.Layer.{Layer}
 use Rattle.grep_ignore.specs.declared.layers.Origin.{Origin}
 use Rattle.grep_ignore.specs.declared.layers.Origin.TheVariants.{RgIgnore, Ignore, GitIgnore, GitExclude}
 use Rattle.grep_ignore.specs.declared.layers.Origin.TheVariants.{GitGlobal, Named}
 use Rattle.grep_ignore.specs.declared.rules.Decision.{Decision}
 use Rattle.grep_ignore.specs.declared.rules.Decision.TheVariants.{Unmatched}
+use Rattle.grep_ignore.specs.declared.rules.Rule.{Rule}
 
 -- the order of origins: rules of a lower rank decide before those of a higher one
 abbrev pub rank_of : Origin → ℕ
@@ -48,14 +50,19 @@ abbrev pub AreSilent : List ℕ → Bool → ℕ → Option ℕ → List Layer �
 AreSilent path is_folder start repository layers end = (k : ℕ) (layer : Layer) → k < end
     → Says path is_folder start repository (slice_index_or layers k layer) Unmatched
 
--- the decision is that of the first layer that says something, or that none does
-abbrev pub IsFirst : List ℕ → Bool → ℕ → Option ℕ → List Layer → Decision → Type 0
-IsFirst path is_folder start repository layers decision =
-    ((decision ≡ Unmatched) × AreSilent path is_folder start repository layers (length layers))
-    ⊎ ((decision ≢ Unmatched) × ((first : ℕ) × (layer : Layer) × (first < length layers)
-    × (slice_index_or layers first layer ≡ layer)
-    × Says path is_folder start repository layer decision
-    × AreSilent path is_folder start repository layers first))
+-- the rule that decides of a path, if there is one: in the first layer that says something of it,
+-- the last rule that is about it
+pub data IsDecider (path : List ℕ) (is_folder : Bool) (start : ℕ) (repository : Option ℕ)
+    (layers : List Layer) : Option Decider → Type 0 where
+  of_none : AreSilent path is_folder start repository layers (length layers)
+      → IsDecider path is_folder start repository layers None
+  of_rule : (first : ℕ) (layer : Layer) (rule : Rule) → first < length layers
+      → slice_index_or layers first layer ≡ layer
+      → counts_from repository layer.origin layer.depth ≡ true
+      → IsLastRule layer.rules (drop (start_of start layer) path) is_folder (Some rule)
+      → AreSilent path is_folder start repository layers first
+      → IsDecider path is_folder start repository layers
+      (Some (record { keeps = rule.keeps; layer = first; line = rule.number }))
 
 -- a layer is put before those of its origin, and after those that decide before it
 abbrev pub IsInserted : List Layer → Layer → List Layer → Type 0

@@ -65,12 +65,12 @@ IsRule ignores_case text rule = (rule.keeps ≡ keeps_of text)
     × ((pieces : List Piece) × IsGlob ignores_case (path_glob (glob_of text)) pieces
     × (rule.wildcards ≡ (if is_anchored (glob_of text) then pieces else Folders ∷ pieces)))
 
--- the rules of a line that is read: one, or none if it says none
-abbrev pub IsRead : Bool → List ℕ → List Rule → Type 0
-IsRead ignores_case line rules =
+-- the rules of the line with a number, if it is read: one, or none if it says none
+abbrev pub IsRead : Bool → ℕ → List ℕ → List Rule → Type 0
+IsRead ignores_case number line rules =
     ((has_no_rule (said line) ≡ true) × (rules ≡ []))
     ⊎ ((has_no_rule (said line) ≡ false) × ((rule : Rule) × (rules ≡ rule ∷ [])
-    × IsRule ignores_case (said line) rule))
+    × IsRule ignores_case (said line) rule × (rule.number ≡ number)))
 
 -- a line whose glob isn't well formed
 abbrev pub IsMisread : Bool → List ℕ → Type 0
@@ -80,7 +80,7 @@ IsMisread ignores_case line = (has_no_rule (said line) ≡ false)
 -- the rules of the line with a number, and that it is misread if its glob isn't well formed
 abbrev pub AreOfLine : Bool → ℕ → List ℕ → List Rule → List Misread → Type 0
 AreOfLine ignores_case number line rules misread =
-    (IsRead ignores_case line rules × (misread ≡ []))
+    (IsRead ignores_case number line rules × (misread ≡ []))
     ⊎ (IsMisread ignores_case line × (rules ≡ [])
     × ((fault : Misread) × (misread ≡ fault ∷ []) × (fault.number ≡ number)))
 

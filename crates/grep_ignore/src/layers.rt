@@ -1,10 +1,15 @@
 //! The rules of several ignore files, of which the first that says something of a path decides.
 ghost use Rattle.std.specs.Prelude.{◌≡◌, ◌↔◌, ◌<◌, ◌≤◌, ℕ, slice_index_or, filter, nat_lt, drop};
-ghost use Rattle.std.specs.Prelude.{IfOk, IsTrue, OnErr, OnOk, [], length};
+ghost use Rattle.std.specs.Prelude.{IfOk, IsTrue, MatchOption, OnErr, OnOk, Some, [], length, true};
+ghost use Rattle.std.specs.Prelude.{slice_get, string_bytes};
+ghost use Rattle.std.specs.Option.{option_copied, option_map};
+ghost use Rattle.grep_ignore.specs.Decisions.{IsLastRule};
+ghost use Rattle.grep_ignore.specs.Layers.{IsDecider, IsInserted, Says, counts_from, rank_of};
+ghost use Rattle.grep_ignore.specs.Layers.{start_of};
 ghost use Rattle.grep_ignore.specs.declared.layers.Layer.{Layer};
-ghost use Rattle.grep_ignore.specs.Layers.{IsFirst, IsInserted, Says, counts_from, rank_of, start_of};
+ghost use Rattle.grep_ignore.specs.declared.rules.Decision.TheVariants.{Unmatched};
 
-use crate::rules::{Decision, Rules};
+use crate::rules::{Rule, Rules};
 use std::alloc::{AllocError, Global};
 use std::marker::Model;
 
@@ -28,6 +33,8 @@ pub enum Origin {
 /// The rules of a file.
 #[derive(Drop)]
 pub struct Layer {
+    /// The path of the file.
+    pub file: String,
     /// Where they come from.
     pub origin: Origin,
     /// How many folders the folder of the file is in.
@@ -36,6 +43,17 @@ pub struct Layer {
     pub start: usize,
     /// The rules.
     pub rules: Rules,
+}
+
+/// The rule that decides of a path.
+#[derive(Clone, Copy)]
+pub struct Decider {
+    /// Whether it keeps what is at the path, and doesn't leave it out.
+    pub keeps: bool,
+    /// Which layer it is in, from 0.
+    pub layer: usize,
+    /// The number of its line in the file, from 1.
+    pub line: usize,
 }
 
 /// The rules of files, those that decide first of a path first.
@@ -90,21 +108,21 @@ impl Layers {
         retain_above(&mut self.layers, depth);
     }
 
-    /// What the rules say of the file or the folder at a path: the first that say something decide.
-    /// `start` is how many bytes of the path are before what is where the program runs, and
-    /// `repository` the depth of the repository that the path is in, if it is in one. `row` is room to
-    /// work in. An error is one of being out of memory.
-    pub fn decision(
+    /// The rule that decides of the file or the folder at a path, if there is one: in the first layer
+    /// with a rule about it, the last such rule. `start` is how many bytes of the path are before what
+    /// is where the program runs, and `repository` the depth of the repository that the path is in, if
+    /// it is in one. `row` is room to work in. An error is one of being out of memory.
+    pub fn decider(
         &self,
         row: &mut Vec<bool>,
         path: &[u8],
         is_folder: bool,
         start: usize,
         repository: Option<usize>,
-    ) -> Result<Decision, AllocError>
-        ensures { IfOk result (IsFirst path.now is_folder start repository self.now) }
+    ) -> Result<Option<Decider>, AllocError>
+        ensures { IfOk result (IsDecider path.now is_folder start repository self.now) }
     {
-        first_decision(
+        first_decider(
             self.layers.as_slice(),
             row,
             path,
@@ -112,6 +130,17 @@ impl Layers {
             start,
             repository,
         )
+    }
+
+    /// The path of the file of a layer, which is counted from 0.
+    pub fn file(&self, layer: usize) -> Option<&str>
+        ensures { option_copied result
+            ≡ option_map (λ layer. string_bytes layer.file) (slice_get self.now layer) }
+    {
+        match self.layers.get(layer) {
+            Some(layer) => Some(layer.file.as_str()),
+            None => None,
+        }
     }
 }
 
@@ -121,43 +150,47 @@ fn retain_above(layers: &mut Vec<Layer>, depth: usize)
     layers.retain(|layer| layer.depth < depth);
 }
 
-// What the first of some layers says that says something.
-fn first_decision(
+// The rule that decides, in the first of some layers that has one.
+fn first_decider(
     layers: &[Layer],
     row: &mut Vec<bool>,
     path: &[u8],
     is_folder: bool,
     start: usize,
     repository: Option<usize>,
-) -> Result<Decision, AllocError>
-    ensures { IfOk result (IsFirst path.now is_folder start repository layers.now) }
+) -> Result<Option<Decider>, AllocError>
+    ensures { IfOk result (IsDecider path.now is_folder start repository layers.now) }
 {
-    for layer in layers {
-        match layer.decision(row, path, is_folder, start, repository)? {
-            Decision::Ignored => return Ok(Decision::Ignored),
-            Decision::Kept => return Ok(Decision::Kept),
-            Decision::Unmatched => {}
+    for (at, layer) in layers.iter().enumerate() {
+        match layer.rule(row, path, is_folder, start, repository)? {
+            Some(rule) => return Ok(Some(rule.decider(at))),
+            None => {}
         }
     }
-    Ok(Decision::Unmatched)
+    Ok(None)
 }
 
 impl Layer {
-    fn decision(
+    // The last of the rules that is about what is at a path, if the rules count there.
+    fn rule(
         &self,
         row: &mut Vec<bool>,
         path: &[u8],
         is_folder: bool,
         start: usize,
         repository: Option<usize>,
-    ) -> Result<Decision, AllocError>
-        ensures { IfOk result (Says path.now is_folder start repository self.now) }
+    ) -> Result<Option<&Rule>, AllocError>
+        ensures { IfOk result (λ found. MatchOption (option_copied found)
+            (Says path.now is_folder start repository self.now Unmatched)
+            (λ rule. (counts_from repository self.now.origin self.now.depth ≡ true)
+            × IsLastRule self.now.rules (drop (start_of start self.now) path.now) is_folder
+            (Some rule))) }
     {
         if self.origin.counts(repository, self.depth) {
             self.rules
-                .decision(row, after(path, self.start_of(start)), is_folder)
+                .last_about(row, after(path, self.start_of(start)), is_folder)
         } else {
-            Ok(Decision::Unmatched)
+            Ok(None)
         }
     }
 
@@ -168,6 +201,19 @@ impl Layer {
             start
         } else {
             self.start
+        }
+    }
+}
+
+impl Rule {
+    // What decides, where this rule of a layer does.
+    fn decider(&self, layer: usize) -> Decider
+        ensures { result ≡ record { keeps = self.now.keeps; layer = layer; line = self.now.number } }
+    {
+        Decider {
+            keeps: self.keeps,
+            layer,
+            line: self.number,
         }
     }
 }

@@ -139,9 +139,15 @@ pub fn split_rule(text: &[u8]) -> RuleText<'_>
     }
 }
 
-/// The rule that a line says.
-pub fn read_rule(alloc: Global, text: &[u8], ignores_case: bool) -> Result<Rule, GlobError>
+/// The rule that the line with a number says.
+pub fn read_rule(
+    alloc: Global,
+    text: &[u8],
+    ignores_case: bool,
+    number: usize,
+) -> Result<Rule, GlobError>
     ensures ok { IfOk result (IsRule ignores_case text.now) }
+    ensures number { IfOk result (λ rule. rule.number ≡ number) }
     ensures err { IfErr result (λ e. OnMalformed e
         (IsMalformed ignores_case (path_glob (glob_of text.now)))) }
 {
@@ -155,6 +161,7 @@ pub fn read_rule(alloc: Global, text: &[u8], ignores_case: bool) -> Result<Rule,
                 wildcards: Wildcards::new(pieces, tail, head),
                 keeps: parts.is_marked,
                 names_folders: parts.names_folders,
+                number,
             }),
             Err(_) => Err(GlobError::OutOfMemory),
         },

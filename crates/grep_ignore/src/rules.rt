@@ -1,7 +1,9 @@
 //! The rules of an ignore file.
 ghost use Rattle.std.specs.Prelude.{◌≡◌, ◌↔◌, ◌++◌, [], List, IfErr, IfOk, IsTrue, OnOk};
 ghost use Rattle.std.specs.Prelude.{◌<◌, length, slice_index, take, true};
-ghost use Rattle.grep_ignore.specs.Decisions.{IsAbout, IsDecided, IsLeftOut, decision_of, is_kept};
+ghost use Rattle.std.specs.Option.{option_copied};
+ghost use Rattle.grep_ignore.specs.Decisions.{IsAbout, IsDecided, IsLastRule, IsLeftOut};
+ghost use Rattle.grep_ignore.specs.Decisions.{decision_of};
 ghost use Rattle.grep_ignore.specs.Globs.{OnMalformed};
 ghost use Rattle.grep_ignore.specs.Lines.{AreOfLine, AreOfLines, IsMisread, IsRead, lines_of};
 ghost use Rattle.grep_ignore.specs.declared.rules.Decision.TheVariants.{Ignored};
@@ -26,19 +28,6 @@ pub enum Decision {
     Unmatched,
 }
 
-impl Decision {
-    /// Whether what this is about is kept, where `unmatched` says it of what no rule matches.
-    pub fn is_kept(self, unmatched: bool) -> bool
-        ensures { result ≡ is_kept self unmatched }
-    {
-        match self {
-            Decision::Ignored => false,
-            Decision::Kept => true,
-            Decision::Unmatched => unmatched,
-        }
-    }
-}
-
 /// The rules of an ignore file, in their order.
 #[derive(Drop)]
 pub struct Rules {
@@ -54,12 +43,14 @@ impl Model for Rules {
     ghost view = { λ r. r.rules };
 }
 
-/// A rule: the paths that it matches, whether it keeps them, and whether it matches folders alone.
+/// A rule: the paths that it matches, whether it keeps them, whether it matches folders alone, and
+/// the number of its line in the file, from 1.
 #[derive(Drop)]
 pub struct Rule {
     pub(crate) wildcards: Wildcards,
     pub(crate) keeps: bool,
     pub(crate) names_folders: bool,
+    pub(crate) number: usize,
 }
 
 /// A line that isn't well formed.
@@ -121,7 +112,7 @@ impl Rules {
             × (self.new ≡ self.old ++ rules) × (misread.new.items ≡ misread.old.items ++ faults)
             × AreOfLine ignores_case number line.now rules faults) }
     {
-        match self.add(alloc, line, ignores_case) {
+        match self.add(alloc, line, ignores_case, number) {
             Ok(()) => Ok(()),
             Err(GlobError::OutOfMemory) => Err(AllocError),
             Err(GlobError::Malformed(cause)) => match misread.push(Misread { number, cause }) {
@@ -131,11 +122,18 @@ impl Rules {
         }
     }
 
-    /// Adds the rule of a line. A line that is blank or begins with `#` has none. `ignores_case` says
-    /// whether letters of ASCII match in either case. After an error nothing is added.
-    pub fn add(&mut self, alloc: Global, line: &[u8], ignores_case: bool) -> Result<(), GlobError>
+    /// Adds the rule of the line with a number. A line that is blank or begins with `#` has none.
+    /// `ignores_case` says whether letters of ASCII match in either case. After an error nothing is
+    /// added.
+    pub fn add(
+        &mut self,
+        alloc: Global,
+        line: &[u8],
+        ignores_case: bool,
+        number: usize,
+    ) -> Result<(), GlobError>
         ensures ok { OnOk result ((rules : List Rule) × (self.new ≡ self.old ++ rules)
-            × IsRead ignores_case line.now rules) }
+            × IsRead ignores_case number line.now rules) }
         ensures err { IfErr result (λ e. (self.new ≡ self.old)
             × OnMalformed e (IsMisread ignores_case line.now)) }
     {
@@ -143,13 +141,28 @@ impl Rules {
         if has_no_rule(text) {
             return Ok(());
         }
-        match read_rule(alloc, text, ignores_case) {
+        match read_rule(alloc, text, ignores_case, number) {
             Ok(rule) => match self.rules.push(rule) {
                 Ok(()) => Ok(()),
                 Err(_) => Err(GlobError::OutOfMemory),
             },
             Err(error) => Err(error),
         }
+    }
+
+    /// The rule that decides of the file or the folder at a path, which begins in the folder that the
+    /// rules are about: the last that matches it. `row` is room to work in. An error is one of being
+    /// out of memory.
+    pub fn last_about(
+        &self,
+        row: &mut Vec<bool>,
+        path: &[u8],
+        is_folder: bool,
+    ) -> Result<Option<&Rule>, AllocError>
+        ensures { IfOk result (λ found. IsLastRule self.now path.now is_folder
+            (option_copied found)) }
+    {
+        self.rules.last_about(row, path, is_folder)
     }
 
     /// What the rules say of the file or the folder at a path, which begins in the folder that they
@@ -163,7 +176,7 @@ impl Rules {
     ) -> Result<Decision, AllocError>
         ensures { IfOk result (IsDecided self.now path.now is_folder) }
     {
-        match self.rules.last_about(row, path, is_folder)? {
+        match self.last_about(row, path, is_folder)? {
             Some(rule) => Ok(rule.decision()),
             None => Ok(Decision::Unmatched),
         }

@@ -12,5 +12,6 @@ pub mod PrinterTotalLemmas
 pub mod RunTextLemmas
 pub mod SearchTextLemmas
 pub mod VisitSoundLemmas
+pub mod ToldLemmas
 pub mod VisitTextLemmas
 pub mod WordLemmas

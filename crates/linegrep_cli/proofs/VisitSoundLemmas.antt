@@ -23,7 +23,7 @@ use Rattle.linegrep_cli.specs.OperandRuns.{IsNamedVisited, IsOperandVisited, IsP
 use Rattle.linegrep_cli.specs.OperandRuns.{ends_with_match, error_of, is_escaped, is_input, is_over, last_text}
 use Rattle.linegrep_cli.specs.OperandRuns.{next_entry, next_operand, next_text, no_entry, no_operand, no_text, of_file}
 use Rattle.linegrep_cli.specs.OperandRuns.{of_file_at, of_folder, of_listed, of_listing, of_missing, of_output, of_path}
-use Rattle.linegrep_cli.specs.OperandRuns.{of_unfound, of_unopened, of_unread, of_warnings, says_errors}
+use Rattle.linegrep_cli.specs.OperandRuns.{of_unfound, of_unopened, of_unread, of_entered, says_errors}
 use Rattle.linegrep_cli.specs.declared.scope.Scope.{Scope}
 use Rattle.linegrep_cli.specs.declared.visit.Visit.{Visit}
 use Rattle.linegrep_files.specs.FolderFacts.{FolderFacts}
@@ -174,7 +174,7 @@ module _ {E F : Type 0} (folders : FolderFacts) (finds : List ℕ → Result Boo
       path-visited path old visit new visited sound
   entry-visited old _ visit new (of_listed path is is_listing visited) sound = listed is_listing
   entry-visited old _ visit new (of_unread is) sound = reported old visit new is sound
-  entry-visited old _ visit new (of_warnings count failure are_said is) sound =
+  entry-visited old _ visit new (of_entered warned noted failure are_said is) sound =
       by-failure visit.failure failure new (ap (λ (v : Visit). v.failure) is)
       (all-said old _ failure new are_said sound)
 

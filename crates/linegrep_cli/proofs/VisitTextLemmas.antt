@@ -23,7 +23,7 @@ use Rattle.linegrep_cli.specs.OperandRuns.{next_operand as NextVisited, last_tex
 use Rattle.linegrep_cli.specs.OperandRuns.{of_file as OfFile}
 use Rattle.linegrep_cli.specs.OperandRuns.{of_file_at, of_folder as OfFolder, of_listed, of_listing, of_missing}
 use Rattle.linegrep_cli.specs.OperandRuns.{of_output}
-use Rattle.linegrep_cli.specs.OperandRuns.{of_path, of_unfound, of_unopened, of_unread, of_warnings, path_of}
+use Rattle.linegrep_cli.specs.OperandRuns.{of_path, of_unfound, of_unopened, of_unread, of_entered, path_of}
 use Rattle.linegrep_cli.specs.OperandRuns.{seeks_unmatched, visited_then}
 use Rattle.linegrep_cli.specs.RunInputs.{AreFiles, AreOfFolder, AreOfOperand, AreOfOperands, AreSearched}
 use Rattle.linegrep_cli.specs.RunInputs.{IsAtPath}
@@ -253,7 +253,7 @@ module _ {E F R : Type 0} (folders : FolderFacts) (finds : List ℕ → Result B
     entry-visited entries inputs found before searched reader mid _ visit new (of_unread is) good at =
         absurd (reported mid new visit is good)
     entry-visited entries inputs found before searched reader mid _ visit new
-        (of_warnings {text = text} count failure said is)
+        (of_entered {text = text} warned noted failure said is)
         good (next, files, some, at) =
         let none = sym (ap (λ (v : Visit). v.failure) is) ∙ good.no_failure in
         let now = said-all quitting (inputs ++ next) (found || before) reader mid _ failure new said none at in (

@@ -5,6 +5,7 @@ use Rattle.std.specs.Prelude.{nat_le, nat_lt}
 use Rattle.std.specs.Borrow.{Bor}
 use Rattle.linegrep_cli.specs.OptionUses.{has, last_use}
 use Rattle.linegrep_options.specs.declared.option_id.OptionId.{OptionId}
+use Rattle.linegrep_options.specs.declared.option_id.OptionId.TheVariants.{Debug}
 use Rattle.linegrep_options.specs.declared.option_id.OptionId.TheVariants.{GlobCaseInsensitive}
 use Rattle.linegrep_options.specs.declared.option_id.OptionId.TheVariants.{Hidden, Ignore}
 use Rattle.linegrep_options.specs.declared.option_id.OptionId.TheVariants.{IgnoreDot, IgnoreExclude}
@@ -80,6 +81,7 @@ pub record AreFileOptions (options : Options) (files : FileOptions) : Type 0 whe
   pub sources : files.sources ≡ sources_of options
   pub ignore_files : files.ignore_files.now ≡ ignore_files_of options
   pub hidden : files.shows_hidden ≡ shows_hidden options
+  pub explains : files.explains ≡ has options Debug
 
 -- which files of folders are searched is what options say
 pub record AreChoicesOf (folders : FolderFacts) (options : Options) (choices : Choices) : Type 0

@@ -21,7 +21,7 @@ use Rattle.linegrep_cli.specs.declared.scope.Quiet.{Quiet}
 use Rattle.linegrep_cli.specs.declared.scope.Scope.{Scope}
 use Rattle.linegrep_cli.specs.declared.visit.Visit.{Visit}
 use Rattle.grep_printer.specs.declared.printed_search.Searched.{Searched}
-use Rattle.linegrep_files.specs.Choices.{SaysTheSame, warnings_of}
+use Rattle.linegrep_files.specs.Choices.{SaysTheSame, notes_of, warnings_of}
 use Rattle.linegrep_files.specs.FileIds.{is_same_file}
 use Rattle.linegrep_files.specs.FolderFacts.{FolderFacts}
 use Rattle.linegrep_files.specs.Trees.{AreAllOf, AreFirstOf}
@@ -29,6 +29,7 @@ use Rattle.linegrep_files.specs.declared.choices.Choices.{Choices}
 use Rattle.linegrep_files.specs.declared.entry.Entry.{Entry}
 use Rattle.linegrep_files.specs.declared.entry.Entry.TheVariants.{File, Folder, Unread}
 use Rattle.linegrep_files.specs.declared.file_id.FileId.{FileId}
+use Rattle.linegrep_files.specs.declared.notes.Note.{Note}
 
 -- nothing was visited
 abbrev pub no_visit : Visit
@@ -118,6 +119,14 @@ abbrev pub error_of : Result (Unit {0}) Error → Option Error
 error_of (Ok u) = None
 error_of (Err error) = Some error
 
+-- how many notes there are of what isn't visited, that aren't said yet
+abbrev pub note_count : Choices → ℕ
+note_count choices = count (notes_of choices)
+  where
+    count : Option (List Note) → ℕ
+    count None = 0
+    count (Some notes) = length notes
+
 -- a visit ends as it did, or memory is out
 abbrev pub EndsAs : Visit → Visit → Type 0
 EndsAs total visit = (visit ≡ total) ⊎ ((error : Error) × (error_kind error ≡ OutOfMemory)
@@ -153,6 +162,13 @@ module _ {E F : Type 0} (step : E → EngineCall F → E → Type 0) (scope : Sc
   abbrev pub AreSaid : E → ℕ → Option Error → E → Type 0
   AreSaid old count failure new =
       AreWritten step old (if says_warnings scope.messages then count else 0) failure new
+
+  -- so many texts about the ignore files of a folder are written to standard error, and then so many
+  -- about what in it isn't visited, or none of either kind if they aren't asked for
+  abbrev pub AreTold : E → ℕ → ℕ → Option Error → E → Type 0
+  AreTold old warned noted failure new = AreWritten step old
+      ((if says_warnings scope.messages then warned else 0) + (if scope.explains then noted else 0))
+      failure new
 
 module _ {E F : Type 0} (step : E → EngineCall F → E → Type 0) (has_failed : E → Bool)
     (scope : Scope) where
@@ -222,7 +238,7 @@ module _ {E F : Type 0} (opens : List ℕ → Result F Error → Type 0)
         → IsPathVisited path old visit new
 
   -- an entry of a folder is visited. A file is searched or listed; of a folder, what is wrong with
-  -- its ignore files is said; of what can't be read, that is said
+  -- its ignore files is said, and what in it isn't visited; of what can't be read, that is said
   pub data IsEntryVisited (old : E) : Entry → Visit → E → Type 0 where
     of_path : {visit : Visit} {new : E} {text : String Global} (path : Bor (List ℕ))
         → path.now ≡ string_bytes text → scope.lists_files ≡ false
@@ -233,8 +249,8 @@ module _ {E F : Type 0} (opens : List ℕ → Result F Error → Type 0)
         → IsEntryVisited old (File text) visit new
     of_unread : {visit : Visit} {new : E} {text : String Global} {error : Error}
         → IsReported step scope old visit new → IsEntryVisited old (Unread text error) visit new
-    of_warnings : {visit : Visit} {new : E} {text : String Global} (count : ℕ)
-        (failure : Option Error) → AreSaid step scope old count failure new
+    of_entered : {visit : Visit} {new : E} {text : String Global} (warned noted : ℕ)
+        (failure : Option Error) → AreTold step scope old warned noted failure new
         → visit ≡ record no_visit { failure = failure }
         → IsEntryVisited old (Folder text) visit new
 

@@ -10,7 +10,7 @@ use Rattle.linegrep_cli.specs.PrinterOptions.{counts_all, is_summary, shows_path
 use Rattle.linegrep_cli.specs.SearcherOptions.{is_all_searched}
 use Rattle.linegrep_files.specs.declared.file_id.FileId.{FileId}
 use Rattle.linegrep_cli.specs.declared.scope.Scope.{Scope}
-use Rattle.linegrep_options.specs.declared.option_id.OptionId.TheVariants.{Binary, Files}
+use Rattle.linegrep_options.specs.declared.option_id.OptionId.TheVariants.{Binary, Debug, Files}
 use Rattle.linegrep_options.specs.declared.option_id.OptionId.TheVariants.{FilesWithoutMatch}
 use Rattle.linegrep_options.specs.declared.option_id.OptionId.TheVariants.{Follow}
 use Rattle.linegrep_options.specs.declared.option_id.OptionId.TheVariants.{NoIgnoreMessages}
@@ -58,6 +58,7 @@ scope_of options several = record {
   lists_files = has options Files;
   shows_paths = shows_paths options (not (searches_input options) && several);
   messages = messages_of options;
+  explains = has options Debug;
   quiet = quiet_of options;
   left_out = left_out_of options;
   leaves_out_input = is_same (left_out_of options) options.streams.input;

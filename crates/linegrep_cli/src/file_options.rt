@@ -31,6 +31,7 @@ pub fn file_options<'m, 'w>(options: &Options<'m, 'w>) -> FileOptions<'m, 'w>
         sources: sources(options),
         ignore_files: options.ignore_files(),
         shows_hidden: options.shows_hidden(),
+        explains: options.has(OptionId::Debug),
     }
 }
 

@@ -1,17 +1,19 @@
 //! A run over files.
-ghost use Rattle.std.specs.Prelude.{◌≡◌, ◌↔◌, ℕ, [], false, length, IsTrue, Option, Result};
+ghost use Rattle.std.specs.Prelude.{◌≡◌, ◌↔◌, ℕ, [], false, true, length, IsTrue, Option, Result};
+ghost use Rattle.std.specs.Prelude.{if◌then◌else◌};
 ghost use Rattle.std.specs.IoError.{error_kind};
 ghost use Rattle.std.specs.declared.io.ErrorKind.TheVariants.{BrokenPipe};
 ghost use Rattle.linegrep_cli.specs.EngineCalls.{says};
 ghost use Rattle.std.specs.declared.io.Error.{Error};
 ghost use Rattle.linegrep_cli.specs.OperandRuns.{AreAllVisited, AreOperandsSearched, AreSaid};
+ghost use Rattle.linegrep_cli.specs.OperandRuns.{AreTold, AreWritten};
 ghost use Rattle.linegrep_cli.specs.OperandRuns.{IsEntryVisited, IsFailing, IsFileVisited};
 ghost use Rattle.linegrep_cli.specs.OperandRuns.{IsFolderVisited, IsHereVisited, IsInputVisited};
 ghost use Rattle.linegrep_cli.specs.OperandRuns.{IsKept, IsListed, IsNamedVisited};
 ghost use Rattle.linegrep_cli.specs.OperandRuns.{IsOperandVisited};
 ghost use Rattle.linegrep_cli.specs.OperandRuns.{IsPathVisited, IsReported, IsRunEnd, IsRunOver};
 ghost use Rattle.linegrep_cli.specs.OperandRuns.{IsLeftOut, IsSaid, IsTreeVisited};
-ghost use Rattle.linegrep_cli.specs.OperandRuns.{is_over};
+ghost use Rattle.linegrep_cli.specs.OperandRuns.{is_over, note_count};
 ghost use Rattle.linegrep_cli.specs.OperandRuns.{no_visit};
 ghost use Rattle.linegrep_files.specs.Choices.{AreAlike, AreTakenUp, SaysTheSame, warnings_of};
 ghost use Rattle.linegrep_files.specs.Folders.{name_of};
@@ -24,7 +26,7 @@ use crate::system::System;
 use crate::visit::Visit;
 use crate::words::{is_escaped, is_input};
 use grep_printer::Searched;
-use linegrep_files::{Choices, Entry, NOT_UTF8, Walk};
+use linegrep_files::{Choices, Entry, NOT_UTF8, Note, Walk};
 use std::fmt::Display;
 use std::io;
 
@@ -288,7 +290,7 @@ impl<'r, S: System> Run<'r, S> {
             Entry::File(path) => self.visit_path(engine, path.as_str()),
             Entry::Folder(path) => {
                 walk.enter(choices, path.as_str());
-                self.warn(engine, choices)
+                self.tell(engine, choices)
             }
             Entry::Unread(path, error) => self.report(engine, path.as_str(), error),
         }
@@ -353,6 +355,54 @@ impl<'r, S: System> Run<'r, S> {
         visit
     }
 
+    // Says what is wrong with the ignore files of a folder; and what in it isn't visited and why, if
+    // that is asked for.
+    fn tell<E: Engine<S::File>>(&self, engine: &mut E, choices: &mut Choices<'r>) -> Visit
+        ensures told { (failure : Option Error)
+            × AreTold E.step self.now.scope engine.old (length (warnings_of choices.old))
+            (note_count choices.old) failure engine.new
+            × (result ≡ record no_visit { failure = failure }) }
+        ensures same { SaysTheSame choices.old choices.new }
+    {
+        let warned = self.warn(engine, choices);
+        if warned.failure.is_some() {
+            return warned;
+        }
+        self.explain(engine, choices)
+    }
+
+    // Says what isn't visited and why, and hasn't been said before, if that is asked for.
+    fn explain<E: Engine<S::File>>(&self, engine: &mut E, choices: &mut Choices<'r>) -> Visit
+        ensures told { (failure : Option Error)
+            × AreWritten E.step engine.old
+            (if self.now.scope.explains then note_count choices.old else 0) failure engine.new
+            × (result ≡ record no_visit { failure = failure }) }
+        ensures same { SaysTheSame choices.old choices.new }
+        ensures none { self.now.scope.explains ≡ true → note_count choices.new ≡ 0 }
+    {
+        if !self.scope.explains {
+            return Visit::none();
+        }
+        let failure = self.say_notes(engine, choices.notes());
+        choices.clear_notes();
+        Visit::failed(failure)
+    }
+
+    // Says what isn't visited, and why. If what was found before can't be written, nothing more is
+    // said, and the result is the writer's error.
+    fn say_notes<E: Engine<S::File>>(&self, engine: &mut E, notes: &[Note]) -> Option<io::Error>
+        ensures { AreWritten E.step engine.old (length notes.now) result engine.new }
+    {
+        for note in notes {
+            let message = note.message(self.rt.alloc());
+            match engine.say(message.text()) {
+                Ok(()) => {}
+                Err(error) => return Some(error),
+            }
+        }
+        None
+    }
+
     // Says what is wrong with ignore files, and hasn't been said before.
     fn warn<E: Engine<S::File>>(&self, engine: &mut E, choices: &mut Choices<'r>) -> Visit
         ensures said { (failure : Option Error)
@@ -361,6 +411,7 @@ impl<'r, S: System> Run<'r, S> {
             × (result ≡ record no_visit { failure = failure }) }
         ensures same { SaysTheSame choices.old choices.new }
         ensures none { warnings_of choices.new ≡ [] }
+        ensures notes { note_count choices.new ≡ note_count choices.old }
     {
         let failure = self.say_all(engine, choices.warnings());
         choices.clear_warnings();

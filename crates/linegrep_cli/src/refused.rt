@@ -26,7 +26,6 @@ pub fn refused_value(option: OptionId) -> Option<&'static str> {
 fn other_reason(option: &str) -> Option<&'static str> {
     match option {
         "--regex-size-limit" | "--dfa-size-limit" => Some("the limits are fixed"),
-        "--debug" | "--trace" => Some("there is nothing of the kind"),
         _ => None,
     }
 }

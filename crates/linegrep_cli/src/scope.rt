@@ -27,6 +27,8 @@ pub struct Scope {
     shows_paths: bool,
     /// What standard error says of what goes wrong.
     pub messages: Messages,
+    /// Whether standard error says what isn't visited, and why.
+    pub explains: bool,
     quiet: Option<Quiet>,
     /// The file that isn't searched.
     pub left_out: Option<FileId>,
@@ -72,6 +74,7 @@ impl Scope {
                 !searches_input && searches_several(system, options.paths()),
             ),
             messages: Messages::read(options),
+            explains: options.has(OptionId::Debug),
             quiet: Quiet::read(options),
             left_out: options.left_out(),
             leaves_out_input: is_same(options.left_out(), options.streams.input),

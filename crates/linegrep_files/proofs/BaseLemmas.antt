@@ -1,7 +1,7 @@
 -- Ignore files that belong to no folder: they stay while a walk goes on.
 use Rattle.std.proofs.Common.{◌≡◌, ◌≢◌, ℕ, ◌+◌, Bool, true, false, ◌++◌, ◌∷◌, ◌==◌, ◌∙◌, [], List}
 use Rattle.std.proofs.Common.{ap, append_assoc, arith, drop, filter, length, nat_lt, refl, subst, sym, take}
-use Rattle.std.specs.Prelude.{MatchBool, Result, Vec, if◌then◌else◌}
+use Rattle.std.specs.Prelude.{MatchBool, Result, String, Vec, if◌then◌else◌, string_bytes}
 use Rattle.std.specs.Global.{Global}
 use Rattle.std.specs.declared.io.Error.{Error}
 use Rattle.std.proofs.Math.Seq.{take-append-add}
@@ -81,16 +81,19 @@ insert-base layers new layer deep inserted =
         → base_of (layer ∷ later) ≡ base_of later
     left-out layer later deep = rw deep refl
 
-rules-base : (ignores_case : Bool) (origin : Origin) (depth start : ℕ) (contents : List ℕ)
+rules-base : (ignores_case : Bool) (origin : Origin) (depth start : ℕ) (path contents : List ℕ)
     (old new : List Layer) → nat_lt depth 1 ≡ false
-    → AreRulesAdded ignores_case origin depth start contents old new → base_of new ≡ base_of old
-rules-base ignores_case origin depth start contents old new deep added = by added.rules added.none added.some
+    → AreRulesAdded ignores_case origin depth start path contents old new → base_of new ≡ base_of old
+rules-base ignores_case origin depth start path contents old new deep added =
+    by added.rules added.none added.some
   where
     by : (rules : List Rule) → (rules ≡ [] → new ≡ old)
-        → (rules ≢ [] → IsInserted old (record { origin = origin; depth = depth; start = start; rules = rules }) new)
+        → (rules ≢ [] → (file : String Global) × (string_bytes file ≡ path)
+        × IsInserted old (record { file = file; origin = origin; depth = depth; start = start; rules = rules }) new)
         → base_of new ≡ base_of old
     by [] none some = ap base_of (none refl)
-    by (rule ∷ later) none some = insert-base old new _ deep (some (λ is. absurd (cc)))
+    by (rule ∷ later) none some = let (file, is, inserted) = some (λ is. absurd (cc)) in
+        insert-base old new _ deep inserted
 
 -- what is before the first slash of a folder's path stays
 pub record IsRooted (ignores : Ignores) : Type 0 where
@@ -105,7 +108,7 @@ module _ (reads : List ℕ → Result (Vec ℕ Global) Error → Type 0) where
       → base_of new ≡ base_of old
   file-base ignores_case origin depth start path old _ deep (of_unread error unread) = refl
   file-base ignores_case origin depth start path old new deep (of_lines contents read added) =
-      rules-base ignores_case origin depth start contents.items old new deep added
+      rules-base ignores_case origin depth start path contents.items old new deep added
 
   -- a file that may be read
   maybe-base : (is_read : Bool) (old new : List Layer) (Read : Type 0) → (Read → base_of new ≡ base_of old)

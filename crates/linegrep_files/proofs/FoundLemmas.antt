@@ -2,12 +2,12 @@
 use Rattle.std.proofs.Common.{◌≡◌, ℕ, Bool, true, false, if◌then◌else◌}
 use Rattle.std.proofs.Common.{List, [], ◌∷◌, ◌++◌, filter, refl, sym, ap, subst, ◌∙◌}
 use Rattle.std.proofs.Common.{append_assoc}
-use Rattle.std.specs.Prelude.{None, Option, Some, Result}
+use Rattle.std.specs.Prelude.{Err, None, Ok, Option, Some, Result}
 use Rattle.std.specs.declared.io.Error.{Error}
 use Rattle.std.proofs.lemmas.Bool.{false≢true, true≢false}
 use Rattle.std.proofs.lemmas.List.{append-nil}
 use Rattle.grep_ignore.specs.Classes.{is_empty}
-use Rattle.linegrep_files.specs.Choices.{IsChosen, IsUnmatchedChosen, SaysTheSame, of_exclusion}
+use Rattle.linegrep_files.specs.Choices.{IsReason, IsUnmatchedReason, SaysTheSame, of_exclusion}
 use Rattle.linegrep_files.specs.Choices.{of_glob}
 use Rattle.linegrep_files.specs.Choices.{is_shown, of_unmatched}
 use Rattle.linegrep_files.specs.Folders.{AreFound, IsAt, IsFound, found_name, is_name, names_of}
@@ -22,6 +22,7 @@ use Rattle.linegrep_files.specs.declared.choices.Choices.{Choices}
 use Rattle.linegrep_files.specs.declared.entry.Entry.{Entry}
 use Rattle.linegrep_files.specs.declared.folders.Found.{Found}
 use Rattle.linegrep_files.specs.declared.limits.Limits.{Limits}
+use Rattle.linegrep_files.specs.declared.notes.Reason.{Reason}
 
 pub same-self : (choices : Choices) → SaysTheSame choices choices
 same-self choices = record {
@@ -57,11 +58,11 @@ same-then old mid new first next = record {
   };
 }
 
--- choices that say the same choose the same
-pub unmatched-same : (old new : Choices) (name : List ℕ) (is_folder shown chosen : Bool)
-    → SaysTheSame old new → IsUnmatchedChosen new name is_folder shown chosen
-    → IsUnmatchedChosen old name is_folder shown chosen
-unmatched-same old new name is_folder shown chosen same said =
+-- choices that say the same leave out the same
+pub unmatched-same : (old new : Choices) (name : List ℕ) (is_folder shown : Bool) (reason : Option Reason)
+    → SaysTheSame old new → IsUnmatchedReason new name is_folder shown reason
+    → IsUnmatchedReason old name is_folder shown reason
+unmatched-same old new name is_folder shown reason same said =
     rw (
       same.types,
       same.ignores.layers,
@@ -71,17 +72,17 @@ unmatched-same old new name is_folder shown chosen same said =
       same.ignores.source.sources,
     ) at said
 
-pub chosen-same : (old new : Choices) (path name : List ℕ) (is_folder chosen : Bool)
-    → SaysTheSame old new → IsChosen new path name is_folder chosen
-    → IsChosen old path name is_folder chosen
-chosen-same old new path name is_folder _ same (of_glob said) =
+pub reason-same : (old new : Choices) (path name : List ℕ) (is_folder : Bool) (reason : Option Reason)
+    → SaysTheSame old new → IsReason new path name is_folder reason
+    → IsReason old path name is_folder reason
+reason-same old new path name is_folder _ same (of_glob said) =
     of_glob (subst (λ g. IsGlobChoice g path is_folder Chosen) same.globs said)
-chosen-same old new path name is_folder _ same (of_exclusion said) =
+reason-same old new path name is_folder _ same (of_exclusion said) =
     of_exclusion (subst (λ g. IsGlobChoice g path is_folder LeftOut) same.globs said)
-chosen-same old new path name is_folder _ same (of_unmatched chosen said others) =
-    of_unmatched chosen (subst (λ g. IsGlobChoice g path is_folder Unmatched) same.globs said)
-    (subst (λ shows. IsUnmatchedChosen old name is_folder (is_shown (record old { shows_hidden = shows }) name) chosen)
-    same.shows_hidden (unmatched-same old new name is_folder _ chosen same others))
+reason-same old new path name is_folder _ same (of_unmatched reason said others) =
+    of_unmatched reason (subst (λ g. IsGlobChoice g path is_folder Unmatched) same.globs said)
+    (subst (λ shows. IsUnmatchedReason old name is_folder (is_shown (record old { shows_hidden = shows }) name) reason)
+    same.shows_hidden (unmatched-same old new name is_folder _ reason same others))
 
 -- a text whose first part is a name
 pub names-take : (text part rest : List ℕ)
@@ -100,48 +101,48 @@ names-take text (byte ∷ more) rest split some named =
 module _ {looks : Bool → List ℕ → Result Found Error → Type 0} {follows : Bool} {top : List ℕ}
     {root : ℕ} where
   -- what is found by choices that say the same is the same
-  pub found-same : (old new : Choices) (folder name : List ℕ) (entry : Option Entry)
-      → SaysTheSame old new → IsFound looks follows top root new.limits new folder name entry
-      → IsFound looks follows top root old.limits old folder name entry
-  found-same old new folder name _ same (of_nothing valid at) =
-      of_nothing valid (subst (λ l. IsAt looks follows top root l (joined folder name) None) same.limits at)
+  pub found-same : (old new : Choices) (folder name : List ℕ) (found : Result Entry Reason)
+      → SaysTheSame old new → IsFound looks follows top root new.limits new folder name found
+      → IsFound looks follows top root old.limits old folder name found
+  found-same old new folder name _ same (of_nothing reason valid at) = of_nothing reason valid
+      (subst (λ l. IsAt looks follows top root l (joined folder name) (Err reason)) same.limits at)
   found-same old new folder name _ same (of_chosen entry valid at chosen) =
       of_chosen entry valid
-      (subst (λ l. IsAt looks follows top root l (joined folder name) (Some entry)) same.limits at)
-      (chosen-same old new _ name _ true same chosen)
-  found-same old new folder name _ same (of_left_out entry valid at left) =
-      of_left_out entry valid
-      (subst (λ l. IsAt looks follows top root l (joined folder name) (Some entry)) same.limits at)
-      (chosen-same old new _ name _ false same left)
+      (subst (λ l. IsAt looks follows top root l (joined folder name) (Ok entry)) same.limits at)
+      (reason-same old new _ name _ None same chosen)
+  found-same old new folder name _ same (of_left_out entry reason valid at left) =
+      of_left_out entry reason valid
+      (subst (λ l. IsAt looks follows top root l (joined folder name) (Ok entry)) same.limits at)
+      (reason-same old new _ name _ (Some reason) same left)
   found-same old new folder name _ same (of_escaped text error invalid chosen kind is) =
-      of_escaped text error invalid (unmatched-same old new name false true true same chosen) kind is
-  found-same old new folder name _ same (of_unescaped invalid left) =
-      of_unescaped invalid (unmatched-same old new name false true false same left)
+      of_escaped text error invalid (unmatched-same old new name false true None same chosen) kind is
+  found-same old new folder name _ same (of_unescaped reason invalid left) =
+      of_unescaped reason invalid (unmatched-same old new name false true (Some reason) same left)
 
   -- what is at the path of a name, by the choices' limits: it is chosen, left out, or nothing
   pub found-chosen : (choices : Choices) (folder name path : List ℕ) (limits : Limits) (entry : Entry)
       {asked : List ℕ} {is : Bool} → IsUtf8 name → path_of entry ≡ path → path ≡ joined folder name
       → limits ≡ choices.limits → asked ≡ path_of entry → is ≡ is_folder entry
-      → IsAt looks follows top root limits path (Some entry) → IsChosen choices asked name is true
-      → IsFound looks follows top root choices.limits choices folder name (Some entry)
+      → IsAt looks follows top root limits path (Ok entry) → IsReason choices asked name is None
+      → IsFound looks follows top root choices.limits choices folder name (Ok entry)
   found-chosen choices folder name path limits entry valid of is_path of_choices is_asked is at chosen =
       of_chosen entry valid (rw (of_choices, is_path) at at)
       (rw (is, is_asked, of, is_path) at chosen)
 
   pub found-left : (choices : Choices) (folder name path : List ℕ) (limits : Limits) (entry : Entry)
-      {asked : List ℕ} {is : Bool} → IsUtf8 name → path_of entry ≡ path → path ≡ joined folder name
-      → limits ≡ choices.limits → asked ≡ path_of entry → is ≡ is_folder entry
-      → IsAt looks follows top root limits path (Some entry) → IsChosen choices asked name is false
-      → IsFound looks follows top root choices.limits choices folder name None
-  found-left choices folder name path limits entry valid of is_path of_choices is_asked is at left =
-      of_left_out entry valid (rw (of_choices, is_path) at at) (rw (is, is_asked, of, is_path) at left)
+      (reason : Reason) {asked : List ℕ} {is : Bool} → IsUtf8 name → path_of entry ≡ path
+      → path ≡ joined folder name → limits ≡ choices.limits → asked ≡ path_of entry → is ≡ is_folder entry
+      → IsAt looks follows top root limits path (Ok entry) → IsReason choices asked name is (Some reason)
+      → IsFound looks follows top root choices.limits choices folder name (Err reason)
+  found-left choices folder name path limits entry reason valid of is_path of_choices is_asked is at left =
+      of_left_out entry reason valid (rw (of_choices, is_path) at at) (rw (is, is_asked, of, is_path) at left)
 
-  pub found-nothing : (choices : Choices) (folder name path : List ℕ) (limits : Limits)
+  pub found-nothing : (choices : Choices) (folder name path : List ℕ) (limits : Limits) (reason : Reason)
       → IsUtf8 name → path ≡ joined folder name → limits ≡ choices.limits
-      → IsAt looks follows top root limits path None
-      → IsFound looks follows top root choices.limits choices folder name None
-  found-nothing choices folder name path limits valid is_path of_choices at =
-      of_nothing valid (rw (of_choices, is_path) at at)
+      → IsAt looks follows top root limits path (Err reason)
+      → IsFound looks follows top root choices.limits choices folder name (Err reason)
+  found-nothing choices folder name path limits reason valid is_path of_choices at =
+      of_nothing reason valid (rw (of_choices, is_path) at at)
 
 module _ (looks : Bool → List ℕ → Result Found Error → Type 0) (follows : Bool) (top : List ℕ)
     (root : ℕ) where
@@ -155,7 +156,7 @@ module _ (looks : Bool → List ℕ → Result Found Error → Type 0) (follows 
       (entry : Entry)
       → parts_of 0 text ≡ (if is_empty part then parts_of 0 rest else part ∷ parts_of 0 rest)
       → is_empty part ≡ false → is_name part ≡ true
-      → IsFound looks follows top root choices.limits choices folder part (Some entry)
+      → IsFound looks follows top root choices.limits choices folder part (Ok entry)
       → GoesOn choices folder listing text found
       → GoesOn choices folder listing rest (found ++ entry ∷ [])
   goes-with choices folder listing text part rest found entry split some named is on later are =
@@ -166,13 +167,13 @@ module _ (looks : Bool → List ℕ → Result Found Error → Type 0) (follows 
       (sym (names-take text part rest split some named)) (found_name part (names_of rest) entry later is are)))
 
   pub goes-without : (choices : Choices) (folder listing text part rest : List ℕ) (found : List Entry)
-      → parts_of 0 text ≡ (if is_empty part then parts_of 0 rest else part ∷ parts_of 0 rest)
+      (reason : Reason) → parts_of 0 text ≡ (if is_empty part then parts_of 0 rest else part ∷ parts_of 0 rest)
       → is_empty part ≡ false → is_name part ≡ true
-      → IsFound looks follows top root choices.limits choices folder part None
+      → IsFound looks follows top root choices.limits choices folder part (Err reason)
       → GoesOn choices folder listing text found → GoesOn choices folder listing rest found
-  goes-without choices folder listing text part rest found split some named is on later are = on later
+  goes-without choices folder listing text part rest found reason split some named is on later are = on later
       (subst (λ names. AreFound looks follows top root choices.limits choices folder names later)
-      (sym (names-take text part rest split some named)) (other_name part (names_of rest) later is are))
+      (sym (names-take text part rest split some named)) (other_name part (names_of rest) reason later is are))
 
   pub goes-end : (choices : Choices) (folder listing rest : List ℕ) (found : List Entry)
       → is_empty rest ≡ true → GoesOn choices folder listing rest found

@@ -8,7 +8,7 @@ use Rattle.std.proofs.lemmas.Bool.{false≢true}
 use Rattle.grep_ignore.specs.Classes.{is_empty}
 use Rattle.linegrep_files.specs.FolderFacts.{FolderFacts}
 use Rattle.linegrep_files.specs.GitFiles.{IsExcludePath}
-use Rattle.linegrep_files.specs.IgnoreFiles.{AreFilesRead, AreWithin, HasPlace, HasSource}
+use Rattle.linegrep_files.specs.IgnoreFiles.{AreFilesRead, AreRulesAdded, AreWithin, HasPlace, HasSource}
 use Rattle.linegrep_files.specs.IgnoreFiles.{IsFileRead, IsTopAt}
 use Rattle.linegrep_files.specs.IgnoreFiles.{depth_in, has_name, is_idle, marks_of}
 use Rattle.linegrep_files.specs.IgnoreFiles.{path_below}
@@ -18,7 +18,11 @@ use Rattle.grep_ignore.specs.declared.layers.Layer.{Layer}
 use Rattle.grep_ignore.specs.declared.layers.Origin.{Origin}
 use Rattle.grep_ignore.specs.declared.layers.Origin.TheVariants.{GitExclude, GitIgnore, Ignore}
 use Rattle.grep_ignore.specs.declared.layers.Origin.TheVariants.{RgIgnore}
-use Rattle.std.specs.Prelude.{Result, Vec}
+use Rattle.std.specs.Prelude.{Result, String, Vec, string_bytes}
+use Rattle.grep_ignore.specs.Layers.{IsInserted}
+use Rattle.grep_ignore.specs.Lines.{AreOfLines, lines_of}
+use Rattle.grep_ignore.specs.declared.rules.Misread.{Misread}
+use Rattle.grep_ignore.specs.declared.rules.Rule.{Rule}
 use Rattle.std.specs.Global.{Global}
 use Rattle.std.specs.declared.io.Error.{Error}
 use Rattle.linegrep_files.specs.Paths.{joined, parts_of}
@@ -74,6 +78,34 @@ place-then old mid new first next = record {
   path = next.path ∙ first.path;
   repositories = next.repositories ∙ first.repositories;
 }
+
+-- the rules of a file are added, if it has some
+pub rules-added : (ignores_case : Bool) (origin : Origin) (depth start : ℕ) (path contents : List ℕ)
+    (old new : List Layer) (mid : List Layer) (rules all : List Rule) (faults : List Misread) (file : String Global)
+    (at : ℕ) → AreOfLines ignores_case 1 (lines_of contents) rules faults → all ≡ rules → mid ≡ old → at ≡ start
+    → (all ≡ [] → ⊥) → string_bytes file ≡ path
+    → IsInserted mid (record { file = file; origin = origin; depth = depth; start = at; rules = all }) new
+    → AreRulesAdded ignores_case origin depth start path contents old new
+rules-added ignores_case origin depth start path contents old new mid rules all faults file at are same kept here some is
+    inserted = record {
+      rules = rules;
+      faults = faults;
+      are = are;
+      none = λ none. absurd (some (same ∙ none));
+      some = λ any. (
+        file,
+        is,
+        subst (λ r. IsInserted old (record { file = file; origin = origin; depth = depth; start = start; rules = r }) new)
+            same (subst (λ s. IsInserted old (record { file = file; origin = origin; depth = depth; start = s; rules = all })
+            new) here (subst (λ layers. IsInserted layers (record {
+              file = file;
+              origin = origin;
+              depth = depth;
+              start = at;
+              rules = all;
+            }) new) kept inserted)),
+      );
+    }
 
 -- the tops of the repositories that a folder is in, and the layers of the folders that it is in
 abbrev TopsAre : Bool → List ℕ → List ℕ → List ℕ → Type 0

@@ -12,6 +12,7 @@ pub mod DatedLemmas
 pub mod FoundLemmas
 pub mod IgnoreFileLemmas
 pub mod MalformedLemmas
+pub mod NoteLemmas
 pub mod ParentLemmas
 pub mod PartLemmas
 pub mod PieceLemmas

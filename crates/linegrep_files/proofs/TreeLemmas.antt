@@ -1,6 +1,6 @@
 -- What a walk visits is what is visited of its folder.
-use Rattle.std.proofs.Common.{◌≡◌, ℕ, false, true, ◌++◌, ◌∷◌, ◌∙◌, [], List, reverse, refl, sym, ap}
-use Rattle.std.proofs.Common.{append_assoc, append-nil, arith, filter, length, map, rules, subst}
+use Rattle.std.proofs.Common.{◌≡◌, ℕ, false, ◌++◌, ◌∷◌, ◌∙◌, [], List, reverse, refl, sym, ap}
+use Rattle.std.proofs.Common.{append_assoc, append-nil, arith, filter, length, map, subst}
 use Rattle.std.proofs.lemmas.Bool.{true≢false}
 use Rattle.std.specs.Borrow.{Bor}
 use Rattle.std.specs.Prelude.{None, Some, String, string_bytes}

@@ -95,6 +95,12 @@ none-before {X = X} old new same none =
     empty [] none = refl
     empty (x ∷ xs) none = absurd (omega (arith, none))
 
+-- a folder is too deep
+pub is-deep : {limits of_choices : Limits} {depth below : ℕ} {allows : Bool} → limits ≡ of_choices
+    → depth ≡ below → allows ≡ allows_depth limits depth → allows ≡ false
+    → allows_depth of_choices below ≡ false
+is-deep is_limits is_depth is allows = sym (rw (is_limits, is_depth) at is) ∙ allows
+
 -- a folder isn't too deep
 pub isnt-deep : {limits of_choices : Limits} {depth below : ℕ} {allows : Bool} → limits ≡ of_choices
     → depth ≡ below → allows ≡ allows_depth limits depth → allows ≡ true

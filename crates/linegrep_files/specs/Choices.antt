@@ -1,14 +1,14 @@
 -- Which of the files and folders of a folder are visited. Globs decide first, then ignore files,
 -- and for a file its types.
-use Rattle.std.specs.Prelude.{◌≡◌, ℕ, ◌-◌, Bool, true, false, not, ◌||◌, if◌then◌else◌, List}
-use Rattle.std.specs.Prelude.{◌++◌, length, MatchBool, Option, Some, slice_get}
+use Rattle.std.specs.Prelude.{◌≡◌, ℕ, ◌-◌, Bool, true, not, ◌||◌, if◌then◌else◌, List, []}
+use Rattle.std.specs.Option.{option_map}
+use Rattle.std.specs.Prelude.{◌++◌, length, MatchBool, MatchOption, None, Option, Some, slice_get}
 use Rattle.grep_ignore.specs.Classes.{begins_with}
-use Rattle.grep_ignore.specs.Decisions.{is_kept}
-use Rattle.grep_ignore.specs.Layers.{IsFirst}
-use Rattle.grep_ignore.specs.declared.rules.Decision.{Decision}
+use Rattle.grep_ignore.specs.Layers.{IsDecider}
+use Rattle.grep_ignore.specs.declared.layers.Decider.{Decider}
 use Rattle.linegrep_files.specs.FileTypes.{AreTypesRefused, AreTypes, IsTypeChoice}
 use Rattle.linegrep_files.specs.FolderFacts.{FolderFacts}
-use Rattle.linegrep_files.specs.Globs.{AreGlobs, IsGlobChoice, is_chosen}
+use Rattle.linegrep_files.specs.Globs.{AreGlobs, IsGlobChoice}
 use Rattle.linegrep_files.specs.IgnoreFiles.{AreWithin, HasSource, ReadsTheSame}
 use Rattle.linegrep_files.specs.Limits.{AreLimits, has_no_size}
 use Rattle.linegrep_files.specs.MalformedGlobs.{HaveMalformed}
@@ -19,6 +19,13 @@ use Rattle.linegrep_files.specs.declared.failures.Failure.{Failure}
 use Rattle.linegrep_files.specs.declared.globs.Choice.{Choice}
 use Rattle.linegrep_files.specs.declared.globs.Choice.TheVariants.{Chosen, LeftOut, Unmatched}
 use Rattle.linegrep_files.specs.declared.ignores.Ignores.{Ignores}
+use Rattle.linegrep_files.specs.declared.notes.Note.{Note}
+use Rattle.linegrep_files.specs.declared.notes.Reason.{Reason}
+use Rattle.linegrep_files.specs.declared.notes.Reason.TheVariants.{Globs, Hidden, Rule, Types}
+
+-- the notes that were made and aren't said yet, if notes are asked for
+abbrev pub notes_of : Choices → Option (List Note)
+notes_of choices = option_map (λ notes. notes.items) choices.notes
 
 -- the depth of the nearest repository that the folder is in, if it is in one. If no repository is
 -- needed, each folder counts as in one
@@ -29,34 +36,57 @@ repository_of ignores =
     last_of : List ℕ → Option ℕ
     last_of depths = slice_get depths (length depths - 1)
 
--- what ignore files say of a name in the folder
-abbrev pub IsIgnoreDecision : Ignores → List ℕ → Bool → Decision → Type 0
-IsIgnoreDecision ignores name is_folder decision =
-    IsFirst (ignores.path.items ++ name) is_folder ignores.start (repository_of ignores)
-    ignores.layers decision
+-- the rule of ignore files that decides of a name in the folder, if there is one
+abbrev pub IsIgnoreDecider : Ignores → List ℕ → Bool → Option Decider → Type 0
+IsIgnoreDecider ignores name is_folder =
+    IsDecider (ignores.path.items ++ name) is_folder ignores.start (repository_of ignores)
+    ignores.layers
 
--- whether something is visited that no glob is about. Ignore files decide, and for a file its
--- types. If none of these is about it, it is visited if it is shown
-abbrev pub IsUnmatchedChosen : Choices → List ℕ → Bool → Bool → Bool → Type 0
-IsUnmatchedChosen choices name is_folder is_shown chosen = (decision : Decision)
-    × IsIgnoreDecision choices.ignores name is_folder decision
-    × MatchBool (is_folder || not (is_kept decision true)) (chosen ≡ is_kept decision is_shown)
+-- the rule that decides is the reason why something isn't visited, if it leaves that out
+abbrev pub rule_reason : Option Decider → Option Reason
+rule_reason None = None
+rule_reason (Some decider) = if decider.keeps then None else Some (Rule decider.layer decider.line)
+
+-- whether something is shown: a rule that decides of it keeps it, or if none does it is shown
+abbrev pub is_kept : Option Decider → Bool → Bool
+is_kept None is_shown = is_shown
+is_kept (Some decider) is_shown = decider.keeps
+
+-- what isn't shown is hidden
+abbrev pub hidden_unless : Bool → Option Reason
+hidden_unless is_shown = if is_shown then None else Some Hidden
+
+-- why a file isn't visited, by what types say of it: if they say nothing it may be hidden
+abbrev pub type_reason : Choice → Bool → Option Reason
+type_reason Chosen is_shown = None
+type_reason LeftOut is_shown = Some Types
+type_reason Unmatched is_shown = hidden_unless is_shown
+
+-- why something isn't visited that no glob is about, if it isn't. Ignore files decide, and for a
+-- file its types. If none of these is about it, it is visited if it is shown
+abbrev pub IsUnmatchedReason : Choices → List ℕ → Bool → Bool → Option Reason → Type 0
+IsUnmatchedReason choices name is_folder is_shown reason = (decider : Option Decider)
+    × IsIgnoreDecider choices.ignores name is_folder decider
+    × MatchOption (rule_reason decider)
+    (MatchBool is_folder (reason ≡ hidden_unless (is_kept decider is_shown))
     ((choice : Choice) × IsTypeChoice choices.types name choice
-    × (chosen ≡ is_chosen choice (is_kept decision is_shown)))
+    × (reason ≡ type_reason choice (is_kept decider is_shown))))
+    (λ rule. reason ≡ Some rule)
 
 -- what has a name isn't hidden, or hidden ones are shown
 abbrev pub is_shown : Choices → List ℕ → Bool
 is_shown choices name = choices.shows_hidden || not (begins_with 46 name)
 
--- whether something with a name in the folder, which is at a path, is visited
-pub data IsChosen (choices : Choices) (path name : List ℕ) (is_folder : Bool) : Bool → Type 0 where
+-- why something with a name in the folder, which is at a path, isn't visited, if it isn't
+pub data IsReason (choices : Choices) (path name : List ℕ) (is_folder : Bool) :
+    Option Reason → Type 0 where
   of_glob : IsGlobChoice choices.globs path is_folder Chosen
-      → IsChosen choices path name is_folder true
+      → IsReason choices path name is_folder None
   of_exclusion : IsGlobChoice choices.globs path is_folder LeftOut
-      → IsChosen choices path name is_folder false
-  of_unmatched : (chosen : Bool) → IsGlobChoice choices.globs path is_folder Unmatched
-      → IsUnmatchedChosen choices name is_folder (is_shown choices name) chosen
-      → IsChosen choices path name is_folder chosen
+      → IsReason choices path name is_folder (Some Globs)
+  of_unmatched : (reason : Option Reason) → IsGlobChoice choices.globs path is_folder Unmatched
+      → IsUnmatchedReason choices name is_folder (is_shown choices name) reason
+      → IsReason choices path name is_folder reason
 
 -- ignore files say the same as before
 pub record IgnoresTheSame (old new : Ignores) : Type 0 where
@@ -121,4 +151,5 @@ pub record AreChoices (folders : FolderFacts) (options : FileOptions) (choices :
     pub types : AreTypes options.types choices.types
     pub limits : AreLimits options choices.limits
     pub hidden : choices.shows_hidden ≡ options.shows_hidden
+    pub notes : notes_of choices ≡ (if options.explains then Some [] else None)
     pub ignores : AreIgnores folders options.sources options.ignore_files.now choices.ignores

@@ -1,7 +1,7 @@
 -- What is found in a folder, by what listing it returned, and for each name by what looking at its
 -- path returned.
 use Rattle.std.specs.Prelude.{◌≡◌, ◌≢◌, ℕ, Bool, true, false, not, ◌||◌, ◌==◌, if◌then◌else◌}
-use Rattle.std.specs.Prelude.{List, [], ◌∷◌, None, Option, Some, Result, Ok, Err, String, codes}
+use Rattle.std.specs.Prelude.{List, [], ◌∷◌, None, Some, Result, Ok, Err, String, codes}
 use Rattle.std.specs.Prelude.{string_bytes}
 use Rattle.std.specs.Prelude.{◌<◌, drop, filter, get_or, length, take}
 use Rattle.std.specs.Global.{Global}
@@ -10,9 +10,10 @@ use Rattle.std.specs.Str.{IsUtf8, bytes_eq}
 use Rattle.std.specs.declared.io.Error.{Error}
 use Rattle.std.specs.declared.io.ErrorKind.TheVariants.{FilesystemLoop, InvalidFilename}
 use Rattle.grep_ignore.specs.Classes.{is_empty}
-use Rattle.linegrep_files.specs.Choices.{IsChosen, IsUnmatchedChosen}
+use Rattle.linegrep_files.specs.Choices.{IsReason, IsUnmatchedReason}
 use Rattle.linegrep_files.specs.FileIds.{is_beside, is_same_file}
 use Rattle.linegrep_files.specs.Limits.{allows_size}
+use Rattle.linegrep_files.specs.Notes.{IsNote, IsWord}
 use Rattle.linegrep_files.specs.Paths.{joined, parts_of}
 use Rattle.linegrep_files.specs.Words.{escaped}
 use Rattle.linegrep_files.specs.declared.choices.Choices.{Choices}
@@ -23,7 +24,11 @@ use Rattle.linegrep_files.specs.declared.folders.Found.{Found}
 use Rattle.linegrep_files.specs.declared.folders.Kind.TheVariants.{File as IsFile}
 use Rattle.linegrep_files.specs.declared.folders.Kind.TheVariants.{Folder as IsFolder}
 use Rattle.linegrep_files.specs.declared.folders.Kind.TheVariants.{Link as IsLink}
+use Rattle.linegrep_files.specs.declared.folders.Kind.TheVariants.{Other as IsOther}
 use Rattle.linegrep_files.specs.declared.limits.Limits.{Limits}
+use Rattle.linegrep_files.specs.declared.notes.Note.{Note}
+use Rattle.linegrep_files.specs.declared.notes.Reason.{Reason}
+use Rattle.linegrep_files.specs.declared.notes.Reason.TheVariants.{Elsewhere, Large, Link, Special}
 
 -- a name isn't the one of the folder itself, nor of the folder that it is in
 abbrev pub is_name : List ℕ → Bool
@@ -121,49 +126,65 @@ module _ (looks : Bool → List ℕ → Result Found Error → Type 0) (follows 
       × (string_bytes text ≡ path) × (error_kind error ≡ FilesystemLoop)
 
   -- what is found at a path, by what looking at it returned: a regular file that isn't too large, a
-  -- folder that may be entered, or that it can't be read. A link that is followed to a folder that
-  -- it is in can't be read
-  pub data IsAt (path : List ℕ) : Option Entry → Type 0 where
+  -- folder that may be entered, or that it can't be read. Otherwise nothing is, for a reason. A link
+  -- that is followed to a folder that it is in can't be read
+  pub data IsAt (path : List ℕ) : Result Entry Reason → Type 0 where
     of_file : (found : Found) (text : String Global) → looks follows path (Ok found)
         → found.kind ≡ IsFile → allows_size limits found.size ≡ true → string_bytes text ≡ path
-        → IsAt path (Some (File text))
+        → IsAt path (Ok (File text))
     of_folder : (found : Found) (entry : Entry) → looks follows path (Ok found)
         → found.kind ≡ IsFolder → MayEnter found.id true → IsFolderAt path found.id entry
-        → IsAt path (Some entry)
+        → IsAt path (Ok entry)
     of_unread : (text : String Global) (error : Error) → looks follows path (Err error)
-        → string_bytes text ≡ path → IsAt path (Some (Unread text error))
+        → string_bytes text ≡ path → IsAt path (Ok (Unread text error))
     of_large : (found : Found) → looks follows path (Ok found) → found.kind ≡ IsFile
-        → allows_size limits found.size ≡ false → IsAt path None
+        → allows_size limits found.size ≡ false → IsAt path (Err Large)
     of_elsewhere : (found : Found) → looks follows path (Ok found) → found.kind ≡ IsFolder
-        → MayEnter found.id false → IsAt path None
-    of_other : (found : Found) → looks follows path (Ok found) → found.kind ≢ IsFile
-        → found.kind ≢ IsFolder → IsAt path None
+        → MayEnter found.id false → IsAt path (Err Elsewhere)
+    of_link : (found : Found) → looks follows path (Ok found) → found.kind ≡ IsLink
+        → IsAt path (Err Link)
+    of_other : (found : Found) → looks follows path (Ok found) → found.kind ≡ IsOther
+        → IsAt path (Err Special)
 
-  -- what is found for a name in a folder: what is at its path, if that is chosen. If the name isn't
-  -- UTF-8 and is chosen, it is found that something can't be read, which has the name's word as its
-  -- name
-  pub data IsFound (choices : Choices) (folder name : List ℕ) : Option Entry → Type 0 where
-    of_nothing : IsUtf8 name → IsAt (joined folder name) None → IsFound choices folder name None
-    of_chosen : (entry : Entry) → IsUtf8 name → IsAt (joined folder name) (Some entry)
-        → IsChosen choices (joined folder name) name (is_folder entry) true
-        → IsFound choices folder name (Some entry)
-    of_left_out : (entry : Entry) → IsUtf8 name → IsAt (joined folder name) (Some entry)
-        → IsChosen choices (joined folder name) name (is_folder entry) false
-        → IsFound choices folder name None
+  -- what is found for a name in a folder: what is at its path, if that is chosen; or why nothing is.
+  -- If the name isn't UTF-8 and is chosen, it is found that something can't be read, which has the
+  -- name's word as its name
+  pub data IsFound (choices : Choices) (folder name : List ℕ) : Result Entry Reason → Type 0 where
+    of_nothing : (reason : Reason) → IsUtf8 name → IsAt (joined folder name) (Err reason)
+        → IsFound choices folder name (Err reason)
+    of_chosen : (entry : Entry) → IsUtf8 name → IsAt (joined folder name) (Ok entry)
+        → IsReason choices (joined folder name) name (is_folder entry) None
+        → IsFound choices folder name (Ok entry)
+    of_left_out : (entry : Entry) (reason : Reason) → IsUtf8 name
+        → IsAt (joined folder name) (Ok entry)
+        → IsReason choices (joined folder name) name (is_folder entry) (Some reason)
+        → IsFound choices folder name (Err reason)
     of_escaped : (text : String Global) (error : Error) → (IsUtf8 name → ⊥)
-        → IsUnmatchedChosen choices name false true true → error_kind error ≡ InvalidFilename
+        → IsUnmatchedReason choices name false true None → error_kind error ≡ InvalidFilename
         → string_bytes text ≡ joined folder (escaped name)
-        → IsFound choices folder name (Some (Unread text error))
-    of_unescaped : (IsUtf8 name → ⊥) → IsUnmatchedChosen choices name false true false
-        → IsFound choices folder name None
+        → IsFound choices folder name (Ok (Unread text error))
+    of_unescaped : (reason : Reason) → (IsUtf8 name → ⊥)
+        → IsUnmatchedReason choices name false true (Some reason)
+        → IsFound choices folder name (Err reason)
 
   -- what is found for some names, in their order, for each once
   pub data AreFound (choices : Choices) (folder : List ℕ) : List (List ℕ) → List Entry
       → Type 0 where
     no_name : AreFound choices folder [] []
     found_name : (name : List ℕ) (names : List (List ℕ)) (entry : Entry) (entries : List Entry)
-        → IsFound choices folder name (Some entry) → AreFound choices folder names entries
+        → IsFound choices folder name (Ok entry) → AreFound choices folder names entries
         → AreFound choices folder (name ∷ names) (entry ∷ entries)
-    other_name : (name : List ℕ) (names : List (List ℕ)) (entries : List Entry)
-        → IsFound choices folder name None → AreFound choices folder names entries
+    other_name : (name : List ℕ) (names : List (List ℕ)) (reason : Reason) (entries : List Entry)
+        → IsFound choices folder name (Err reason) → AreFound choices folder names entries
         → AreFound choices folder (name ∷ names) entries
+
+  -- the notes of some names, in their order: one for each for which nothing is found
+  pub data AreNotes (choices : Choices) (folder : List ℕ) : List (List ℕ) → List Note → Type 0 where
+    no_note : AreNotes choices folder [] []
+    without_note : (name : List ℕ) (names : List (List ℕ)) (entry : Entry) (notes : List Note)
+        → IsFound choices folder name (Ok entry) → AreNotes choices folder names notes
+        → AreNotes choices folder (name ∷ names) notes
+    with_note : (name word : List ℕ) (names : List (List ℕ)) (reason : Reason) (note : Note)
+        (notes : List Note) → IsFound choices folder name (Err reason) → IsWord name word
+        → IsNote choices (joined folder word) reason note → AreNotes choices folder names notes
+        → AreNotes choices folder (name ∷ names) (note ∷ notes)

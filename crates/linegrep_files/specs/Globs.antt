@@ -20,13 +20,6 @@ use Rattle.linegrep_files.specs.declared.globs.Choice.TheVariants.{Chosen, LeftO
 use Rattle.linegrep_files.specs.declared.globs.GlobRule.{GlobRule}
 use Rattle.linegrep_files.specs.declared.globs.Globs.{Globs}
 
--- whether something is visited, by what is said of it. If nothing is said, a value that is given
--- decides
-abbrev pub is_chosen : Choice → Bool → Bool
-is_chosen Chosen unmatched = true
-is_chosen LeftOut unmatched = false
-is_chosen Unmatched unmatched = unmatched
-
 -- a path matches one of the texts that a glob stands for. Each text is given by its pieces
 abbrev pub MatchesOne : List (List Piece) → List ℕ → Type 0
 MatchesOne choices path = (at : ℕ) × (choice : List Piece) × (at < length choices)

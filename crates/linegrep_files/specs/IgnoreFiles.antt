@@ -1,7 +1,7 @@
 -- Which ignore files count in a folder, and in which order, by what reading each returned: those of
 -- the folder, and of the folders that it is in.
 use Rattle.std.specs.Prelude.{◌≡◌, ◌≢◌, ℕ, ◌+◌, Bool, ◌&&◌, ◌||◌, ◌++◌, ◌∷◌, ◌==◌, [], List, length}
-use Rattle.std.specs.Prelude.{take, codes, true, false, is_ok}
+use Rattle.std.specs.Prelude.{String, take, codes, true, false, is_ok, string_bytes}
 use Rattle.std.specs.Prelude.{not, if◌then◌else◌, MatchBool, Result, Ok, Err, Vec, filter, nat_lt}
 use Rattle.std.specs.Global.{Global}
 use Rattle.std.specs.IoError.{error_kind}
@@ -82,17 +82,22 @@ pub record HasPlace (old new : Ignores) : Type 0 where
   pub path : new.path ≡ old.path
   pub repositories : new.repositories ≡ old.repositories
 
--- the rules of a file's lines count, if it has any. They belong to a folder, by its depth and by
--- how many bytes its path has
+-- the rules of a file's lines count, if it has any, and it is known at which path the file is. They
+-- belong to a folder, by its depth and by how many bytes its path has
 pub record AreRulesAdded (ignores_case : Bool) (origin : Origin) (depth start : ℕ)
-    (contents : List ℕ)
-    (old new : List Layer) : Type 0 where
+    (path contents : List ℕ) (old new : List Layer) : Type 0 where
   pub rules : List Rule
   pub faults : List Misread
   pub are : AreOfLines ignores_case 1 (lines_of contents) rules faults
   pub none : rules ≡ [] → new ≡ old
-  pub some : rules ≢ []
-      → IsInserted old (record { origin = origin; depth = depth; start = start; rules = rules }) new
+  pub some : rules ≢ [] → (file : String Global) × (string_bytes file ≡ path)
+      × IsInserted old (record {
+        file = file;
+        origin = origin;
+        depth = depth;
+        start = start;
+        rules = rules;
+      }) new
 
 -- how many lines of a file aren't well formed
 pub record HaveFaults (ignores_case : Bool) (contents : List ℕ) (count : ℕ) : Type 0 where
@@ -119,7 +124,7 @@ module _ (reads : List ℕ → Result (Vec ℕ Global) Error → Type 0) where
     of_unread : (error : Error) → reads path (Err error)
         → IsFileRead ignores_case origin depth start path old old
     of_lines : {new : List Layer} (contents : Vec ℕ Global) → reads path (Ok contents)
-        → AreRulesAdded ignores_case origin depth start contents.items old new
+        → AreRulesAdded ignores_case origin depth start path contents.items old new
         → IsFileRead ignores_case origin depth start path old new
 
   -- how much is wrong with the file at a path: each of its lines that isn't well formed; or that it

@@ -12,6 +12,7 @@ pub mod Globs
 pub mod IgnoreFiles
 pub mod Limits
 pub mod MalformedGlobs
+pub mod Notes
 pub mod Orders
 pub mod ParentFiles
 pub mod Paths

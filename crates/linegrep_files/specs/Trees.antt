@@ -1,5 +1,5 @@
 -- What a walk visits: the files of a folder and of the folders in it, in the order of names.
-use Rattle.std.specs.Prelude.{◌≡◌, ℕ, Bool, true, false, ◌++◌, ◌∷◌, [], List, None, Some, reverse}
+use Rattle.std.specs.Prelude.{◌≡◌, ℕ, true, false, ◌++◌, ◌∷◌, [], List, None, Some, reverse}
 use Rattle.std.specs.Prelude.{Ok, Err, String, Vec, filter, map, not, string_bytes}
 use Rattle.std.specs.Borrow.{Bor}
 use Rattle.std.specs.Global.{Global}

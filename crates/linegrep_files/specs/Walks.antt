@@ -6,17 +6,20 @@ use Rattle.std.specs.Global.{Global}
 use Rattle.std.specs.List.Sorted.{IsPermutation, IsSortedBy}
 use Rattle.std.specs.Ordering.{is_lt}
 use Rattle.std.specs.declared.io.Error.{Error}
-use Rattle.linegrep_files.specs.Choices.{IsWithin, SaysTheSame}
+use Rattle.linegrep_files.specs.Choices.{IsWithin, SaysTheSame, notes_of}
 use Rattle.linegrep_files.specs.FolderFacts.{FolderFacts}
-use Rattle.linegrep_files.specs.Folders.{AreFound, below_of, depth_of, listed_path, name_of}
-use Rattle.linegrep_files.specs.Folders.{names_of}
+use Rattle.linegrep_files.specs.Folders.{AreFound, AreNotes, below_of, depth_of, listed_path}
+use Rattle.linegrep_files.specs.Folders.{name_of, names_of}
 use Rattle.linegrep_files.specs.Folders.{path_of}
 use Rattle.linegrep_files.specs.Limits.{allows_depth}
+use Rattle.linegrep_files.specs.Notes.{AreNoted, IsNote}
 use Rattle.linegrep_files.specs.Orders.{AreDated, AreSorted, is_by_time, order_of}
 use Rattle.linegrep_files.specs.Paths.{IsRoot}
 use Rattle.linegrep_files.specs.declared.choices.Choices.{Choices}
 use Rattle.linegrep_files.specs.declared.entry.Entry.{Entry}
 use Rattle.linegrep_files.specs.declared.entry.Entry.TheVariants.{File, Folder, Unread}
+use Rattle.linegrep_files.specs.declared.notes.Note.{Note}
+use Rattle.linegrep_files.specs.declared.notes.Reason.TheVariants.{Deep}
 use Rattle.linegrep_files.specs.declared.order.Dated.{Dated}
 use Rattle.linegrep_files.specs.declared.order.Order.{Order}
 use Rattle.linegrep_files.specs.declared.order.SortKey.{SortKey}
@@ -109,6 +112,36 @@ module _ {S : Type 0} (facts : S → FolderFacts) where
         → (facts old.finder.system.now).lists (listed_path folder) (Ok names)
         → AreNamesAdded facts old choices folder names.items new inside
         → IsEntered old choices folder new inside
+
+-- a note says that a folder is too deep
+abbrev pub IsDeepNote : Choices → List ℕ → List Note → Type 0
+IsDeepNote choices folder notes =
+    (note : Note) × (notes ≡ note ∷ []) × IsNote choices (name_of folder) Deep note
+
+-- for the names in a folder for which nothing is found notes are added, if notes are asked for
+pub record AreNamesNoted {S : Type 0} (facts : S → FolderFacts) (walk : Walk S) (choices : Choices)
+    (folder names : List ℕ) (inside : Choices) : Type 0 where
+  pub within : Choices
+  pub are_within : IsWithin (facts walk.finder.system.now) folder
+      (below_of walk.finder.root folder) names choices within
+  pub noted : AreNoted (AreNotes (facts walk.finder.system.now).looks walk.finder.follows_links
+      (string_bytes walk.finder.top) walk.finder.root within.limits within folder
+      (names_of names)) choices inside
+
+-- what entering a folder notes: what isn't found in it, or that it is too deep
+pub data IsNoted {S : Type 0} (facts : S → FolderFacts) (walk : Walk S) (choices : Choices)
+    (folder : List ℕ) (inside : Choices) : Type 0 where
+  of_deep_folder : allows_depth choices.limits (depth_of walk.finder.root folder) ≡ false
+      → AreNoted (IsDeepNote choices folder) choices inside
+      → IsNoted facts walk choices folder inside
+  of_unread_folder : (error : Error)
+      → (facts walk.finder.system.now).lists (listed_path folder) (Err error)
+      → notes_of inside ≡ notes_of choices → IsNoted facts walk choices folder inside
+  of_folder : (names : Vec ℕ Global)
+      → allows_depth choices.limits (depth_of walk.finder.root folder) ≡ true
+      → (facts walk.finder.system.now).lists (listed_path folder) (Ok names)
+      → AreNamesNoted facts walk choices folder names.items inside
+      → IsNoted facts walk choices folder inside
 
 -- what is visited next is the last entry of those that were added. If there is none, the files that
 -- are sorted by a time are sorted, and added so that the first one comes last

@@ -1,10 +1,15 @@
 //! Which of the files and folders of a folder are visited.
-ghost use Rattle.std.specs.Prelude.{◌≡◌, [], false, true, IfErr, IfOk, OnOk};
-ghost use Rattle.linegrep_files.specs.Choices.{AreChoices, AreTakenUp, IsChosen, IsUnmatchedChosen};
-ghost use Rattle.linegrep_files.specs.Choices.{IsWithin};
-ghost use Rattle.linegrep_files.specs.Folders.{name_of};
-ghost use Rattle.linegrep_files.specs.Choices.{AreFilesRefused, SaysTheSame, is_shown, warnings_of};
+ghost use Rattle.std.specs.Prelude.{◌≡◌, ◌∷◌, [], false, true, IfErr, IfOk, List, OnOk, is_some};
+ghost use Rattle.std.specs.Prelude.{MatchOption, string_bytes};
+ghost use Rattle.std.specs.Option.{option_map};
+ghost use Rattle.linegrep_files.specs.Choices.{AreChoices, AreFilesRefused, AreTakenUp, IsReason};
+ghost use Rattle.linegrep_files.specs.Choices.{IsUnmatchedReason, IsWithin, SaysTheSame};
+ghost use Rattle.linegrep_files.specs.Choices.{hidden_unless, is_kept, is_shown, notes_of};
+ghost use Rattle.linegrep_files.specs.Choices.{rule_reason, type_reason, warnings_of};
 ghost use Rattle.linegrep_files.specs.Failures.{has_cause};
+ghost use Rattle.linegrep_files.specs.Folders.{name_of};
+ghost use Rattle.linegrep_files.specs.Notes.{AreNoted, IsNote, file_of};
+ghost use Rattle.linegrep_files.specs.declared.notes.Note.{Note};
 
 use crate::class::begins_with;
 use crate::failures::Failure;
@@ -13,8 +18,10 @@ use crate::folders::Folders;
 use crate::globs::{Choice, Globs};
 use crate::ignores::Ignores;
 use crate::limits::Limits;
+use crate::notes::{Note, Reason};
 use crate::types::Types;
-use std::alloc::AllocError;
+use grep_ignore::Decider;
+use std::alloc::{AllocError, Global};
 
 /// What globs, ignore files, types and names say.
 #[derive(Drop)]
@@ -24,6 +31,8 @@ pub struct Choices<'r> {
     types: Types,
     limits: Limits,
     shows_hidden: bool,
+    // What isn't visited, and why, if that is asked for.
+    notes: Option<Vec<Note>>,
     // Room to work in.
     row: Vec<bool>,
 }
@@ -55,6 +64,11 @@ impl<'r> Choices<'r> {
                 types,
                 limits,
                 shows_hidden: options.shows_hidden,
+                notes: if options.explains {
+                    Some(Vec::new(rt.alloc()))
+                } else {
+                    None
+                },
                 row: Vec::new(rt.alloc()),
             }),
             Err(_) => Err(Failure::out_of_memory()),
@@ -79,8 +93,9 @@ impl<'r> Choices<'r> {
         below: &[u8],
         names: &[u8],
     ) -> Result<(), AllocError>
-        ensures { OnOk result (IsWithin (S.facts system.now) folder.now below.now names.now self.old
-            self.new) }
+        ensures within { OnOk result (IsWithin (S.facts system.now) folder.now below.now names.now
+            self.old self.new) }
+        ensures notes { self.new.notes ≡ self.old.notes }
     {
         self.ignores.enter(system, folder, below, names)?;
         Ok(())
@@ -93,20 +108,26 @@ impl<'r> Choices<'r> {
         self.limits
     }
 
-    /// Whether the file or the folder is visited that has a name in the folder, and is at a path.
-    /// Globs decide first, then ignore files, and for a file its types. If none of these is about
-    /// it, it is visited if it isn't hidden, or if hidden ones are visited too.
-    pub fn is_chosen(&mut self, path: &str, name: &str, is_folder: bool) -> Result<bool, AllocError>
-        ensures chosen { IfOk result (IsChosen self.old path.now name.now is_folder) }
+    /// Why the file or the folder isn't visited that has a name in the folder, and is at a path, if
+    /// it isn't. Globs decide first, then ignore files, and for a file its types. If none of these is
+    /// about it, it is visited if it isn't hidden, or if hidden ones are visited too.
+    pub fn reason(
+        &mut self,
+        path: &str,
+        name: &str,
+        is_folder: bool,
+    ) -> Result<Option<Reason>, AllocError>
+        ensures reason { IfOk result (IsReason self.old path.now name.now is_folder) }
         ensures same { SaysTheSame self.old self.new }
+        ensures notes { self.new.notes ≡ self.old.notes }
     {
         match self.globs.choice(&mut self.row, path, is_folder)? {
-            Choice::Chosen => Ok(true),
-            Choice::LeftOut => Ok(false),
+            Choice::Chosen => Ok(None),
+            Choice::LeftOut => Ok(Some(Reason::Globs)),
             Choice::Unmatched => {
                 let name = name.as_bytes();
                 let is_shown = self.is_shown(name);
-                self.is_unmatched_chosen(name, is_folder, is_shown)
+                self.unmatched_reason(name, is_folder, is_shown)
             }
         }
     }
@@ -118,31 +139,93 @@ impl<'r> Choices<'r> {
         self.shows_hidden || !begins_with(name, b'.')
     }
 
-    /// Whether a file whose name isn't UTF-8 is visited.
-    pub fn is_name_chosen(&mut self, name: &[u8]) -> Result<bool, AllocError>
-        ensures chosen { IfOk result (IsUnmatchedChosen self.old name.now false true) }
+    /// Why a file whose name isn't UTF-8 isn't visited, if it isn't.
+    pub fn name_reason(&mut self, name: &[u8]) -> Result<Option<Reason>, AllocError>
+        ensures reason { IfOk result (IsUnmatchedReason self.old name.now false true) }
         ensures same { SaysTheSame self.old self.new }
+        ensures notes { self.new.notes ≡ self.old.notes }
     {
-        self.is_unmatched_chosen(name, false, true)
+        self.unmatched_reason(name, false, true)
     }
 
-    // Whether something is visited that no glob is about. If nothing else is about it either,
-    // `is_shown` decides.
-    fn is_unmatched_chosen(
+    // Why something isn't visited that no glob is about, if it isn't. If nothing else is about it
+    // either, `is_shown` decides.
+    fn unmatched_reason(
         &mut self,
         name: &[u8],
         is_folder: bool,
         is_shown: bool,
-    ) -> Result<bool, AllocError>
-        ensures chosen { IfOk result (IsUnmatchedChosen self.old name.now is_folder is_shown) }
+    ) -> Result<Option<Reason>, AllocError>
+        ensures reason { IfOk result (IsUnmatchedReason self.old name.now is_folder is_shown) }
         ensures same { SaysTheSame self.old self.new }
+        ensures notes { self.new.notes ≡ self.old.notes }
     {
-        let decision = self.ignores.decision(name, is_folder)?;
-        if is_folder || !decision.is_kept(true) {
-            return Ok(decision.is_kept(is_shown));
+        let decider = self.ignores.decider(name, is_folder)?;
+        match rule_reason(decider) {
+            Some(reason) => return Ok(Some(reason)),
+            None => {}
+        }
+        if is_folder {
+            return Ok(hidden_unless(is_kept(decider, is_shown)));
         }
         let choice = self.types.choice(&mut self.row, name)?;
-        Ok(choice.is_chosen(decision.is_kept(is_shown)))
+        Ok(type_reason(choice, is_kept(decider, is_shown)))
+    }
+
+    /// Whether it is noted why something isn't visited.
+    pub fn explains(&self) -> bool
+        ensures { result ≡ is_some (notes_of self.now) }
+    {
+        self.notes.is_some()
+    }
+
+    /// Notes that what is at a path isn't visited, and why, if that is asked for. The path is a word
+    /// that `escape` writes.
+    pub fn note(&mut self, alloc: Global, path: String, reason: Reason) -> Result<(), AllocError>
+        ensures noted { OnOk result (AreNoted (λ notes. (note : Note) × (notes ≡ note ∷ [])
+            × IsNote self.old (string_bytes path) reason note) self.old self.new) }
+        ensures same { SaysTheSame self.old self.new }
+    {
+        let file = self.file(alloc, reason)?;
+        match &mut self.notes {
+            Some(notes) => Ok(notes.push(Note { path, reason, file })?),
+            None => Ok(()),
+        }
+    }
+
+    // The path of the ignore file that has the rule, if a rule is the reason.
+    fn file(&self, alloc: Global, reason: Reason) -> Result<Option<String>, AllocError>
+        ensures { IfOk result (λ file. option_map string_bytes file ≡ file_of self.now reason) }
+    {
+        match reason {
+            Reason::Rule(layer, _) => match self.ignores.file(layer) {
+                Some(file) => Ok(Some(String::from_str(alloc, file)?)),
+                None => Ok(None),
+            },
+            _ => Ok(None),
+        }
+    }
+
+    /// What isn't visited, and why, if that is asked for.
+    pub fn notes(&self) -> &[Note]
+        ensures { MatchOption (notes_of self.now) (result.now ≡ []) (λ notes. result.now ≡ notes) }
+    {
+        match &self.notes {
+            Some(notes) => notes.as_slice(),
+            None => &[],
+        }
+    }
+
+    /// Forgets the notes.
+    pub fn clear_notes(&mut self)
+        ensures same { SaysTheSame self.old self.new }
+        ensures warnings { warnings_of self.new ≡ warnings_of self.old }
+        ensures none { notes_of self.new ≡ option_map (λ notes. []) (notes_of self.old) }
+    {
+        match &mut self.notes {
+            Some(notes) => notes.clear(),
+            None => {}
+        }
     }
 
     /// What is wrong with ignore files that were read, as lines for standard error.
@@ -156,7 +239,46 @@ impl<'r> Choices<'r> {
     pub fn clear_warnings(&mut self)
         ensures same { SaysTheSame self.old self.new }
         ensures none { warnings_of self.new ≡ [] }
+        ensures notes { self.new.notes ≡ self.old.notes }
     {
         self.ignores.clear_warnings();
+    }
+}
+
+// The reason why something isn't visited, if a rule decides that it isn't.
+fn rule_reason(decider: Option<Decider>) -> Option<Reason>
+    ensures { result ≡ rule_reason decider }
+{
+    match decider {
+        Some(decider) if !decider.keeps => Some(Reason::Rule(decider.layer, decider.line)),
+        _ => None,
+    }
+}
+
+// Whether something is shown that a rule keeps, if one decides; if none does, `is_shown` says so.
+fn is_kept(decider: Option<Decider>, is_shown: bool) -> bool
+    ensures { result ≡ is_kept decider is_shown }
+{
+    match decider {
+        Some(decider) => decider.keeps,
+        None => is_shown,
+    }
+}
+
+// Why something isn't visited, if it isn't shown.
+fn hidden_unless(is_shown: bool) -> Option<Reason>
+    ensures { result ≡ hidden_unless is_shown }
+{
+    if is_shown { None } else { Some(Reason::Hidden) }
+}
+
+// Why a file isn't visited, by what types say of it, if it isn't.
+fn type_reason(choice: Choice, is_shown: bool) -> Option<Reason>
+    ensures { result ≡ type_reason choice is_shown }
+{
+    match choice {
+        Choice::Chosen => None,
+        Choice::LeftOut => Some(Reason::Types),
+        Choice::Unmatched => hidden_unless(is_shown),
     }
 }

@@ -61,4 +61,6 @@ pub struct FileOptions<'o, 'w> {
     pub ignore_files: &'o [&'w str],
     /// Whether hidden files and folders are searched.
     pub shows_hidden: bool,
+    /// Whether it is noted why something isn't visited.
+    pub explains: bool,
 }

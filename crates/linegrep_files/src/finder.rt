@@ -1,15 +1,18 @@
 //! What is found in a folder for each of its names.
-ghost use Rattle.std.specs.Prelude.{◌≡◌, ◌≢◌, ◌<◌, [], ◌∷◌, if◌then◌else◌, length, IfOk, IfSome};
-ghost use Rattle.std.specs.Prelude.{Ok, drop, string_bytes, true};
+ghost use Rattle.std.specs.Prelude.{◌≡◌, ◌≢◌, ℕ, ◌<◌, [], ◌∷◌, if◌then◌else◌, length, IfOk, OnOk};
+ghost use Rattle.std.specs.Prelude.{List, Ok, drop, string_bytes, true};
 ghost use Rattle.std.specs.Str.{IsUtf8};
-ghost use Rattle.linegrep_files.specs.Choices.{IsChosen, SaysTheSame};
+ghost use Rattle.linegrep_files.specs.Choices.{IsReason, SaysTheSame};
 ghost use Rattle.grep_ignore.specs.Classes.{is_empty};
-ghost use Rattle.linegrep_files.specs.Folders.{AreFound, GoesThrough, HasId, IsAt, IsFolderAt};
+ghost use Rattle.linegrep_files.specs.Folders.{AreFound, AreNotes, GoesThrough, HasId, IsAt};
+ghost use Rattle.linegrep_files.specs.Folders.{IsFolderAt};
 ghost use Rattle.linegrep_files.specs.Folders.{IsFound, LeadsBack};
 ghost use Rattle.linegrep_files.specs.Folders.{MayEnter, below_of, depth_of, is_name, listed_path};
 ghost use Rattle.linegrep_files.specs.Folders.{name_of, names_of};
 ghost use Rattle.linegrep_files.specs.Folders.{path_of};
+ghost use Rattle.linegrep_files.specs.Notes.{AreNoted, IsNote, IsWord};
 ghost use Rattle.linegrep_files.specs.Paths.{IsRoot, joined};
+ghost use Rattle.linegrep_files.specs.declared.notes.Note.{Note};
 
 use crate::choices::Choices;
 use crate::class::{begins_with, is_empty, tail};
@@ -17,6 +20,7 @@ use crate::entry::Entry;
 use crate::file_id::FileId;
 use crate::folders::{Folders, Found, Kind};
 use crate::limits::Limits;
+use crate::notes::Reason;
 use crate::paths::{join, split_part};
 use crate::words::{NOT_UTF8, escape};
 use std::alloc::{AllocError, Global};
@@ -113,6 +117,9 @@ impl<'r, S: Folders> Finder<'r, S> {
         ensures found { IfOk result (λ found. AreFound (S.facts self.now.system.now).looks
             self.now.follows_links (string_bytes self.now.top) self.now.root choices.old.limits
             choices.old folder.now (names_of names.now) found.items) }
+        ensures noted { OnOk result (AreNoted (AreNotes (S.facts self.now.system.now).looks
+            self.now.follows_links (string_bytes self.now.top) self.now.root choices.old.limits
+            choices.old folder.now (names_of names.now)) choices.old choices.new) }
         ensures same { SaysTheSame choices.old choices.new }
     {
         let mut found = Vec::new(self.alloc);
@@ -124,25 +131,61 @@ impl<'r, S: Folders> Finder<'r, S> {
                 continue;
             }
             match self.find(choices, folder, name)? {
-                Some(entry) => found.push(entry)?,
-                None => {}
+                Ok(entry) => found.push(entry)?,
+                Err(reason) => self.note(choices, folder, name, reason)?,
             }
         }
         Ok(found)
     }
 
-    // What is found for a name in a folder.
+    // Notes why nothing is found for a name in a folder, if that is asked for.
+    fn note(
+        &self,
+        choices: &mut Choices<'_>,
+        folder: &str,
+        name: &[u8],
+        reason: Reason,
+    ) -> Result<(), AllocError>
+        ensures noted { OnOk result (AreNoted (λ notes. (note : Note) × (word : List ℕ)
+            × (notes ≡ note ∷ []) × IsWord name.now word
+            × IsNote choices.old (joined folder.now word) reason note) choices.old choices.new) }
+        ensures same { SaysTheSame choices.old choices.new }
+    {
+        if !choices.explains() {
+            return Ok(());
+        }
+        let path = self.path(folder, name)?;
+        choices.note(self.alloc, path, reason)?;
+        Ok(())
+    }
+
+    // The path of a name in a folder. If the name isn't UTF-8, its word is in the path.
+    fn path(&self, folder: &str, name: &[u8]) -> Result<String, AllocError>
+        ensures { IfOk result (λ path. (word : List ℕ) × IsWord name.now word
+            × (string_bytes path ≡ joined folder.now word)) }
+    {
+        match str::from_utf8(name) {
+            Ok(name) => join(self.alloc, folder, name),
+            Err(_) => {
+                let word = escape(self.alloc, name)?;
+                join(self.alloc, folder, word.as_str())
+            }
+        }
+    }
+
+    // What is found for a name in a folder, or why nothing is.
     fn find(
         &self,
         choices: &mut Choices<'_>,
         folder: &str,
         name: &[u8],
-    ) -> Result<Option<Entry>, AllocError>
+    ) -> Result<Result<Entry, Reason>, AllocError>
         ensures found { IfOk result
             (IsFound (S.facts self.now.system.now).looks self.now.follows_links
             (string_bytes self.now.top) self.now.root choices.old.limits choices.old folder.now
             name.now) }
         ensures same { SaysTheSame choices.old choices.new }
+        ensures notes { choices.new.notes ≡ choices.old.notes }
     {
         match str::from_utf8(name) {
             Ok(name) => self.find_named(choices, folder, name),
@@ -156,23 +199,22 @@ impl<'r, S: Folders> Finder<'r, S> {
         choices: &mut Choices<'_>,
         folder: &str,
         name: &str,
-    ) -> Result<Option<Entry>, AllocError>
+    ) -> Result<Result<Entry, Reason>, AllocError>
         requires { IsUtf8 name.now }
         ensures found { IfOk result
             (IsFound (S.facts self.now.system.now).looks self.now.follows_links
             (string_bytes self.now.top) self.now.root choices.old.limits choices.old folder.now
             name.now) }
         ensures same { SaysTheSame choices.old choices.new }
+        ensures notes { choices.new.notes ≡ choices.old.notes }
     {
         let path = join(self.alloc, folder, name)?;
         match self.entry(path, choices.limits()) {
-            Some(entry) => {
-                if choices.is_chosen(entry.path(), name, entry.is_folder())? {
-                    return Ok(Some(entry));
-                }
-                return Ok(None);
-            }
-            None => return Ok(None),
+            Ok(entry) => match choices.reason(entry.path(), name, entry.is_folder())? {
+                None => return Ok(Ok(entry)),
+                Some(reason) => return Ok(Err(reason)),
+            },
+            Err(reason) => return Ok(Err(reason)),
         }
     }
 
@@ -182,58 +224,61 @@ impl<'r, S: Folders> Finder<'r, S> {
         choices: &mut Choices<'_>,
         folder: &str,
         name: &[u8],
-    ) -> Result<Option<Entry>, AllocError>
+    ) -> Result<Result<Entry, Reason>, AllocError>
         requires { IsUtf8 name.now → ⊥ }
         ensures found { IfOk result
             (IsFound (S.facts self.now.system.now).looks self.now.follows_links
             (string_bytes self.now.top) self.now.root choices.old.limits choices.old folder.now
             name.now) }
         ensures same { SaysTheSame choices.old choices.new }
+        ensures notes { choices.new.notes ≡ choices.old.notes }
     {
-        if choices.is_name_chosen(name)? {
-            let word = escape(self.alloc, name)?;
-            let path = join(self.alloc, folder, word.as_str())?;
-            let error = io::Error::new(io::ErrorKind::InvalidFilename, NOT_UTF8);
-            return Ok(Some(Entry::Unread(path, error)));
+        match choices.name_reason(name)? {
+            None => {
+                let word = escape(self.alloc, name)?;
+                let path = join(self.alloc, folder, word.as_str())?;
+                let error = io::Error::new(io::ErrorKind::InvalidFilename, NOT_UTF8);
+                return Ok(Ok(Entry::Unread(path, error)));
+            }
+            Some(reason) => return Ok(Err(reason)),
         }
-        Ok(None)
     }
 
     // What is at a path, if it is a file or a folder, and within the limits.
-    fn entry(&self, path: String, limits: Limits) -> Option<Entry>
+    fn entry(&self, path: String, limits: Limits) -> Result<Entry, Reason>
         ensures at { IsAt (S.facts self.now.system.now).looks self.now.follows_links
             (string_bytes self.now.top) self.now.root limits (string_bytes path) result }
-        ensures path { IfSome result (λ entry. path_of entry ≡ string_bytes path) }
+        ensures path { IfOk result (λ entry. path_of entry ≡ string_bytes path) }
     {
         match self.system.look(path.as_str(), self.follows_links) {
             Ok(found) => self.entry_of(path, found, limits),
-            Err(error) => Some(Entry::Unread(path, error)),
+            Err(error) => Ok(Entry::Unread(path, error)),
         }
     }
 
     // What was found at a path, if it is within limits.
-    fn entry_of(&self, path: String, found: Found, limits: Limits) -> Option<Entry>
+    fn entry_of(&self, path: String, found: Found, limits: Limits) -> Result<Entry, Reason>
         requires { (S.facts self.now.system.now).looks self.now.follows_links (string_bytes path)
             (Ok found) }
         ensures at { IsAt (S.facts self.now.system.now).looks self.now.follows_links
             (string_bytes self.now.top) self.now.root limits (string_bytes path) result }
-        ensures path { IfSome result (λ entry. path_of entry ≡ string_bytes path) }
+        ensures path { IfOk result (λ entry. path_of entry ≡ string_bytes path) }
     {
         match found.kind {
             Kind::File => {
                 if limits.allows_size(found.size) {
-                    return Some(Entry::File(path));
+                    return Ok(Entry::File(path));
                 }
-                return None;
+                return Err(Reason::Large);
             }
             Kind::Folder => {
                 if self.may_enter(found.id, limits) {
-                    return Some(self.folder(path, found.id, limits));
+                    return Ok(self.folder(path, found.id, limits));
                 }
-                return None;
+                return Err(Reason::Elsewhere);
             }
-            Kind::Link => return None,
-            Kind::Other => return None,
+            Kind::Link => return Err(Reason::Link),
+            Kind::Other => return Err(Reason::Special),
         }
     }
 

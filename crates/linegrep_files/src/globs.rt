@@ -5,7 +5,7 @@ ghost use Rattle.grep_ignore.specs.Globs.{OnMalformed};
 ghost use Rattle.linegrep_files.specs.Failures.{has_cause};
 ghost use Rattle.linegrep_files.specs.Globs.{AreAdded, AreGlobs, IsAbout, IsAdded, IsGlobChoice};
 ghost use Rattle.linegrep_files.specs.Globs.{IsGlobRule, IsLastChoice, choice_of, glob_text};
-ghost use Rattle.linegrep_files.specs.Globs.{is_chosen, path_from_here};
+ghost use Rattle.linegrep_files.specs.Globs.{path_from_here};
 ghost use Rattle.linegrep_files.specs.MalformedGlobs.{HaveMalformed, IsMalformedGlob};
 ghost use Rattle.linegrep_files.specs.Globs.{said_glob};
 
@@ -24,20 +24,6 @@ pub enum Choice {
     LeftOut,
     /// No glob matches it.
     Unmatched,
-}
-
-impl Choice {
-    /// Whether something is visited, by what globs say of it. If they say nothing, `unmatched`
-    /// decides.
-    pub fn is_chosen(self, unmatched: bool) -> bool
-        ensures { result ≡ is_chosen self unmatched }
-    {
-        match self {
-            Choice::Chosen => true,
-            Choice::LeftOut => false,
-            Choice::Unmatched => unmatched,
-        }
-    }
 }
 
 /// The globs of the arguments, in order.

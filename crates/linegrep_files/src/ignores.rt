@@ -1,9 +1,10 @@
 //! The ignore files that count in a folder, and what they say of what is in it.
 ghost use Rattle.std.specs.Prelude.{◌≡◌, ◌&&◌, ◌||◌, ◌++◌, ◌∷◌, [], ℕ, Bool, IfOk, List, OnOk};
 ghost use Rattle.std.specs.Prelude.{◌+◌, if◌then◌else◌, filter, length, nat_lt, not, take, true};
-ghost use Rattle.std.specs.Prelude.{MatchBool};
+ghost use Rattle.std.specs.Prelude.{MatchBool, slice_get, string_bytes};
+ghost use Rattle.std.specs.Option.{option_copied, option_map};
 ghost use Rattle.grep_ignore.specs.declared.layers.Origin.TheVariants.{GitExclude};
-ghost use Rattle.linegrep_files.specs.Choices.{IgnoresTheSame, IsIgnoreDecision, repository_of};
+ghost use Rattle.linegrep_files.specs.Choices.{IgnoresTheSame, IsIgnoreDecider, repository_of};
 ghost use Rattle.linegrep_files.specs.GitFiles.{IsExcludePath};
 ghost use Rattle.linegrep_files.specs.IgnoreFiles.{AreFilesRead, AreRulesAdded, AreWithin};
 ghost use Rattle.linegrep_files.specs.IgnoreFiles.{AreFaultsOf, HasPlace, HaveFaults};
@@ -25,7 +26,7 @@ use crate::folders::Folders;
 use crate::git_files::exclude_path;
 use crate::paths::{join, split_part};
 use crate::user_file::user_file;
-use grep_ignore::{Decision, Layer, Layers, Misread, Origin, Rules};
+use grep_ignore::{Decider, Layer, Layers, Misread, Origin, Rules};
 use std::alloc::{AllocError, Global};
 use std::io;
 
@@ -265,18 +266,18 @@ impl<'r> Ignores<'r> {
         Ok(())
     }
 
-    /// What the files say of a name in the folder.
-    pub fn decision(&mut self, name: &[u8], is_folder: bool) -> Result<Decision, AllocError>
-        ensures said { IfOk result (IsIgnoreDecision self.old name.now is_folder) }
+    /// The rule that decides of a name in the folder, if there is one.
+    pub fn decider(&mut self, name: &[u8], is_folder: bool) -> Result<Option<Decider>, AllocError>
+        ensures decided { IfOk result (IsIgnoreDecider self.old name.now is_folder) }
         ensures same { IgnoresTheSame self.old self.new }
     {
         if self.layers.is_empty() {
-            return Ok(Decision::Unmatched);
+            return Ok(None);
         }
         let length = self.path.len();
         self.path.extend_from_slice(name)?;
         let repository = self.repository();
-        let decision = self.layers.decision(
+        let decider = self.layers.decider(
             &mut self.row,
             self.path.as_slice(),
             is_folder,
@@ -284,7 +285,15 @@ impl<'r> Ignores<'r> {
             repository,
         );
         self.path.truncate(length);
-        decision
+        decider
+    }
+
+    /// The path of the file that a rule is of, by its layer, which is counted from 0.
+    pub fn file(&self, layer: usize) -> Option<&str>
+        ensures { option_copied result
+            ≡ option_map (λ one. string_bytes one.file) (slice_get self.now.layers layer) }
+    {
+        self.layers.file(layer)
     }
 
     /// What is wrong with files that were read, as lines for standard error.
@@ -530,7 +539,7 @@ impl<'r> Ignores<'r> {
         contents: &[u8],
     ) -> Result<(), AllocError>
         ensures rules { OnOk result (AreRulesAdded self.old.sources.ignores_case origin depth
-            (length self.old.path.items) contents.now self.old.layers self.new.layers) }
+            (length self.old.path.items) path.now contents.now self.old.layers self.new.layers) }
         ensures warned { OnOk result ((count : ℕ)
             × HaveFaults self.old.sources.ignores_case contents.now count
             × (length self.new.warnings.items ≡ length self.old.warnings.items + count)) }
@@ -548,7 +557,9 @@ impl<'r> Ignores<'r> {
         if rules.is_empty() {
             return Ok(());
         }
+        let file = String::from_str(self.rt.alloc(), path)?;
         self.layers.insert(Layer {
+            file,
             origin,
             depth,
             start: self.path.len(),

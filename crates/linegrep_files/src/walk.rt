@@ -5,8 +5,9 @@ ghost use Rattle.std.specs.Global.{Global};
 ghost use Rattle.std.specs.List.Sorted.{IsPermutation, IsSortedBy};
 ghost use Rattle.linegrep_files.specs.Folders.{is_folder, path_of};
 ghost use Rattle.linegrep_files.specs.Orders.{AreDated, AreSorted, is_by_time};
-ghost use Rattle.linegrep_files.specs.Walks.{AreAdded, AreNamesAdded, GoesOn, IsBegun, IsEntered};
-ghost use Rattle.linegrep_files.specs.Walks.{IsPopped, IsWith, comes_before, waits};
+ghost use Rattle.linegrep_files.specs.Walks.{AreAdded, AreNamesAdded, AreNamesNoted, GoesOn};
+ghost use Rattle.linegrep_files.specs.Walks.{IsBegun, IsEntered, IsNoted, IsPopped, IsWith};
+ghost use Rattle.linegrep_files.specs.Walks.{comes_before, waits};
 ghost use Rattle.linegrep_files.specs.declared.entry.Entry.TheVariants.{File, Folder, Unread};
 ghost use Rattle.linegrep_files.specs.declared.order.Dated.{Dated};
 
@@ -14,6 +15,7 @@ use crate::choices::Choices;
 use crate::entry::Entry;
 use crate::finder::{Finder, listed_path, name_of, root_of};
 use crate::folders::Folders;
+use crate::notes::Reason;
 use crate::order::{Dated, Order};
 use std::alloc::{AllocError, Global};
 use std::{io, mem};
@@ -157,11 +159,13 @@ impl<'r, S: Folders> Walk<'r, S> {
     }
 
     /// Adds what is in a folder and is chosen, or that the folder can't be read. Nothing is added
-    /// of a folder that is too deep.
+    /// of a folder that is too deep. What isn't chosen is noted, if that is asked for.
     pub fn enter(&mut self, choices: &mut Choices<'_>, folder: &str)
         ensures entered { self.new.is_out_of_memory ≡ false
             → IsEntered S.facts self.old choices.old folder.now self.new
             choices.new }
+        ensures noted { self.new.is_out_of_memory ≡ false
+            → IsNoted S.facts self.old choices.old folder.now choices.new }
         ensures on { GoesOn self.old self.new }
     {
         match self.try_enter(choices, folder) {
@@ -173,9 +177,12 @@ impl<'r, S: Folders> Walk<'r, S> {
     fn try_enter(&mut self, choices: &mut Choices<'_>, folder: &str) -> Result<(), AllocError>
         ensures entered { OnOk result (IsEntered S.facts self.old choices.old
             folder.now self.new choices.new) }
+        ensures noted { OnOk result (IsNoted S.facts self.old choices.old folder.now choices.new) }
         ensures on { GoesOn self.old self.new }
     {
         if !choices.limits().allows_depth(self.finder.depth(folder)) {
+            let deep = String::from_str(self.rt.alloc(), name_of(folder))?;
+            choices.note(self.rt.alloc(), deep, Reason::Deep)?;
             return Ok(());
         }
         let path = listed_path(self.rt.alloc(), folder)?;
@@ -201,6 +208,8 @@ impl<'r, S: Folders> Walk<'r, S> {
     ) -> Result<(), AllocError>
         ensures added { OnOk result (AreNamesAdded S.facts self.old choices.old
             folder.now names.now self.new choices.new) }
+        ensures noted { OnOk result (AreNamesNoted S.facts self.old choices.old
+            folder.now names.now choices.new) }
         ensures on { GoesOn self.old self.new }
     {
         choices.enter(

@@ -42,6 +42,7 @@ pub enum OptionId {
     Threads,
     Messages,
     NoMessages,
+    Debug,
     MaxDepth,
     MaxFilesize,
     OneFileSystem,

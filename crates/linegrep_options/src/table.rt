@@ -192,6 +192,9 @@ macro_rules! options {
         NoMessages, "no-messages", None, Value::Nothing, [Messages],
             "Don't say which files can't be read";
         Messages, "messages", None, Value::Nothing, [], "";
+        Debug, "debug", None, Value::Nothing, [],
+            "Say which files and folders are left out, and why";
+        Debug, "trace", None, Value::Nothing, [], "";
         Threads, "threads", Some('j'), Value::Number, [], "";
         ["Output"]
         LineNumber, "line-number", Some('n'), Value::Nothing, [NoLineNumber],

@@ -1,4 +1,3 @@
-use Rattle.std.proofs.Common.{sym}
 use Rattle.linegrep_files.specs.UserFiles.{of_other_bytes, of_text}
 use Rattle.linegrep_files.proofs.user_file.in_home.Goals as goal
 

@@ -1,4 +1,4 @@
-use Rattle.std.proofs.Common.{◌∙◌, rules, sym}
+use Rattle.std.proofs.Common.{◌∙◌, sym}
 use Rattle.linegrep_files.specs.UserFiles.{of_nowhere, of_settings, of_unread_settings}
 use Rattle.linegrep_files.proofs.user_file.named_file.Goals as goal
 

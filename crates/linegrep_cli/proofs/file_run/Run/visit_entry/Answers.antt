@@ -1,4 +1,4 @@
-use Rattle.linegrep_cli.specs.OperandRuns.{of_listed, of_path, of_unread, of_warnings}
+use Rattle.linegrep_cli.specs.OperandRuns.{of_listed, of_path, of_unread, of_entered}
 use Rattle.linegrep_files.proofs.AlikeLemmas.{entered-same}
 use Rattle.linegrep_cli.proofs.file_run.Run.visit_entry.Goals as goal
 
@@ -12,12 +12,13 @@ returns-in-File-2-clause-visited g c = rw c.in-File-2.is
 
 pub returns-in-Folder-clause-visited : goal.returns-in-Folder-clause-visited
 returns-in-Folder-clause-visited g c = rw c.in-Folder.is
-    (let said = c.warn.ensures.said in of_warnings {text = c.in-Folder.path} _ said.0 said.1 said.2)
+    (let told = c.tell.ensures.told in
+    of_entered {text = c.in-Folder.path} _ _ told.0 told.1 told.2)
 
 pub returns-in-Folder-clause-passed : goal.returns-in-Folder-clause-passed
 returns-in-Folder-clause-passed g c = rw c.in-Folder.is (
   λ memory. entered-same _ _ _ _ _ _ _
-      (rw c.as_str-in-Folder.ensures.value at (c.enter.ensures.entered memory)) c.warn.ensures.same,
+      (rw c.as_str-in-Folder.ensures.value at (c.enter.ensures.entered memory)) c.tell.ensures.same,
   c.enter.ensures.on,
 )
 

@@ -1,5 +1,5 @@
 use Rattle.std.proofs.Common.{refl, rules}
-use Rattle.linegrep_files.specs.Folders.{of_elsewhere, of_file, of_folder, of_large, of_other}
+use Rattle.linegrep_files.specs.Folders.{of_elsewhere, of_file, of_folder, of_large, of_link, of_other}
 use Rattle.linegrep_files.proofs.finder.Finder.entry_of.Goals as goal
 
 pub returns-then-allows_size-clause-at : goal.returns-then-allows_size-clause-at
@@ -17,9 +17,7 @@ pub returns-in-Folder-clause-at : goal.returns-in-Folder-clause-at
 returns-in-Folder-clause-at g c = of_elsewhere c.args.found c.requires c.in-Folder.is (search rules)
 
 pub returns-in-Link-clause-at : goal.returns-in-Link-clause-at
-returns-in-Link-clause-at g c =
-    of_other c.args.found c.requires (search (rules, c.in-Link.is)) (search (rules, c.in-Link.is))
+returns-in-Link-clause-at g c = of_link c.args.found c.requires c.in-Link.is
 
 pub returns-in-Other-clause-at : goal.returns-in-Other-clause-at
-returns-in-Other-clause-at g c =
-    of_other c.args.found c.requires (search (rules, c.in-Other.is)) (search (rules, c.in-Other.is))
+returns-in-Other-clause-at g c = of_other c.args.found c.requires c.in-Other.is
