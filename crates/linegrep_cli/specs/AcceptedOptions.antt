@@ -1,15 +1,17 @@
 -- Options whose values are not refused.
 use Rattle.std.specs.Prelude.{◌≡◌, false}
 use Rattle.linegrep_cli.specs.PathSeparators.{refuses_path_separator}
+use Rattle.linegrep_cli.specs.PatternOptions.{refuses_size_limits}
 use Rattle.linegrep_cli.specs.RunScopes.{order_for}
 use Rattle.linegrep_cli.specs.SearcherOptions.{refuses_label}
 use Rattle.linegrep_cli.specs.declared.options.Options.{Options}
 use Rattle.linegrep_files.specs.FolderFacts.{FolderFacts}
 use Rattle.linegrep_files.specs.Orders.{HasOrder}
 
--- the label of the encoding is known, the separator of paths is one byte, and the system has the
--- order of files
+-- the label of the encoding is known, the separator of paths is one byte, the limits of sizes are
+-- sizes, and the system has the order of files
 pub record AreAccepted (folders : FolderFacts) (options : Options) : Type 0 where
   pub label : refuses_label options ≡ false
   pub path_separator : refuses_path_separator options ≡ false
+  pub size_limits : refuses_size_limits options ≡ false
   pub order : HasOrder folders.times (order_for options)

@@ -13,7 +13,7 @@ use Rattle.linegrep_options.specs.declared.option_id.OptionId.TheVariants.{Befor
 use Rattle.linegrep_options.specs.declared.option_id.OptionId.TheVariants.{Colors}
 use Rattle.linegrep_options.specs.declared.option_id.OptionId.TheVariants.{Context}
 use Rattle.linegrep_options.specs.declared.option_id.OptionId.TheVariants.{ContextSeparator}
-use Rattle.linegrep_options.specs.declared.option_id.OptionId.TheVariants.{Encoding}
+use Rattle.linegrep_options.specs.declared.option_id.OptionId.TheVariants.{DfaSizeLimit, Encoding}
 use Rattle.linegrep_options.specs.declared.option_id.OptionId.TheVariants.{FieldContextSeparator}
 use Rattle.linegrep_options.specs.declared.option_id.OptionId.TheVariants.{FieldMatchSeparator}
 use Rattle.linegrep_options.specs.declared.option_id.OptionId.TheVariants.{File, Files, Glob, Iglob}
@@ -22,6 +22,7 @@ use Rattle.linegrep_options.specs.declared.option_id.OptionId.TheVariants.{MaxCo
 use Rattle.linegrep_options.specs.declared.option_id.OptionId.TheVariants.{MaxDepth}
 use Rattle.linegrep_options.specs.declared.option_id.OptionId.TheVariants.{MaxFilesize}
 use Rattle.linegrep_options.specs.declared.option_id.OptionId.TheVariants.{PathSeparator, Regexp}
+use Rattle.linegrep_options.specs.declared.option_id.OptionId.TheVariants.{RegexSizeLimit}
 use Rattle.linegrep_options.specs.declared.option_id.OptionId.TheVariants.{Replace, Sort, Sortr}
 use Rattle.linegrep_options.specs.declared.option_id.OptionId.TheVariants.{«Type»}
 use Rattle.linegrep_options.specs.declared.option_id.OptionId.TheVariants.{TypeAdd, TypeClear}
@@ -110,6 +111,8 @@ pub record AreOptions (uses : Bor (List Use)) (lists : Lists) (streams : Streams
     pub field_match_separator :
         options.field_match_separator ≡ last_value uses.now FieldMatchSeparator
     pub path_separator : options.path_separator ≡ last_value uses.now PathSeparator
+    pub regex_size_limit : options.regex_size_limit ≡ last_value uses.now RegexSizeLimit
+    pub dfa_size_limit : options.dfa_size_limit ≡ last_value uses.now DfaSizeLimit
     pub replace : options.replace ≡ last_value uses.now Replace
     pub color : options.color ≡ last_value uses.now Color
     pub colors : AreListed lists.colors.items options.colors

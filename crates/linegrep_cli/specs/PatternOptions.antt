@@ -1,7 +1,7 @@
 -- The options with which the patterns of a command line are compiled.
 use Rattle.std.specs.Prelude.{Bool, true, false, ℕ, not, ◌&&◌, ◌||◌, ◌==◌, if◌then◌else◌}
 use Rattle.std.specs.Prelude.{List, [], ◌∷◌, ◌++◌, codes, flat_map, length, map, nat_lt}
-use Rattle.std.specs.Prelude.{Option, None, Some, String, string_bytes}
+use Rattle.std.specs.Prelude.{Option, None, Some, String, string_bytes, unwrap_or}
 use Rattle.std.specs.Borrow.{Bor}
 use Rattle.std.specs.Global.{Global}
 use Rattle.std.specs.List.{list_any}
@@ -21,6 +21,7 @@ use Rattle.linegrep_options.specs.declared.option_id.OptionId.TheVariants.{NoUni
 use Rattle.linegrep_options.specs.declared.option_id.OptionId.TheVariants.{NullData}
 use Rattle.linegrep_options.specs.declared.option_id.OptionId.TheVariants.{SmartCase, WordRegexp}
 use Rattle.linegrep_cli.specs.declared.options.Options.{Options}
+use Rattle.linegrep_files.specs.Limits.{has_no_size, size_asked}
 
 -- a letter that takes its meaning from the one after it: a backslash, but in a literal
 abbrev pub is_escape : Bool → ℕ → Bool
@@ -51,6 +52,15 @@ ends_in_crlf options = not (has options NullData) && has options Crlf
 abbrev pub is_unicode : Options → Bool
 is_unicode options = not (has options NoUnicode) && not (has options NoPcre2Unicode)
 
+-- how many bytes the tables of the patterns may have: as an option says, or else the default
+abbrev pub size_limit_of : Options → ℕ
+size_limit_of options = unwrap_or (size_asked options.regex_size_limit) default_options.size_limit
+
+-- the limits of sizes that options set aren't sizes
+abbrev pub refuses_size_limits : Options → Bool
+refuses_size_limits options =
+    has_no_size options.regex_size_limit || has_no_size options.dfa_size_limit
+
 -- the options of the patterns. `^` and `$` match at the ends of lines, and no match has the end of
 -- a line in it, unless matches may run over several lines. What no option sets has its default
 abbrev pub searched_options : Options → List (String Global) → PatternSettings
@@ -64,6 +74,7 @@ searched_options options patterns = record default_options {
   unicode = is_unicode options;
   crlf = ends_in_crlf options;
   line_terminator = if has options Multiline then None else Some (terminator_of options);
+  size_limit = size_limit_of options;
 }
 
 -- the options with which patterns are compiled. If files are listed, those of the literal that is

@@ -11,6 +11,7 @@ use Rattle.linegrep_cli.specs.ColorOptions.{refuses_colors}
 use Rattle.linegrep_cli.specs.FileChoices.{AreFileOptions}
 use Rattle.linegrep_cli.specs.PathSeparators.{refuses_path_separator}
 use Rattle.linegrep_cli.specs.PatternOptions.{pattern_options, pattern_texts}
+use Rattle.linegrep_cli.specs.PatternOptions.{refuses_size_limits}
 use Rattle.linegrep_cli.specs.RunScopes.{order_for}
 use Rattle.linegrep_cli.specs.SearcherOptions.{refuses_label}
 use Rattle.linegrep_cli.specs.WholeRuns.{IsRefused}
@@ -31,13 +32,14 @@ pub data ArePatternsRefused (options : Options) (patterns : List (String Global)
       → IsRefusal (pattern_options options patterns) (map string_bytes patterns) error
       → ArePatternsRefused options patterns
 
--- why a run is refused: the label of an encoding isn't known; patterns are refused; a separator
--- isn't one byte; colors aren't well formed; the system doesn't have an order; or what is said of
--- files is refused
+-- why a run is refused: the label of an encoding isn't known; patterns are refused; a limit of
+-- sizes isn't one; a separator isn't one byte; colors aren't well formed; the system doesn't have
+-- an order; or what is said of files is refused
 pub data IsCause (folders : FolderFacts) (options : Options) (patterns : List (String Global))
     : Type 0 where
   of_label : refuses_label options ≡ true → IsCause folders options patterns
   of_patterns : ArePatternsRefused options patterns → IsCause folders options patterns
+  of_size_limits : refuses_size_limits options ≡ true → IsCause folders options patterns
   of_path_separator : refuses_path_separator options ≡ true → IsCause folders options patterns
   of_colors : refuses_colors options ≡ true → IsCause folders options patterns
   of_order : LacksOrder folders.times (order_for options) → IsCause folders options patterns

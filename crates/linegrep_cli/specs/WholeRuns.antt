@@ -10,8 +10,9 @@ use Rattle.grep_printer.specs.declared.colors.ColorTexts.{ColorTexts}
 use Rattle.grep_printer.specs.declared.separators.Separators.{Separators}
 use Rattle.grep_regex.specs.LiteralViews.{literal_regex}
 use Rattle.grep_regex.specs.NamedViews.{named_regex}
+use Rattle.grep_regex.specs.Sizes.{AreSized}
 use Rattle.grep_regex.specs.Views.{regex_first_at, regex_groups_at, regex_meaning, regex_options}
-use Rattle.grep_regex.specs.Views.{regex_patterns}
+use Rattle.grep_regex.specs.Views.{regex_patterns, regex_programs}
 use Rattle.grep_regex.specs.declared.literal_matcher.LiteralRegexMatcher.{LiteralRegexMatcher}
 use Rattle.grep_regex.specs.declared.named.NamedMatcher.{NamedMatcher}
 use Rattle.grep_regex.specs.declared.named.Naming.{Ghosts}
@@ -152,8 +153,8 @@ literal_first_at matcher = regex_first_at (literal_regex matcher.now)
 abbrev pub literal_groups_at : Literal → List ℕ → ℕ → List (Option (ℕ × ℕ))
 literal_groups_at matcher = regex_groups_at (literal_regex matcher.now)
 
--- a whole run, by its options and patterns. The patterns are compiled as the options say, and the
--- run is one for the expression that they give
+-- a whole run, by its options and patterns. The patterns are compiled as the options say, to tables
+-- that are no larger than these allow, and the run is one for the expression that they give
 pub record IsWholeRun {F R W X : Type 0} (output : AllocError → Option (List ℕ))
     (write_step : W → OutputCall → W → Type 0) (file_remaining : F → Option (List ℕ))
     (remaining : R → Option (List ℕ)) (read_step : R → ReadResult → R → Type 0)
@@ -165,6 +166,8 @@ pub record IsWholeRun {F R W X : Type 0} (output : AllocError → Option (List �
   pub regex : Regex
   pub has_options : regex_options regex ≡ pattern_options options patterns
   pub has_patterns : regex_patterns regex ≡ pattern_texts options patterns
+  pub sized : AreSized (pattern_options options patterns) (pattern_texts options patterns)
+      (regex_programs regex)
   pub run : IsRunFor {M = Literal} output literal_facts literal_first_at literal_groups_at
       write_step file_remaining remaining read_step folders finds opens identifies options regex
       input writer errors

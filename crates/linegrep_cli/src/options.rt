@@ -81,6 +81,10 @@ pub struct Options<'m, 'w> {
     pub field_match_separator: Option<&'w str>,
     /// What is written in place of each slash of a path, with escapes.
     pub path_separator: Option<&'w str>,
+    /// How many bytes the tables of the patterns have at most, as a text.
+    pub regex_size_limit: Option<&'w str>,
+    /// A size that makes no difference, as a text.
+    pub dfa_size_limit: Option<&'w str>,
     /// The template of what is written in place of each match.
     pub replace: Option<&'w str>,
     color: Option<&'w str>,
@@ -126,6 +130,8 @@ impl<'m, 'w> Options<'m, 'w> {
             field_context_separator: last_value(uses, OptionId::FieldContextSeparator),
             field_match_separator: last_value(uses, OptionId::FieldMatchSeparator),
             path_separator: last_value(uses, OptionId::PathSeparator),
+            regex_size_limit: last_value(uses, OptionId::RegexSizeLimit),
+            dfa_size_limit: last_value(uses, OptionId::DfaSizeLimit),
             replace: last_value(uses, OptionId::Replace),
             color: last_value(uses, OptionId::Color),
             colors: listed(&lists.colors),

@@ -1,9 +1,10 @@
 //! The patterns that are searched for.
 ghost use Rattle.std.specs.Prelude.{◌≡◌, ◌≢◌, ◌⊎◌, ◌∷◌, ◌++◌, [], codes, false, map, string_bytes};
 ghost use Rattle.std.specs.Prelude.{true};
-ghost use Rattle.std.specs.Prelude.{IfErr, IfOk, OnOk};
+ghost use Rattle.std.specs.Prelude.{IfErr, IfOk, OnErr, OnOk, unwrap_or};
 ghost use Rattle.std.specs.List.{list_any};
-ghost use Rattle.grep_regex.specs.Views.{regex_options, regex_patterns};
+ghost use Rattle.grep_regex.specs.Sizes.{AreSized};
+ghost use Rattle.grep_regex.specs.Views.{regex_options, regex_patterns, regex_programs};
 ghost use Rattle.linegrep_cli.specs.OptionUses.{has};
 ghost use Rattle.linegrep_cli.specs.PatternOptions.{has_capital, ignores_case, is_escape};
 ghost use Rattle.linegrep_cli.specs.PatternOptions.{is_unicode};
@@ -13,12 +14,15 @@ ghost use Rattle.linegrep_cli.specs.PatternOptions.{searched_options, searched_t
 ghost use Rattle.grep_regex.specs.Refusals.{IsRefusal};
 ghost use Rattle.grep_regex.specs.declared.error.Error.{Error};
 ghost use Rattle.grep_regex.specs.declared.error.Error.TheVariants.{Memory};
+ghost use Rattle.linegrep_cli.specs.PatternOptions.{refuses_size_limits};
 ghost use Rattle.linegrep_files.specs.Failures.{has_cause};
+ghost use Rattle.linegrep_files.specs.Limits.{size_asked};
 
 use crate::failures::{Failure, pattern_failure};
 use crate::options::Options;
 use grep_regex::{Regex, RegexMatcherBuilder};
 use grep_searcher::LineTerminator;
+use linegrep_files::{read_size, size_of};
 use linegrep_options::OptionId;
 use std::alloc::{AllocError, Global};
 
@@ -34,6 +38,8 @@ pub fn compile(
         regex_options regex ≡ pattern_options options.now patterns.now) }
     ensures patterns { IfOk result (λ regex.
         regex_patterns regex ≡ pattern_texts options.now patterns.now) }
+    ensures sized { IfOk result (λ regex. AreSized (pattern_options options.now patterns.now)
+        (pattern_texts options.now patterns.now) (regex_programs regex)) }
     ensures refused { IfErr result (λ failure. has_cause failure ≡ true
         → (error : Error) × (error ≢ Memory)
         × (IsRefusal (pattern_options options.now patterns.now)
@@ -60,6 +66,8 @@ fn compile_searched(
     ensures options { IfOk result (λ regex. regex_options regex ≡ builder.now) }
     ensures patterns { IfOk result (λ regex. regex_patterns regex
         ≡ searched_texts options.now (map (λ text. text.now) texts.now)) }
+    ensures sized { IfOk result (λ regex. AreSized builder.now
+        (searched_texts options.now (map (λ text. text.now) texts.now)) (regex_programs regex)) }
     ensures refused { IfErr result (λ failure. has_cause failure ≡ true
         → (error : Error) × (error ≢ Memory)
         × (IsRefusal builder.now (searched_texts options.now (map (λ text. text.now) texts.now))
@@ -91,6 +99,8 @@ fn compile_joined(
     ensures options { IfOk result (λ regex. regex_options regex ≡ builder.now) }
     ensures patterns { IfOk result (λ regex.
         regex_patterns regex ≡ joined_text (map (λ text. text.now) texts.now) ∷ []) }
+    ensures sized { IfOk result (λ regex. AreSized builder.now
+        (joined_text (map (λ text. text.now) texts.now) ∷ []) (regex_programs regex)) }
     ensures refused { IfErr result (λ failure. has_cause failure ≡ true
         → (error : Error) × (error ≢ Memory)
         × (IsRefusal builder.now (joined_text (map (λ text. text.now) texts.now) ∷ []) error
@@ -140,6 +150,8 @@ fn compile_with(
     ensures options { IfOk result (λ regex. regex_options regex ≡ builder.now) }
     ensures patterns { IfOk result
         (λ regex. regex_patterns regex ≡ map (λ text. text.now) texts.now) }
+    ensures sized { IfOk result (λ regex.
+        AreSized builder.now (map (λ text. text.now) texts.now) (regex_programs regex)) }
     ensures refused { IfErr result (λ failure. has_cause failure ≡ true
         → (error : Error) × (error ≢ Memory)
         × IsRefusal builder.now (map (λ text. text.now) texts.now) error) }
@@ -177,6 +189,7 @@ fn builder(options: &Options<'_, '_>, patterns: &[String]) -> RegexMatcherBuilde
             options.has(OptionId::Multiline) && options.has(OptionId::MultilineDotall),
         )
         .unicode(is_unicode(options));
+    limit_size(&mut builder, options);
     match options.line_terminator() {
         LineTerminator::Crlf => {
             builder.crlf(true);
@@ -189,6 +202,37 @@ fn builder(options: &Options<'_, '_>, patterns: &[String]) -> RegexMatcherBuilde
         builder.line_terminator(None);
     }
     builder
+}
+
+// Sets how many bytes the tables of patterns may have, if an option says it.
+fn limit_size(builder: &mut RegexMatcherBuilder, options: &Options<'_, '_>)
+    ensures { builder.new ≡ record builder.old {
+      size_limit = unwrap_or (size_asked options.now.regex_size_limit) builder.old.size_limit;
+    } }
+{
+    if let Some(bytes) = size_asked(options) {
+        builder.size_limit(bytes as usize);
+    }
+}
+
+// The limit of bytes that an option says.
+fn size_asked(options: &Options<'_, '_>) -> Option<u64>
+    ensures { result ≡ size_asked options.now.regex_size_limit }
+{
+    match options.regex_size_limit {
+        Some(text) => size_of(text),
+        None => None,
+    }
+}
+
+/// Checks that the limits of sizes which options set are sizes. That one isn't is the only error.
+pub fn check_size_limits(alloc: Global, options: &Options<'_, '_>) -> Result<(), Failure>
+    ensures known { OnOk result (refuses_size_limits options.now ≡ false) }
+    ensures refused { OnErr result (refuses_size_limits options.now ≡ true) }
+{
+    read_size(alloc, options.regex_size_limit)?;
+    read_size(alloc, options.dfa_size_limit)?;
+    Ok(())
 }
 
 // Whether classes, case folding and words are Unicode's.

@@ -10,7 +10,7 @@ pub fn reason(option: &str) -> Option<&'static str> {
     match option {
         "-z" | "--search-zip" | "--pre" | "--pre-glob" | "--hostname-bin" => Some(NO_PROGRAM),
         "-P" | "--pcre2" | "--auto-hybrid-regex" | "--pcre2-version" => Some(NO_ENGINE),
-        _ => other_reason(option),
+        _ => None,
     }
 }
 
@@ -19,13 +19,6 @@ pub fn refused_value(option: OptionId) -> Option<&'static str> {
     match option {
         OptionId::Engine => Some(NO_ENGINE),
         OptionId::HyperlinkFormat => Some("there are no links"),
-        _ => None,
-    }
-}
-
-fn other_reason(option: &str) -> Option<&'static str> {
-    match option {
-        "--regex-size-limit" | "--dfa-size-limit" => Some("the limits are fixed"),
         _ => None,
     }
 }

@@ -4,7 +4,8 @@ ghost use Rattle.std.specs.Borrow.{Bor};
 ghost use Rattle.std.specs.Global.{Global};
 ghost use Rattle.std.specs.Option.{option_copied};
 ghost use Rattle.grep_replace.specs.declared.template.Template.{Template};
-ghost use Rattle.grep_regex.specs.Views.{IsNamed, regex_options, regex_patterns};
+ghost use Rattle.grep_regex.specs.Sizes.{AreSized};
+ghost use Rattle.grep_regex.specs.Views.{IsNamed, regex_options, regex_patterns, regex_programs};
 ghost use Rattle.linegrep_cli.specs.PatternOptions.{pattern_options, pattern_texts};
 ghost use Rattle.linegrep_cli.specs.ColorOptions.{refuses_colors};
 ghost use Rattle.linegrep_cli.specs.PathSeparators.{refuses_path_separator};
@@ -21,7 +22,7 @@ use crate::failures::{Failure, say};
 use crate::file_options::file_options;
 use crate::file_run::Run;
 use crate::options::Options;
-use crate::patterns::compile;
+use crate::patterns::{check_size_limits, compile};
 use crate::scope::Scope;
 use crate::separators::{path_separator, separators};
 use crate::settings::{build_printer, build_searcher};
@@ -95,6 +96,9 @@ fn prepare<'r, S: System>(
         regex_options regex ≡ pattern_options options.now patterns.now) }
     ensures patterns { IfOk result (λ (regex, prepared).
         regex_patterns regex ≡ pattern_texts options.now patterns.now) }
+    ensures sized { IfOk result (λ (regex, prepared).
+        AreSized (pattern_options options.now patterns.now)
+        (pattern_texts options.now patterns.now) (regex_programs regex)) }
     ensures prepared { IfOk result (λ (regex, prepared).
         IsPrepared (S.facts system.now) options.now prepared) }
     ensures template { IfOk result (λ (regex, prepared).
@@ -103,6 +107,7 @@ fn prepare<'r, S: System>(
         → IsCause (S.facts system.now) options.now patterns.now) }
 {
     options.order().check(rt.alloc(), system)?;
+    check_size_limits(rt.alloc(), options)?;
     let layout = match layout_of(rt.alloc(), options) {
         Ok(layout) => layout,
         Err(failure) => return Err(failure),
@@ -166,6 +171,9 @@ fn compile_with_template(
         regex_options regex ≡ pattern_options options.now patterns.now) }
     ensures patterns { IfOk result (λ (regex, template).
         regex_patterns regex ≡ pattern_texts options.now patterns.now) }
+    ensures sized { IfOk result (λ (regex, template).
+        AreSized (pattern_options options.now patterns.now)
+        (pattern_texts options.now patterns.now) (regex_programs regex)) }
     ensures template { IfOk result (λ (regex, template). IsTemplate options.now regex template) }
     ensures refused { IfErr result (λ failure. has_cause failure ≡ true
         → ArePatternsRefused options.now patterns.now) }

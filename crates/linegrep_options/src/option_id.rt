@@ -22,6 +22,8 @@ pub enum OptionId {
     NoUnicode,
     Pcre2Unicode,
     NoPcre2Unicode,
+    RegexSizeLimit,
+    DfaSizeLimit,
     StopOnNonmatch,
     Engine,
     MaxCount,

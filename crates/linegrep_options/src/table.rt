@@ -94,6 +94,10 @@ macro_rules! options {
         Unicode, "unicode", None, Value::Nothing, [], "";
         NoPcre2Unicode, "no-pcre2-unicode", None, Value::Nothing, [Unicode, Pcre2Unicode], "";
         Pcre2Unicode, "pcre2-unicode", None, Value::Nothing, [], "";
+        RegexSizeLimit, "regex-size-limit", None, Value::Size, [],
+            "Refuse patterns that are compiled to more bytes; K, M or G may follow";
+        DfaSizeLimit, "dfa-size-limit", None, Value::Size, [],
+            "Taken as a size, and without effect";
         Engine, "engine", None, Value::Engine, [], "";
         ["Lines"]
         InvertMatch, "invert-match", Some('v'), Value::Nothing, [NoInvertMatch],

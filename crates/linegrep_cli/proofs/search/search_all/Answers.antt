@@ -8,6 +8,7 @@ returns-in-Ok g c = elim c.search_named.ensures [
     regex = c.in-Ok.regex;
     has_options = c.in-Ok.ensures.options;
     has_patterns = c.in-Ok.ensures.patterns;
+    sized = c.in-Ok.ensures.sized;
     run = run;
   })
 ]
