@@ -61,15 +61,15 @@ pub struct Streams {
 /// what `input` gives, or the files of the current folder. It writes to `output` what is found, and
 /// says on `errors` what goes wrong. `system` is asked about the paths.
 ///
-/// The result has the status that the program exits with: 0 if a line matches, or help or the
-/// version is written; 1 if no line matches; and 2 if something can't be read or written, or the
-/// arguments are wrong. With `-q` it is 0 once a line matches, and it is 0 if nobody reads the
-/// output any more. The result has the streams too.
+/// The result has the status that the program exits with: 0 if a line matches, or if help, the
+/// version, a generated text or the list of types is written; 1 if no line matches; and 2 if
+/// something can't be read or written, or the arguments are wrong. With `-q` it is 0 once a line
+/// matches, and it is 0 if nobody reads the output any more. The result has the streams too.
 ///
-/// If the status isn't 2, `output` has taken exactly what the arguments ask for, unless nobody
-/// reads it any more: help, the version, a generated text or the list of types; or else the texts
-/// of the searches, one after the other, and then the totals of `--stats` or `--json`. Of runs with
-/// `--files` or `-q` less is promised.
+/// If the status isn't 2, and `output` says which bytes it holds, it has taken exactly what the
+/// arguments ask for, unless nobody reads it any more: help, the version, a generated text or the
+/// list of types; or else the texts of the searches, one after the other, and then the totals of
+/// `--stats` or `--json`. Of runs with `--files` or `-q` less is promised.
 pub fn run<S: System, R: Source + Drop, W: Output + Drop, E: Output>(
     rt: &HostRuntime,
     system: &S,
