@@ -108,10 +108,10 @@ impl Layers {
         retain_above(&mut self.layers, depth);
     }
 
-    /// The rule that decides of the file or the folder at a path, if there is one: in the first layer
-    /// with a rule about it, the last such rule. `start` is how many bytes of the path are before what
-    /// is where the program runs, and `repository` the depth of the repository that the path is in, if
-    /// it is in one. `row` is room to work in. An error is one of being out of memory.
+    /// The rule that decides of the file or the folder at a path, if there is one: in the first
+    /// layer with a rule about it, the last such rule. `start` is how many bytes of the path are
+    /// before what is where the program runs. `repository` is the depth of the repository that the
+    /// path is in, if it is in one. `row` is room to work in. An error is one of being out of memory.
     pub fn decider(
         &self,
         row: &mut Vec<bool>,
@@ -163,7 +163,13 @@ fn first_decider(
 {
     for (at, layer) in layers.iter().enumerate() {
         match layer.rule(row, path, is_folder, start, repository)? {
-            Some(rule) => return Ok(Some(rule.decider(at))),
+            Some(rule) => {
+                return Ok(Some(Decider {
+                    keeps: rule.keeps,
+                    layer: at,
+                    line: rule.number,
+                }));
+            }
             None => {}
         }
     }
@@ -201,19 +207,6 @@ impl Layer {
             start
         } else {
             self.start
-        }
-    }
-}
-
-impl Rule {
-    // What decides, where this rule of a layer does.
-    fn decider(&self, layer: usize) -> Decider
-        ensures { result ≡ record { keeps = self.now.keeps; layer = layer; line = self.now.number } }
-    {
-        Decider {
-            keeps: self.keeps,
-            layer,
-            line: self.number,
         }
     }
 }

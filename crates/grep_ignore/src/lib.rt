@@ -17,5 +17,5 @@ pub use glob::{GlobError, Step, head_of, is_tail, read_piece, tail_len};
 pub use layers::{Decider, Layer, Layers, Origin};
 pub use line::{RuleText, folder_pieces, split_rule};
 pub use path_tests::{PathTest, PathTests};
-pub use rules::{Decision, Misread, Rule, Rules};
+pub use rules::{Decision, Misread, Rules};
 pub use wildcards::{Piece, Wildcards};

@@ -150,10 +150,10 @@ impl Rules {
         }
     }
 
-    /// The rule that decides of the file or the folder at a path, which begins in the folder that the
-    /// rules are about: the last that matches it. `row` is room to work in. An error is one of being
-    /// out of memory.
-    pub fn last_about(
+    /// The rule that decides of the file or the folder at a path, if there is one: the last that
+    /// matches it. The path begins in the folder that the rules are about. `row` is room to work in.
+    /// An error is one of being out of memory.
+    pub(crate) fn last_about(
         &self,
         row: &mut Vec<bool>,
         path: &[u8],

@@ -1,12 +1,25 @@
--- Texts on standard error, one after another.
+-- Texts on standard error, one after another, and the entry of a folder, of which they are.
 use Rattle.std.proofs.Common.{◌≡◌, ℕ, ◌+◌, Bool, true, false, ◌∙◌, ap, arith, subst, sym}
-use Rattle.std.specs.Prelude.{None, Option, Some, if◌then◌else◌, is_some}
+use Rattle.std.specs.Prelude.{None, Option, Some, String, if◌then◌else◌, is_some}
+use Rattle.std.specs.Global.{Global}
 use Rattle.std.specs.declared.io.Error.{Error}
 use Rattle.std.proofs.lemmas.Bool.{false≢true, true≢false}
 use Rattle.linegrep_cli.specs.EngineCalls.{EngineCall}
 use Rattle.linegrep_cli.specs.OperandRuns.{AreSaid, AreTold, AreWritten, last_text, next_text, no_text, no_visit}
 use Rattle.linegrep_cli.specs.declared.scope.Scope.{Scope}
 use Rattle.linegrep_cli.specs.declared.visit.Visit.{Visit}
+use Rattle.linegrep_files.specs.declared.entry.Entry.TheVariants.{File, Folder, Unread}
+
+-- an entry that is a folder is of one path, and nothing else
+pub same-folder : (one other : String Global) → Folder one ≡ Folder other → one ≡ other
+same-folder one other same = cc
+
+pub file-isnt-folder : (one other : String Global) → File one ≡ Folder other → ⊥
+file-isnt-folder one other same = absurd (cc)
+
+pub unread-isnt-folder : (one : String Global) (error : Error) (other : String Global)
+    → Unread one error ≡ Folder other → ⊥
+unread-isnt-folder one error other same = absurd (cc)
 
 module _ {E F : Type 0} (step : E → EngineCall F → E → Type 0) where
   -- texts, and more after them

@@ -174,7 +174,7 @@ module _ {E F : Type 0} (folders : FolderFacts) (finds : List ℕ → Result Boo
       path-visited path old visit new visited sound
   entry-visited old _ visit new (of_listed path is is_listing visited) sound = listed is_listing
   entry-visited old _ visit new (of_unread is) sound = reported old visit new is sound
-  entry-visited old _ visit new (of_entered warned noted failure are_said is) sound =
+  entry-visited old _ visit new (of_entered inside (failure, are_said, is)) sound =
       by-failure visit.failure failure new (ap (λ (v : Visit). v.failure) is)
       (all-said old _ failure new are_said sound)
 

@@ -253,7 +253,7 @@ module _ {E F R : Type 0} (folders : FolderFacts) (finds : List ℕ → Result B
     entry-visited entries inputs found before searched reader mid _ visit new (of_unread is) good at =
         absurd (reported mid new visit is good)
     entry-visited entries inputs found before searched reader mid _ visit new
-        (of_entered {text = text} warned noted failure said is)
+        (of_entered {text = text} inside (failure, said, is))
         good (next, files, some, at) =
         let none = sym (ap (λ (v : Visit). v.failure) is) ∙ good.no_failure in
         let now = said-all quitting (inputs ++ next) (found || before) reader mid _ failure new said none at in (

@@ -1,8 +1,8 @@
 -- What a run over operands visits, in which order, what comes of that, and the status.
 use Rattle.std.specs.Prelude.{◌≡◌, ◌≢◌, ◌⊎◌, ℕ, Bool, true, false, not, ◌&&◌, ◌||◌, ◌==◌}
 use Rattle.std.specs.Prelude.{if◌then◌else◌}
-use Rattle.std.specs.Prelude.{◌+◌, ◌<◌, codes, length, List, [], ◌∷◌, ◌++◌, Option, None, Some, is_some}
-use Rattle.std.specs.Prelude.{is_none, is_ok}
+use Rattle.std.specs.Prelude.{◌+◌, ◌<◌, codes, length, List, [], ◌∷◌, ◌++◌, Option, None, Some}
+use Rattle.std.specs.Prelude.{is_none, is_ok, is_some}
 use Rattle.std.specs.Prelude.{MatchBool, MatchOption, Result, Ok, Err, String, string_bytes}
 use Rattle.std.specs.List.{list_any}
 use Rattle.std.specs.Borrow.{Bor}
@@ -25,11 +25,13 @@ use Rattle.linegrep_files.specs.Choices.{SaysTheSame, notes_of, warnings_of}
 use Rattle.linegrep_files.specs.FileIds.{is_same_file}
 use Rattle.linegrep_files.specs.FolderFacts.{FolderFacts}
 use Rattle.linegrep_files.specs.Trees.{AreAllOf, AreFirstOf}
+use Rattle.linegrep_files.specs.Walks.{IsNoted}
 use Rattle.linegrep_files.specs.declared.choices.Choices.{Choices}
 use Rattle.linegrep_files.specs.declared.entry.Entry.{Entry}
 use Rattle.linegrep_files.specs.declared.entry.Entry.TheVariants.{File, Folder, Unread}
 use Rattle.linegrep_files.specs.declared.file_id.FileId.{FileId}
 use Rattle.linegrep_files.specs.declared.notes.Note.{Note}
+use Rattle.linegrep_files.specs.declared.walk.Walk.{Walk}
 
 -- nothing was visited
 abbrev pub no_visit : Visit
@@ -163,12 +165,26 @@ module _ {E F : Type 0} (step : E → EngineCall F → E → Type 0) (scope : Sc
   AreSaid old count failure new =
       AreWritten step old (if says_warnings scope.messages then count else 0) failure new
 
-  -- so many texts about the ignore files of a folder are written to standard error, and then so many
-  -- about what in it isn't visited, or none of either kind if they aren't asked for
+  -- so many texts about the ignore files of a folder are written to standard error, and then so
+  -- many about what in it isn't visited, or none of either kind if they aren't asked for
   abbrev pub AreTold : E → ℕ → ℕ → Option Error → E → Type 0
   AreTold old warned noted failure new = AreWritten step old
       ((if says_warnings scope.messages then warned else 0) + (if scope.explains then noted else 0))
       failure new
+
+  -- all that choices have to say of a folder is said: what is wrong with its ignore files, and what
+  -- in it isn't visited
+  abbrev pub IsTold : E → Choices → Visit → E → Type 0
+  IsTold old choices visit new = (failure : Option Error)
+      × AreTold old (length (warnings_of choices)) (note_count choices) failure new
+      × (visit ≡ record no_visit { failure = failure })
+
+  -- a walk entered the folder at a path, and all that was noted then is said
+  pub record IsExplained {S : Type 0} (facts : S → FolderFacts) (walk : Walk S) (choices : Choices)
+      (folder : List ℕ) (old : E) (visit : Visit) (new : E) : Type 0 where
+    pub inside : Choices
+    pub noted : IsNoted facts walk choices folder inside
+    pub told : IsTold old inside visit new
 
 module _ {E F : Type 0} (step : E → EngineCall F → E → Type 0) (has_failed : E → Bool)
     (scope : Scope) where
@@ -249,10 +265,8 @@ module _ {E F : Type 0} (opens : List ℕ → Result F Error → Type 0)
         → IsEntryVisited old (File text) visit new
     of_unread : {visit : Visit} {new : E} {text : String Global} {error : Error}
         → IsReported step scope old visit new → IsEntryVisited old (Unread text error) visit new
-    of_entered : {visit : Visit} {new : E} {text : String Global} (warned noted : ℕ)
-        (failure : Option Error) → AreTold step scope old warned noted failure new
-        → visit ≡ record no_visit { failure = failure }
-        → IsEntryVisited old (Folder text) visit new
+    of_entered : {visit : Visit} {new : E} {text : String Global} (inside : Choices)
+        → IsTold step scope old inside visit new → IsEntryVisited old (Folder text) visit new
 
   -- entries are visited in order. Only the last may have ended the run
   pub data AreEntriesVisited (old : E) : List Entry → Visit → E → Type 0 where

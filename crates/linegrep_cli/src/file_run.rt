@@ -1,13 +1,14 @@
 //! A run over files.
 ghost use Rattle.std.specs.Prelude.{◌≡◌, ◌↔◌, ℕ, [], false, true, length, IsTrue, Option, Result};
-ghost use Rattle.std.specs.Prelude.{if◌then◌else◌};
+ghost use Rattle.std.specs.Prelude.{None, String, if◌then◌else◌, string_bytes};
+ghost use Rattle.std.specs.Global.{Global};
 ghost use Rattle.std.specs.IoError.{error_kind};
 ghost use Rattle.std.specs.declared.io.ErrorKind.TheVariants.{BrokenPipe};
 ghost use Rattle.linegrep_cli.specs.EngineCalls.{says};
 ghost use Rattle.std.specs.declared.io.Error.{Error};
 ghost use Rattle.linegrep_cli.specs.OperandRuns.{AreAllVisited, AreOperandsSearched, AreSaid};
-ghost use Rattle.linegrep_cli.specs.OperandRuns.{AreTold, AreWritten};
-ghost use Rattle.linegrep_cli.specs.OperandRuns.{IsEntryVisited, IsFailing, IsFileVisited};
+ghost use Rattle.linegrep_cli.specs.OperandRuns.{AreWritten, IsEntryVisited, IsFailing};
+ghost use Rattle.linegrep_cli.specs.OperandRuns.{IsExplained, IsFileVisited, IsTold};
 ghost use Rattle.linegrep_cli.specs.OperandRuns.{IsFolderVisited, IsHereVisited, IsInputVisited};
 ghost use Rattle.linegrep_cli.specs.OperandRuns.{IsKept, IsListed, IsNamedVisited};
 ghost use Rattle.linegrep_cli.specs.OperandRuns.{IsOperandVisited};
@@ -18,6 +19,7 @@ ghost use Rattle.linegrep_cli.specs.OperandRuns.{no_visit};
 ghost use Rattle.linegrep_files.specs.Choices.{AreAlike, AreTakenUp, SaysTheSame, warnings_of};
 ghost use Rattle.linegrep_files.specs.Folders.{name_of};
 ghost use Rattle.linegrep_files.specs.Trees.{IsPassed};
+ghost use Rattle.linegrep_files.specs.declared.entry.Entry.TheVariants.{Folder};
 
 use crate::engine::{Engine, written_error};
 use crate::failures::{Failure, output_failure};
@@ -283,6 +285,10 @@ impl<'r, S: System> Run<'r, S> {
         ensures visited { IsEntryVisited (S.opens self.now.system.now)
             (S.identifies self.now.system.now) E.step E.has_failed self.now.scope engine.old
             entry.now result engine.new }
+        ensures explained { (text : String Global) → entry.now ≡ Folder text
+            → walk.new.is_out_of_memory ≡ false
+            → IsExplained E.step self.now.scope S.facts walk.old choices.old (string_bytes text)
+            engine.old result engine.new }
         ensures passed { IsPassed S.facts walk.old choices.old entry.now walk.new choices.new }
     {
         match entry {
@@ -355,14 +361,14 @@ impl<'r, S: System> Run<'r, S> {
         visit
     }
 
-    // Says what is wrong with the ignore files of a folder; and what in it isn't visited and why, if
-    // that is asked for.
+    // Says what is wrong with the ignore files of a folder; and what in it isn't visited and why,
+    // if that is asked for.
     fn tell<E: Engine<S::File>>(&self, engine: &mut E, choices: &mut Choices<'r>) -> Visit
-        ensures told { (failure : Option Error)
-            × AreTold E.step self.now.scope engine.old (length (warnings_of choices.old))
-            (note_count choices.old) failure engine.new
-            × (result ≡ record no_visit { failure = failure }) }
+        ensures told { IsTold E.step self.now.scope engine.old choices.old result engine.new }
         ensures same { SaysTheSame choices.old choices.new }
+        ensures none { warnings_of choices.new ≡ [] }
+        ensures unnoted { self.now.scope.explains ≡ true → result.failure ≡ None
+            → note_count choices.new ≡ 0 }
     {
         let warned = self.warn(engine, choices);
         if warned.failure.is_some() {
@@ -378,6 +384,7 @@ impl<'r, S: System> Run<'r, S> {
             (if self.now.scope.explains then note_count choices.old else 0) failure engine.new
             × (result ≡ record no_visit { failure = failure }) }
         ensures same { SaysTheSame choices.old choices.new }
+        ensures warnings { warnings_of choices.new ≡ warnings_of choices.old }
         ensures none { self.now.scope.explains ≡ true → note_count choices.new ≡ 0 }
     {
         if !self.scope.explains {

@@ -125,9 +125,9 @@ module _ (looks : Bool → List ℕ → Result Found Error → Type 0) (follows 
   IsFolderAt path id (Unread text error) = LeadsBack looks follows top root id path true
       × (string_bytes text ≡ path) × (error_kind error ≡ FilesystemLoop)
 
-  -- what is found at a path, by what looking at it returned: a regular file that isn't too large, a
-  -- folder that may be entered, or that it can't be read. Otherwise nothing is, for a reason. A link
-  -- that is followed to a folder that it is in can't be read
+  -- what is found at a path, by what looking at it returned: a regular file that isn't too large,
+  -- a folder that may be entered, or that it can't be read. Otherwise nothing is, for a reason. A
+  -- link that is followed to a folder that it is in can't be read
   pub data IsAt (path : List ℕ) : Result Entry Reason → Type 0 where
     of_file : (found : Found) (text : String Global) → looks follows path (Ok found)
         → found.kind ≡ IsFile → allows_size limits found.size ≡ true → string_bytes text ≡ path
@@ -146,9 +146,9 @@ module _ (looks : Bool → List ℕ → Result Found Error → Type 0) (follows 
     of_other : (found : Found) → looks follows path (Ok found) → found.kind ≡ IsOther
         → IsAt path (Err Special)
 
-  -- what is found for a name in a folder: what is at its path, if that is chosen; or why nothing is.
-  -- If the name isn't UTF-8 and is chosen, it is found that something can't be read, which has the
-  -- name's word as its name
+  -- what is found for a name in a folder: what is at its path, if that is chosen; or why nothing
+  -- is. If the name isn't UTF-8 and is chosen, it is found that something can't be read, which has
+  -- the name's word as its name
   pub data IsFound (choices : Choices) (folder name : List ℕ) : Result Entry Reason → Type 0 where
     of_nothing : (reason : Reason) → IsUtf8 name → IsAt (joined folder name) (Err reason)
         → IsFound choices folder name (Err reason)

@@ -109,8 +109,8 @@ impl<'r> Choices<'r> {
     }
 
     /// Why the file or the folder isn't visited that has a name in the folder, and is at a path, if
-    /// it isn't. Globs decide first, then ignore files, and for a file its types. If none of these is
-    /// about it, it is visited if it isn't hidden, or if hidden ones are visited too.
+    /// it isn't. Globs decide first, then ignore files, and for a file its types. If none of these
+    /// is about it, it is visited if it isn't hidden, or if hidden ones are visited too.
     pub fn reason(
         &mut self,
         path: &str,
@@ -179,8 +179,8 @@ impl<'r> Choices<'r> {
         self.notes.is_some()
     }
 
-    /// Notes that what is at a path isn't visited, and why, if that is asked for. The path is a word
-    /// that `escape` writes.
+    /// Notes that what is at a path isn't visited, and why, if that is asked for. The path is a
+    /// word that `escape` writes.
     pub fn note(&mut self, alloc: Global, path: String, reason: Reason) -> Result<(), AllocError>
         ensures noted { OnOk result (AreNoted (λ notes. (note : Note) × (notes ≡ note ∷ [])
             × IsNote self.old (string_bytes path) reason note) self.old self.new) }
