@@ -6,6 +6,7 @@ pub mod MarkedBlocks
 pub mod MarkedCalls
 pub mod NonAsciiLines
 pub mod NumberedTexts
+pub mod Outlines
 pub mod PathCounts
 pub mod PlainSettings
 pub mod Prefixes

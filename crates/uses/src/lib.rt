@@ -4,8 +4,9 @@
 //! `count_matching_lines` counts, and so do `count_in_reader`, `count_in_path` and, across lines,
 //! `count_blocks`; `has_match` stops at the first match of a path, `first_matches` keeps the first
 //! ones of a reader and `first_with_context` those of a slice with the lines around them, and
-//! `matching_lines` joins the lines of all matches by a handler of its own. `numbered_lines`,
-//! `json_lines` and `in_context` write by closures, and `reporter` builds a searcher.
+//! `matching_lines` joins the lines of all matches by a handler of its own. `search_outline` keeps a
+//! byte for each report by a sink of its own. `numbered_lines`, `json_lines` and `in_context` write
+//! by closures, and `reporter` builds a searcher.
 //! `count_with_prefix` and `count_non_ascii_lines` have a matcher of their own, which a search asks
 //! about one line, or about many; `count_pattern_lines` and `first_pattern_line` compile a regular
 //! expression. `lines_that_match` keeps the lines of a slice that match, `matches_in_lines` the first
@@ -27,6 +28,7 @@ mod last;
 mod matched;
 mod non_ascii;
 mod numbered;
+mod outline;
 mod path;
 mod plain;
 mod prefix;
@@ -46,6 +48,7 @@ pub use last::last_matches;
 pub use matched::{first_in_each, matches_in_lines};
 pub use non_ascii::{NonAscii, count_non_ascii_lines};
 pub use numbered::numbered_lines;
+pub use outline::search_outline;
 pub use path::{count_in_path, has_match};
 pub use prefix::count_with_prefix;
 pub use report::{in_context, reporter};
