@@ -25,7 +25,7 @@ use Rattle.regex_syntax.specs.Verdict.{Reads}
 use Rattle.regex_syntax.specs.declared.Config.{Config}
 use Rattle.regex_vm.specs.Found.{first_match, group_cells, span}
 use Rattle.grep_regex.specs.Clear.{find_clear}
-use Rattle.grep_regex.specs.Groups.{group_count, group_names, group_of_cells, groups_of_cells, groups_of_match}
+use Rattle.grep_regex.specs.Groups.{group_count, group_of_cells, groups_of_cells, groups_of_match}
 use Rattle.grep_regex.specs.Groups.{names_in, HasOneGroup}
 use Rattle.grep_regex.specs.Patterns.{captured, excluded_bytes, leftmost_match_at, written_re}
 use Rattle.grep_regex.specs.Seen.{seen_bytes}

@@ -1,51 +1,58 @@
--- Patterns that have a byte in a literal, or in a class of such bytes alone.
-use Rattle.std.proofs.Common.{◌≡◌, ◌⊎◌, ℕ, zero, suc, ◌+◌, ◌-◌, ◌<◌, ◌≤◌, ◌&&◌, Bool, true, false, not, List, [], ◌∷◌}
+-- Patterns that have a byte in a literal, or in a class of such bytes alone, and texts that can name it.
+use Rattle.std.proofs.Common.{◌≡◌, ◌⊎◌, ℕ, zero, suc, ◌+◌, ◌-◌, ◌<◌, ◌≤◌, ◌&&◌, ◌==◌, Bool, true, false, not, List, [], ◌∷◌}
 use Rattle.std.proofs.Common.{◌++◌, length, map, get_or, take, Option, None, Some, Box, Global, Vec, refl, sym, ap, ◌∙◌}
-use Rattle.std.proofs.Common.{subst, inl, inr, ⊎_elim, arith}
-use Rattle.std.proofs.lemmas.Bool.{true≢false, and_from, or_cases, or_parts, eqb-true, true_from_ne_false}
+use Rattle.std.proofs.Common.{subst, inl, inr, ⊎_elim, arith, All, Bor}
+use Rattle.std.proofs.lemmas.Bool.{true≢false, and_from, eqb-true, true_from_ne_false, false_from_ne_true}
 use Rattle.std.proofs.lemmas.Bool.{not_from_false}
-use Rattle.std.proofs.lemmas.List.{take_more, map-append}
-use Rattle.std.specs.List.{list_any}
+use Rattle.std.proofs.lemmas.List.{take_more, map-append, get_or-map, length-map}
+use Rattle.std.proofs.lemmas.List.Folds.{list_any_none}
 use Rattle.std.specs.Option.{option_eq, is_some, MatchOption}
 use lib.Dec.{eqb}
 use native.Mathlib.Numerals.{unary_clauses}
 use Rattle.regex_class.specs.Ranges.{in_ranges, IsBounds}
 use Rattle.regex_class.proofs.RangesLemmas.{in_ranges-nil}
 use Rattle.regex_hir.specs.Meaning.{meaning, cat_all, alt_all, optional, copies, up_to, repeat}
-use Rattle.regex_hir.specs.Re.{Re, empty, literal, byte_in, cat, plus}
+use Rattle.regex_hir.specs.Re.{Re, empty, cat, plus}
 use Rattle.regex_hir.specs.declared.hir.Hir.{Hir}
-use Rattle.regex_hir.specs.declared.hir.Hir.TheVariants.{Literal, Repetition, Alternation}
-use Rattle.regex_hir.proofs.MeaningLemmas.{meaning-Literal, meaning-Repetition, meaning-Alternation}
+use Rattle.regex_hir.specs.declared.hir.Hir.TheVariants.{Repetition, Capture, Concat, Alternation}
+use Rattle.regex_hir.proofs.MeaningLemmas.{meaning-Repetition, meaning-Capture, meaning-Concat}
+use Rattle.regex_hir.proofs.MeaningLemmas.{meaning-Alternation}
 use Rattle.grep_regex.specs.Clear.{is_among}
-use Rattle.grep_regex.specs.NamedBytes.{HasByte, HasNone, IsLost}
-use Rattle.grep_regex.specs.Refusals.{IsStripError}
+use Rattle.grep_regex.specs.NamedBytes.{CanName, HasByte, IsLost, IsNameable}
 use Rattle.grep_regex.specs.Repetitions.{Repeats}
 use Rattle.grep_regex.specs.Stripped.{IsClassOf}
-use Rattle.grep_regex.specs.declared.error.Error.{Error}
-use Rattle.grep_regex.specs.declared.error.Error.TheVariants.{Syntax, NotAllowed}
-use Rattle.grep_regex.specs.declared.error.Error.TheVariants.{InvalidLineTerminator, TooBig, Memory}
+use Rattle.grep_regex.specs.declared.options.Options.{Options}
 
--- ---- literals and classes
+-- ---- bytes and texts
 
--- none of the bytes that a test fails passes it
-none-passes : (p : ℕ → Bool) (bytes : List ℕ) (byte : ℕ) → list_any p bytes ≡ false → is_among bytes byte ≡ true
-    → p byte ≡ true → ⊥
-none-passes p [] byte none among passes = true≢false (sym among)
-none-passes p (b ∷ bytes) byte none among passes =
-    let parts = or_parts (p b) (list_any p bytes) none in
-    ⊎_elim
-    (λ here. true≢false (sym passes ∙ (ap p (eqb-true byte b here) ∙ parts.0)))
-    (λ later. none-passes p bytes byte parts.1 later passes)
-    (or_cases _ _ among)
+-- what isn't so of any of the bytes isn't so of one that is among them
+pub not-among : (P : ℕ → Type 0) (bytes : List ℕ) (byte : ℕ) → All (λ b. P b → ⊥) bytes → is_among bytes byte ≡ true
+    → P byte → ⊥
+not-among P bytes byte none among p = true≢false (sym among ∙ list_any_none (λ b. byte == b) bytes
+    (λ k d below. false_from_ne_true _ (λ same. none k d below (subst P (eqb-true byte (get_or bytes k d) same) p))))
 
-pub literal-none : (bytes bs : List ℕ) → list_any (is_among bytes) bs ≡ false → HasNone bytes (literal bs)
-literal-none bytes bs none byte among has = none-passes (is_among bytes) bs byte none has among
+module _ (o : Options) (patterns : List (Bor (List ℕ))) (byte : ℕ) where
+  abbrev texts : List (List ℕ)
+  texts = map (λ (p : Bor (List ℕ)). p.now) patterns
 
-module _ (bytes : List ℕ) (members left class : List (ℕ × ℕ)) (full : IsClassOf bytes class)
+  pub nameable-at : (i : ℕ) (d : Bor (List ℕ)) → i < length patterns → CanName o byte (get_or patterns i d).now
+      → IsNameable o texts byte
+  nameable-at i d inside names = record {
+    index = i;
+    inside = omega (arith, length-map patterns (λ (p : Bor (List ℕ)). p.now), inside);
+    names = subst (CanName o byte) (sym (get_or-map (λ (p : Bor (List ℕ)). p.now) patterns i d [] inside)) names;
+  }
+
+  pub not-nameable : All (λ text. CanName o byte text → ⊥) texts → IsNameable o texts byte → ⊥
+  not-nameable all it = all it.index [] it.inside it.names
+
+-- ---- classes
+
+module _ (bytes : List ℕ) (byte : ℕ) (members left class : List (ℕ × ℕ)) (full : IsClassOf bytes class)
     (thin : (x : ℕ) → x ≤ 0x10_FFFF → in_ranges left x ≡ (in_ranges members x && not (in_ranges class x))) where
-  -- a class that keeps a member
-  pub class-kept : (b : ℕ × ℕ) → IsBounds left b → HasNone bytes (byte_in members)
-  class-kept b bounds byte among lost =
+  -- a class that keeps a member isn't lost
+  pub class-kept : (b : ℕ × ℕ) → IsBounds left b → IsLost bytes byte members → ⊥
+  class-kept b bounds lost =
       let small : b.0 ≤ 0x10_FFFF = omega (arith, (bounds.between b.0 bounds.first).1, bounds.bounded) in
       let both = and_both (in_ranges members b.0) (in_ranges class b.0) (sym (thin b.0 small) ∙ bounds.first) in
       true≢false (sym (lost.only b.0 small both.0) ∙ (sym (full b.0 small) ∙ both.1))
@@ -55,13 +62,9 @@ module _ (bytes : List ℕ) (members left class : List (ℕ × ℕ)) (full : IsC
       and_both true false h = (refl, refl)
       and_both false y h = absurd (true≢false (sym h))
 
-  -- and one that had none of the bytes
-  pub class-none : list_any (in_ranges members) bytes ≡ false → HasNone bytes (byte_in members)
-  class-none none byte among lost = none-passes (in_ranges members) bytes byte none among lost.member
-
-  -- and one that keeps none, and has the byte
-  pub class-lost : (byte : ℕ) → left ≡ [] → in_ranges members byte ≡ true → IsLost bytes byte members
-  class-lost byte gone member = record {
+  -- one that keeps none is
+  pub class-lost : left ≡ [] → in_ranges members byte ≡ true → IsLost bytes byte members
+  class-lost gone member = record {
     member = member;
     only = λ x small inside. true_from_ne_false _ (λ other. true≢false (
         sym (thin x small ∙ and_from _ _ inside (not_from_false _ (full x small ∙ other)))
@@ -83,20 +86,6 @@ module _ (left : List (ℕ × ℕ)) (bounds : Option (ℕ × ℕ)) (known : Matc
       has : (o : Option (ℕ × ℕ)) → is_some o ≡ true → MatchOption o (left ≡ []) (IsBounds left) → P
       has None some known = absurd (true≢false (sym some))
       has (Some b) some known = f b known
-
--- ---- what has a byte if another has
-
-module _ (bytes : List ℕ) (a b : Re) where
-  pub error-along : ((byte : ℕ) → HasByte bytes byte a → HasByte bytes byte b) → (e : Error)
-      → IsStripError bytes a e → IsStripError bytes b e
-  error-along f (Syntax pattern error) p = absurd p
-  error-along f (NotAllowed byte) p = (p.0, f byte p.1)
-  error-along f (InvalidLineTerminator byte) p = absurd p
-  error-along f TooBig p = absurd p
-  error-along f Memory p = tt
-
-  pub none-along : ((byte : ℕ) → HasByte bytes byte b → HasByte bytes byte a) → HasNone bytes a → HasNone bytes b
-  none-along f none byte among has = none byte among (f byte has)
 
 -- ---- repetitions
 
@@ -175,47 +164,56 @@ pub never-empty : (h : Hir) (least : ℕ) (most : Option ℕ) (greedy : Bool) (a
 unfolding repeat
 never-empty h least most greedy a is none end = rw (is, meaning-Repetition least most greedy a, none, end) refl
 
-module _ (bytes : List ℕ) (h : Hir) where
-  pub none-Literal : (a : Vec ℕ Global) → h ≡ Literal a → list_any (is_among bytes) a.items ≡ false
-      → HasNone bytes (meaning h)
-  none-Literal a is none = rw (is, meaning-Literal a) (literal-none bytes a.items none)
+-- the tree is a repetition or a group of another, or a sequence or an alternation of others
+abbrev pub IsOver : Hir → Box Hir Global → Type 0
+IsOver h a = ((least : ℕ) × (most : Option ℕ) × (greedy : Bool) × (h ≡ Repetition least most greedy a))
+    ⊎ ((index : ℕ) × (h ≡ Capture index a))
 
-  module _ (least : ℕ) (most : Option ℕ) (greedy : Bool) (a : Box Hir Global)
-      (is : h ≡ Repetition least most greedy a) where
-    pub none-Repetition : HasNone bytes (meaning a.value) → HasNone bytes (meaning h)
-    none-Repetition none = rw (is, meaning-Repetition least most greedy a)
-        (none-along bytes (meaning a.value) (repeat least most greedy (meaning a.value))
-        (λ byte. from-repeat bytes byte least most greedy (meaning a.value)) none)
+abbrev pub IsOf : Hir → Vec Hir Global → Type 0
+IsOf h a = (h ≡ Concat a) ⊎ (h ≡ Alternation a)
 
-    pub error-Repetition : Repeats h → (e : Error) → IsStripError bytes (meaning a.value) e
-        → IsStripError bytes (meaning h) e
-    error-Repetition repeats e p = rw (is, meaning-Repetition least most greedy a)
-        (error-along bytes (meaning a.value) (repeat least most greedy (meaning a.value))
-        (λ byte. to-repeat bytes byte least most greedy (meaning a.value) (repeats least most greedy a is)) e p)
+module _ (bytes : List ℕ) (byte : ℕ) (h : Hir) where
+  pub has-over : (a : Box Hir Global) → IsOver h a → Repeats h → HasByte bytes byte (meaning a.value)
+      → HasByte bytes byte (meaning h)
+  has-over a is repeats has = ⊎_elim
+      (λ it. subst (HasByte bytes byte) (sym (ap meaning it.3 ∙ meaning-Repetition it.0 it.1 it.2 a))
+      (to-repeat bytes byte it.0 it.1 it.2 (meaning a.value) (repeats it.0 it.1 it.2 a it.3) has))
+      (λ it. subst (HasByte bytes byte) (sym (ap meaning it.1 ∙ meaning-Capture it.0 a)) has)
+      is
 
-  module _ (a : Vec Hir Global) (is : h ≡ Alternation a) where
-    pub none-Alternation : HasNone bytes (cat_all (map meaning a.items)) → HasNone bytes (meaning h)
-    none-Alternation none = rw (is, meaning-Alternation a)
-        (none-along bytes (cat_all (map meaning a.items)) (alt_all (map meaning a.items))
-        (λ byte. from-alt_all bytes byte (map meaning a.items)) none)
+  pub lacks-over : (a : Box Hir Global) → IsOver h a → (HasByte bytes byte (meaning a.value) → ⊥)
+      → HasByte bytes byte (meaning h) → ⊥
+  lacks-over a is lacks has = ⊎_elim
+      (λ it. lacks (from-repeat bytes byte it.0 it.1 it.2 (meaning a.value)
+      (subst (HasByte bytes byte) (ap meaning it.3 ∙ meaning-Repetition it.0 it.1 it.2 a) has)))
+      (λ it. lacks (subst (HasByte bytes byte) (ap meaning it.1 ∙ meaning-Capture it.0 a) has))
+      is
 
-    pub error-Alternation : (e : Error) → IsStripError bytes (cat_all (map meaning a.items)) e
-        → IsStripError bytes (meaning h) e
-    error-Alternation e p = rw (is, meaning-Alternation a)
-        (error-along bytes (cat_all (map meaning a.items)) (alt_all (map meaning a.items))
-        (λ byte. to-alt_all bytes byte (map meaning a.items)) e p)
+  pub has-of : (a : Vec Hir Global) → IsOf h a → HasByte bytes byte (cat_all (map meaning a.items))
+      → HasByte bytes byte (meaning h)
+  has-of a is has = ⊎_elim
+      (λ it. subst (HasByte bytes byte) (sym (ap meaning it ∙ meaning-Concat a)) has)
+      (λ it. subst (HasByte bytes byte) (sym (ap meaning it ∙ meaning-Alternation a))
+      (to-alt_all bytes byte (map meaning a.items) has))
+      is
+
+  pub lacks-of : (a : Vec Hir Global) → IsOf h a → (HasByte bytes byte (cat_all (map meaning a.items)) → ⊥)
+      → HasByte bytes byte (meaning h) → ⊥
+  lacks-of a is lacks has = ⊎_elim
+      (λ it. lacks (subst (HasByte bytes byte) (ap meaning it ∙ meaning-Concat a) has))
+      (λ it. lacks (from-alt_all bytes byte (map meaning a.items)
+      (subst (HasByte bytes byte) (ap meaning it ∙ meaning-Alternation a) has)))
+      is
 
 -- ---- steps of a loop over trees
 
-module _ (bytes : List ℕ) (subs : List Hir) (i : ℕ) (d : Hir) (inside : i < length subs) where
-  pub none-more : HasNone bytes (cat_all (map meaning (take i subs))) → HasNone bytes (meaning (get_or subs i d))
-      → HasNone bytes (cat_all (map meaning (take (i + 1) subs)))
-  none-more front here = subst (λ xs. HasNone bytes (cat_all xs))
-      (sym (ap (map meaning) (take_more subs i d inside) ∙ map-append meaning (take i subs) (get_or subs i d ∷ [])))
-      (λ byte among has. ⊎_elim (front byte among) (here byte among)
-      (from-append bytes byte (map meaning (take i subs)) (meaning (get_or subs i d)) has))
+module _ (bytes : List ℕ) (byte : ℕ) (subs : List Hir) (i : ℕ) (d : Hir) (inside : i < length subs) where
+  pub has-at : HasByte bytes byte (meaning (get_or subs i d)) → HasByte bytes byte (cat_all (map meaning subs))
+  has-at = to-list bytes byte subs i d inside
 
-  pub error-at : (e : Error) → IsStripError bytes (meaning (get_or subs i d)) e
-      → IsStripError bytes (cat_all (map meaning subs)) e
-  error-at e p = error-along bytes (meaning (get_or subs i d)) (cat_all (map meaning subs))
-      (λ byte. to-list bytes byte subs i d inside) e p
+  pub lacks-more : (HasByte bytes byte (cat_all (map meaning (take i subs))) → ⊥)
+      → (HasByte bytes byte (meaning (get_or subs i d)) → ⊥)
+      → HasByte bytes byte (cat_all (map meaning (take (i + 1) subs))) → ⊥
+  lacks-more front here has = ⊎_elim front here (from-append bytes byte (map meaning (take i subs))
+      (meaning (get_or subs i d)) (subst (λ xs. HasByte bytes byte (cat_all xs))
+      (ap (map meaning) (take_more subs i d inside) ∙ map-append meaning (take i subs) (get_or subs i d ∷ [])) has))

@@ -1,15 +1,15 @@
 -- The laws of `IsStripped`.
 use Rattle.std.proofs.Common.{◌≡◌, ℕ, zero, suc, ◌+◌, ◌-◌, ◌*◌, ◌<◌, ◌≤◌, Bool, true, false, cond}
-use Rattle.std.proofs.Common.{not, ◌&&◌, ◌/◌}
+use Rattle.std.proofs.Common.{not, ◌&&◌, ◌==◌, ◌/◌}
 use Rattle.std.proofs.Common.{List, [], ◌∷◌, ◌++◌, length, get_or, slice_get, slice_index, All}
 use Rattle.std.proofs.Common.{Option, Some, None}
 use Rattle.std.proofs.Common.{option_and_then, nat_lt, refl, sym, ap, ap₂, ◌∙◌, subst, inl, inr}
 use Rattle.std.proofs.Common.{⊎_elim, arith}
 use Rattle.std.proofs.Common.{get_or-drop}
 use Rattle.std.proofs.lemmas.Bool.{true≢false, cases_lt, cases_eq, cases_Bool, cond-true}
-use Rattle.std.proofs.lemmas.Bool.{cond-false}
-use Rattle.std.proofs.lemmas.List.{get_or_append_left}
-use Rattle.std.proofs.lemmas.List.Folds.{list_any_at}
+use Rattle.std.proofs.lemmas.Bool.{cond-false, eqb-true, false_from_ne_true}
+use Rattle.std.proofs.lemmas.List.{get_or_append_left, get_or_default}
+use Rattle.std.proofs.lemmas.List.Folds.{list_any_at, list_any_none}
 use Rattle.std.proofs.lemmas.Option.{slice_get_within, get_or_from_slice_get}
 use Rattle.std.proofs.lemmas.Str.{length-encode, len_utf8_ascii}
 use Rattle.std.specs.Char.{len_utf8, InScalarRange}
@@ -24,7 +24,7 @@ use Rattle.regex_hir.specs.Meaning.{cat_all, alt_all, optional, copies, up_to, r
 use Rattle.regex_hir.specs.declared.look.Look.{Look}
 use Rattle.regex_hir.proofs.AttemptLemmas.{cond_cong, attempt_cong, attempt_none}
 use Rattle.regex_hir.proofs.MatchesLemmas.{Matches-IsSpan}
-use Rattle.regex_hir.proofs.TextLemmas.{has_bytes_at_parts, char_at_fits}
+use Rattle.regex_hir.proofs.TextLemmas.{has_bytes_at_parts, has_bytes_at_fits, char_at_fits}
 use Rattle.regex_hir.proofs.Utf8Lemmas.{char_at_cases, encode_two, encode_three, encode_four}
 use Rattle.regex_hir.proofs.OptionLemmas.{option_cases}
 use Rattle.grep_regex.specs.Clear.{is_among, is_clear, if_clear}
@@ -92,6 +92,32 @@ stripped-literal bytes bs none = record {
         (λ has. absurd (true≢false (sym (list_any_at (is_among bytes) bs k 0 below has) ∙ none)))
         (λ hasnt. hasnt)
         (cases_Bool (is_among bytes (slice_index bs k)))
+
+-- a literal that has one of the bytes becomes a class without members
+module _ (bytes bs : List ℕ) (byte : ℕ) (among : is_among bytes byte ≡ true) (has : is_among bs byte ≡ true) where
+  literal-unclear : (hay : List ℕ) (s i : ℕ) → s ≤ i → i ≤ length hay → has_bytes_at hay i bs ≡ true
+      → is_clear bytes hay s (i + length bs) ≡ false
+  literal-unclear hay s i le fits found = false_from_ne_true _ (λ clear. true≢false (
+      sym has ∙ list_any_none (λ b. byte == b) bs (λ k d below. false_from_ne_true _ (λ same.
+      let sized : i + k < length hay = omega (arith, has_bytes_at_fits hay i bs found, below, fits) in
+      true≢false (sym among ∙ (ap (is_among bytes) (eqb-true byte (get_or bs k d) same
+      ∙ (get_or_default bs k d 0 below ∙ sym (literal-at hay i bs found k below)))
+      ∙ clear-at bytes hay s (i + length bs) clear (i + k) (omega arith) (omega arith) sized))))))
+
+  pub stripped-lost : IsStripped bytes (literal bs) (byte_in [])
+  unfolding attempt in_ranges
+  stripped-lost = record {
+    at = λ hay small rest s i le fits clear. cond-false _ (rest (i + 1)) None (no-member (slice_get hay i))
+        ∙ sym (⊎_elim
+        (λ found. cond-true _ (if_clear bytes hay s rest (i + length bs)) None found
+        ∙ gives-up bytes hay s rest (i + length bs) (literal-unclear hay s i le fits found))
+        (λ other. cond-false _ (if_clear bytes hay s rest (i + length bs)) None other)
+        (cases_Bool (has_bytes_at hay i bs)));
+  }
+    where
+      no-member : (o : Option ℕ) → is_some_and o (in_ranges []) ≡ false
+      no-member None = refl
+      no-member (Some x) = refl
 
 -- ---- classes
 

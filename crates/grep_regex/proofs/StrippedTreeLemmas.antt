@@ -1,5 +1,5 @@
 -- `IsStripped` of trees, by their forms.
-use Rattle.std.proofs.Common.{◌≡◌, ℕ, ◌+◌, ◌<◌, ◌||◌, Bool, false, List, [], ◌∷◌, ◌++◌}
+use Rattle.std.proofs.Common.{◌≡◌, ℕ, ◌+◌, ◌<◌, ◌||◌, ◌&&◌, not, Bool, true, false, List, [], ◌∷◌, ◌++◌}
 use Rattle.std.proofs.Common.{length, map, take, get_or}
 use Rattle.std.proofs.Common.{◌==◌, Option, sym, ap, ap₂, ◌∙◌, subst, Vec, Box, Global}
 use Rattle.std.proofs.lemmas.List.{take_more, map-append}
@@ -10,7 +10,7 @@ use Rattle.regex_class.specs.declared.Class.{Class}
 use Rattle.regex_class.specs.Ranges.{in_ranges, HasExactly}
 use Rattle.regex_class.proofs.RangesLemmas.{in_ranges-append}
 use Rattle.regex_hir.specs.Meaning.{meaning}
-use Rattle.regex_hir.specs.Re.{empty}
+use Rattle.regex_hir.specs.Re.{literal}
 use Rattle.regex_hir.specs.declared.look.Look as look_type
 use Rattle.regex_hir.specs.declared.hir.Hir.{Hir}
 use Rattle.regex_hir.specs.declared.hir.Hir.TheVariants.{Empty, Literal, Bytes, Chars, Look}
@@ -23,7 +23,7 @@ use Rattle.regex_hir.proofs.MeaningLemmas.{meaning-Alternation}
 use Rattle.regex_syntax.proofs.SameLemmas.{in_ranges_single}
 use Rattle.grep_regex.specs.Clear.{is_among}
 use Rattle.grep_regex.specs.Stripped.{IsStripped, AreStripped, AreAscii, IsClassOf, IsThinned}
-use Rattle.grep_regex.proofs.StrippedLemmas.{stripped-empty, stripped-look, stripped-literal}
+use Rattle.grep_regex.proofs.StrippedLemmas.{stripped-empty, stripped-look, stripped-literal, stripped-lost}
 use Rattle.grep_regex.proofs.StrippedLemmas.{stripped-byte_in}
 use Rattle.grep_regex.proofs.StrippedLemmas.{stripped-char_in, stripped-repeat, stripped-group}
 use Rattle.grep_regex.proofs.StrippedLemmas.{stripped-cat_all}
@@ -37,19 +37,32 @@ pub tree-Empty : (bytes : List ℕ) (h : Hir) → h ≡ Empty → IsStripped byt
 tree-Empty bytes h is = subst (λ x. AreTrees bytes x Empty) (sym is)
     (subst (λ x. IsStripped bytes x x) (sym meaning-Empty) (stripped-empty bytes))
 
-pub tree-never : (bytes : List ℕ) (h : Hir) → meaning h ≡ empty → IsStripped bytes (meaning h) (meaning Empty)
-tree-never bytes h is = rw (is, meaning-Empty) (stripped-empty bytes)
-
 pub tree-Look : (bytes : List ℕ) (h : Hir) (l : look_type.Look) → h ≡ Look l
     → IsStripped bytes (meaning h) (meaning (Look l))
 tree-Look bytes h l is =
     subst (λ x. AreTrees bytes x (Look l)) (sym is)
     (subst (λ x. IsStripped bytes x x) (sym (meaning-Look l)) (stripped-look bytes l))
 
-pub tree-Literal : (bytes : List ℕ) (h : Hir) (a b : Vec ℕ Global) → h ≡ Literal a → b.items ≡ a.items →
-    list_any (is_among bytes) a.items ≡ false → IsStripped bytes (meaning h) (meaning (Literal b))
-tree-Literal bytes h a b is same none =
-    rw (is, meaning-Literal a, meaning-Literal b, same) (stripped-literal bytes a.items none)
+pub tree-Literal : (bytes : List ℕ) (h g : Hir) (text : Vec ℕ Global) → h ≡ Literal text
+    → IsStripped bytes (literal text.items) (meaning g) → IsStripped bytes (meaning h) (meaning g)
+tree-Literal bytes h g text is p = rw (is, meaning-Literal text) p
+
+-- what a literal becomes: itself, or a class without members
+pub literal-kept : (bytes text : List ℕ) (copy : Vec ℕ Global) → copy.items ≡ text
+    → list_any (is_among bytes) text ≡ false → IsStripped bytes (literal text) (meaning (Literal copy))
+literal-kept bytes text copy same none = rw (meaning-Literal copy, same) (stripped-literal bytes text none)
+
+pub literal-lost : (bytes text : List ℕ) (byte : ℕ) (nothing : Class) → nothing.ranges.items ≡ []
+    → is_among bytes byte ≡ true → is_among text byte ≡ true
+    → IsStripped bytes (literal text) (meaning (Bytes nothing))
+literal-lost bytes text byte nothing none among has = rw (meaning-Bytes nothing, none)
+    (stripped-lost bytes text byte among has)
+
+-- a class from which that of the bytes is taken
+pub class-thinned : (bytes : List ℕ) (members class left : List (ℕ × ℕ)) → IsClassOf bytes class
+    → HasExactly left (λ x. in_ranges members x && not (in_ranges class x)) → IsThinned bytes members left
+class-thinned bytes members class left full thin x small =
+    thin x small ∙ ap (λ b. in_ranges members x && not b) (full x small)
 
 pub tree-Bytes : (bytes : List ℕ) (h : Hir) (a b : Class) → h ≡ Bytes a
     → IsThinned bytes a.ranges.items b.ranges.items →

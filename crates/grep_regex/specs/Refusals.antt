@@ -1,17 +1,15 @@
 -- Which error patterns get that can't be compiled.
-use Rattle.std.specs.Prelude.{◌≡◌, ◌≢◌, ℕ, ◌≤◌, true, List, take, Option, Some, slice_get}
+use Rattle.std.specs.Prelude.{◌≡◌, ◌≢◌, ℕ, ◌≤◌, List, take, Option, Some, slice_get}
 use Rattle.std.specs.Prelude.{IsCharBoundary}
 use Rattle.regex_compile.specs.declared.error.Error as compiler
 use Rattle.regex_compile.specs.declared.error.Error.TheVariants.{OutOfMemory as NoMemory}
-use Rattle.regex_hir.specs.Re.{Re}
 use Rattle.regex_syntax.specs.Verdict.{Refuses}
 use Rattle.regex_syntax.specs.declared.Config.{Config}
 use Rattle.regex_syntax.specs.declared.error.Error as parser
 use Rattle.regex_syntax.specs.declared.error.ErrorKind.TheVariants.{OutOfMemory}
 use Rattle.grep_matcher.specs.declared.line_terminator.LineTerminator.{LineTerminator}
 use Rattle.grep_matcher.specs.declared.line_terminator.LineTerminator.TheVariants.{Byte}
-use Rattle.grep_regex.specs.Clear.{is_among}
-use Rattle.grep_regex.specs.NamedBytes.{HasByte, HasTerminator, HasNoTerminator}
+use Rattle.grep_regex.specs.NamedBytes.{HasTerminator, HasNoTerminator}
 use Rattle.grep_regex.specs.Patterns.{config_of, text_of, excluded_bytes, IsPattern, ArePatterns}
 use Rattle.grep_regex.specs.Stripped.{AreAscii}
 use Rattle.grep_regex.specs.declared.error.Error.{Error}
@@ -58,13 +56,6 @@ IsTextsError o patterns (Syntax index error) =
     × IsSyntax (config_of o) (text_of o pattern) pattern error
 IsTextsError o patterns Memory = Unit {0}
 IsTextsError o patterns _ = ⊥
-
--- the error of taking bytes out of a pattern: a literal has one of them, or a class has it and none
--- but them, or there is no memory
-abbrev pub IsStripError : List ℕ → Re → Error → Type 0
-IsStripError bytes re (NotAllowed byte) = (is_among bytes byte ≡ true) × HasByte bytes byte re
-IsStripError bytes re Memory = Unit {0}
-IsStripError bytes re _ = ⊥
 
 -- the error of patterns that have a byte of the line terminator, or there is no memory
 abbrev pub IsAllowedError : Options → List (List ℕ) → Error → Type 0

@@ -29,6 +29,7 @@ mod plain;
 mod prefix;
 mod programs;
 mod rarity;
+mod refused;
 mod regex;
 mod seen;
 mod shortcut;

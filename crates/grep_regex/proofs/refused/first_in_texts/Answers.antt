@@ -2,7 +2,7 @@ use Rattle.std.proofs.Common.{◌≡◌, true, false, subst, arith}
 use Rattle.std.specs.List.{list_any}
 use Rattle.grep_regex.specs.Clear.{is_among}
 use Rattle.grep_regex.proofs.RefusalLemmas.{all-texts, all-texts-more, any-text}
-use Rattle.grep_regex.proofs.strip.first_in_texts.Goals as goal
+use Rattle.grep_regex.proofs.refused.first_in_texts.Goals as goal
 
 pub returns-in-Some : goal.returns-in-Some
 returns-in-Some c = (

@@ -1,6 +1,6 @@
 use Rattle.grep_regex.proofs.NamedByteLemmas.{never-empty, zero-only}
 use Rattle.std.proofs.Common.{◌∙◌, sym}
-use Rattle.grep_regex.proofs.strip.is_never.Goals as goal
+use Rattle.grep_regex.proofs.refused.is_never.Goals as goal
 
 pub returns-then-min-eq0-clause-never : goal.returns-then-min-eq0-clause-never
 returns-then-min-eq0-clause-never c = λ never.
