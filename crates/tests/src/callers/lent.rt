@@ -10,7 +10,7 @@ use uses::{
     NonAscii, count_blocks, count_in_path, count_in_paths, count_in_reader, count_matching_lines,
     count_non_ascii_lines, count_pattern_lines, count_with_prefix, first_matches,
     first_with_context, has_match, in_context, json_lines, matching_lines, numbered_lines,
-    reporter,
+    reporter, search_outline,
 };
 
 // Line 2 and line 4 have an `a`.
@@ -189,10 +189,12 @@ const LOG: &[u8] = b"start\nopen\nerror: no file\nx\ny\nclose\nerror: closed\n";
 
 const REPORT: &[u8] = b" open\n>error: no file\n--\n close\n>error: closed\n";
 
-// Whether the errors of the log are reported with the line before each.
+// Whether the errors of the log are reported with the line before each, and so is their outline.
 fn reports_errors(alloc: Global) -> bool {
     match reporter(alloc) {
-        Ok(mut searcher) => reports_errors_by(alloc, &mut searcher),
+        Ok(mut searcher) => {
+            reports_errors_by(alloc, &mut searcher) && outlines_errors(alloc, &mut searcher)
+        }
         Err(_) => false,
     }
 }
@@ -200,6 +202,13 @@ fn reports_errors(alloc: Global) -> bool {
 fn reports_errors_by(alloc: Global, searcher: &mut Searcher) -> bool {
     match in_context(alloc, searcher, LiteralMatcher::borrowed(b"error"), LOG) {
         Ok(report) => report.as_slice() == REPORT,
+        Err(_) => false,
+    }
+}
+
+fn outlines_errors(alloc: Global, searcher: &mut Searcher) -> bool {
+    match search_outline(alloc, searcher, LiteralMatcher::borrowed(b"error"), LOG) {
+        Ok(outline) => outline.as_slice() == b" >- >".as_slice(),
         Err(_) => false,
     }
 }
