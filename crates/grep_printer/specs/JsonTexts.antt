@@ -129,10 +129,10 @@ json_rules text_at = record {
 abbrev pub is_reported : JsonProgress → Bool
 is_reported progress = progress.is_begun && is_some progress.byte_count
 
--- what was searched, found and written in a search, by how many nanoseconds it took
+-- what was searched, found and written in a search that has ended, by how many nanoseconds it took
 abbrev pub stats_of : JsonProgress → ℕ → Stats
 stats_of progress elapsed =
-    if is_reported progress
+    if is_some progress.byte_count
     then record {
       elapsed = elapsed;
       searches = 1;

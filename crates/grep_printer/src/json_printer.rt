@@ -154,11 +154,12 @@ impl JsonProgress {
         self.is_begun && self.byte_count.is_some()
     }
 
-    // What was searched, found and written in the search, by how many nanoseconds it took.
+    // What was searched, found and written in the search, by how many nanoseconds it took, or
+    // nothing if it hasn't ended.
     fn stats(&self, elapsed: u64) -> Stats
         ensures { result ≡ stats_of self.now elapsed }
     {
-        if !self.is_reported() {
+        if self.byte_count.is_none() {
             return Stats::new();
         }
         Stats {
@@ -324,8 +325,8 @@ impl<R> Printer<JsonFormat<R>> {
 impl<'s, R, M, W: Output> PrinterSink<'s, JsonFormat<R>, M, W> {
     /// Writes the message `end` of the search, which took `elapsed`, if the search has ended and
     /// something was written of it. Call it once: another call would write the message again. It
-    /// returns what was searched, found and written, or zeros if it writes nothing. An error is the
-    /// writer's, or one of being out of memory.
+    /// returns what was searched, found and written, or zeros if the search hasn't ended. An error
+    /// is the writer's, or one of being out of memory.
     pub fn write_end(&mut self, elapsed: Duration) -> Result<Stats, SearchError>
         ensures same { IsSameSink self.old self.new }
         ensures format { self.new.format ≡ self.old.format }
