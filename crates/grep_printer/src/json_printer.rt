@@ -159,14 +159,14 @@ impl JsonProgress {
     fn stats(&self, elapsed: u64) -> Stats
         ensures { result ≡ stats_of self.now elapsed }
     {
-        if self.byte_count.is_none() {
+        let Some(bytes_searched) = self.byte_count else {
             return Stats::new();
-        }
+        };
         Stats {
             elapsed,
             searches: 1,
             searches_with_match: if self.has_match { 1 } else { 0 },
-            bytes_searched: self.byte_count.unwrap_or(0),
+            bytes_searched,
             bytes_printed: self.bytes_printed,
             matched_lines: self.matched_lines,
             matches: self.matches,

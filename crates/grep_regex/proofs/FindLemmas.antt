@@ -76,11 +76,6 @@ pub find-alike : (a b : Re) → SameCaptures a b → (hay : List ℕ) (start : �
     → start ≤ length hay → option_map span (find a hay start) ≡ option_map span (find b hay start)
 find-alike = seen-alike span span-view (λ i t. refl)
 
-pub captures-alike : (count : ℕ) (a b : Re) → SameCaptures a b → (hay : List ℕ) (start : ℕ) → All (λ x. x < 256) hay
-    → start ≤ length hay
-    → option_map (captured count) (find a hay start) ≡ option_map (captured count) (find b hay start)
-captures-alike count = seen-alike (captured count) (cells-view count) (cells-seen count)
-
 -- and so does the stripped pattern
 pub find-stripped : (bytes : List ℕ) (whole stripped written : Re) → IsStripped bytes whole stripped
     → SameCaptures whole written →

@@ -1,11 +1,10 @@
 -- Patterns that have a byte in a literal, or in a class of such bytes alone, and texts that can name it.
-use Rattle.std.proofs.Common.{◌≡◌, ◌⊎◌, ℕ, zero, suc, ◌+◌, ◌-◌, ◌<◌, ◌≤◌, ◌&&◌, ◌==◌, Bool, true, false, not, List, [], ◌∷◌}
+use Rattle.std.proofs.Common.{◌≡◌, ◌⊎◌, ℕ, zero, suc, ◌+◌, ◌-◌, ◌<◌, ◌≤◌, ◌&&◌, Bool, true, false, not, List, [], ◌∷◌}
 use Rattle.std.proofs.Common.{◌++◌, length, map, get_or, take, Option, None, Some, Box, Global, Vec, refl, sym, ap, ◌∙◌}
 use Rattle.std.proofs.Common.{subst, inl, inr, ⊎_elim, arith, All, Bor}
-use Rattle.std.proofs.lemmas.Bool.{true≢false, and_from, eqb-true, true_from_ne_false, false_from_ne_true}
+use Rattle.std.proofs.lemmas.Bool.{true≢false, and_from, eqb-true, true_from_ne_false}
 use Rattle.std.proofs.lemmas.Bool.{not_from_false}
-use Rattle.std.proofs.lemmas.List.{take_more, map-append, get_or-map, length-map}
-use Rattle.std.proofs.lemmas.List.Folds.{list_any_none}
+use Rattle.std.proofs.lemmas.List.{take_more, map-append}
 use Rattle.std.specs.Option.{option_eq, is_some, MatchOption}
 use lib.Dec.{eqb}
 use native.Mathlib.Numerals.{unary_clauses}
@@ -17,34 +16,18 @@ use Rattle.regex_hir.specs.declared.hir.Hir.{Hir}
 use Rattle.regex_hir.specs.declared.hir.Hir.TheVariants.{Repetition, Capture, Concat, Alternation}
 use Rattle.regex_hir.proofs.MeaningLemmas.{meaning-Repetition, meaning-Capture, meaning-Concat}
 use Rattle.regex_hir.proofs.MeaningLemmas.{meaning-Alternation}
-use Rattle.grep_regex.specs.Clear.{is_among}
 use Rattle.grep_regex.specs.NamedBytes.{CanName, HasByte, IsLost, IsNameable}
 use Rattle.grep_regex.specs.Repetitions.{Repeats}
 use Rattle.grep_regex.specs.Stripped.{IsClassOf}
 use Rattle.grep_regex.specs.declared.options.Options.{Options}
 
--- ---- bytes and texts
+-- ---- texts
 
--- what isn't so of any of the bytes isn't so of one that is among them
-pub not-among : (P : ℕ → Type 0) (bytes : List ℕ) (byte : ℕ) → All (λ b. P b → ⊥) bytes → is_among bytes byte ≡ true
-    → P byte → ⊥
-not-among P bytes byte none among p = true≢false (sym among ∙ list_any_none (λ b. byte == b) bytes
-    (λ k d below. false_from_ne_true _ (λ same. none k d below (subst P (eqb-true byte (get_or bytes k d) same) p))))
-
-module _ (o : Options) (patterns : List (Bor (List ℕ))) (byte : ℕ) where
-  abbrev texts : List (List ℕ)
-  texts = map (λ (p : Bor (List ℕ)). p.now) patterns
-
-  pub nameable-at : (i : ℕ) (d : Bor (List ℕ)) → i < length patterns → CanName o byte (get_or patterns i d).now
-      → IsNameable o texts byte
-  nameable-at i d inside names = record {
-    index = i;
-    inside = omega (arith, length-map patterns (λ (p : Bor (List ℕ)). p.now), inside);
-    names = subst (CanName o byte) (sym (get_or-map (λ (p : Bor (List ℕ)). p.now) patterns i d [] inside)) names;
-  }
-
-  pub not-nameable : All (λ text. CanName o byte text → ⊥) texts → IsNameable o texts byte → ⊥
-  not-nameable all it = all it.index [] it.inside it.names
+-- no text can name a byte if none of them can
+pub not-nameable : (o : Options) (patterns : List (Bor (List ℕ))) (byte : ℕ)
+    → All (λ text. CanName o byte text → ⊥) (map (λ p. p.now) patterns)
+    → IsNameable o (map (λ p. p.now) patterns) byte → ⊥
+not-nameable o patterns byte all it = all it.index [] it.inside it.names
 
 -- ---- classes
 

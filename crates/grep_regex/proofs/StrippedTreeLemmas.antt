@@ -43,10 +43,6 @@ tree-Look bytes h l is =
     subst (λ x. AreTrees bytes x (Look l)) (sym is)
     (subst (λ x. IsStripped bytes x x) (sym (meaning-Look l)) (stripped-look bytes l))
 
-pub tree-Literal : (bytes : List ℕ) (h g : Hir) (text : Vec ℕ Global) → h ≡ Literal text
-    → IsStripped bytes (literal text.items) (meaning g) → IsStripped bytes (meaning h) (meaning g)
-tree-Literal bytes h g text is p = rw (is, meaning-Literal text) p
-
 -- what a literal becomes: itself, or a class without members
 pub literal-kept : (bytes text : List ℕ) (copy : Vec ℕ Global) → copy.items ≡ text
     → list_any (is_among bytes) text ≡ false → IsStripped bytes (literal text) (meaning (Literal copy))

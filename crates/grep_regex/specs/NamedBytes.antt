@@ -35,8 +35,8 @@ names_characters letter = is_ascii_digit letter || (letter == 97) || (letter == 
     || (letter == 110) || (letter == 114) || (letter == 116) || (letter == 118) || (letter == 120)
     || (letter == 117) || (letter == 85) || (letter == 112) || (letter == 80)
 
--- two characters by which a pattern names others than its text has: they begin such an escape, or
--- take members out of a class, as `[^`, `--`, `&&` and `~~` do
+-- two characters by which a pattern may name others than its text has: they begin such an escape,
+-- or take members out of a class, as `[^`, `--`, `&&` and `~~` do
 abbrev pub is_naming : ℕ → ℕ → Bool
 is_naming one next = ((one == 92) && names_characters next) || ((one == 91) && (next == 94))
     || ((one == next) && ((one == 45) || (one == 38) || (one == 126)))

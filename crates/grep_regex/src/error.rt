@@ -24,7 +24,8 @@ pub enum Error {
         error: SyntaxError,
     },
     /// A literal has this byte of the line terminator, or a class has this byte and no member
-    /// outside the terminator.
+    /// outside the terminator; and a pattern's text has the byte, an escape that stands for
+    /// characters, or what takes members out of a class.
     #[error("a pattern matches the byte {0} of the line terminator")]
     NotAllowed(u8),
     /// The line terminator is this byte, which isn't ASCII.

@@ -119,7 +119,7 @@ fn has_naming(text: &[u8]) -> bool
 }
 
 // Whether two characters begin an escape that stands for characters, or take members out of a
-// class.
+// class. A backslash counts even if it is escaped itself.
 fn is_naming(one: u8, next: u8) -> bool
     ensures { result ≡ is_naming one next }
 {

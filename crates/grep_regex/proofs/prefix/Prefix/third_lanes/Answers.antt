@@ -7,7 +7,8 @@ use Rattle.grep_regex.proofs.prefix.Prefix.third_lanes.Goals as goal
 pub returns : goal.returns
 returns g c =
     let s = c.args.self.now in
-    set-covers (λ (b : ℕ). 0 < buckets_of s.third.low s.third.high b) s.cover.items (s.lead + 2) (s.lead + 3) c.args.haystack.now c.args.at (c.args.at + 1) c.all_set-2.result
+    set-covers (λ (b : ℕ). 0 < buckets_of s.third.low s.third.high b) s.cover.items
+    (s.lead + 2) (s.lead + 3) c.args.haystack.now c.args.at (c.args.at + 1) c.all_set-2.result
     c.lanes_of.result (omega arith) refl
     (omega (arith, c.if-this-lt3.false, c.requires.sets))
     (omega (arith, c.if-this-lt3.false, c.requires.room)) s.third_has
