@@ -1,4 +1,5 @@
 pub mod AppendedParts
+pub mod BinaryCalls
 pub mod BoundedReads
 pub mod ClosureSinks
 pub mod CountSinks
@@ -6,6 +7,7 @@ pub mod DetectedRuns
 pub mod EveryLines
 pub mod FileSearches
 pub mod HandledLines
+pub mod HeldViews
 pub mod HitLines
 pub mod KeptFirst
 pub mod KeptReports
@@ -13,6 +15,10 @@ pub mod LentMatches
 pub mod LineCounts
 pub mod MatchHandlers
 pub mod PassedCalls
+pub mod QuittingSinks
+pub mod ReportedLines
+pub mod Rolls
+pub mod SearchBuffers
 pub mod SearchFailures
 pub mod SinkFolds
 pub mod Units

@@ -9,6 +9,7 @@
 mod every_line;
 pub mod laws;
 mod open;
+mod search;
 mod searcher;
 mod sink;
 pub mod sinks;

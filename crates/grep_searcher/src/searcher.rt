@@ -3,17 +3,17 @@ ghost use Rattle.std.specs.Prelude.{◌≡◌, true, false, IfOk, IfErr, OnErr};
 ghost use Rattle.std.specs.IoError.{error_kind};
 ghost use Rattle.std.specs.declared.io.ErrorKind.{ErrorKind};
 ghost use Rattle.grep_definitions.specs.BuiltSettings.{default_settings};
-ghost use Rattle.grep_core.specs.SearchBuffers.{AreFitting};
+ghost use Rattle.grep_searcher.specs.SearchBuffers.{AreFitting};
 
 mod builder;
 mod files;
 mod queries;
 mod readers;
-mod searcher_calls;
 mod slices;
 
+use crate::search::Search;
+use crate::search::buffers::Buffers;
 pub use builder::SearcherBuilder;
-use grep_core::Buffers;
 use grep_report::ConfigError;
 use grep_walk::Config;
 use std::alloc::{Allocator, Global};
@@ -32,7 +32,7 @@ pub struct Searcher<A: Allocator + Copy = Global> {
 impl<A: Allocator + Copy> Model for Searcher<A> {
     ghost use Rattle.std.specs.Prelude.{◌≡◌, true, is_some, IfSome};
     ghost use Rattle.grep_definitions.specs.Plans.{SearcherState};
-    ghost use Rattle.grep_core.specs.SearchBuffers.{AreFitting};
+    ghost use Rattle.grep_searcher.specs.SearchBuffers.{AreFitting};
 
     ghost Value = { SearcherState };
 
@@ -94,6 +94,18 @@ impl<A: Allocator + Copy> Searcher<A> {
     // The allocator, for what a sink makes.
     pub(crate) fn alloc(&self) -> A {
         self.alloc
+    }
+
+    // What a search with this searcher runs with.
+    fn search(&self) -> Search<'_, A>
+        ensures config { result.config ≡ self.now.settings }
+        ensures searcher { result.searcher.now ≡ self.now }
+    {
+        Search {
+            config: self.config,
+            searcher: self,
+            alloc: self.alloc,
+        }
     }
 
     // Takes out the buffers, or makes them now if there are none. An error is one of kind

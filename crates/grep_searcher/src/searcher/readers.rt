@@ -8,7 +8,6 @@ ghost use Rattle.grep_definitions.specs.Searches.{IsReadingError, IsUnread};
 ghost use Rattle.grep_report.specs.ErrorMakers.{makers_of};
 
 use crate::searcher::Searcher;
-use crate::searcher::searcher_calls::SearcherCalls;
 use crate::sink::Sink;
 use grep_decode::Source;
 use grep_matcher::Matcher;
@@ -126,12 +125,7 @@ impl<A: Allocator + Copy> Searcher<A> {
             Err(error) => return Err(S::Error::error_io(self.alloc, error)),
         };
         let search = self.search();
-        let result = search.search_reader::<M, R, SearcherCalls<S>>(
-            matcher,
-            &mut buffers,
-            reader,
-            sink,
-        );
+        let result = search.search_reader(matcher, &mut buffers, reader, sink);
         self.put_back(buffers);
         result
     }

@@ -9,7 +9,6 @@ ghost use Rattle.grep_definitions.specs.SliceSearches.{IsUndecoded};
 ghost use Rattle.grep_report.specs.ErrorMakers.{makers_of};
 
 use crate::searcher::Searcher;
-use crate::searcher::searcher_calls::SearcherCalls;
 use crate::sink::Sink;
 use grep_matcher::Matcher;
 use grep_report::SinkError;
@@ -118,9 +117,7 @@ impl<A: Allocator + Copy> Searcher<A> {
         ensures may_call { S.may_call sink.new }
     {
         if self.config.is_searched_unchanged(input) {
-            return self
-                .search()
-                .search_bytes::<M, SearcherCalls<S>>(matcher, input, sink);
+            return self.search().search_bytes(matcher, input, sink);
         }
         let mut source = input;
         self.search_source(matcher, &mut source, sink)

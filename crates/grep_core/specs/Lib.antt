@@ -1,6 +1,0 @@
-pub mod BinaryCalls
-pub mod HeldViews
-pub mod QuittingSinks
-pub mod ReportedLines
-pub mod Rolls
-pub mod SearchBuffers
