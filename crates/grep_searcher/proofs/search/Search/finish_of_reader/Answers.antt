@@ -17,13 +17,13 @@ pub returns-then-not-branch-clause-counted : goal.returns-then-not-branch-clause
 returns-then-not-branch-clause-counted g c = λ lawful.
     rw c.new.ensures (streams.counted-unbegun _ _ _ _ _ c.requires.by_line
     (λ passthru. (c.args.self.now.bare passthru).1)
-    (rw c.if-not-branch.true at (rw c.args.self.now.same at c.in_ok-begin.ensures.step)))
+    (rw (c.args.self.now.same, c.if-not-branch.true) at c.in_ok-begin.ensures.step))
 
 pub returns-then-not-branch-clause-begun : goal.returns-then-not-branch-clause-begun
 returns-then-not-branch-clause-begun g c = record {
   begun = false;
   first = c.begin.new.self;
-  begin = rw c.if-not-branch.true at (rw c.args.self.now.same at c.in_ok-begin.ensures.step);
+  begin = rw (c.args.self.now.same, c.if-not-branch.true) at c.in_ok-begin.ensures.step;
   unread = λ e. refl;
   once = λ reads. cc;
 }
@@ -32,7 +32,7 @@ pub returns-then-not-reads_lines-clause-begun : goal.returns-then-not-reads_line
 returns-then-not-reads_lines-clause-begun g c = record {
   begun = true;
   first = c.begin.new.self;
-  begin = rw c.if-not-branch.false at (rw c.args.self.now.same at c.in_ok-begin.ensures.step);
+  begin = rw (c.args.self.now.same, c.if-not-branch.false) at c.in_ok-begin.ensures.step;
   unread = λ e. refl;
   once = λ reads. absurd
       (false≢true (sym c.if-not-reads_lines.true ∙ (c.reads_lines.ensures ∙ reads)));
@@ -43,16 +43,16 @@ returns-then-not-reads_lines-clause-counted g c = λ lawful.
     rw c.new-then-not-reads_lines.ensures (streams.counted-idle _ _ _ _ _ c.requires.by_line
     (λ passthru. (c.args.self.now.bare passthru).1)
     (idle-unread _ _ (sym c.reads_lines.ensures ∙ c.if-not-reads_lines.true))
-    (rw c.if-not-branch.false at (rw c.args.self.now.same at c.in_ok-begin.ensures.step)))
+    (rw (c.args.self.now.same, c.if-not-branch.false) at c.in_ok-begin.ensures.step))
 
 pub returns-in-Err-clause-succeeds : goal.returns-in-Err-clause-succeeds
 returns-in-Err-clause-succeeds g c = λ never infallible lawful.
-    let begun = rw c.if-not-branch.false at (rw c.args.self.now.same at c.in_ok-begin.ensures.step) in
+    let begun = rw (c.args.self.now.same, c.if-not-branch.false) at c.in_ok-begin.ensures.step in
     c.in-Err.ensures.succeeds never infallible lawful c.args.sink.now begun
 
 pub returns-in-Err-clause-fault : goal.returns-in-Err-clause-fault
 returns-in-Err-clause-fault g c = λ lawful. c.in-Err.ensures.fault lawful c.args.sink.now
-    (rw c.if-not-branch.false at (rw c.args.self.now.same at c.in_ok-begin.ensures.step))
+    (rw (c.args.self.now.same, c.if-not-branch.false) at c.in_ok-begin.ensures.step)
 
 pub returns-in_err-begin-clause-broken : goal.returns-in_err-begin-clause-broken
 returns-in_err-begin-clause-broken g c =
@@ -62,9 +62,11 @@ returns-in_err-begin-clause-broken g c =
 
 pub returns-then-not-branch-clause-in_order : goal.returns-then-not-branch-clause-in_order
 returns-then-not-branch-clause-in_order g c =
-    rw c.new.ensures (order.begun-to-0 _ _ _ _ _ (rw c.args.self.now.same at c.in_ok-begin.ensures.step))
+    rw c.new.ensures (order.begun-to-0 _ _ _ _ _
+    (rw c.args.self.now.same at c.in_ok-begin.ensures.step))
 
 pub returns-in-Err-clause-broken : goal.returns-in-Err-clause-broken
 returns-in-Err-clause-broken g c =
-    order.order-read _ _ _ _ _ _ _ _ _ (rw c.if-not-branch.false at (rw c.args.self.now.same at c.in_ok-begin.ensures.step))
+    order.order-read _ _ _ _ _ _ _ _ _
+    (rw (c.args.self.now.same, c.if-not-branch.false) at c.in_ok-begin.ensures.step)
     c.in-Err.ensures.in_order

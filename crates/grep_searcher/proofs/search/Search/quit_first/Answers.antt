@@ -14,7 +14,8 @@ returns-in_err-begin-clause-quits g c =
         p.0,
         refl,
         subst (λ e. g.S.Sink.step c.args.sink.now c.args.self.now.config begins
-            (Err e) c.begin.new.self) (sym p.2) (rw c.args.self.now.same at c.in_err-begin.ensures.step),
+            (Err e) c.begin.new.self) (sym p.2)
+            (rw c.args.self.now.same at c.in_err-begin.ensures.step),
       ));
       finished = (p.1, refl);
     }
@@ -23,8 +24,8 @@ pub returns-then-not-branch-clause-quits : goal.returns-then-not-branch-clause-q
 returns-then-not-branch-clause-quits g c = record {
   outcome = stopped (counted 0);
   mid = c.begin.new.self;
-  made = inr (inl (refl, rw c.if-not-branch.true at (rw c.args.self.now.same at c.in_ok-begin.ensures.step)));
-  finished = rw c.new.ensures at (rw c.args.self.now.same at c.finish.ensures.step);
+  made = inr (inl (refl, rw (c.args.self.now.same, c.if-not-branch.true) at c.in_ok-begin.ensures.step));
+  finished = rw (c.args.self.now.same, c.new.ensures) at c.finish.ensures.step;
 }
 
 pub returns-in_err-binary_data-clause-quits : goal.returns-in_err-binary_data-clause-quits
@@ -36,13 +37,14 @@ returns-in_err-binary_data-clause-quits g c =
       mid = c.binary_data.new.self;
       made = inl (
         c.begin.new.self,
-        (rw c.if-not-branch.false at (rw c.args.self.now.same at c.in_ok-begin.ensures.step)),
+        (rw (c.args.self.now.same, c.if-not-branch.false) at c.in_ok-begin.ensures.step),
         inr (inr (
           p.0,
           refl,
           subst (λ e. g.S.Sink.step c.begin.new.self c.args.self.now.config
               (binary_data c.args.offset)
-              (Err e) c.binary_data.new.self) (sym p.2) (rw c.args.self.now.same at c.in_err-binary_data.ensures.step),
+              (Err e) c.binary_data.new.self) (sym p.2)
+              (rw c.args.self.now.same at c.in_err-binary_data.ensures.step),
         )),
       );
       finished = (p.1, refl);
@@ -51,5 +53,6 @@ returns-in_err-binary_data-clause-quits g c =
 pub returns-clause-quits : goal.returns-clause-quits
 returns-clause-quits g c =
     first-quit _ _ _ _
-    (rw c.if-not-branch.false at (rw c.args.self.now.same at c.in_ok-begin.ensures.step)) (rw c.args.self.now.same at c.in_ok-binary_data.ensures.step)
-    (rw c.new-2.ensures at (rw c.args.self.now.same at c.finish-2.ensures.step))
+    (rw (c.args.self.now.same, c.if-not-branch.false) at c.in_ok-begin.ensures.step)
+    (rw c.args.self.now.same at c.in_ok-binary_data.ensures.step)
+    (rw (c.args.self.now.same, c.new-2.ensures) at c.finish-2.ensures.step)

@@ -27,7 +27,7 @@ returns-clause-searched g c = λ lawful.
     c.args.sink.now (look-plain _ (λ b is. c.in_default.not-Some b (c.quit_byte.ensures ∙ is)))
     (sym c.is_across-is_across.ensures) _ _
     (searched-finish _ (errors-of g) (g.M.Matcher.facts c.args.matcher.now) _ c.args.bytes.now _
-    _ _ _ _ _ reported.1 (rw c.new.ensures at (rw c.args.self.now.same at c.finish.ensures.step)))
+    _ _ _ _ _ reported.1 (rw (c.args.self.now.same, c.new.ensures) at c.finish.ensures.step))
 
 pub search_until-requires-clause-detecting : goal.search_until-requires-clause-detecting
 search_until-requires-clause-detecting g c =
@@ -41,7 +41,8 @@ returns-in_err-count-clause-in_order g c =
 pub returns-clause-in_order : goal.returns-clause-in_order
 returns-clause-in_order g c =
     order.order-finished _ _ _ _ _ (omega arith) _ _ _ None _ _ (λ none. refl)
-    c.in_ok-count.ensures.in_order (rw c.new.ensures at (rw c.args.self.now.same at c.finish.ensures.step))
+    c.in_ok-count.ensures.in_order
+    (rw (c.args.self.now.same, c.new.ensures) at c.finish.ensures.step)
 
 pub returns-in-Some-clause-in_order : goal.returns-in-Some-clause-in_order
 returns-in-Some-clause-in_order g c =

@@ -92,7 +92,8 @@ returns-clause-searched g c = λ across has_buffers.
     (search-at g.S.Sink.step (errors-of g) facts c.args.self.now.config given c.args.sink.now
     (look-plain _ (λ b is. c.in_default-quit_byte.not-Some b (c.quit_byte.ensures ∙ is))) across _ _
     (searched-finish g.S.Sink.step (errors-of g) facts c.args.self.now.config given c.args.sink.now
-    _ _ _ c.finish.result _ reported.1 (rw c.new.ensures at (rw c.args.self.now.same at c.finish.ensures.step))))
+    _ _ _ c.finish.result _ reported.1
+    (rw (c.args.self.now.same, c.new.ensures) at c.finish.ensures.step)))
 
 pub search_until-requires-clause-detecting : goal.search_until-requires-clause-detecting
 search_until-requires-clause-detecting g c =
@@ -121,4 +122,5 @@ returns-in_err-count-clause-in_order g c =
 pub returns-clause-in_order : goal.returns-clause-in_order
 returns-clause-in_order g c =
     order.order-finished _ _ _ _ _ (omega arith) _ _ _ None _ _ (λ none. refl)
-    c.in_ok-count.ensures.in_order (rw c.new.ensures at (rw c.args.self.now.same at c.finish.ensures.step))
+    c.in_ok-count.ensures.in_order
+    (rw (c.args.self.now.same, c.new.ensures) at c.finish.ensures.step)

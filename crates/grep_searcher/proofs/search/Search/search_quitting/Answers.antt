@@ -38,7 +38,8 @@ returns-clause-searched g c = λ lawful.
     until-finished g.S.Sink.step g.S.Sink.may_call (errors-of g)
     (g.M.Matcher.facts c.args.matcher.now) _
     _ (quit-is _ _ c.requires.detecting) _ c.requires.none _ refl c.requires.has_break
-    c.requires.found _ _ c.finish.new.self counted.1 (rw c.new.ensures at (rw c.args.self.now.same at c.finish.ensures.step))
+    c.requires.found _ _ c.finish.new.self counted.1
+    (rw (c.args.self.now.same, c.new.ensures) at c.finish.ensures.step)
 
 pub returns-clause-same_sink : goal.returns-clause-same_sink
 returns-clause-same_sink g c =
@@ -66,7 +67,7 @@ returns-clause-in_order g c =
     let step = g.S.Sink.step in
     let may_call = g.S.Sink.may_call in
     let k = c.args.self.now.config in
-    let finish = rw c.new.ensures at (rw c.args.self.now.same at c.finish.ensures.step) in
+    let finish = rw (c.args.self.now.same, c.new.ensures) at c.finish.ensures.step in
     order.order-finished _ k _ _ _ (omega arith) _ _ _ c.byte_count_of.new.sink.found _ _
     (λ none. absurd (false≢true (sym none ∙ look-detects _ _ c.requires.detecting)))
     (order.passed-begun-to _ _ k (λ q. q.sink.now)

@@ -20,7 +20,8 @@ returns-clause-searched g c = λ lawful has_buffers.
     let mode = (sym c.is_across.ensures ∙ c.if-is_across.false) in
     read-by_line _ _ _ _ _ _ _ _ _ _
     _ mode (stream-finished _ _ (g.M.Matcher.facts c.args.matcher.now) _ _ _ _ mode _ _ _ _ _ _
-    c.in_ok-finish.ensures.begun (c.in_ok-finish.ensures.counted lawful) (rw (ap (λ s. s.searcher.now.settings) c.self.view_is ∙ c.args.self.now.same) at c.finish.ensures.step))
+    c.in_ok-finish.ensures.begun (c.in_ok-finish.ensures.counted lawful)
+    (rw (ap (λ s. s.searcher.now.settings) c.self.view_is ∙ c.args.self.now.same) at c.finish.ensures.step))
 
 pub returns-in_err-finish-clause-searched : goal.returns-in_err-finish-clause-searched
 returns-in_err-finish-clause-searched g c = λ lawful has_buffers.
@@ -36,7 +37,8 @@ returns-then-is_across-clause-in_order g c =
 pub returns-clause-in_order : goal.returns-clause-in_order
 returns-clause-in_order g c =
     order-finished _ _ _ _ _ (omega arith) _ _ _ _ _
-    _ c.in_ok-finish.ensures.noted c.in_ok-finish.ensures.in_order (rw (ap (λ s. s.searcher.now.settings) c.self.view_is ∙ c.args.self.now.same) at c.finish.ensures.step)
+    _ c.in_ok-finish.ensures.noted c.in_ok-finish.ensures.in_order
+    (rw (ap (λ s. s.searcher.now.settings) c.self.view_is ∙ c.args.self.now.same) at c.finish.ensures.step)
 
 pub returns-in_err-finish-clause-succeeds : goal.returns-in_err-finish-clause-succeeds
 returns-in_err-finish-clause-succeeds g c =

@@ -19,7 +19,7 @@ called : (g : Over) (c : After-matched g) → g.S.Sink.step c.lines.sink c.args.
     c.matched.result c.matched.new.self
 called g c =
     let found = c.found-found.ensures in
-    rw (found.number, found.offset, found.bytes, found.around) at (rw c.args.self.now.same at c.matched.ensures.step)
+    rw (c.args.self.now.same, found.number, found.offset, found.bytes, found.around) at c.matched.ensures.step
 
 own : (g : Over) (c : After-matched g) → IsLine (byte_of c.args.self.now.config.line_terminator)
     (slice_range c.args.window.now c.lines.start c.args.end) 0 0 c.in-Some.len
