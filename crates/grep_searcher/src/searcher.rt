@@ -22,11 +22,21 @@ use std::marker::Model;
 
 /// Searches as a `SearcherBuilder` configured it to. It can be used for any number of searches;
 /// each begins anew.
-#[derive(Drop)]
 pub struct Searcher<A: Allocator + Copy = Global> {
     config: Config,
     buffers: Option<Buffers<A>>,
     alloc: A,
+}
+
+// Written out, so that a caller's proof sees one call.
+impl<A: Allocator + Copy> Drop for Searcher<A> {
+    fn drop(self) {
+        let Searcher {
+            config: _config,
+            buffers: _buffers,
+            alloc: _alloc,
+        } = self;
+    }
 }
 
 impl<A: Allocator + Copy> Model for Searcher<A> {

@@ -13,11 +13,21 @@ use std::time::Instant;
 
 /// A printer, with the counts of the searches so far, and when the run began, if it counts. If the
 /// clock fails, a time is 0.
-#[derive(Drop)]
 pub struct CountedRun<F> {
     printer: Printer<CountedFormat<F>>,
     stats: Stats,
     start: Option<Instant>,
+}
+
+// Written out, so that a caller's proof sees one call.
+impl<F: Drop> Drop for CountedRun<F> {
+    fn drop(self) {
+        let CountedRun {
+            printer: _printer,
+            stats: _stats,
+            start: _start,
+        } = self;
+    }
 }
 
 impl<F> CountedRun<F> {

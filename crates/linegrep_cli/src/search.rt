@@ -67,7 +67,6 @@ impl<R, W> Ended<R, W> {
 }
 
 // What a search is made with, besides the expression.
-#[derive(Drop)]
 struct Prepared<'r> {
     searcher: Searcher,
     choices: Choices<'r>,
@@ -75,12 +74,34 @@ struct Prepared<'r> {
     template: Option<Template>,
 }
 
+// Written out, so that a caller's proof sees one call.
+impl<'r> Drop for Prepared<'r> {
+    fn drop(self) {
+        let Prepared {
+            searcher: _searcher,
+            choices: _choices,
+            layout: _layout,
+            template: _template,
+        } = self;
+    }
+}
+
 // What is written besides what is found.
-#[derive(Drop)]
 struct Layout {
     separators: Option<Separators>,
     colors: Option<ColorTexts>,
     path_separator: Option<u8>,
+}
+
+// Written out, so that a caller's proof sees one call.
+impl Drop for Layout {
+    fn drop(self) {
+        let Layout {
+            separators: _separators,
+            colors: _colors,
+            path_separator: _path_separator,
+        } = self;
+    }
 }
 
 // The expression that the options ask for, and what else a search is made with. An error is that a
@@ -255,71 +276,69 @@ where
 {
     if prepared.template.is_none() {
         if let Some(matcher) = regex.literal_matcher() {
-            return search_with(
-                rt, system, options, &matcher, prepared, input, output, errors,
-            );
+            return prepared.search(rt, system, options, &matcher, input, output, errors);
         }
     }
     match regex.named_matcher::<N>(rt.alloc()) {
-        Ok(matcher) => search_with(
-            rt, system, options, &matcher, prepared, input, output, errors,
-        ),
+        Ok(matcher) => prepared.search(rt, system, options, &matcher, input, output, errors),
         Err(_) => Ended::refused(errors, &Failure::out_of_memory(), input, output),
     }
 }
 
-// Searches what the options choose, with a matcher.
-fn search_with<'r, M: CapturesAt + Copy, S: System, R: Source + Drop, W: Output + Drop, E: Output>(
-    rt: &'r HostRuntime,
-    system: &'r S,
-    options: &Options<'_, '_>,
-    matcher: M,
-    prepared: Prepared<'r>,
-    input: R,
-    output: W,
-    errors: &mut E,
-) -> Ended<R, W>
-    requires { IsPrepared (S.facts system.now) options.now prepared }
-    ensures { (template : Option (Bor Template))
-        × (option_copied template ≡ prepared.entry.template)
-        × IsRunWith M.Error.output M.facts M.first_at M.groups_at W.step S.File.remaining
-        R.remaining R.step (S.facts system.now) (S.finds system.now) (S.opens system.now)
-        (S.identifies system.now) options.now matcher template input output errors.old
-        result.status result.input result.output }
-{
-    let Prepared {
-        searcher,
-        mut choices,
-        layout,
-        template,
-    } = prepared;
-    let scope = Scope::new(system, options);
-    let is_across = searcher.multi_line_with_matcher(matcher);
-    let printer = build_printer(
-        rt,
-        options,
-        is_across,
-        layout.separators.as_ref(),
-        layout.colors.as_ref(),
-        matcher,
-        template.as_ref(),
-    );
-    let mut engine: PrintingEngine<'_, S::File, M, R, W, E> = PrintingEngine::new(
-        rt,
-        searcher,
-        matcher,
-        printer,
-        output,
-        input,
-        errors,
-        layout.path_separator,
-    );
-    let run = Run::new(rt, system, scope);
-    let status = run.complete(&mut engine, &mut choices, options.paths());
-    let (input, output) = engine.into_parts();
-    Ended {
-        status,
-        input,
-        output,
+impl<'r> Prepared<'r> {
+    // Searches what the options choose, with a matcher.
+    fn search<M: CapturesAt + Copy, S: System, R: Source + Drop, W: Output + Drop, E: Output>(
+        self,
+        rt: &'r HostRuntime,
+        system: &'r S,
+        options: &Options<'_, '_>,
+        matcher: M,
+        input: R,
+        output: W,
+        errors: &mut E,
+    ) -> Ended<R, W>
+        requires { IsPrepared (S.facts system.now) options.now self }
+        ensures { (template : Option (Bor Template))
+            × (option_copied template ≡ self.entry.template)
+            × IsRunWith M.Error.output M.facts M.first_at M.groups_at W.step S.File.remaining
+            R.remaining R.step (S.facts system.now) (S.finds system.now) (S.opens system.now)
+            (S.identifies system.now) options.now matcher template input output errors.old
+            result.status result.input result.output }
+    {
+        let Prepared {
+            searcher,
+            mut choices,
+            layout,
+            template,
+        } = self;
+        let scope = Scope::new(system, options);
+        let is_across = searcher.multi_line_with_matcher(matcher);
+        let printer = build_printer(
+            rt,
+            options,
+            is_across,
+            layout.separators.as_ref(),
+            layout.colors.as_ref(),
+            matcher,
+            template.as_ref(),
+        );
+        let mut engine: PrintingEngine<'_, S::File, M, R, W, E> = PrintingEngine::new(
+            rt,
+            searcher,
+            matcher,
+            printer,
+            output,
+            input,
+            errors,
+            layout.path_separator,
+        );
+        let run = Run::new(rt, system, scope);
+        let status = run.complete(&mut engine, &mut choices, options.paths());
+        let (input, output) = engine.into_parts();
+        Ended {
+            status,
+            input,
+            output,
+        }
     }
 }

@@ -11,10 +11,10 @@ returns-in-Some g c = inr (inl (record {
     first = ap regex_first_at c.in-Some.ensures.regex;
     trusted = λ terminator. tt;
   };
-  template = c.search_with.ensures.0;
-  is_template = subst (IsTemplate c.args.options.now c.args.regex.now) (sym c.search_with.ensures.1) c.requires.template;
+  template = c.search.ensures.0;
+  is_template = subst (IsTemplate c.args.options.now c.args.regex.now) (sym c.search.ensures.1) c.requires.template;
   groups = ap regex_groups_at c.in-Some.ensures.regex;
-  run = c.search_with.ensures.2;
+  run = c.search.ensures.2;
 }))
 
 pub returns-in-Ok : goal.returns-in-Ok
@@ -25,9 +25,9 @@ returns-in-Ok g c = inr (inr (record {
     first = ap regex_first_at c.in-Ok.ensures;
     trusted = λ terminator. tt;
   };
-  template = c.search_with-in-Ok.ensures.0;
-  is_template = subst (IsTemplate c.args.options.now c.args.regex.now) (sym c.search_with-in-Ok.ensures.1)
+  template = c.search-in-Ok.ensures.0;
+  is_template = subst (IsTemplate c.args.options.now c.args.regex.now) (sym c.search-in-Ok.ensures.1)
       c.requires.template;
   groups = ap regex_groups_at c.in-Ok.ensures;
-  run = c.search_with-in-Ok.ensures.2;
+  run = c.search-in-Ok.ensures.2;
 }))

@@ -4,7 +4,7 @@ use Rattle.linegrep_cli.specs.ColorOptions.{AreColorTexts}
 use Rattle.linegrep_cli.specs.PrinterOptions.{IsPrinterOf}
 use Rattle.linegrep_cli.specs.SearcherOptions.{searcher_settings}
 use Rattle.linegrep_cli.specs.SeparatorOptions.{IsSeparators}
-use Rattle.linegrep_cli.proofs.search.search_with.Goals as goal
+use Rattle.linegrep_cli.proofs.search.Prepared.search.Goals as goal
 
 pub returns : goal.returns
 returns g c =
@@ -22,7 +22,7 @@ returns g c =
         first = c.new-engine.result;
         last = c.complete-status.new.engine;
         is_scope = c.new-scope.ensures;
-        choices = c.args.prepared.choices;
+        choices = c.args.self.choices;
         are_choices = c.requires.choices;
         begins = record {
           settings = ap (λ (state : SearcherState). state.settings) c.new-engine.ensures.searcher ∙ settings;
